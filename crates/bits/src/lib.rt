@@ -1,0 +1,1 @@
+// Words of 64 bits as sets of positions.
