@@ -65,6 +65,11 @@ some-below-add a zero f = rw (add-zero, or-false)
 some-below-add a (suc b) f =
     rw (add-suc, some-below-add a b f) (or-left-comm (f (a + b)) (some-below a f) (some-below b (λ i. f (a + i))))
 
+pub some-below-first : (n : ℕ) (f : ℕ → Bool) → some-below (suc n) f ≡ (f 0 || some-below n (λ i. f (suc i)))
+unfolding some-below
+some-below-first zero f = refl
+some-below-first (suc n) f = rw (some-below-first n f) (or-left-comm (f (suc n)) (f 0) (some-below n (λ i. f (suc i))))
+
 -- ---- every
 
 pub every-below-intro : (n : ℕ) (f : ℕ → Bool) → ((i : ℕ) → i < n → So (f i)) → So (every-below n f)
@@ -109,6 +114,11 @@ unfolding every-below
 every-below-add a zero f = rw (add-zero, and-true)
 every-below-add a (suc b) f =
     rw (add-suc, every-below-add a b f) (and-left-comm (f (a + b)) (every-below a f) (every-below b (λ i. f (a + i))))
+
+pub every-below-first : (n : ℕ) (f : ℕ → Bool) → every-below (suc n) f ≡ (f 0 && every-below n (λ i. f (suc i)))
+unfolding every-below
+every-below-first zero f = refl
+every-below-first (suc n) f = rw (every-below-first n f) (and-left-comm (f (suc n)) (f 0) (every-below n (λ i. f (suc i))))
 
 -- every number passes where none fails
 pub every-below-not : (n : ℕ) (f : ℕ → Bool) → every-below n f ≡ not (some-below n (λ i. not (f i)))

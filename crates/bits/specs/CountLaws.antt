@@ -56,6 +56,11 @@ unfolding count-below
 count-below-add a zero f = rw (add-zero a) (omega arith)
 count-below-add a (suc b) f = rw (add-suc a b, count-below-add a b f) (omega arith)
 
+pub count-below-first : (n : ℕ) (f : ℕ → Bool) → count-below (suc n) f ≡ one-if (f 0) + count-below n (λ i. f (suc i))
+unfolding count-below
+count-below-first zero f = omega arith
+count-below-first (suc n) f = omega (arith, count-below-first n f)
+
 pub count-below-more : (m n : ℕ) (f : ℕ → Bool) → m ≤ n → count-below m f ≤ count-below n f
 count-below-more m n f h = let k = le-dest h in rw (← k .1, count-below-add m (k .0) f) (omega arith)
 

@@ -4,3 +4,6 @@ pub mod BelowLaws
 pub mod LowestLaws
 pub mod CountLaws
 pub mod CountJoinLaws
+pub mod Bit
+pub mod BitLaws
+pub mod WordLaws

@@ -5,8 +5,8 @@ use mathlib.Core.Path.{_≡_, refl, sym, _∙_}
 use mathlib.Core.Logic.{_⊎_, inl, inr, ⊎-elim}
 use mathlib.Core.Bool.{Bool, true, false, So}
 use mathlib.Core.Option.{Option, none, some}
-use Prim.Native.Nat.{ℕ, zero, suc, _+_, _-_, _≤_, _<_}
-use native.Mathlib.Nat.{le-refl, le-step, le-of-suc-le-suc, lt-of-not-le, not-suc-le-zero, add-sub-of-le}
+use Prim.Native.Nat.{ℕ, zero, suc, _+_, _-_, _≤_, _<_, suc-le-suc}
+use native.Mathlib.Nat.{le-refl, le-step, le-of-suc-le-suc, lt-of-not-le, lt-trans, not-suc-le-zero, zero-lt-suc, add-sub-of-le}
 use native.Mathlib.Omega.{arith}
 use Rattle.bits.specs.Truth.{passes-or-fails, not-both}
 use Rattle.bits.specs.Below.{some-below, lowest-below, found-or, Lowest}
@@ -60,6 +60,25 @@ lowest-below-found n f e =
 -- nothing that passes is lower
 pub lowest-le : {n : ℕ} {f : ℕ → Bool} {i j : ℕ} → Lowest n f i → So (f j) → i ≤ j
 lowest-le {i} {j} w p = le-of-suc-le-suc (lt-of-not-le (λ (l : suc j ≤ i). not-both p (w .first j l)))
+
+pub lowest-ext : {n : ℕ} {f g : ℕ → Bool} {i : ℕ} → ((j : ℕ) → j < n → f j ≡ g j) → Lowest n f i → Lowest n g i
+lowest-ext {i} h w =
+    record {
+      within = w .within;
+      holds = sym (h i (w .within)) ∙ w .holds;
+      first = λ j l. sym (h j (lt-trans l (w .within))) ∙ w .first j l;
+    }
+
+pub lowest-at-zero : {n : ℕ} {f : ℕ → Bool} → So (f 0) → Lowest (suc n) f 0
+lowest-at-zero {n} p = record { within = zero-lt-suc n; holds = p; first = λ j l. absurd (not-suc-le-zero l) }
+
+-- past a number 0 that fails
+pub lowest-next : (n : ℕ) (f : ℕ → Bool) {i : ℕ} → f 0 ≡ false → Lowest n (λ j. f (suc j)) i → Lowest (suc n) f (suc i)
+lowest-next n f {i} e w = record { within = suc-le-suc (w .within); holds = w .holds; first = before }
+  where
+    before : (j : ℕ) → j < suc i → f j ≡ false
+    before zero l = e
+    before (suc j) l = w .first j (le-of-suc-le-suc l)
 
 pub lowest-unique : {m n : ℕ} {f : ℕ → Bool} {i j : ℕ} → Lowest m f i → Lowest n f j → i ≡ j
 lowest-unique v w = let a = lowest-le v (w .holds) in let b = lowest-le w (v .holds) in omega arith

@@ -20,6 +20,18 @@ pub same-truth : (a b : Bool) → (So a → So b) → (So b → So a) → a ≡ 
 same-truth true b f g = sym (f refl)
 same-truth false b f g = sym (fails-unless b (λ p. false≢true (g p)))
 
+-- b passes where a does
+abbrev pub implies : Bool → Bool → Bool
+implies a b = not a || b
+
+pub implies-intro : (a b : Bool) → (So a → So b) → So (implies a b)
+implies-intro true b h = h refl
+implies-intro false b h = refl
+
+pub implies-elim : (a b : Bool) → So (implies a b) → So a → So b
+implies-elim true b e p = e
+implies-elim false b e p = absurd (false≢true p)
+
 pub not-passes : (b : Bool) → b ≡ false → So (not b)
 not-passes true e = sym e
 not-passes false e = refl
@@ -39,6 +51,10 @@ and-left false b e = e
 pub and-right : (a b : Bool) → So (a && b) → So b
 and-right true b e = e
 and-right false b e = absurd (false≢true e)
+
+pub and-absorbs : (a b : Bool) → So (implies a b) → (a && b) ≡ a
+and-absorbs true b e = e
+and-absorbs false b e = refl
 
 pub and-left-comm : (a b c : Bool) → (a && (b && c)) ≡ (b && (a && c))
 and-left-comm true b c = refl
