@@ -7,3 +7,7 @@ use lib.Dec.{eqb}
 -- the digit of n at position p is 1, position 0 the lowest
 unfoldable pub bit : ℕ → ℕ → Bool
 bit n p = eqb (n / 2 ^ p % 2) 1
+
+-- how many positions a word of the machine has
+abbrev pub word-bits : ℕ
+word-bits = 64

@@ -5,12 +5,12 @@ use mathlib.Core.Path.{_≡_, refl, sym, ap, ap₂, _∙_}
 use mathlib.Core.Logic.{_⊎_, inl, inr, ⊎-elim}
 use mathlib.Core.Bool.{Bool, true, false, So, not, _&&_, _||_, xor}
 use Prim.Native.Nat.{ℕ, zero, suc, _+_, _-_, _*_, _/_, _%_, _^_, _≤_, _<_, suc-le-suc}
-use native.Mathlib.Nat.{pow-suc, zero-div, div-one, div-eq-of-lt, mod-lt, mul-mod-left, sub-zero, lt-of-lt-of-le, le-of-suc-le-suc, not-suc-le-zero, zero-lt-suc}
+use native.Mathlib.Nat.{pow-suc, zero-div, div-one, div-eq-of-lt, mod-lt, mod-eq-of-lt, mul-mod-left, one-mul, sub-zero, lt-of-lt-of-le, le-of-suc-le-suc, not-suc-le-zero, zero-lt-suc}
 use native.Mathlib.Omega.{arith}
 use native.Mathlib.Numerals.{one-add}
 use borrow.Author.Tests.{lt-ltb, le-ltb}
 use lib.Dec.{eqb, ltb, eqb·zero-suc, eqb·suc-zero, eqb·suc-suc}
-use lib.Pow.{pow-pos, pow-mono, ones-lt, shr-shr, shl-shr}
+use lib.Pow.{pow-pos, pow-mono, pow-lt, ones-lt, shr-shr, shl-shr}
 use lib.Bits.{bitAnd, bitOr, bitXor, and-shr, or-shr, xor-shr, and-mod, or-mod, xor-mod, shifted-half, shifted-even}
 use Rattle.bits.specs.Bit.{bit}
 use Rattle.bits.specs.Below.{one-if}
@@ -112,6 +112,12 @@ bit-of-rest (suc k) a b h {p = suc p} l =
 pub bit-not : (k n : ℕ) → n < 2 ^ k → {p : ℕ} → p < k → bit (2 ^ k - 1 - n) p ≡ not (bit n p)
 bit-not k n h l = bit-of-rest k n (2 ^ k - 1 - n) (omega arith) l
 
+-- the positions of a that b has not
+pub bit-and-not : (k a b : ℕ) → a < 2 ^ k → b < 2 ^ k → (p : ℕ) → bit (bitAnd a (2 ^ k - 1 - b)) p ≡ (bit a p && not (bit b p))
+bit-and-not k a b ha hb p =
+    bit-and a (2 ^ k - 1 - b) p
+    ∙ ⊎-elim (λ l. rw (bit-not k b hb {p = p} l)) (λ l. rw (bit-above k a ha {p = p} l)) (below-or-from p k)
+
 -- ---- shifts
 
 pub bit-shift : (n k p : ℕ) → bit (n / 2 ^ k) p ≡ bit n (k + p)
@@ -128,6 +134,10 @@ bit-shift-left-low n (suc k) {p = suc p} l =
     rw (bit-next (n * 2 ^ suc k) p, shifted-half n k) (bit-shift-left-low n k (le-of-suc-le-suc l))
 
 -- ---- the number with one position, and that with all positions below n
+
+-- 1 shifted within the width loses nothing
+pub one-shifted : (k : ℕ) {p : ℕ} → p < k → 1 * 2 ^ p % 2 ^ k ≡ 2 ^ p
+one-shifted k {p} l = rw (one-mul (2 ^ p)) (mod-eq-of-lt (pow-lt l))
 
 pub bit-one-shifted : (p q : ℕ) → bit (2 ^ p) q ≡ eqb q p
 unfolding bit

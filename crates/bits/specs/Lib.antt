@@ -7,3 +7,4 @@ pub mod CountJoinLaws
 pub mod Bit
 pub mod BitLaws
 pub mod WordLaws
+pub mod Word

@@ -1,0 +1,17 @@
+-- `bits::has`: the shifted word's remainder by 2 is the digit at p, and that is what `bit` tests.
+-- Assumes nothing.
+use mathlib.Core.Path.{refl}
+use borrow.Author.Needs.{needs}
+use Rattle.bits.specs.Bit.{bit}
+use Rattle.bits.proofs.position.has.Statement.{statement}
+use Rattle.bits.proofs.position.has.Tie as tie
+
+shr-result : tie.Need-shr-result
+shr-result c = search needs
+
+returns : tie.Need-returns
+unfolding bit
+returns c = refl
+
+pub has-spec : {M : Type 1} → statement M
+has-spec = tie.close (tie.spec shr-result returns)

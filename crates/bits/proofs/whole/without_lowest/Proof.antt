@@ -1,0 +1,22 @@
+-- `bits::without_lowest`: w - 1 has no longer the lowest position of w, has those below it, which w has not, and agrees above it.
+-- Assumes nothing.
+use borrow.Author.Needs.{needs}
+use Rattle.bits.specs.Bit.{bit, word-bits}
+use Rattle.bits.specs.LowestLaws.{lowest-below-elim}
+use Rattle.bits.specs.WordLaws.{bit-drop-lowest, drop-lowest-less}
+use Rattle.bits.proofs.whole.without_lowest.Statement.{statement}
+use Rattle.bits.proofs.whole.without_lowest.Tie as tie
+
+sub-result : tie.Need-sub-result
+sub-result c = search needs
+
+returns : tie.Need-returns
+returns c =
+    let w = c .args .w in
+    record {
+      less = drop-lowest-less w (c .pre);
+      others = λ e. bit-drop-lowest word-bits w (lowest-below-elim word-bits (bit w) e);
+    }
+
+pub without-lowest-spec : {M : Type 1} → statement M
+without-lowest-spec = tie.close (tie.spec sub-result returns)

@@ -1,0 +1,48 @@
+// A word as a whole.
+use crate::WORD_BITS;
+ghost use mathlib.Core.Path.{_≡_};
+ghost use mathlib.Core.Option.{some};
+ghost use Prim.Native.Nat.{ℕ, _<_, _≤_};
+ghost use lib.Dec.{ltb};
+ghost use Rattle.bits.specs.Truth.{implies};
+ghost use Rattle.bits.specs.Below.{count-below, every-below, lowest-below};
+ghost use Rattle.bits.specs.Bit.{bit, word-bits};
+ghost use Rattle.bits.specs.Word.{LowestDropped};
+
+// How many positions w has.
+pub fn count(w: u64) -> usize
+    ensures { λ r. ⌜ r ≡ count-below word-bits (bit w) ⌝ }
+{
+    u64::count_ones(w) as usize
+}
+
+// The lowest position of w, which has one.
+pub fn lowest(w: u64) -> usize
+    requires { ⌜ 0 < w ⌝ }
+    ensures { λ r. ⌜ lowest-below word-bits (bit w) ≡ some r ⌝ }
+{
+    u64::trailing_zeros(w) as usize
+}
+
+// The positions of w but the lowest. The result is the lesser number, so a loop that goes on with it ends.
+pub fn without_lowest(w: u64) -> u64
+    requires { ⌜ 0 < w ⌝ }
+    ensures { λ r. ⌜ LowestDropped w r ⌝ }
+{
+    w & (w - 1)
+}
+
+// The positions below n.
+pub fn full(n: usize) -> u64
+    requires { ⌜ n ≤ word-bits ⌝ }
+    ensures { λ r. ⌜ ((q : ℕ) → bit r q ≡ ltb q n) ⌝ }
+{
+    if n == WORD_BITS { !0 } else { (1 << n) - 1 }
+}
+
+// Whether b has every position of a.
+pub fn within(a: u64, b: u64) -> bool
+    ensures { λ r. ⌜ r ≡ every-below word-bits (λ p. implies (bit a p) (bit b p)) ⌝ }
+{
+    a & b == a
+}
