@@ -16,6 +16,11 @@ unfoldable pub count-below : ℕ → (ℕ → Bool) → ℕ
 count-below zero f = 0
 count-below (suc n) f = count-below n f + one-if (f n)
 
+-- the sum of g over the numbers below n
+unfoldable pub sum-below : ℕ → (ℕ → ℕ) → ℕ
+sum-below zero g = 0
+sum-below (suc n) g = sum-below n g + g n
+
 -- some number below n passes f
 unfoldable pub some-below : ℕ → (ℕ → Bool) → Bool
 some-below zero f = false

@@ -3,7 +3,7 @@
 -- Assumes nothing.
 use mathlib.Core.Path.{_≡_, refl, sym, ap, _∙_}
 use mathlib.Core.Logic.{_⊎_, inl, inr, ⊎-elim}
-use mathlib.Core.Bool.{Bool, true, false, So, not, _&&_, _||_, false≢true, or-false, and-true}
+use mathlib.Core.Bool.{Bool, false, So, not, _&&_, _||_, false≢true, or-false, and-true}
 use Prim.Native.Nat.{ℕ, zero, suc, _+_, _≤_, _<_}
 use native.Mathlib.Nat.{add-zero, add-suc, le-refl, le-step, le-of-suc-le-suc, lt-of-lt-of-le, not-suc-le-zero, eq-or-lt-of-le}
 use native.Mathlib.Omega.{arith}

@@ -1,9 +1,9 @@
 -- The positions of a number, of any width: what each operation on numbers does to them. The lowest position tells the remainder by 2, and the
 -- others are those of the half, so a law holds at each position by the same law at the half (`bit-first`, `bit-next`).
 -- Assumes nothing.
-use mathlib.Core.Path.{_≡_, refl, sym, ap, ap₂, _∙_}
+use mathlib.Core.Path.{_≡_, refl, sym, ap, _∙_}
 use mathlib.Core.Logic.{_⊎_, inl, inr, ⊎-elim}
-use mathlib.Core.Bool.{Bool, true, false, So, not, _&&_, _||_, xor}
+use mathlib.Core.Bool.{Bool, false, not, _&&_, _||_, xor}
 use Prim.Native.Nat.{ℕ, zero, suc, _+_, _-_, _*_, _/_, _%_, _^_, _≤_, _<_, suc-le-suc}
 use native.Mathlib.Nat.{pow-suc, zero-div, div-one, div-eq-of-lt, mod-lt, mod-eq-of-lt, mul-mod-left, one-mul, sub-zero, lt-of-lt-of-le, le-of-suc-le-suc, not-suc-le-zero, zero-lt-suc}
 use native.Mathlib.Omega.{arith}

@@ -1,10 +1,15 @@
+-- Words as sets of positions, and what is counted and looked for below a bound. `Below` and `Bit` have the definitions, `Word` what a contract says
+-- of a whole word; the other modules have the laws, one subject each.
 pub mod Truth
 pub mod Below
 pub mod BelowLaws
 pub mod LowestLaws
 pub mod CountLaws
 pub mod CountJoinLaws
+pub mod SumLaws
+pub mod BlockLaws
 pub mod Bit
 pub mod BitLaws
-pub mod WordLaws
 pub mod Word
+pub mod WordLaws
+pub mod Computed

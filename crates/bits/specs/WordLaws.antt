@@ -1,9 +1,9 @@
 -- What a machine's instructions on a word say of its positions, for a word of any width k: the count of ones, the zeros below the lowest one, the
 -- word with its lowest one dropped, and the tests that compare a word with an `and`. A step down to the half is a step up in positions.
 -- Assumes nothing.
-use mathlib.Core.Path.{_≡_, refl, sym, ap, _∙_}
+use mathlib.Core.Path.{_≡_, sym, ap, _∙_}
 use mathlib.Core.Logic.{⊎-elim}
-use mathlib.Core.Bool.{Bool, true, false, So, not, _&&_, and-true, and-self}
+use mathlib.Core.Bool.{false, So, not, _&&_, and-true, and-self}
 use Prim.Native.Nat.{ℕ, zero, suc, _-_, _/_, _%_, _^_, _<_, suc-le-suc}
 use native.Mathlib.Nat.{pow-suc, lt-of-le-of-lt, zero-lt-suc}
 use native.Mathlib.Omega.{arith}
@@ -11,7 +11,7 @@ use borrow.Author.Tests.{eq-eqb, eqb-true}
 use lib.Dec.{eqb, eqb·suc-zero, eqb·suc-suc}
 use lib.Pow.{pow-pos}
 use lib.Bits.{bitAnd, and-le-l, and-le-r}
-use lib.Count.{ones, ones-step, ones-le, trailingZeros, under}
+use lib.Count.{ones, ones-step, ones-le, trailingZeros}
 use Rattle.bits.specs.Truth.{implies, implies-intro, and-absorbs, and-right, not-both, not-passes, not-fails, same-truth}
 use Rattle.bits.specs.Below.{one-if, count-below, some-below, every-below, Lowest}
 use Rattle.bits.specs.BelowLaws.{some-below-ext, none-below-intro, none-below-elim, every-below-intro, every-below-elim}
