@@ -1,0 +1,5 @@
+-- The role book (role decomposition with its certificate) as bytes.
+pub mod Decimal
+pub mod Words
+pub mod Blocks
+pub mod Book

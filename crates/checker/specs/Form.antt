@@ -1,0 +1,151 @@
+-- The form of a book for a sheet, line by line, and what a book of the form says. Assumes nothing.
+use Prim.Native.Nat.{ℕ, suc}
+use mathlib.Core.Bool.{Bool, _&&_, _||_, cond}
+use mathlib.Core.List.{List, [], _∷_, map, tail}
+use mathlib.Core.Option.{Option·getD}
+use lib.Dec.{eqb, leb}
+use lib.ListN.{length, getD}
+use Rattle.bits.specs.Below.{every-below, lowest-below}
+use Rattle.lists.specs.Ascii.{ascii}
+use Rattle.lists.specs.Lists.{any, all, same-by, same-bytes, list-of}
+use Rattle.sheet.specs.Limits.{permission-limit}
+use Rattle.sheet.specs.Text.{Bytes, Line, line-feed}
+use Rattle.sheet.specs.Sheet.{Sheet, Grant, first-field, first-line, is-one, user-count, permission-count}
+use Rattle.sheet.specs.Refusal.{last-byte, is-bit, same-name}
+use Rattle.roles.specs.RoleSet.{RoleSet}
+use Rattle.roles.specs.Roles.{Standing, witnessed, searched, unsettled}
+use Rattle.book.specs.Decimal.{is-count}
+use Rattle.book.specs.Words.{standing-word, role-name, counts-heading, witness-heading}
+use Rattle.book.specs.Blocks.{Block, blocks-of}
+use Rattle.book.specs.Book.{Said, user-name}
+
+-- the greatest book that the checker takes, in bytes
+unfoldable pub book-limit : ℕ
+book-limit = 65_536
+
+-- the most roles of a book: as many as permissions, since no cover needs more
+unfoldable pub role-limit : ℕ
+unfolding permission-limit
+role-limit = permission-limit
+
+-- two lines are equal, field for field
+abbrev pub same-line : Line → Line → Bool
+same-line = same-by same-bytes
+
+-- a block of a list of blocks, a line of a block, a field of a line, each by number
+abbrev pub block-at : List Block → ℕ → Block
+block-at blocks n = getD blocks n []
+
+abbrev pub line-at : Block → ℕ → Line
+line-at block n = getD block n []
+
+abbrev pub field-at : Line → ℕ → Bytes
+field-at line n = getD line n []
+
+-- a field is one of the three state words
+abbrev pub is-standing : Bytes → Bool
+is-standing field =
+    same-bytes field (standing-word witnessed)
+    || same-bytes field (standing-word searched)
+    || same-bytes field (standing-word unsettled)
+
+-- block 1: its line of names, then roles, bound and state
+unfoldable pub counts-form : Block → Bool
+counts-form block =
+    eqb (length block) 2
+    && same-line (line-at block 0) counts-heading
+    && eqb (length (line-at block 1)) 3
+    && is-count (field-at (line-at block 1) 0)
+    && is-count (field-at (line-at block 1) 1)
+    && is-standing (field-at (line-at block 1) 2)
+
+-- a line of a name and as many cells as asked
+abbrev pub cells-line : Line → ℕ → Bool
+cells-line line count = eqb (length line) (suc count) && all is-bit (tail line)
+
+-- block 2: `role` and the sheet's permissions in order, then up to 64 lines of the roles `R1`, `R2`, .. in order
+unfoldable pub roles-form : Sheet → Block → Bool
+unfolding role-limit role-name
+roles-form sheet block =
+    same-bytes (first-field (first-line block)) (ascii "role")
+    && same-by same-name (tail (first-line block)) (sheet .permissions)
+    && leb (length (tail block)) role-limit
+    && every-below (length (tail block)) (λ r.
+    same-bytes (first-field (line-at (tail block) r)) (role-name r)
+    && cells-line (line-at (tail block) r) (permission-count sheet))
+
+-- block 3: `user` and the same roles, then a line for each of the sheet's users in order
+unfoldable pub users-form : Sheet → ℕ → Block → Bool
+unfolding role-name
+users-form sheet roles block =
+    same-line (first-line block) (ascii "user" ∷ list-of roles role-name)
+    && eqb (length (tail block)) (user-count sheet)
+    && every-below (user-count sheet) (λ u.
+    same-name (first-field (line-at (tail block) u)) (user-name sheet u)
+    && cells-line (line-at (tail block) u) roles)
+
+-- a name of the sheet
+abbrev pub known : List Bytes → Bytes → Bool
+known names name = any (same-name name) names
+
+-- block 4: its line of names, then lines of a user and a permission of the sheet, in any order
+unfoldable pub witness-form : Sheet → Block → Bool
+witness-form sheet block =
+    same-line (first-line block) witness-heading
+    && all (λ line.
+    eqb (length line) 2
+    && known (sheet .users) (field-at line 0)
+    && known (sheet .permissions) (field-at line 1)) (tail block)
+
+-- four blocks, one empty line between, every line ended by a line feed
+unfoldable pub form : Sheet → Bytes → Bool
+unfolding blocks-of counts-form roles-form users-form witness-form
+form sheet text =
+    let blocks : List Block = blocks-of text in
+    eqb (last-byte text) line-feed
+    && eqb (length blocks) 4
+    && counts-form (block-at blocks 0)
+    && roles-form sheet (block-at blocks 1)
+    && users-form sheet (length (tail (block-at blocks 1))) (block-at blocks 2)
+    && witness-form sheet (block-at blocks 3)
+
+-- the number of a name in a list of names
+abbrev pub number-among : List Bytes → Bytes → ℕ
+number-among names name = Option·getD (lowest-below (length names) (λ i. same-name name (getD names i []))) 0
+
+-- the grant that a witness line names
+abbrev pub grant-of-line : Sheet → Line → Grant
+grant-of-line sheet line =
+    record {
+      user = number-among (sheet .users) (field-at line 0);
+      permission = number-among (sheet .permissions) (field-at line 1);
+    }
+
+-- the state that a word says
+abbrev pub standing-said : Bytes → Standing
+standing-said word =
+    cond (same-bytes word (standing-word witnessed)) witnessed
+    (cond (same-bytes word (standing-word searched)) searched unsettled)
+
+-- what four blocks of the form say
+abbrev pub said-by-blocks : Sheet → List Block → Said
+said-by-blocks sheet blocks =
+    let counts : Line = line-at (block-at blocks 0) 1 in
+    let role-lines : List Line = tail (block-at blocks 1) in
+    let user-lines : List Line = tail (block-at blocks 2) in
+    record {
+      role-digits = field-at counts 0;
+      bound-digits = field-at counts 1;
+      standing = standing-said (field-at counts 2);
+      roles = record {
+        count = length role-lines;
+        has = λ u r. is-one (field-at (line-at user-lines u) (suc r));
+        gives = λ r p. is-one (field-at (line-at role-lines r) (suc p));
+      };
+      witness = map (grant-of-line sheet) (tail (block-at blocks 3));
+    }
+
+-- what these bytes say as a book for the sheet
+unfoldable pub said : Sheet → Bytes → Said
+unfolding blocks-of
+said sheet text = said-by-blocks sheet (blocks-of text)

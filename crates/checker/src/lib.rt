@@ -1,0 +1,1 @@
+// Judging a role book against a sheet.

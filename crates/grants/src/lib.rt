@@ -1,0 +1,1 @@
+// Fit, reduction, witness and first cover.

@@ -1,0 +1,10 @@
+-- Words of the papers as bytes. Assumes nothing.
+use Prim.Native.Nat.{ℕ}
+use Prim.Native.Char.{Char, code}
+use Prim.Native.String.{String, [] as empty, _∷_ as _then_}
+use mathlib.Core.List.{List, [], _∷_}
+
+-- the bytes of a text, one for each character
+abbrev pub ascii : String → List ℕ
+ascii empty = []
+ascii (c then rest) = code c ∷ ascii rest

@@ -1,0 +1,4 @@
+-- What the definitions of all crates are written with: lists under a Boolean test, and words as bytes.
+pub mod Lists
+pub mod Placement
+pub mod Ascii

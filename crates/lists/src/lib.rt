@@ -1,0 +1,1 @@
+// Lists with Boolean tests: definitions and laws only.

@@ -1,0 +1,4 @@
+-- Roles: any role set and its product; the classes of all grants; the roles of a session; state and bound.
+pub mod RoleSet
+pub mod Classes
+pub mod Roles

@@ -1,0 +1,1 @@
+// Roles from a placement of the kernel.

@@ -1,0 +1,2 @@
+-- The search machine: its state, one step, a search within a budget.
+pub mod Machine

@@ -1,0 +1,115 @@
+-- The paper's edge cases and the four slips to shut out, computed together from the definitions. Assumes nothing.
+use Prim.Native.Nat.{ℕ}
+use mathlib.Core.Path.{_≡_, refl}
+use mathlib.Core.List.{List, [], _∷_, map}
+use mathlib.Core.Option.{Option, none, some}
+use Rattle.bits.specs.Below.{lowest-below}
+use Rattle.lists.specs.Ascii.{ascii}
+use Rattle.sheet.specs.Text.{Bytes}
+use Rattle.sheet.specs.Sheet.{Grant, sheet-of}
+use Rattle.grants.specs.Witness.{witness}
+use Rattle.search.specs.Machine.{depth}
+use Rattle.roles.specs.Roles.{Standing, witnessed, searched, unsettled}
+use Rattle.session.specs.Session.{Session, no-sheet, loaded, fresh, LoadAnswer, load-answer, load-refused, after-load, SearchAnswer, search-answer, search-refused, after-search, session-book}
+use Rattle.session.specs.Program.{program-output}
+
+-- a sheet to load into a fresh session, and the budget of one search after it
+pub record Trial : Type 0 where
+  pub sheet : Bytes
+  pub budget : ℕ
+
+-- what they answer, and how many grants are placed then
+pub record Finding : Type 0 where
+  pub load : LoadAnswer
+  pub search : SearchAnswer
+  pub placed : ℕ
+
+placed-in-session : Session → ℕ
+placed-in-session no-sheet = 0
+placed-in-session (loaded text st) = depth st
+
+finding : Trial → Finding
+unfolding load-answer search-answer after-load after-search placed-in-session
+finding trial =
+    let session : Session = after-load fresh (trial .sheet) in
+    record {
+      load = load-answer (trial .sheet);
+      search = search-answer session (trial .budget);
+      placed = placed-in-session (after-search session (trial .budget));
+    }
+
+-- the sheet of the paper's example
+worked : Bytes
+worked = ascii "user,rec,id,map\nann,1,1,0\nbo,0,1,1\ncy,1,1,1\n"
+
+-- n users each lacking only their own permission
+crown-of-three : Bytes
+crown-of-three = ascii "user,a,b,c\nx,0,1,1\ny,1,0,1\nz,1,1,0\n"
+
+crown-of-four : Bytes
+crown-of-four = ascii "user,a,b,c,d\nw,0,1,1,1\nx,1,0,1,1\ny,1,1,0,1\nz,1,1,1,0\n"
+
+-- a sheet whose search finds a better placement in step 14; were used not held below the class count, step 17 would go another way
+improves : Bytes
+improves =
+    ascii "user,a,b,c,d,e,f,g\nq,1,1,0,1,0,1,1\nr,1,1,0,1,1,1,1\ns,0,1,1,1,1,1,1\nt,1,1,0,1,0,1,0\nu,1,0,1,0,0,1,1\nv,1,1,1,0,1,1,1\nw,1,0,1,0,1,1,1\n"
+
+trial : Bytes → ℕ → Trial
+trial sheet budget = record { sheet = sheet; budget = budget }
+
+-- counts of an accepted load
+counts : ℕ → ℕ → ℕ → ℕ → ℕ → LoadAnswer
+counts users permissions grants kernel witness =
+    record { number = 0; users = users; permissions = permissions; grants = grants; kernel = kernel; witness = witness }
+
+-- figures of an accepted search
+figures : ℕ → ℕ → ℕ → Standing → SearchAnswer
+figures steps roles bound standing = record { number = 0; steps = steps; roles = roles; bound = bound; standing = some standing }
+
+trials : List Trial
+unfolding trial worked crown-of-three crown-of-four improves
+trials =
+    trial worked 0
+    ∷ trial (ascii "user,a\nx,0\n") 0
+    ∷ trial (ascii "user,a,b\nx,1,1\n") 0
+    ∷ trial crown-of-three 5
+    ∷ trial crown-of-four 0
+    ∷ trial crown-of-four 1
+    ∷ trial (ascii "user,a\nabcdefghijklmnop,1\n") 0
+    ∷ trial (ascii "user,a\nabcdefghijklmnopq,1\n") 0
+    ∷ trial (ascii "user,a\nAnn,1\nann,0\n") 0
+    ∷ trial [] 0
+    ∷ trial (ascii "user,a,b\nx,1,1\ny,1,1\n") 0
+    ∷ trial improves 17
+    ∷ []
+
+found : Finding → LoadAnswer
+found f = f .load
+
+edges : map finding trials ≡
+    record { load = counts 3 3 7 0 2; search = figures 0 2 2 witnessed; placed = 0 }
+    ∷ record { load = counts 1 1 0 0 0; search = figures 0 0 0 witnessed; placed = 0 }
+    ∷ record { load = counts 1 2 2 0 1; search = figures 0 1 1 witnessed; placed = 0 }
+    ∷ record { load = counts 3 3 6 6 3; search = figures 0 3 3 witnessed; placed = 0 }
+    ∷ record { load = counts 4 4 12 12 3; search = figures 0 4 3 unsettled; placed = 0 }
+    ∷ record { load = counts 4 4 12 12 3; search = figures 1 4 3 unsettled; placed = 1 }
+    ∷ record { load = counts 1 1 1 0 1; search = figures 0 1 1 witnessed; placed = 0 }
+    ∷ record { load = load-refused 5; search = search-refused 10; placed = 0 }
+    ∷ record { load = counts 2 1 1 0 1; search = figures 0 1 1 witnessed; placed = 0 }
+    ∷ record { load = load-refused 2; search = search-refused 10; placed = 0 }
+    ∷ record { load = counts 2 2 4 0 1; search = figures 0 1 1 witnessed; placed = 0 }
+    ∷ record { load = counts 7 7 36 10 4; search = figures 17 5 4 unsettled; placed = 7 }
+    ∷ []
+unfolding finding trials counts figures lowest-below
+edges = refl
+
+-- one user with two ones: the witness is the second grant
+second-grant : witness (sheet-of (ascii "user,a,b\nx,1,1\n")) ≡ record { user = 0; permission = 1 } ∷ []
+unfolding witness sheet-of
+second-grant = refl
+
+-- the worked example's whole book from the sheet's bytes
+worked-book : program-output worked [] ≡
+    ascii "roles,bound,state\n2,2,witnessed\n\nrole,rec,id,map\nR1,1,1,0\nR2,0,1,1\n\nuser,R1,R2\nann,1,0\nbo,0,1\ncy,1,1\n\nuser,permission\nann,rec\nbo,map\n"
+unfolding program-output worked lowest-below
+worked-book = refl

@@ -1,0 +1,6 @@
+-- The session: its calls and answers, sequences of calls, and the three demands.
+pub mod Session
+pub mod Program
+pub mod Sequence
+pub mod Demands
+pub mod Edges

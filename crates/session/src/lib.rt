@@ -1,0 +1,1 @@
+// A session: loads, searches and writings.

@@ -1,0 +1,6 @@
+-- The grant sheet (user-permission assignment): its text, its rules, and which user holds which permission.
+pub mod Limits
+pub mod Text
+pub mod Sheet
+pub mod Refusal
+pub mod Rules
