@@ -12,6 +12,7 @@ use Rattle.sheet.specs.Refusal.{Cause, sheet-causes, accepted}
 use Rattle.sheet.specs.Rules.{Keeps}
 use Rattle.grants.specs.Reduction.{kernel}
 use Rattle.search.specs.Machine.{search-limit}
+use Rattle.search.specs.Budget.{enough}
 use Rattle.roles.specs.RoleSet.{RoleSet, Multiplies}
 use Rattle.roles.specs.Roles.{witnessed, searched, unsettled}
 use Rattle.book.specs.Book.{Said}
@@ -20,7 +21,7 @@ use Rattle.checker.specs.Form.{said}
 use Rattle.checker.specs.Check.{CheckAnswer, check, check-causes, check-refused, confirmed}
 use Rattle.checker.specs.Right.{Right}
 use Rattle.session.specs.Session.{Session, LoadAnswer, load-answer, load-refused, after-load, SearchAnswer, search-answer, search-causes, search-refused, after-search, WriteAnswer, write-answer, write-causes, write-refused, buffer-after}
-use Rattle.session.specs.Sequence.{Call, load, search, write, Written, Outcome, Event, Led, last-accepted, budgets-given, calls, brought-out, enough}
+use Rattle.session.specs.Sequence.{Call, load, search, write, Written, Outcome, Event, Led, last-accepted, budgets-given, calls, brought-out}
 
 -- number is the lowest of the causes that apply, and 0 exactly where none applies
 pub record LowestThatApplies (causes : List Cause) (number : ℕ) : Type 0 where

@@ -1,5 +1,5 @@
 -- Sequences of calls on one session from a fresh one, the last accepted load, the budgets given and the books brought out. Assumes nothing.
-use Prim.Native.Nat.{ℕ, zero, suc, _+_, _*_}
+use Prim.Native.Nat.{ℕ, _+_}
 use mathlib.Core.Path.{_≡_}
 use mathlib.Core.Bool.{Bool, true, false, cond}
 use mathlib.Core.List.{List, [], _∷_, map}
@@ -63,17 +63,3 @@ calls events = map (λ event. event .call) events
 -- the book that an accepted writing brought out: the bytes at the front of its buffer, as many as it answers
 abbrev pub brought-out : Written → Bytes
 brought-out written = take (written .answer .count) (written .lent)
-
--- 1 · 2 · .. · n
-abbrev pub factorial : ℕ → ℕ
-factorial zero = 1
-factorial (suc n) = suc n * factorial n
-
--- 1! + 2! + .. + n!
-abbrev pub factorials : ℕ → ℕ
-factorials zero = 0
-factorials (suc n) = factorials n + factorial (suc n)
-
--- budgets that must end the search of a kernel of k grants
-abbrev pub enough : ℕ → ℕ
-enough k = 2 * factorials k + 1
