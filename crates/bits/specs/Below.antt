@@ -1,6 +1,5 @@
 -- Counting and searching below a bound, for any test on the numbers. Each is a recursion on the bound that looks at the last number below it,
 -- so a loop that counts up meets one clause a turn. All of them compute: a `let` holds back what may never be looked at.
--- Assumes nothing.
 use mathlib.Core.Path.{_≡_}
 use mathlib.Core.Bool.{Bool, true, false, So, _&&_, _||_}
 use mathlib.Core.Option.{Option, none, some}

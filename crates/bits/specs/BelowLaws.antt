@@ -1,6 +1,5 @@
 -- How to show and how to use that some or every number below a bound passes a test. Each law is an induction on the bound: a number below
 -- `suc n` is n, or is below n.
--- Assumes nothing.
 use mathlib.Core.Path.{_≡_, refl, sym, ap, _∙_}
 use mathlib.Core.Logic.{_⊎_, inl, inr, ⊎-elim}
 use mathlib.Core.Bool.{Bool, false, So, not, _&&_, _||_, false≢true, or-false, and-true}

@@ -1,5 +1,4 @@
 -- A number as the set of the positions of its binary digits that are 1.
--- Assumes nothing.
 use mathlib.Core.Bool.{Bool}
 use Prim.Native.Nat.{ℕ, _/_, _%_, _^_}
 use lib.Dec.{eqb}

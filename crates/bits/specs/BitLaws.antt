@@ -1,9 +1,8 @@
 -- The positions of a number, of any width: what each operation on numbers does to them. The lowest position tells the remainder by 2, and the
 -- others are those of the half, so a law holds at each position by the same law at the half (`bit-first`, `bit-next`).
--- Assumes nothing.
 use mathlib.Core.Path.{_≡_, refl, sym, ap, _∙_}
 use mathlib.Core.Logic.{_⊎_, inl, inr, ⊎-elim}
-use mathlib.Core.Bool.{Bool, false, not, _&&_, _||_, xor}
+use mathlib.Core.Bool.{Bool, false, So, not, _&&_, _||_, xor}
 use Prim.Native.Nat.{ℕ, zero, suc, _+_, _-_, _*_, _/_, _%_, _^_, _≤_, _<_, suc-le-suc}
 use native.Mathlib.Nat.{pow-suc, zero-div, div-one, div-eq-of-lt, mod-lt, mod-eq-of-lt, mul-mod-left, one-mul, sub-zero, lt-of-lt-of-le, le-of-suc-le-suc, not-suc-le-zero, zero-lt-suc}
 use native.Mathlib.Omega.{arith}
@@ -12,6 +11,7 @@ use borrow.Author.Tests.{lt-ltb, le-ltb}
 use lib.Dec.{eqb, ltb, eqb·zero-suc, eqb·suc-zero, eqb·suc-suc}
 use lib.Pow.{pow-pos, pow-mono, pow-lt, ones-lt, shr-shr, shl-shr}
 use lib.Bits.{bitAnd, bitOr, bitXor, and-shr, or-shr, xor-shr, and-mod, or-mod, xor-mod, shifted-half, shifted-even}
+use Rattle.bits.specs.Truth.{not-both}
 use Rattle.bits.specs.Bit.{bit}
 use Rattle.bits.specs.Below.{one-if}
 use Rattle.bits.specs.BelowLaws.{below-or-from}
@@ -46,6 +46,9 @@ bit-of-zero p = rw (zero-div (2 ^ p))
 pub bit-above : (k n : ℕ) → n < 2 ^ k → {p : ℕ} → k ≤ p → bit n p ≡ false
 unfolding bit
 bit-above k n h {p} l = rw (div-eq-of-lt (lt-of-lt-of-le h (pow-mono l)))
+
+pub bit-within : (k n : ℕ) → n < 2 ^ k → {p : ℕ} → So (bit n p) → p < k
+bit-within k n h {p} e = ⊎-elim (λ l. l) (λ l. absurd (not-both e (bit-above k n h l))) (below-or-from p k)
 
 -- two numbers with the same positions below the width are one
 pub bit-ext : (k a b : ℕ) → a < 2 ^ k → b < 2 ^ k → ((p : ℕ) → p < k → bit a p ≡ bit b p) → a ≡ b

@@ -1,6 +1,5 @@
 -- What holds below m * k, taken as m blocks of k: the number i * k + j is the place j of the block i. So a row of words is counted and searched word
 -- by word. Each law is an induction on the blocks, by the law for a sum of bounds.
--- Assumes nothing.
 use mathlib.Core.Path.{_≡_, sym, _∙_}
 use mathlib.Core.Bool.{Bool, or-comm, and-comm}
 use Prim.Native.Nat.{ℕ, zero, suc, _+_, _*_, _/_, _%_, _^_, _<_}

@@ -1,5 +1,4 @@
 -- Small cases, each computed by the definitions themselves.
--- Assumes nothing.
 use mathlib.Core.Path.{_≡_, refl}
 use mathlib.Core.Bool.{true, false}
 use mathlib.Core.Option.{none, some}

@@ -1,7 +1,6 @@
 -- Counts of tests that are joined by and, or and not, of a test with one number put in or taken out, and of two tests with a map between them.
 -- The first group compares number by number; the second follows from it, since the number put in is counted once; for the map, each number taken
 -- out on the left takes its image out on the right.
--- Assumes nothing.
 use mathlib.Core.Path.{_≡_, refl, sym, _∙_}
 use mathlib.Core.Logic.{⊎-elim}
 use mathlib.Core.Bool.{Bool, true, false, So, not, _&&_, _||_, and-false}

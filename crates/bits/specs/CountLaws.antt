@@ -1,6 +1,5 @@
 -- How many numbers below a bound pass a test. The count of a bound one greater is the count so far, and 1 more where the last number passes:
 -- so every law is an induction on the bound that compares what the last number adds on both sides.
--- Assumes nothing.
 use mathlib.Core.Path.{_≡_, refl}
 use mathlib.Core.Logic.{⊎-elim}
 use mathlib.Core.Bool.{Bool, true, false, So, false≢true}

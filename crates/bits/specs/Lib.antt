@@ -2,6 +2,7 @@
 -- of a whole word; the other modules have the laws, one subject each.
 pub mod Truth
 pub mod Below
+pub mod StepLaws
 pub mod BelowLaws
 pub mod LowestLaws
 pub mod CountLaws

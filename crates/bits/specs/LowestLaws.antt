@@ -1,6 +1,5 @@
 -- What the lowest number below a bound is: a number that passes with none before it, and there is one unless every number fails.
 -- Each law is an induction on the bound, or follows from `lowest-below-cases` and the two laws of introduction.
--- Assumes nothing.
 use mathlib.Core.Path.{_≡_, refl, sym, _∙_}
 use mathlib.Core.Logic.{_⊎_, inl, inr, ⊎-elim}
 use mathlib.Core.Bool.{Bool, false, So}

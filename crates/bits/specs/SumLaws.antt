@@ -1,5 +1,4 @@
 -- Sums over the numbers below a bound. As with a count, each law is an induction on the bound that compares what the last number adds.
--- Assumes nothing.
 use mathlib.Core.Path.{_≡_, refl, sym}
 use mathlib.Core.Logic.{⊎-elim}
 use mathlib.Core.Bool.{Bool}

@@ -1,5 +1,4 @@
 -- What follows from a test that passes or fails. A test passes where it is true, `So b`, which is `b ≡ true`.
--- Assumes nothing.
 use mathlib.Core.Path.{_≡_, refl, sym, _∙_}
 use mathlib.Core.Logic.{_⊎_, inl, inr}
 use mathlib.Core.Bool.{Bool, true, false, So, not, _&&_, _||_, false≢true}

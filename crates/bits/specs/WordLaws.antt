@@ -1,10 +1,9 @@
 -- What a machine's instructions on a word say of its positions, for a word of any width k: the count of ones, the zeros below the lowest one, the
 -- word with its lowest one dropped, and the tests that compare a word with an `and`. A step down to the half is a step up in positions.
--- Assumes nothing.
 use mathlib.Core.Path.{_≡_, sym, ap, _∙_}
 use mathlib.Core.Logic.{⊎-elim}
 use mathlib.Core.Bool.{false, So, not, _&&_, and-true, and-self}
-use Prim.Native.Nat.{ℕ, zero, suc, _-_, _/_, _%_, _^_, _<_, suc-le-suc}
+use Prim.Native.Nat.{ℕ, zero, suc, _-_, _/_, _%_, _+_, _^_, _<_, suc-le-suc}
 use native.Mathlib.Nat.{pow-suc, lt-of-le-of-lt, zero-lt-suc}
 use native.Mathlib.Omega.{arith}
 use borrow.Author.Tests.{eq-eqb, eqb-true}
@@ -14,10 +13,12 @@ use lib.Bits.{bitAnd, and-le-l, and-le-r}
 use lib.Count.{ones, ones-step, ones-le, trailingZeros}
 use Rattle.bits.specs.Truth.{implies, implies-intro, and-absorbs, and-right, not-both, not-passes, not-fails, same-truth}
 use Rattle.bits.specs.Below.{one-if, count-below, some-below, every-below, Lowest}
-use Rattle.bits.specs.BelowLaws.{some-below-ext, none-below-intro, none-below-elim, every-below-intro, every-below-elim}
+use Rattle.bits.specs.BelowLaws.{some-below-intro, some-below-ext, none-below-intro, none-below-elim, every-below-intro, every-below-elim}
 use Rattle.bits.specs.LowestLaws.{lowest-ext, lowest-at-zero, lowest-next}
 use Rattle.bits.specs.CountLaws.{count-below-ext, count-below-first}
-use Rattle.bits.specs.Bit.{bit}
+use Rattle.bits.specs.CountJoinLaws.{count-below-without}
+use Rattle.bits.specs.Bit.{bit, word-bits}
+use Rattle.bits.specs.Word.{LowestDropped}
 use Rattle.bits.specs.BitLaws.{bit-first, bit-next, first-digit, even-or-odd, bit-of-zero, bit-ext, bit-and}
 
 -- ---- the count of ones
@@ -83,14 +84,28 @@ bit-drop-lowest k n {i} w q =
 pub drop-lowest-less : (n : ℕ) → 0 < n → bitAnd n (n - 1) < n
 drop-lowest-less n h = omega (arith, and-le-r n (n - 1))
 
+-- a loop that drops the lowest one takes as many turns as there are ones
+pub dropped-count : (w r : ℕ) → 0 < w → w < 2 ^ word-bits → LowestDropped w r
+    → count-below word-bits (bit w) ≡ count-below word-bits (bit r) + 1
+dropped-count w r p h d =
+    let i = trailingZeros word-bits w in
+    let low = lowest-trailing word-bits w p h in
+    rw (count-below-ext word-bits (bit r) (λ q. bit w q && not (eqb q i)) (λ q l. d .others low q))
+    (count-below-without word-bits (bit w) (low .within) (low .holds))
+
 -- ---- tests on whole words
+
+pub some-bit : (k n : ℕ) → 0 < n → n < 2 ^ k → So (some-below k (bit n))
+some-bit k n p h = let low = lowest-trailing k n p h in some-below-intro k (bit n) (low .within) (low .holds)
+
+pub no-bit : (k n : ℕ) → n < 2 ^ k → ((p : ℕ) → p < k → bit n p ≡ false) → n ≡ 0
+no-bit k n h e = bit-ext k n 0 h (pow-pos k) (λ p l. e p l ∙ sym (bit-of-zero p))
 
 pub zero-test : (k n : ℕ) → n < 2 ^ k → eqb n 0 ≡ not (some-below k (bit n))
 zero-test k n h =
     same-truth (eqb n 0) (not (some-below k (bit n)))
     (λ e. not-passes (some-below k (bit n)) (none-below-intro k (bit n) (λ p l. rw (eqb-true n 0 e) (bit-of-zero p))))
-    (λ e. eq-eqb n 0
-    (bit-ext k n 0 h (pow-pos k) (λ p l. none-below-elim k (bit n) (not-fails (some-below k (bit n)) e) l ∙ sym (bit-of-zero p))))
+    (λ e. eq-eqb n 0 (no-bit k n h (λ p l. none-below-elim k (bit n) (not-fails (some-below k (bit n)) e) l)))
 
 pub disjoint-test : (k a b : ℕ) → a < 2 ^ k → eqb (bitAnd a b) 0 ≡ not (some-below k (λ p. bit a p && bit b p))
 disjoint-test k a b h =

@@ -1,11 +1,10 @@
 // A word as a whole.
 use crate::WORD_BITS;
 ghost use mathlib.Core.Path.{_≡_};
-ghost use mathlib.Core.Option.{some};
 ghost use Prim.Native.Nat.{ℕ, _<_, _≤_};
 ghost use lib.Dec.{ltb};
 ghost use Rattle.bits.specs.Truth.{implies};
-ghost use Rattle.bits.specs.Below.{count-below, every-below, lowest-below};
+ghost use Rattle.bits.specs.Below.{count-below, every-below, Lowest};
 ghost use Rattle.bits.specs.Bit.{bit, word-bits};
 ghost use Rattle.bits.specs.Word.{LowestDropped};
 
@@ -19,7 +18,7 @@ pub fn count(w: u64) -> usize
 // The lowest position of w, which has one.
 pub fn lowest(w: u64) -> usize
     requires { ⌜ 0 < w ⌝ }
-    ensures { λ r. ⌜ lowest-below word-bits (bit w) ≡ some r ⌝ }
+    ensures { λ r. ⌜ Lowest word-bits (bit w) r ⌝ }
 {
     u64::trailing_zeros(w) as usize
 }

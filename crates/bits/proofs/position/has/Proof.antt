@@ -1,5 +1,4 @@
 -- `bits::has`: the shifted word's remainder by 2 is the digit at p, and that is what `bit` tests.
--- Assumes nothing.
 use mathlib.Core.Path.{refl}
 use borrow.Author.Needs.{needs}
 use Rattle.bits.specs.Bit.{bit}

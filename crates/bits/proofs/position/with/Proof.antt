@@ -1,5 +1,4 @@
 -- `bits::with`: 1 shifted by p has the position p alone, and `or` joins the positions of both words.
--- Assumes nothing.
 use borrow.Author.Needs.{needs}
 use Prim.Native.Nat.{_^_}
 use mathlib.Core.Path.{_∙_}

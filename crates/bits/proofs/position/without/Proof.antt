@@ -1,5 +1,4 @@
 -- `bits::without`: 1 shifted by p has the position p alone, and `and` with its complement keeps the positions of w that it has not.
--- Assumes nothing.
 use borrow.Author.Needs.{needs}
 use Prim.Native.Nat.{_^_}
 use mathlib.Core.Path.{_∙_}

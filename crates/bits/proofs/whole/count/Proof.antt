@@ -1,5 +1,4 @@
 -- `bits::count`: a word below 2 ^ 64 has as many ones as positions below 64 that it has.
--- Assumes nothing.
 use native.Mathlib.Omega.{arith}
 use lib.Count.{ones-le}
 use Rattle.bits.specs.Bit.{word-bits}

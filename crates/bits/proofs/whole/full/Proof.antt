@@ -1,5 +1,4 @@
 -- `bits::full`: the positions below n are those of 2 ^ n - 1, and at n = 64 that is the word of ones.
--- Assumes nothing.
 use borrow.Author.Needs.{needs}
 use Prim.Native.Nat.{_<_}
 use native.Mathlib.Omega.{arith}

@@ -1,9 +1,7 @@
 -- `bits::lowest`: the zeros below a word's lowest one are as many as the positions below it.
--- Assumes nothing.
 use native.Mathlib.Omega.{arith}
 use lib.Count.{trailing-le}
-use Rattle.bits.specs.Bit.{bit, word-bits}
-use Rattle.bits.specs.LowestLaws.{lowest-below-intro}
+use Rattle.bits.specs.Bit.{word-bits}
 use Rattle.bits.specs.WordLaws.{lowest-trailing}
 use Rattle.bits.proofs.whole.lowest.Statement.{statement}
 use Rattle.bits.proofs.whole.lowest.Tie as tie
@@ -12,7 +10,7 @@ cast-result : tie.Need-cast-result
 cast-result c = omega (arith, trailing-le word-bits (c .args .w))
 
 returns : tie.Need-returns
-returns c = lowest-below-intro word-bits (bit (c .args .w)) (lowest-trailing word-bits (c .args .w) (c .pre) (c .fits .w .fits))
+returns c = lowest-trailing word-bits (c .args .w) (c .pre) (c .fits .w .fits)
 
 pub lowest-spec : {M : Type 1} → statement M
 lowest-spec = tie.close (tie.spec cast-result returns)

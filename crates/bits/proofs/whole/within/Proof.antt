@@ -1,5 +1,4 @@
 -- `bits::within`: the positions that a shares with b are all of a's where `and` leaves a as it is.
--- Assumes nothing.
 use Rattle.bits.specs.Bit.{word-bits}
 use Rattle.bits.specs.WordLaws.{within-test}
 use Rattle.bits.proofs.whole.within.Statement.{statement}

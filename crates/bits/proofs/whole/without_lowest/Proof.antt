@@ -1,8 +1,6 @@
 -- `bits::without_lowest`: w - 1 has no longer the lowest position of w, has those below it, which w has not, and agrees above it.
--- Assumes nothing.
 use borrow.Author.Needs.{needs}
-use Rattle.bits.specs.Bit.{bit, word-bits}
-use Rattle.bits.specs.LowestLaws.{lowest-below-elim}
+use Rattle.bits.specs.Bit.{word-bits}
 use Rattle.bits.specs.WordLaws.{bit-drop-lowest, drop-lowest-less}
 use Rattle.bits.proofs.whole.without_lowest.Statement.{statement}
 use Rattle.bits.proofs.whole.without_lowest.Tie as tie
@@ -15,7 +13,7 @@ returns c =
     let w = c .args .w in
     record {
       less = drop-lowest-less w (c .pre);
-      others = λ e. bit-drop-lowest word-bits w (lowest-below-elim word-bits (bit w) e);
+      others = bit-drop-lowest word-bits w;
     }
 
 pub without-lowest-spec : {M : Type 1} → statement M
