@@ -1,5 +1,6 @@
 -- What the definitions of all crates are written with: lists under a Boolean test, and words as bytes.
 pub mod Lists
+pub mod TestLaws
 pub mod Placement
 pub mod Classing
 pub mod Ascii

@@ -1,0 +1,2 @@
+-- Why the book can be believed: role sets and classings of grants, and what the reduction keeps.
+pub mod GrantClassing

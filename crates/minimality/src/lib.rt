@@ -1,0 +1,1 @@
+// Theorems only: why a bound is a bound and a smallest role set is smallest.
