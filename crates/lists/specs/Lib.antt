@@ -1,6 +1,7 @@
--- What the definitions of all crates are written with: lists under a Boolean test, and words as bytes.
+-- What the definitions of all crates are written with: lists under a Boolean test, lists in order, and words as bytes.
 pub mod Lists
 pub mod TestLaws
+pub mod Ordered
 pub mod Placement
 pub mod Classing
 pub mod Ascii
