@@ -1,5 +1,6 @@
 -- Grants: which fit, which the reduction leaves, which bear witness, and the first cover.
 pub mod Fit
+pub mod FitLaws
 pub mod Reduction
 pub mod Witness
 pub mod Cover
