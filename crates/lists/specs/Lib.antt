@@ -2,6 +2,8 @@
 pub mod Lists
 pub mod TestLaws
 pub mod Ordered
+pub mod FilterLength
+pub mod Distinct
 pub mod ReverseLaws
 pub mod Placement
 pub mod Classing
