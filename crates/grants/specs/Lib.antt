@@ -1,6 +1,7 @@
 -- Grants: which fit, which the reduction leaves, which bear witness, and the first cover.
 pub mod Fit
 pub mod FitLaws
+pub mod WithoutLaws
 pub mod Reduction
 pub mod Witness
 pub mod Cover
