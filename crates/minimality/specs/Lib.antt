@@ -2,3 +2,4 @@
 pub mod GrantClassing
 pub mod RoleSets
 pub mod Removals
+pub mod Settling
