@@ -3,3 +3,4 @@ pub mod GrantClassing
 pub mod RoleSets
 pub mod Removals
 pub mod Settling
+pub mod ReductionKeeps
