@@ -1,11 +1,11 @@
--- Lists in which nothing stands twice. What a test leaves of such a list is such a list again, and a list of distinct elements that
--- all stand in another is no longer than that one: each of its elements takes an own place there.
+-- Lists in which nothing stands twice. One after another with nothing in common, read backwards, or mapped one to one they are such lists again. A
+-- list of distinct elements that all stand in another is no longer than that one: each of its elements takes an own place there.
 use Prim.Native.Nat.{ℕ, zero, suc, _+_, _≤_, _<_}
 use native.Mathlib.Nat.{add-zero}
 use native.Mathlib.Omega.{arith}
 use mathlib.Core.Path.{_≡_, refl, sym, ap, _∙_}
 use mathlib.Core.Logic.{_⊎_, inl, inr, ⊎-elim, _≢_}
-use mathlib.Core.List.{List, [], _∷_, _++_, map, List·Memᴰ, List·Memᴰ·head, List·Memᴰ·tail, List·Memᴰ·not-nil, List·Memᴰ·cases-cons, Memᴰ·cast, Memᴰ·of-map}
+use mathlib.Core.List.{List, [], _∷_, _++_, map, reverse, reverse-cons, reverse-reverse, List·Memᴰ·eq-of-singleton, Memᴰ·append-left, Memᴰ·append-right, List·Memᴰ, List·Memᴰ·head, List·Memᴰ·tail, List·Memᴰ·not-nil, List·Memᴰ·cases-cons, Memᴰ·cast, Memᴰ·of-map}
 use lib.ListN.{length}
 use Rattle.bits.specs.BelowLaws.{below-or-from}
 use Rattle.lists.specs.Lists.{list-from, list-of}
@@ -24,6 +24,27 @@ module _ {A : Type 0} where
   pub ordered-distinct : (before : A → A → Type 0) → ((a b : A) → before a b → a ≢ b) → (l : List A) → Ordered before l → Distinct l
   ordered-distinct before strict [] o = tt
   ordered-distinct before strict (a ∷ rest) o = (λ b m. strict a b (o .0 b m), ordered-distinct before strict rest (o .1))
+
+  -- ---- read backwards
+
+  pub reverse-member : (l : List A) {a : A} → List·Memᴰ a l → List·Memᴰ a (reverse l)
+  reverse-member [] m = m
+  reverse-member (b ∷ rest) m =
+      rw (reverse-cons b rest)
+      (⊎-elim (λ e. Memᴰ·append-right (reverse rest) (List·Memᴰ·head e)) (λ n. Memᴰ·append-left (b ∷ []) (reverse-member rest n))
+      (List·Memᴰ·cases-cons m))
+
+  pub reverse-only : (l : List A) {a : A} → List·Memᴰ a (reverse l) → List·Memᴰ a l
+  reverse-only l m = rw (reverse-reverse l) at (reverse-member (reverse l) m)
+
+  pub reverse-distinct : (l : List A) → Distinct l → Distinct (reverse l)
+  reverse-distinct [] h = tt
+  reverse-distinct (a ∷ rest) h =
+      rw (reverse-cons a rest)
+      (append-distinct (reverse rest) (a ∷ []) (reverse-distinct rest (h .1)) (λ b m. absurd (List·Memᴰ·not-nil m), tt)
+      (λ b m n. h .0 b (reverse-only rest m) (sym (List·Memᴰ·eq-of-singleton n))))
+
+  -- ---- no longer than a list that has all its elements
 
   -- an element taken out of a list: any other element stands in what is left
   record Taken-out (a : A) (l : List A) : Type 0 where

@@ -4,3 +4,4 @@ pub mod RoleSets
 pub mod Removals
 pub mod Settling
 pub mod ReductionKeeps
+pub mod PuttingBack
