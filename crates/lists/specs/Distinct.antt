@@ -1,14 +1,18 @@
 -- Lists in which nothing stands twice. One after another with nothing in common, read backwards, or mapped one to one they are such lists again. A
 -- list of distinct elements that all stand in another is no longer than that one: each of its elements takes an own place there.
-use Prim.Native.Nat.{ℕ, zero, suc, _+_, _≤_, _<_}
-use native.Mathlib.Nat.{add-zero}
+use Prim.Native.Nat.{ℕ, suc, _+_, _≤_, _<_}
 use native.Mathlib.Omega.{arith}
 use mathlib.Core.Path.{_≡_, refl, sym, ap, _∙_}
 use mathlib.Core.Logic.{_⊎_, inl, inr, ⊎-elim, _≢_}
+use mathlib.Core.Bool.{Bool, false, _||_}
 use mathlib.Core.List.{List, [], _∷_, _++_, map, reverse, reverse-cons, reverse-reverse, List·Memᴰ·eq-of-singleton, Memᴰ·append-left, Memᴰ·append-right, List·Memᴰ, List·Memᴰ·head, List·Memᴰ·tail, List·Memᴰ·not-nil, List·Memᴰ·cases-cons, Memᴰ·cast, Memᴰ·of-map}
+use borrow.Author.Tests.{ne-eqb}
+use lib.Dec.{eqb}
 use lib.ListN.{length}
-use Rattle.bits.specs.BelowLaws.{below-or-from}
-use Rattle.lists.specs.Lists.{list-from, list-of}
+use Rattle.bits.specs.Truth.{or-fails}
+use Rattle.bits.specs.Below.{count-below}
+use Rattle.bits.specs.CountLaws.{count-below-le}
+use Rattle.bits.specs.CountJoinLaws.{count-below-with}
 use Rattle.lists.specs.Ordered.{Ordered, ordered-append}
 
 module _ {A : Type 0} where
@@ -20,10 +24,27 @@ module _ {A : Type 0} where
       → Distinct (l ++ more)
   append-distinct l more h k apart = ordered-append _≢_ l more h k (λ a b m n e. apart a m (Memᴰ·cast e n))
 
-  -- in a strict order no element stands twice
-  pub ordered-distinct : (before : A → A → Type 0) → ((a b : A) → before a b → a ≢ b) → (l : List A) → Ordered before l → Distinct l
-  ordered-distinct before strict [] o = tt
-  ordered-distinct before strict (a ∷ rest) o = (λ b m. strict a b (o .0 b m), ordered-distinct before strict rest (o .1))
+  -- where the order holds between no element and itself, no element stands twice
+  pub ordered-distinct : (before : A → A → Type 0) (l : List A) → ((a : A) → List·Memᴰ a l → before a a → ⊥) → Ordered before l → Distinct l
+  ordered-distinct before [] strict o = tt
+  ordered-distinct before (a ∷ rest) strict o = (
+    λ b m e. strict b (List·Memᴰ·tail m) (rw e at (o .0 b m)),
+    ordered-distinct before rest (λ b m. strict b (List·Memᴰ·tail m)) (o .1),
+  )
+
+  -- any two elements are one, or stand in the order, if that does not depend on which is first
+  pub ordered-either : (before : A → A → Type 0) (l : List A) → ((a b : A) → before a b → before b a) → Ordered before l
+      → {a b : A} → List·Memᴰ a l → List·Memᴰ b l → (a ≡ b) ⊎ before a b
+  ordered-either before [] turn o m n = absurd (List·Memᴰ·not-nil m)
+  ordered-either before (c ∷ rest) turn o {a} {b} m n =
+      choose (ordered-either before rest turn (o .1)) (List·Memᴰ·cases-cons m) (List·Memᴰ·cases-cons n)
+    where
+      choose : (List·Memᴰ a rest → List·Memᴰ b rest → (a ≡ b) ⊎ before a b) → (a ≡ c) ⊎ List·Memᴰ a rest → (b ≡ c) ⊎ List·Memᴰ b rest
+          → (a ≡ b) ⊎ before a b
+      choose later (inl p) (inl q) = inl (p ∙ sym q)
+      choose later (inl p) (inr k) = inr (rw p (o .0 b k))
+      choose later (inr k) (inl q) = inr (turn b a (rw q (o .0 a k)))
+      choose later (inr j) (inr k) = later j k
 
   -- ---- read backwards
 
@@ -94,16 +115,22 @@ module _ {A B : Type 0} where
 
 -- ---- numbers below a bound
 
-from-length : (i n : ℕ) → length (list-from i n (λ k. k)) ≡ n
-from-length i zero = refl
-from-length i (suc n) = ap suc (from-length (suc i) n)
+-- distinct numbers of which none passes a test, and the numbers that pass it
+pub distinct-outside : (n : ℕ) (test : ℕ → Bool) (l : List ℕ) → Distinct l → ((k : ℕ) → List·Memᴰ k l → (k < n) × (test k ≡ false))
+    → length l + count-below n test ≤ n
+distinct-outside n test [] h outside = omega (arith, count-below-le n test)
+distinct-outside n test (a ∷ rest) h outside =
+    let first = outside a (List·Memᴰ·head refl) in
+    omega (
+      arith,
+      count-below-with n test (first .0) (first .1),
+      distinct-outside n (λ k. test k || eqb k a) rest (h .1) later,
+    )
+  where
+    later : (k : ℕ) → List·Memᴰ k rest → (k < n) × ((test k || eqb k a) ≡ false)
+    later k m =
+        let r = outside k (List·Memᴰ·tail m) in
+        (r .0, or-fails (test k) (eqb k a) (r .1) (ne-eqb k a (λ e. h .0 k m (sym e))))
 
-from-member : (i n : ℕ) {k : ℕ} → i ≤ k → k < i + n → List·Memᴰ k (list-from i n (λ k. k))
-from-member i zero {k} low high = absurd (let e = add-zero i in omega arith)
-from-member i (suc n) {k} low high =
-    ⊎-elim (λ l. List·Memᴰ·tail (from-member (suc i) n l (omega arith))) (λ l. List·Memᴰ·head (omega arith)) (below-or-from i k)
-
--- distinct numbers below n are at most n
 pub distinct-below : (n : ℕ) (l : List ℕ) → Distinct l → ((k : ℕ) → List·Memᴰ k l → k < n) → length l ≤ n
-distinct-below n l h below =
-    rw (from-length 0 n) at (distinct-within l (list-of n (λ k. k)) h (λ k m. from-member 0 n (omega arith) (omega (arith, below k m))))
+distinct-below n l h below = omega (arith, distinct-outside n (λ k. false) l h (λ k m. (below k m, refl)))

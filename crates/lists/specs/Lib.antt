@@ -4,6 +4,7 @@ pub mod TestLaws
 pub mod Ordered
 pub mod FilterLength
 pub mod Distinct
+pub mod LeastLaws
 pub mod ReverseLaws
 pub mod Placement
 pub mod Classing

@@ -2,6 +2,11 @@
 pub mod GrantClassing
 pub mod RoleSets
 pub mod Removals
+pub mod KernelLaws
+pub mod Singles
 pub mod Settling
 pub mod ReductionKeeps
 pub mod PuttingBack
+pub mod Chosen
+pub mod WitnessLaws
+pub mod PermissionBound

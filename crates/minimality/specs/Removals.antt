@@ -15,15 +15,19 @@ use Rattle.lists.specs.TestLaws.{Kept, all-elim, filter-member, first-passes}
 use Rattle.lists.specs.Ordered.{Ordered, ordered-filter}
 use Rattle.lists.specs.Distinct.{Distinct, ordered-distinct}
 use Rattle.sheet.specs.Sheet.{Sheet, Grant, same-grant, grants}
-use Rattle.sheet.specs.GrantLaws.{same-grant-refl, equal-same-grant, same-grant-equal}
+use Rattle.sheet.specs.GrantLaws.{same-grant-refl, same-grant-equal}
 use Rattle.sheet.specs.GrantOrderLaws.{Before, before-differs, grants-ordered}
 use Rattle.grants.specs.Fit.{fits, without, partners}
 use Rattle.grants.specs.WithoutLaws.{without-member, without-fails, without-keeps}
 use Rattle.grants.specs.Reduction.{Reduction, dominates, dominated, Verdict, stays, is-single, is-tied, tied-if, verdict, carry-out, visit, visits, sweep, sweeps, unreduced, reduction}
 
+-- two grants do not fit
+abbrev pub Unfit : Sheet → Grant → Grant → Type 0
+Unfit sheet g h = fits sheet g h ≡ false
+
 -- a grant fits nothing of what is left
 abbrev pub Alone : Sheet → List Grant → Grant → Type 0
-Alone sheet left it = (h : Grant) → List·Memᴰ h left → fits sheet it h ≡ false
+Alone sheet left it = (h : Grant) → List·Memᴰ h left → Unfit sheet it h
 
 -- a grant fits another, which is left, and all of what is left that fits that other one
 pub record Covers (sheet : Sheet) (left : List Grant) (it g : Grant) : Type 0 where
@@ -103,7 +107,11 @@ remaining-ordered (by-tie {r} it g reached m covers) =
 -- no grant remains twice
 pub remaining-distinct : {sheet : Sheet} {r : Reduction} → Reached sheet r → Distinct (r .remaining)
 remaining-distinct {sheet} {r} reached =
-    ordered-distinct Before (λ g h b e. not-both (equal-same-grant e) (before-differs g h b)) (r .remaining) (remaining-ordered reached)
+    ordered-distinct Before (r .remaining) (λ g m b. not-both (same-grant-refl g) (before-differs g g b)) (remaining-ordered reached)
+
+-- no grant stands twice
+pub grants-distinct : (sheet : Sheet) → Distinct (grants sheet)
+grants-distinct sheet = remaining-distinct {sheet = sheet} at-first
 
 -- what remains are grants of the sheet
 pub remaining-granted : {sheet : Sheet} {r : Reduction} → Reached sheet r → {g : Grant} → List·Memᴰ g (r .remaining)
