@@ -4,3 +4,4 @@ pub mod FitLaws
 pub mod Reduction
 pub mod Witness
 pub mod Cover
+pub mod NumberLaws

@@ -11,7 +11,6 @@ use lib.Dec.{eqb}
 use lib.ListN.{length}
 use Rattle.bits.specs.Truth.{same-truth}
 use Rattle.bits.specs.BelowLaws.{some-below-intro}
-use Rattle.lists.specs.TestLaws.{member-at, place-of}
 use Rattle.lists.specs.Placement.{used}
 use Rattle.lists.specs.Classing.{class-in}
 use Rattle.lists.specs.PlacementLaws.{class-below-used}
@@ -21,15 +20,12 @@ use Rattle.sheet.specs.Sheet.{Sheet, Grant, holds, grants}
 use Rattle.sheet.specs.GrantLaws.{held-grant}
 use Rattle.grants.specs.FitLaws.{fits-first}
 use Rattle.grants.specs.Cover.{grant-at}
+use Rattle.grants.specs.NumberLaws.{grant-at-member, member-number}
 use Rattle.roles.specs.RoleSet.{product, Multiplies}
 use Rattle.roles.specs.Classes.{Classed, class-of}
 use Rattle.roles.specs.Roles.{class-at, role-numbers, roles-of-classes}
 use Rattle.roles.specs.RoleLaws.{product-elim, product-intro}
 use Rattle.minimality.specs.GrantClassing.{ClassingOf}
-
--- a grant for a number that is not in a list
-abbrev no-grant : Grant
-no-grant = record { user = 0; permission = 0 }
 
 -- ---- one role is one class
 
@@ -50,7 +46,7 @@ module _ (all : List Grant) (members : List Classed) where
   pub role-count-le : (count : ℕ) → ((g : Grant) → List·Memᴰ g all → class-of members g < count)
       → roles-of-classes all members .count ≤ count
   role-count-le count within =
-      grouping-used-le class-number (length all) count (λ i l. within (grant-at all i) (member-at all i no-grant l))
+      grouping-used-le class-number (length all) count (λ i l. within (grant-at all i) (grant-at-member all i l))
 
   -- a grant of a class
   pub record InClass (c : ℕ) : Type 0 where
@@ -62,14 +58,14 @@ module _ (all : List Grant) (members : List Classed) where
   pub role-count-is-class-count : (count : ℕ) → ((g : Grant) → List·Memᴰ g all → class-of members g < count)
       → ((c : ℕ) → c < count → InClass c) → roles-of-classes all members .count ≡ count
   role-count-is-class-count count within inhabited =
-      grouping-used-all class-number (length all) count (λ i l. within (grant-at all i) (member-at all i no-grant l)) appears
+      grouping-used-all class-number (length all) count (λ i l. within (grant-at all i) (grant-at-member all i l)) appears
     where
       appears : (c : ℕ) → c < count → So (has-key class-number (length all) c)
       appears c l =
           let r = inhabited c l in
-          let at = place-of all no-grant (r .member) in
-          some-below-intro (length all) (λ i. eqb (class-number i) c) (at .within)
-          (eq-eqb (class-number (at .place)) c (ap (class-of members) (at .there) ∙ r .of-class))
+          let found = member-number all (r .member) in
+          some-below-intro (length all) (λ i. eqb (class-number i) c) (found .within)
+          (eq-eqb (class-number (found .number)) c (ap (class-of members) (found .there) ∙ r .of-class))
 
 -- ---- the product of the roles
 
@@ -83,8 +79,8 @@ opened-is-held sheet members count classing u p e =
     let o = product-elim all numbers (used numbers) (sym same) u p e in
     let i : o .first < length all = lt-of-lt-of-le (o .first-within) (le-of-eq same) in
     let j : o .second < length all = lt-of-lt-of-le (o .second-within) (le-of-eq same) in
-    let fit = classing .fitting (grant-at all (o .first)) (grant-at all (o .second)) (member-at all (o .first) no-grant i)
-    (member-at all (o .second) no-grant j) (roles-are-classes all members .one-key (o .first) (o .second) i j (o .one-role)) in
+    let fit = classing .fitting (grant-at all (o .first)) (grant-at all (o .second)) (grant-at-member all (o .first) i)
+    (grant-at-member all (o .second) j) (roles-are-classes all members .one-key (o .first) (o .second) i j (o .one-role)) in
     rw (o .user, o .permission) at (fits-first sheet (grant-at all (o .first)) (grant-at all (o .second)) fit)
 
 -- what is held is opened by the role of its grant
@@ -93,9 +89,10 @@ held-is-opened : (sheet : Sheet) (members : List Classed) (u p : ℕ) → So (ho
 held-is-opened sheet members u p e =
     let all = grants sheet in
     let numbers = role-numbers all members in
-    let at = place-of all no-grant (held-grant sheet (record { user = u; permission = p }) e) in
-    let l : at .place < length numbers = rw (role-numbers-length all members) (at .within) in
-    rw (at .there) at (product-intro all numbers (used numbers) (sym (role-numbers-length all members)) (at .place) l (class-below-used numbers l))
+    let found = member-number all (held-grant sheet (record { user = u; permission = p }) e) in
+    let l : found .number < length numbers = rw (role-numbers-length all members) (found .within) in
+    rw (found .there) at
+    (product-intro all numbers (used numbers) (sym (role-numbers-length all members)) (found .number) l (class-below-used numbers l))
 
 -- the roles of a classing of all grants multiply to the sheet
 pub classes-multiply : (sheet : Sheet) (members : List Classed) (count : ℕ) → ClassingOf sheet (grants sheet) count (class-of members)

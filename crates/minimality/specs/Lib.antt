@@ -2,3 +2,4 @@
 pub mod GrantClassing
 pub mod RoleSets
 pub mod ClassRoles
+pub mod PlacementClasses

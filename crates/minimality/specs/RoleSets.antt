@@ -15,12 +15,12 @@ use Rattle.bits.specs.BelowLaws.{some-below-intro, below-or-from}
 use Rattle.bits.specs.LowestLaws.{lowest-below-found, lowest-below-intro}
 use Rattle.bits.specs.CountLaws.{count-below-all-intro}
 use Rattle.bits.specs.CountJoinLaws.{count-below-injects}
-use Rattle.lists.specs.TestLaws.{member-at}
 use Rattle.sheet.specs.Sheet.{Sheet, Grant, holds, user-count, permission-count, grants}
 use Rattle.sheet.specs.GrantLaws.{grant-held, held-user-below, held-permission-below}
 use Rattle.grants.specs.Fit.{fits}
 use Rattle.grants.specs.FitLaws.{Held, fits-intro}
 use Rattle.grants.specs.Cover.{grant-at}
+use Rattle.grants.specs.NumberLaws.{grant-at-member}
 use Rattle.roles.specs.RoleSet.{RoleSet, product, Multiplies}
 use Rattle.minimality.specs.GrantClassing.{Even, ClassingOf, Independent}
 
@@ -97,7 +97,7 @@ independent-bounds-classes sheet part all count class independent inside classin
     (λ i l p. classing .within (grant-at part i) (there i l)) (λ i l p. refl) (λ i j l k p q e. one i j l k e))
   where
     there : (i : ℕ) → i < length part → List·Memᴰ (grant-at part i) all
-    there i l = inside (grant-at part i) (member-at part i (record { user = 0; permission = 0 }) l)
+    there i l = inside (grant-at part i) (grant-at-member part i l)
 
     clash : (i j : ℕ) → i < j → j < length part → class (grant-at part i) ≡ class (grant-at part j) → ⊥
     clash i j k l e =

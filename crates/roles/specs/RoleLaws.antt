@@ -47,12 +47,12 @@ in-role-number : (part : Grant → ℕ) (grants : List Grant) (placed : List ℕ
 in-role-number part grants placed e value r s =
     let found = any-elim (λ x. eqb (part (x .grant)) value && eqb (x .class) r) (paired (reverse grants) placed) s in
     let x = found .element in
-    let at = paired-only grants placed e (found .member) in
+    let here = paired-only grants placed e (found .member) in
     record {
-      number = at .number;
-      within = at .within;
-      valued = ap part (sym (at .grant)) ∙ eqb-true (part (x .grant)) value (and-left (eqb (part (x .grant)) value) (eqb (x .class) r) (found .passes));
-      of-role = sym (at .class) ∙ eqb-true (x .class) r (and-right (eqb (part (x .grant)) value) (eqb (x .class) r) (found .passes));
+      number = here .number;
+      within = here .within;
+      valued = ap part (sym (here .grant)) ∙ eqb-true (part (x .grant)) value (and-left (eqb (part (x .grant)) value) (eqb (x .class) r) (found .passes));
+      of-role = sym (here .class) ∙ eqb-true (x .class) r (and-right (eqb (part (x .grant)) value) (eqb (x .class) r) (found .passes));
     }
 
 module _ (grants : List Grant) (placed : List ℕ) (count : ℕ) (even : length grants ≡ length placed) where
