@@ -5,3 +5,4 @@ pub mod Reduction
 pub mod Witness
 pub mod Cover
 pub mod NumberLaws
+pub mod CoverLaws

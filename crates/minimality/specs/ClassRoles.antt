@@ -79,8 +79,11 @@ opened-is-held sheet members count classing u p e =
     let o = product-elim all numbers (used numbers) (sym same) u p e in
     let i : o .first < length all = lt-of-lt-of-le (o .first-within) (le-of-eq same) in
     let j : o .second < length all = lt-of-lt-of-le (o .second-within) (le-of-eq same) in
-    let fit = classing .fitting (grant-at all (o .first)) (grant-at all (o .second)) (grant-at-member all (o .first) i)
-    (grant-at-member all (o .second) j) (roles-are-classes all members .one-key (o .first) (o .second) i j (o .one-role)) in
+    let one-class = roles-are-classes all members .one-key (o .first) (o .second) i j (o .one-role) in
+    let fit =
+    classing .fitting (grant-at all (o .first)) (grant-at all (o .second)) (grant-at-member all (o .first) i)
+    (grant-at-member all (o .second) j) one-class
+    in
     rw (o .user, o .permission) at (fits-first sheet (grant-at all (o .first)) (grant-at all (o .second)) fit)
 
 -- what is held is opened by the role of its grant

@@ -31,10 +31,10 @@ classing-of-numbers {sheet} {l} {count} {class} classing =
           classing .fitting (grant-at l i) (grant-at l j) (grant-at-member l i m) (grant-at-member l j (omega arith)) e;
     }
 
-module _ (sheet : Sheet) (l : List Grant) (placed : List ℕ) (even : length l ≡ length placed) (differ : Different l) where
+module _ (sheet : Sheet) (l : List Grant) (placed : List ℕ) (whole : length l ≡ length placed) (differ : Different l) where
   -- a grant's class is that of its number
   class-of-number : {g : Grant} (found : Numbered l g) → class-of (paired (reverse l) placed) g ≡ class-in placed (found .number)
-  class-of-number found = rw (found .there) at (paired-class l placed even differ (found .number) (rw (← even) (found .within)))
+  class-of-number found = rw (found .there) at (paired-class l placed whole differ (found .number) (rw (← whole) (found .within)))
 
   -- two numbers of one class fit
   numbers-fit : ((g : Grant) → List·Memᴰ g l → Held sheet g) → Valid (fit-at sheet l) placed
@@ -49,21 +49,25 @@ module _ (sheet : Sheet) (l : List Grant) (placed : List ℕ) (even : length l �
       itself : i ≡ j → So (fits sheet (grant-at l i) (grant-at l j))
       itself s =
           subst (λ n. So (fits sheet (grant-at l i) (grant-at l n))) s
-          (fits-itself sheet (grant-at l i) (held (grant-at l i) (grant-at-member l i (rw even k))))
+          (fits-itself sheet (grant-at l i) (held (grant-at l i) (grant-at-member l i (rw whole k))))
 
   -- a placement in which the numbers of one class fit classes the grants
   pub placement-classes : ((g : Grant) → List·Memᴰ g l → Held sheet g) → Valid (fit-at sheet l) placed
       → ClassingOf sheet l (used placed) (class-of (paired (reverse l) placed))
-  placement-classes held valid = record { within = λ g m. inside (member-number l m); fitting = λ g h m n e. together (member-number l m) (member-number l n) e }
+  placement-classes held valid =
+      record {
+        within = λ g m. inside (member-number l m);
+        fitting = λ g h m n e. together (member-number l m) (member-number l n) e;
+      }
     where
       inside : {g : Grant} → Numbered l g → class-of (paired (reverse l) placed) g < used placed
-      inside found = rw (class-of-number found) (class-below-used placed (rw (← even) (found .within)))
+      inside found = rw (class-of-number found) (class-below-used placed (rw (← whole) (found .within)))
 
       together : {g h : Grant} → Numbered l g → Numbered l h
           → class-of (paired (reverse l) placed) g ≡ class-of (paired (reverse l) placed) h → So (fits sheet g h)
       together found other e =
           subst₂ (λ g h. So (fits sheet g h)) (found .there) (other .there)
-          (numbers-fit held valid (found .number) (other .number) (rw (← even) (found .within)) (rw (← even) (other .within))
+          (numbers-fit held valid (found .number) (other .number) (rw (← whole) (found .within)) (rw (← whole) (other .within))
           (sym (class-of-number found) ∙ e ∙ class-of-number other))
 
   -- in a grown placement every class has a grant
@@ -72,6 +76,6 @@ module _ (sheet : Sheet) (l : List Grant) (placed : List ℕ) (even : length l �
       let r = grown-member placed grown k in
       record {
         grant = grant-at l (r .number);
-        member = grant-at-member l (r .number) (rw even (r .within));
-        of-class = paired-class l placed even differ (r .number) (r .within) ∙ r .classed;
+        member = grant-at-member l (r .number) (rw whole (r .within));
+        of-class = paired-class l placed whole differ (r .number) (r .within) ∙ r .classed;
       }

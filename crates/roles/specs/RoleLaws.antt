@@ -55,23 +55,23 @@ in-role-number part grants placed e value r s =
       of-role = sym (here .class) ∙ eqb-true (x .class) r (and-right (eqb (part (x .grant)) value) (eqb (x .class) r) (found .passes));
     }
 
-module _ (grants : List Grant) (placed : List ℕ) (count : ℕ) (even : length grants ≡ length placed) where
+module _ (grants : List Grant) (placed : List ℕ) (count : ℕ) (whole : length grants ≡ length placed) where
   -- each grant's user has its role
   pub user-has-role : (i : ℕ) → i < length placed → So (placed-roles grants placed count .has (grant-at grants i .user) (class-in placed i))
-  user-has-role = number-in-role (λ g. g .user) grants placed even
+  user-has-role = number-in-role (λ g. g .user) grants placed whole
 
   -- a user has only the roles of its grants
   pub has-role-elim : (u r : ℕ) → So (placed-roles grants placed count .has u r) → RoleGrant (λ g. g .user) grants placed u r
-  has-role-elim = in-role-number (λ g. g .user) grants placed even
+  has-role-elim = in-role-number (λ g. g .user) grants placed whole
 
   -- each grant's role gives its permission
   pub role-gives-permission : (i : ℕ) → i < length placed
       → So (placed-roles grants placed count .gives (class-in placed i) (grant-at grants i .permission))
-  role-gives-permission = number-in-role (λ g. g .permission) grants placed even
+  role-gives-permission = number-in-role (λ g. g .permission) grants placed whole
 
   -- a role gives only the permissions of its grants
   pub gives-permission-elim : (r p : ℕ) → So (placed-roles grants placed count .gives r p) → RoleGrant (λ g. g .permission) grants placed p r
-  gives-permission-elim r p = in-role-number (λ g. g .permission) grants placed even p r
+  gives-permission-elim r p = in-role-number (λ g. g .permission) grants placed whole p r
 
 -- two numbers of one role: the user of the one and the permission of the other
 pub record OpenedBy (grants : List Grant) (placed : List ℕ) (u p : ℕ) : Type 0 where
@@ -83,7 +83,7 @@ pub record OpenedBy (grants : List Grant) (placed : List ℕ) (u p : ℕ) : Type
   pub permission : grant-at grants second .permission ≡ p
   pub one-role : class-in placed first ≡ class-in placed second
 
-module _ (grants : List Grant) (placed : List ℕ) (count : ℕ) (even : length grants ≡ length placed) where
+module _ (grants : List Grant) (placed : List ℕ) (count : ℕ) (whole : length grants ≡ length placed) where
   -- a cell that the product opens comes from two grants of one role
   pub product-elim : (u p : ℕ) → So (product (placed-roles grants placed count) u p) → OpenedBy grants placed u p
   unfolding product
@@ -91,8 +91,8 @@ module _ (grants : List Grant) (placed : List ℕ) (count : ℕ) (even : length 
       let roles = placed-roles grants placed count in
       let found = some-below-elim count (λ r. roles .has u r && roles .gives r p) e in
       let r = found .place in
-      let a = has-role-elim grants placed count even u r (and-left (roles .has u r) (roles .gives r p) (found .holds)) in
-      let b = gives-permission-elim grants placed count even r p (and-right (roles .has u r) (roles .gives r p) (found .holds)) in
+      let a = has-role-elim grants placed count whole u r (and-left (roles .has u r) (roles .gives r p) (found .holds)) in
+      let b = gives-permission-elim grants placed count whole r p (and-right (roles .has u r) (roles .gives r p) (found .holds)) in
       record {
         first = a .number;
         first-within = a .within;
@@ -111,4 +111,4 @@ module _ (grants : List Grant) (placed : List ℕ) (count : ℕ) (even : length 
       let roles = placed-roles grants placed count in
       some-below-intro count (λ r. roles .has (grant-at grants i .user) r && roles .gives r (grant-at grants i .permission)) k
       (and-intro (roles .has (grant-at grants i .user) (class-in placed i)) (roles .gives (class-in placed i) (grant-at grants i .permission))
-      (user-has-role grants placed count even i l) (role-gives-permission grants placed count even i l))
+      (user-has-role grants placed count whole i l) (role-gives-permission grants placed count whole i l))
