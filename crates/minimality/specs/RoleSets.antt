@@ -51,10 +51,9 @@ pub held-is-covered : {roles : RoleSet} {sheet : Sheet} → Even sheet → Multi
     → Lowest (roles .count) (covers roles g) (covering-role roles g)
 unfolding covering-role product
 held-is-covered {roles} {sheet} even multiplies g held =
-    let open-cell : So (product roles (g .user) (g .permission)) =
-    multiplies .cell (g .user) (g .permission) (even-user-below even (g .user) (g .permission) held)
-    (even-permission-below even (g .user) (g .permission) held) ∙ held
-    in
+    let i = even-user-below even (g .user) (g .permission) held in
+    let j = even-permission-below even (g .user) (g .permission) held in
+    let open-cell : So (product roles (g .user) (g .permission)) = multiplies .cell (g .user) (g .permission) i j ∙ held in
     let w = lowest-below-found (roles .count) (covers roles g) open-cell in
     rw (lowest-below-intro (roles .count) (covers roles g) (w .1)) (w .1)
 
@@ -66,6 +65,7 @@ role-opens {roles} {sheet} multiplies u p i j {r} l has gives =
     sym (multiplies .cell u p i j) ∙
     some-below-intro (roles .count) (λ s. roles .has u s && roles .gives s p) l (and-intro (roles .has u r) (roles .gives r p) has gives)
 
+-- a role set that multiplies to the sheet classes all grants, each by the lowest role that covers it
 pub role-set-classes : {roles : RoleSet} {sheet : Sheet} → Even sheet → Multiplies roles sheet
     → ClassingOf sheet (grants sheet) (roles .count) (covering-role roles)
 role-set-classes {roles} {sheet} even multiplies =
