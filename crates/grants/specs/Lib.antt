@@ -5,3 +5,5 @@ pub mod WithoutLaws
 pub mod Reduction
 pub mod Witness
 pub mod Cover
+pub mod NumberLaws
+pub mod CoverLaws

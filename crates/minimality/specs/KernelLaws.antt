@@ -5,10 +5,10 @@ use Rattle.lists.specs.Ordered.{Ordered}
 use Rattle.lists.specs.Distinct.{Distinct}
 use Rattle.sheet.specs.Sheet.{Sheet, Grant, grants}
 use Rattle.sheet.specs.GrantLaws.{grant-held}
-use Rattle.sheet.specs.GrantOrderLaws.{Before, ordered-grants-differ}
+use Rattle.sheet.specs.GrantOrderLaws.{Before}
 use Rattle.grants.specs.FitLaws.{Held}
 use Rattle.grants.specs.Reduction.{kernel}
-use Rattle.roles.specs.PairedLaws.{Different}
+use Rattle.grants.specs.NumberLaws.{Different, ordered-different}
 use Rattle.minimality.specs.Removals.{remaining-ordered, remaining-distinct, remaining-granted, reduction-reached}
 
 pub kernel-granted : (sheet : Sheet) {g : Grant} → List·Memᴰ g (kernel sheet) → List·Memᴰ g (grants sheet)
@@ -28,5 +28,5 @@ unfolding kernel
 kernel-distinct sheet = remaining-distinct (reduction-reached sheet)
 
 -- at different places stand different grants
-pub kernel-differs : (sheet : Sheet) → Different (kernel sheet)
-kernel-differs sheet i j k l = ordered-grants-differ (kernel sheet) (kernel-ordered sheet) i j (record { user = 0; permission = 0 }) k l
+pub kernel-different : (sheet : Sheet) → Different (kernel sheet)
+kernel-different sheet = ordered-different (kernel sheet) (kernel-ordered sheet)

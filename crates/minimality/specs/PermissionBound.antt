@@ -12,7 +12,6 @@ use lib.Dec.{eqb}
 use lib.ListN.{length, length-map}
 use Rattle.bits.specs.Truth.{not-both}
 use Rattle.bits.specs.BelowLaws.{none-below-intro}
-use Rattle.lists.specs.TestLaws.{member-at}
 use Rattle.lists.specs.Distinct.{Distinct, ordered-distinct, ordered-either, map-distinct, distinct-outside}
 use Rattle.lists.specs.Placement.{used, grouping}
 use Rattle.lists.specs.KeyLaws.{has-key, grouping-counts-keys}
@@ -20,6 +19,7 @@ use Rattle.sheet.specs.Sheet.{Sheet, Grant, permission-count, grants}
 use Rattle.sheet.specs.GrantLaws.{grant-held}
 use Rattle.grants.specs.FitLaws.{one-permission-fits}
 use Rattle.grants.specs.Reduction.{kernel, singles}
+use Rattle.grants.specs.NumberLaws.{grant-at-member}
 use Rattle.grants.specs.Cover.{grant-at, permission-at}
 use Rattle.minimality.specs.GrantClassing.{Even}
 use Rattle.minimality.specs.RoleSets.{even-permission-below}
@@ -30,9 +30,6 @@ use Rattle.minimality.specs.Singles.{unfit-turned, single-granted, singl
 -- the permission of a number of the kernel
 abbrev kernel-permission : Sheet → ℕ → ℕ
 kernel-permission sheet i = grant-at (kernel sheet) i .permission
-
-kernel-at : (sheet : Sheet) {i : ℕ} → i < length (kernel sheet) → List·Memᴰ (grant-at (kernel sheet) i) (kernel sheet)
-kernel-at sheet {i} l = member-at (kernel sheet) i (record { user = 0; permission = 0 }) l
 
 -- a grant's permission is one of the sheet's
 permission-below : {sheet : Sheet} → Even sheet → {g : Grant} → List·Memᴰ g (grants sheet) → g .permission < permission-count sheet
@@ -59,7 +56,7 @@ pub single-permission-not-kernel : (sheet : Sheet) {g : Grant} → List·Memᴰ 
 single-permission-not-kernel sheet {g} m =
     none-below-intro (length (kernel sheet)) (λ i. eqb (kernel-permission sheet i) (g .permission))
     (λ i l. ne-eqb (kernel-permission sheet i) (g .permission) (λ e. unfit-permissions-differ sheet (single-granted sheet m)
-    (kernel-granted sheet (kernel-at sheet l)) (single-unfit-kernel sheet m (kernel-at sheet l)) (sym e)))
+    (kernel-granted sheet (grant-at-member (kernel sheet) i l)) (single-unfit-kernel sheet m (grant-at-member (kernel sheet) i l)) (sym e)))
 
 -- singles and the kernel's classes by permission are at most as many as the permissions
 pub singles-and-permissions : {sheet : Sheet} → Even sheet
@@ -69,7 +66,7 @@ singles-and-permissions {sheet} even =
       arith,
       length-map (singles sheet) (λ g. g .permission),
       grouping-counts-keys (kernel-permission sheet) (length (kernel sheet)) (permission-count sheet)
-          (λ i l. permission-below even (kernel-granted sheet (kernel-at sheet l))),
+          (λ i l. permission-below even (kernel-granted sheet (grant-at-member (kernel sheet) i l))),
       distinct-outside (permission-count sheet) (has-key (kernel-permission sheet) (length (kernel sheet)))
           (map (λ g. g .permission) (singles sheet)) (single-permissions-distinct sheet) outside,
     )

@@ -20,7 +20,9 @@ use Rattle.grants.specs.WithoutLaws.{without-member, without-differs, without-c
 use Rattle.grants.specs.Reduction.{Removal, single, tied, Reduction, reduction, kernel, singles-of, singles}
 use Rattle.roles.specs.Classes.{Classed, Classes, paired, class-of, put-back, put-all-back, kernel-classes, classes-of}
 use Rattle.minimality.specs.GrantClassing.{ClassingOf}
-use Rattle.minimality.specs.Removals.{Covers, Reached, at-first, by-single, by-tie, remaining-granted, remaining-distinct, reduction-reached}
+use Rattle.minimality.specs.KernelLaws.{kernel-distinct}
+use Rattle.minimality.specs.ClassRoles.{InClass}
+use Rattle.minimality.specs.Removals.{Covers, Reached, at-first, by-single, by-tie, remaining-granted, reduction-reached}
 
 -- the grants of some members
 abbrev pub grants-in : List Classed → List Grant
@@ -33,15 +35,9 @@ pub record ClassesOf (sheet : Sheet) (l : List Grant) (classes : Classes) : Type
   pub once : Distinct (grants-in (classes .members))
   pub classing : ClassingOf sheet l (classes .count) (class-of (classes .members))
 
--- a grant of class c
-pub record InClass (l : List Grant) (class : Grant → ℕ) (c : ℕ) : Type 0 where
-  pub grant : Grant
-  pub member : List·Memᴰ grant l
-  pub classed : class grant ≡ c
-
 -- every class below the count has a grant
-abbrev pub AllInUse : List Grant → ℕ → (Grant → ℕ) → Type 0
-AllInUse l count class = (c : ℕ) → c < count → InClass l class c
+abbrev pub AllInUse : List Grant → Classes → Type 0
+AllInUse l classes = (c : ℕ) → c < classes .count → InClass l (classes .members) c
 
 -- ---- one grant put back
 
@@ -93,21 +89,21 @@ module _ (sheet : Sheet) (l : List Grant) (it : Grant) (c count more : ℕ) (mem
       }
 
   -- where all earlier classes are in use and the grant's class is one of them or the next one, all are in use
-  joining-fills : ((a : ℕ) → a < more → (a < count) ⊎ (a ≡ c)) → AllInUse (without it l) count (class-of members)
-      → AllInUse l more (class-of (joined-by it c members))
+  joining-fills : ((a : ℕ) → a < more → (a < count) ⊎ (a ≡ c)) → AllInUse (without it l) (record { members = members; count = count })
+      → AllInUse l (record { members = joined-by it c members; count = more })
   joining-fills which filled a below = ⊎-elim earlier latest (which a below)
     where
-      earlier : a < count → InClass l (class-of (joined-by it c members)) a
+      earlier : a < count → InClass l (joined-by it c members) a
       earlier k =
           let r = filled a k in
           record {
             grant = r .grant;
             member = without-member it l (r .member);
-            classed = class-of-other it c members l (r .member) ∙ r .classed;
+            of-class = class-of-other it c members l (r .member) ∙ r .of-class;
           }
 
-      latest : a ≡ c → InClass l (class-of (joined-by it c members)) a
-      latest e = record { grant = it; member = there; classed = class-of-joined it c members ∙ sym e }
+      latest : a ≡ c → InClass l (joined-by it c members) a
+      latest e = record { grant = it; member = there; of-class = class-of-joined it c members ∙ sym e }
 
 -- a single opens a class
 pub single-opens-a-class : (sheet : Sheet) (l : List Grant) (it : Grant) (classes : Classes) → List·Memᴰ it l → Held sheet it
@@ -143,8 +139,7 @@ put-all-back-counts (single it ∷ earlier) classes = omega (arith, put-all-back
 put-all-back-counts (tied it g ∷ earlier) classes = put-all-back-counts earlier (put-back (tied it g) classes)
 
 pub put-all-back-fills : {sheet : Sheet} {r : Reduction} (classes : Classes) → Reached sheet r
-    → AllInUse (r .remaining) (classes .count) (class-of (classes .members))
-    → AllInUse (grants sheet) (put-all-back (r .removed) classes .count) (class-of (put-all-back (r .removed) classes .members))
+    → AllInUse (r .remaining) classes → AllInUse (grants sheet) (put-all-back (r .removed) classes)
 put-all-back-fills classes at-first filled = filled
 put-all-back-fills {sheet} classes (by-single {r} it reached m alone) filled =
     put-all-back-fills (put-back (single it) classes) reached
@@ -165,13 +160,12 @@ paired-grants (g ∷ l) (c ∷ placed) e = ap (λ rest. g ∷ rest) (paired-gran
 kernel-classes-of : (sheet : Sheet) (placed : List ℕ) → length (kernel sheet) ≡ length placed
     → ClassingOf sheet (kernel sheet) (used placed) (class-of (paired (reverse (kernel sheet)) placed))
     → ClassesOf sheet (kernel sheet) (kernel-classes (kernel sheet) placed)
-unfolding kernel
 kernel-classes-of sheet placed e classing =
     let same = paired-grants (reverse (kernel sheet)) placed (length-reverse (kernel sheet) ∙ e) in
     record {
       has = λ g m. rw same (reverse-member (kernel sheet) m);
       only = λ g m. reverse-only (kernel sheet) (rw same at m);
-      once = rw same (reverse-distinct (kernel sheet) (remaining-distinct (reduction-reached sheet)));
+      once = rw same (reverse-distinct (kernel sheet) (kernel-distinct sheet));
       classing = classing;
     }
 
@@ -191,7 +185,7 @@ putting-back-counts sheet placed = put-all-back-counts (reduction sheet .removed
 
 -- where every class of the placement has a grant of the kernel, every class has a grant
 pub putting-back-fills : (sheet : Sheet) (placed : List ℕ)
-    → AllInUse (kernel sheet) (used placed) (class-of (paired (reverse (kernel sheet)) placed))
-    → AllInUse (grants sheet) (classes-of (reduction sheet) placed .count) (class-of (classes-of (reduction sheet) placed .members))
+    → ((c : ℕ) → c < used placed → InClass (kernel sheet) (paired (reverse (kernel sheet)) placed) c)
+    → AllInUse (grants sheet) (classes-of (reduction sheet) placed)
 unfolding kernel classes-of
 putting-back-fills sheet placed filled = put-all-back-fills (kernel-classes (kernel sheet) placed) (reduction-reached sheet) filled

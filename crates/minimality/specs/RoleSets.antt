@@ -15,12 +15,12 @@ use Rattle.bits.specs.BelowLaws.{some-below-intro, below-or-from}
 use Rattle.bits.specs.LowestLaws.{lowest-below-found, lowest-below-intro}
 use Rattle.bits.specs.CountLaws.{count-below-all-intro}
 use Rattle.bits.specs.CountJoinLaws.{count-below-injects}
-use Rattle.lists.specs.TestLaws.{member-at}
 use Rattle.sheet.specs.Sheet.{Sheet, Grant, holds, user-count, permission-count, grants}
 use Rattle.sheet.specs.GrantLaws.{grant-held, held-user-below, held-permission-below}
 use Rattle.grants.specs.Fit.{fits}
 use Rattle.grants.specs.FitLaws.{Held, fits-intro}
 use Rattle.grants.specs.Cover.{grant-at}
+use Rattle.grants.specs.NumberLaws.{grant-at-member}
 use Rattle.roles.specs.RoleSet.{RoleSet, product, Multiplies}
 use Rattle.minimality.specs.GrantClassing.{Even, ClassingOf, Independent}
 
@@ -51,10 +51,9 @@ pub held-is-covered : {roles : RoleSet} {sheet : Sheet} → Even sheet → Multi
     → Lowest (roles .count) (covers roles g) (covering-role roles g)
 unfolding covering-role product
 held-is-covered {roles} {sheet} even multiplies g held =
-    let open-cell : So (product roles (g .user) (g .permission)) =
-    multiplies .cell (g .user) (g .permission) (even-user-below even (g .user) (g .permission) held)
-    (even-permission-below even (g .user) (g .permission) held) ∙ held
-    in
+    let i = even-user-below even (g .user) (g .permission) held in
+    let j = even-permission-below even (g .user) (g .permission) held in
+    let open-cell : So (product roles (g .user) (g .permission)) = multiplies .cell (g .user) (g .permission) i j ∙ held in
     let w = lowest-below-found (roles .count) (covers roles g) open-cell in
     rw (lowest-below-intro (roles .count) (covers roles g) (w .1)) (w .1)
 
@@ -66,6 +65,7 @@ role-opens {roles} {sheet} multiplies u p i j {r} l has gives =
     sym (multiplies .cell u p i j) ∙
     some-below-intro (roles .count) (λ s. roles .has u s && roles .gives s p) l (and-intro (roles .has u r) (roles .gives r p) has gives)
 
+-- a role set that multiplies to the sheet classes all grants, each by the lowest role that covers it
 pub role-set-classes : {roles : RoleSet} {sheet : Sheet} → Even sheet → Multiplies roles sheet
     → ClassingOf sheet (grants sheet) (roles .count) (covering-role roles)
 role-set-classes {roles} {sheet} even multiplies =
@@ -86,6 +86,12 @@ role-set-classes {roles} {sheet} even multiplies =
         (role-opens multiplies (h .user) (g .permission) (even-user-below even (h .user) (h .permission) q)
         (even-permission-below even (g .user) (g .permission) p) (a .within) (of-h .0) (of-g .1))
 
+-- what bounds the classes of every classing of all grants bounds the roles of every role set
+pub classings-bound-role-sets : {roles : RoleSet} {sheet : Sheet} (bound : ℕ) → Even sheet
+    → ((count : ℕ) (class : Grant → ℕ) → ClassingOf sheet (grants sheet) count class → bound ≤ count)
+    → Multiplies roles sheet → bound ≤ roles .count
+classings-bound-role-sets {roles} bound even h multiplies = h (roles .count) (covering-role roles) (role-set-classes even multiplies)
+
 -- ---- grants of which no two fit
 
 -- every classing has at least as many classes as there are grants of which no two fit
@@ -97,7 +103,7 @@ independent-bounds-classes sheet part all count class independent inside classin
     (λ i l p. classing .within (grant-at part i) (there i l)) (λ i l p. refl) (λ i j l k p q e. one i j l k e))
   where
     there : (i : ℕ) → i < length part → List·Memᴰ (grant-at part i) all
-    there i l = inside (grant-at part i) (member-at part i (record { user = 0; permission = 0 }) l)
+    there i l = inside (grant-at part i) (grant-at-member part i l)
 
     clash : (i j : ℕ) → i < j → j < length part → class (grant-at part i) ≡ class (grant-at part j) → ⊥
     clash i j k l e =

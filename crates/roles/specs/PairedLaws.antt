@@ -15,6 +15,7 @@ use Rattle.lists.specs.PlacementLaws.{class-of-latest, class-of-earlier}
 use Rattle.sheet.specs.Sheet.{Grant, same-grant}
 use Rattle.sheet.specs.GrantLaws.{same-grant-refl}
 use Rattle.grants.specs.Cover.{grant-at}
+use Rattle.grants.specs.NumberLaws.{Different}
 use Rattle.roles.specs.Classes.{Classed, paired, class-of}
 
 -- a number of a list of grants, with its class in a placement
@@ -88,10 +89,6 @@ paired-has grants placed e i l =
     Memᴰ·cast (same-classed (rw (reverse-reverse grants)) refl) (backwards-has (reverse grants) placed (length-reverse grants ∙ e) i l)
 
 -- ---- the class of a grant
-
--- no grant stands twice
-abbrev pub Different : List Grant → Type 0
-Different grants = (i j : ℕ) → i < j → j < length grants → same-grant (grant-at grants i) (grant-at grants j) ≡ false
 
 backwards-class : (backwards : List Grant) (placed : List ℕ) → length backwards ≡ length placed
     → ((i j : ℕ) → i < j → j < length placed → same-grant (grant-at (reverse backwards) i) (grant-at (reverse backwards) j) ≡ false)
