@@ -3,3 +3,4 @@ pub mod Fit
 pub mod Reduction
 pub mod Witness
 pub mod Cover
+pub mod Cases
