@@ -3,3 +3,4 @@ pub mod Machine
 pub mod Budget
 pub mod Steps
 pub mod Runs
+pub mod Best
