@@ -2,4 +2,5 @@
 pub mod Lists
 pub mod Placement
 pub mod Classing
+pub mod GrownLaws
 pub mod Ascii

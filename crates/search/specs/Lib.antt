@@ -4,3 +4,6 @@ pub mod Budget
 pub mod Steps
 pub mod Runs
 pub mod Best
+pub mod Admissible
+pub mod Potential
+pub mod Progress
