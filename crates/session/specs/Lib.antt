@@ -4,3 +4,4 @@ pub mod Program
 pub mod Sequence
 pub mod Demands
 pub mod Edges
+pub mod Reached
