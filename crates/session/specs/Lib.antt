@@ -5,3 +5,4 @@ pub mod Sequence
 pub mod Demands
 pub mod Edges
 pub mod Reached
+pub mod Owed
