@@ -3,4 +3,5 @@ pub mod Lists
 pub mod Placement
 pub mod Classing
 pub mod GrownLaws
+pub mod Lexicographic
 pub mod Ascii

@@ -7,3 +7,4 @@ pub mod Best
 pub mod Admissible
 pub mod Potential
 pub mod Progress
+pub mod Rising

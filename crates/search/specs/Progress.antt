@@ -36,8 +36,8 @@ step-closes-or-lowers kernel st s = by-cases (step-cases kernel st)
         (le-trans (w .used-or-next) (grown-used-le (st .placed) (s .grown))))
 
     by-cases : {after : State} → Stepped kernel st after → So (after .finished) ⊎ (potential kernel after < potential kernel st)
-    by-cases (placing c w not-full) = inr (by-placing c w)
-    by-cases (improving c w full) = inr (by-placing c w)
+    by-cases (placing c w not-whole) = inr (by-placing c w)
+    by-cases (improving c w whole) = inr (by-placing c w)
     by-cases (taking-back a earlier e h) =
         let l : suc (length earlier) ≤ kernel .size = rw e at (s .depth-le) in
         inr
@@ -52,11 +52,17 @@ potential-ends kernel zero st s l =
     let positive = potential-positive (kernel .size - depth st) (st .placed) (st .next) in absurd (omega arith)
 potential-ends kernel (suc budget) st s l =
     ⊎-elim (λ e. rw (run-finished kernel (suc budget) st e) e)
-    (λ u. rw (run-step kernel budget st u) (⊎-elim
-    (λ e. rw (run-finished kernel budget (step kernel st) e) e)
-    (λ lower. potential-ends kernel budget (step kernel st) (step-admissible kernel st s) (omega arith))
-    (step-closes-or-lowers kernel st s)))
+    (λ u.
+    rw (run-step kernel budget st u)
+    (after-step (step-closes-or-lowers kernel st s) (potential-ends kernel budget (step kernel st) (step-admissible kernel st s))))
     (passes-or-fails (st .finished))
+  where
+    after-step :
+        So (step kernel st .finished) ⊎ (potential kernel (step kernel st) < potential kernel st)
+        → (potential kernel (step kernel st) ≤ budget → So (run kernel budget (step kernel st) .state .finished))
+        → So (run kernel budget (step kernel st) .state .finished)
+    after-step (inl e) ends = rw (run-finished kernel budget (step kernel st) e) e
+    after-step (inr lower) ends = ends (omega arith)
 
 -- the machine is finished as soon as the budget is enough
 pub enough-ends : (kernel : Kernel) (first : List ℕ) (budget : ℕ) → enough (kernel .size) ≤ budget
@@ -78,3 +84,7 @@ steps-le-enough kernel first budget =
     rw (run-settles kernel bound budget (start kernel first) l (enough-ends kernel first bound (le-refl bound)))
     (run-steps-le kernel bound (start kernel first)))
     (below-or-from budget bound)
+
+-- the number of steps that the paper gives for its kernel of 12 grants
+twelve-grants : enough 12 ≡ 1_045_912_627
+twelve-grants = refl
