@@ -20,7 +20,7 @@ use Rattle.search.specs.Runs.{run-finished, run-step, run-steps-le, run-
 use Rattle.search.specs.Admissible.{Admissible, start-admissible, step-admissible}
 use Rattle.search.specs.Potential.{potential, potential-of, potential-start, potential-positive, placing-lowers, taking-back-lowers}
 
--- grant d is one of those not placed
+-- where grant d is not placed, one more is left than after it
 one-more-left : (size d : ℕ) → d < size → size - d ≡ suc (size - suc d)
 one-more-left size d l = omega arith
 
@@ -71,11 +71,12 @@ enough-ends kernel first budget l =
     potential-ends kernel budget (start kernel first) (start-admissible kernel first)
     (le-trans (le-of-eq (potential-start kernel first)) l)
 
+-- the same of one search, where the kernel is searched
 pub enough-ends-search : (kernel : Kernel) (first : List ℕ) (budget : ℕ) → kernel .size ≤ search-limit → enough (kernel .size) ≤ budget
     → So (search kernel budget (start kernel first) .state .finished)
 enough-ends-search kernel first budget s l = rw (search-within kernel budget (start kernel first) s) (enough-ends kernel first budget l)
 
--- no budget is followed by more steps
+-- no budget leads to more steps
 pub steps-le-enough : (kernel : Kernel) (first : List ℕ) (budget : ℕ) → run kernel budget (start kernel first) .steps ≤ enough (kernel .size)
 steps-le-enough kernel first budget =
     let bound = enough (kernel .size) in
