@@ -4,4 +4,5 @@ pub mod TestLaws
 pub mod Placement
 pub mod Classing
 pub mod GrownLaws
+pub mod Lexicographic
 pub mod Ascii

@@ -8,3 +8,4 @@ pub mod Best
 pub mod Admissible
 pub mod Potential
 pub mod Progress
+pub mod Rising
