@@ -6,3 +6,4 @@ pub mod Demands
 pub mod Edges
 pub mod Reached
 pub mod Owed
+pub mod Settled
