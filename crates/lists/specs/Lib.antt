@@ -2,6 +2,7 @@
 pub mod Lists
 pub mod Placement
 pub mod Classing
+pub mod GrownLaws
 pub mod PlacementLaws
 pub mod GroupingLaws
 pub mod KeyLaws

@@ -7,7 +7,7 @@ use mathlib.Core.Path.{_≡_, refl, sym, _∙_}
 use mathlib.Core.Logic.{⊎-elim}
 use mathlib.Core.Bool.{Bool, So, _||_, not}
 use mathlib.Core.List.{List, [], _∷_, _++_}
-use native.Mathlib.Nat.{le-refl, le-step, le-trans, le-max-left, le-max-right, lt-suc-self, lt-trans, not-suc-le-zero}
+use native.Mathlib.Nat.{le-step, le-trans, le-max-left, le-max-right, lt-suc-self, lt-trans, not-suc-le-zero}
 use native.Mathlib.Omega.{arith}
 use borrow.Author.Tests.{eqb-true, eqb-false, eq-eqb, ne-eqb}
 use lib.Dec.{eqb}
@@ -45,11 +45,6 @@ class-below-used (a ∷ earlier) {i} l =
     ⊎-elim (λ e. rw (class-of-latest a earlier e) (latest-below-used a earlier))
     (λ (k : i < length earlier). rw (class-of-earlier a earlier k) (le-trans (class-below-used earlier k) (earlier-uses-fewer a earlier)))
     (last-or-below l)
-
--- no class is wasted, so there are at most as many as numbers
-pub grown-used-le : (placed : List ℕ) → Grown placed → used placed ≤ length placed
-grown-used-le [] g = le-refl 0
-grown-used-le (a ∷ earlier) g = omega (arith, g .0, grown-used-le earlier (g .1))
 
 -- ---- joining a class
 

@@ -1,3 +1,9 @@
--- The search machine: its state, one step, a search within a budget.
+-- The search machine: its state, one step, a search within a budget; and what holds of every run.
 pub mod Machine
 pub mod Budget
+pub mod Steps
+pub mod Runs
+pub mod Best
+pub mod Admissible
+pub mod Potential
+pub mod Progress
