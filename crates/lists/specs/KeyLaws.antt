@@ -1,5 +1,5 @@
--- What a grouping is where going together means having one key: its classes are exactly the keys, so there are as many classes as keys.
--- A number joins the lowest class that takes it; by its members' keys that is the class of its own key, if there is one yet, and else a new class opens.
+-- What a grouping is where going together means having one key: its classes are exactly the keys, so there are as many classes as keys. A number
+-- joins the lowest class that takes it; by its members' keys that is the class of its own key, if there is one yet, and else a new class opens.
 -- Assumes nothing.
 use Prim.Native.Nat.{ℕ, zero, suc, _+_, _≤_, _<_}
 use mathlib.Core.Path.{_≡_, refl, sym, ap, _∙_}

@@ -6,4 +6,5 @@ pub mod GrownLaws
 pub mod PlacementLaws
 pub mod GroupingLaws
 pub mod KeyLaws
+pub mod Beginning
 pub mod Ascii
