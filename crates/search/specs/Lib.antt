@@ -5,5 +5,6 @@ pub mod Steps
 pub mod Runs
 pub mod Best
 pub mod Admissible
+pub mod Sound
 pub mod Potential
 pub mod Progress
