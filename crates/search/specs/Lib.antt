@@ -6,5 +6,6 @@ pub mod Runs
 pub mod Best
 pub mod Admissible
 pub mod Sound
+pub mod Canonical
 pub mod Potential
 pub mod Progress
