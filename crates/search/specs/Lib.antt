@@ -7,5 +7,6 @@ pub mod Best
 pub mod Admissible
 pub mod Sound
 pub mod Canonical
+pub mod Complete
 pub mod Potential
 pub mod Progress
