@@ -7,4 +7,5 @@ pub mod PlacementLaws
 pub mod GroupingLaws
 pub mod KeyLaws
 pub mod Beginning
+pub mod Lexicographic
 pub mod Ascii

@@ -23,8 +23,8 @@ pub step-admissible : (kernel : Kernel) (st : State) → Admissible kernel st �
 step-admissible kernel st s = by-cases (step-cases kernel st)
   where
     by-cases : {after : State} → Stepped kernel st after → Admissible kernel after
-    by-cases (placing c w not-full) = record { grown = (w .used-or-next, s .grown); next-le = zero-le; depth-le = w .not-full }
-    by-cases (improving c w full) = record { grown = (w .used-or-next, s .grown); next-le = zero-le; depth-le = w .not-full }
+    by-cases (placing c w not-whole) = record { grown = (w .used-or-next, s .grown); next-le = zero-le; depth-le = w .not-full }
+    by-cases (improving c w whole) = record { grown = (w .used-or-next, s .grown); next-le = zero-le; depth-le = w .not-full }
     by-cases (taking-back a earlier e h) =
         let g : Grown (a ∷ earlier) = rw e at (s .grown) in
         let l : suc (length earlier) ≤ kernel .size = rw e at (s .depth-le) in

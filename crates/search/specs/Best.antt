@@ -22,8 +22,8 @@ pub step-keeps-or-improves : (kernel : Kernel) (st : State) → (step kernel st 
 step-keeps-or-improves kernel st = by-cases (step-cases kernel st)
   where
     by-cases : {after : State} → Stepped kernel st after → (after .best ≡ st .best) ⊎ Improves kernel st after
-    by-cases (placing c w not-full) = inl refl
-    by-cases (improving c w full) = inr (record { whole = full; copied = refl; better = omega (arith, w .below-best) })
+    by-cases (placing c w not-whole) = inl refl
+    by-cases (improving c w whole) = inr (record { whole = whole; copied = refl; better = omega (arith, w .below-best) })
     by-cases (taking-back a earlier e h) = inl refl
     by-cases (closing e h) = inl refl
 

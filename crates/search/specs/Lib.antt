@@ -10,3 +10,4 @@ pub mod Canonical
 pub mod Complete
 pub mod Potential
 pub mod Progress
+pub mod Rising

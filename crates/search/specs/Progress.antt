@@ -20,7 +20,7 @@ use Rattle.search.specs.Runs.{run-finished, run-step, run-steps-le, run-
 use Rattle.search.specs.Admissible.{Admissible, start-admissible, step-admissible}
 use Rattle.search.specs.Potential.{potential, potential-of, potential-start, potential-positive, placing-lowers, taking-back-lowers}
 
--- grant d is one of those not placed
+-- where grant d is not placed, one more is left than after it
 one-more-left : (size d : ℕ) → d < size → size - d ≡ suc (size - suc d)
 one-more-left size d l = omega arith
 
@@ -36,8 +36,8 @@ step-closes-or-lowers kernel st s = by-cases (step-cases kernel st)
         (le-trans (w .used-or-next) (grown-used-le (st .placed) (s .grown))))
 
     by-cases : {after : State} → Stepped kernel st after → So (after .finished) ⊎ (potential kernel after < potential kernel st)
-    by-cases (placing c w not-full) = inr (by-placing c w)
-    by-cases (improving c w full) = inr (by-placing c w)
+    by-cases (placing c w not-whole) = inr (by-placing c w)
+    by-cases (improving c w whole) = inr (by-placing c w)
     by-cases (taking-back a earlier e h) =
         let l : suc (length earlier) ≤ kernel .size = rw e at (s .depth-le) in
         inr
@@ -52,11 +52,17 @@ potential-ends kernel zero st s l =
     let positive = potential-positive (kernel .size - depth st) (st .placed) (st .next) in absurd (omega arith)
 potential-ends kernel (suc budget) st s l =
     ⊎-elim (λ e. rw (run-finished kernel (suc budget) st e) e)
-    (λ u. rw (run-step kernel budget st u) (⊎-elim
-    (λ e. rw (run-finished kernel budget (step kernel st) e) e)
-    (λ lower. potential-ends kernel budget (step kernel st) (step-admissible kernel st s) (omega arith))
-    (step-closes-or-lowers kernel st s)))
+    (λ u.
+    rw (run-step kernel budget st u)
+    (after-step (step-closes-or-lowers kernel st s) (potential-ends kernel budget (step kernel st) (step-admissible kernel st s))))
     (passes-or-fails (st .finished))
+  where
+    after-step :
+        So (step kernel st .finished) ⊎ (potential kernel (step kernel st) < potential kernel st)
+        → (potential kernel (step kernel st) ≤ budget → So (run kernel budget (step kernel st) .state .finished))
+        → So (run kernel budget (step kernel st) .state .finished)
+    after-step (inl e) ends = rw (run-finished kernel budget (step kernel st) e) e
+    after-step (inr lower) ends = ends (omega arith)
 
 -- the machine is finished as soon as the budget is enough
 pub enough-ends : (kernel : Kernel) (first : List ℕ) (budget : ℕ) → enough (kernel .size) ≤ budget
@@ -65,11 +71,12 @@ enough-ends kernel first budget l =
     potential-ends kernel budget (start kernel first) (start-admissible kernel first)
     (le-trans (le-of-eq (potential-start kernel first)) l)
 
+-- the same of one search, where the kernel is searched
 pub enough-ends-search : (kernel : Kernel) (first : List ℕ) (budget : ℕ) → kernel .size ≤ search-limit → enough (kernel .size) ≤ budget
     → So (search kernel budget (start kernel first) .state .finished)
 enough-ends-search kernel first budget s l = rw (search-within kernel budget (start kernel first) s) (enough-ends kernel first budget l)
 
--- no budget is followed by more steps
+-- no budget leads to more steps
 pub steps-le-enough : (kernel : Kernel) (first : List ℕ) (budget : ℕ) → run kernel budget (start kernel first) .steps ≤ enough (kernel .size)
 steps-le-enough kernel first budget =
     let bound = enough (kernel .size) in
@@ -78,3 +85,7 @@ steps-le-enough kernel first budget =
     rw (run-settles kernel bound budget (start kernel first) l (enough-ends kernel first bound (le-refl bound)))
     (run-steps-le kernel bound (start kernel first)))
     (below-or-from budget bound)
+
+-- the number of steps that the paper gives for its kernel of 12 grants
+twelve-grants : enough 12 ≡ 1_045_912_627
+twelve-grants = refl

@@ -58,13 +58,15 @@ run-steps-all kernel (suc budget) st u =
     (λ e. rw (run-step kernel budget st e) (ap suc (run-steps-all kernel budget (step kernel st) (rw (run-step kernel budget st e) at u))))
     (passes-or-fails (st .finished))
 
+-- a run goes on where a shorter one came to
+pub run-goes-on : (kernel : Kernel) (m n : ℕ) (st : State) → m ≤ n
+    → run kernel n st ≡ followed-by (run kernel m st) (run kernel (n - m) (run kernel m st .state))
+run-goes-on kernel m n st l = rw (add-sub-of-le l) at (run-add kernel m (n - m) st)
+
 -- once finished, a greater budget changes nothing: the steps are those that were left
 pub run-settles : (kernel : Kernel) (m n : ℕ) (st : State) → m ≤ n → So (run kernel m st .state .finished)
     → run kernel n st ≡ run kernel m st
-run-settles kernel m n st l f =
-    let whole : run kernel n st ≡ followed-by (run kernel m st) (run kernel (n - m) (run kernel m st .state)) =
-    rw (add-sub-of-le l) at (run-add kernel m (n - m) st) in
-    rw (whole, run-finished kernel (n - m) (run kernel m st .state) f, add-zero)
+run-settles kernel m n st l f = rw (run-goes-on kernel m n st l, run-finished kernel (n - m) (run kernel m st .state) f, add-zero)
 
 -- the last step of a run whose state before it is not finished
 pub run-last : (kernel : Kernel) (budget : ℕ) (st : State) → run kernel budget st .state .finished ≡ false
