@@ -1,8 +1,12 @@
--- What the definitions of all crates are written with: lists under a Boolean test, and words as bytes.
+-- What the definitions of all crates are written with: lists under a Boolean test, placements in classes, and words as bytes.
 pub mod Lists
 pub mod TestLaws
 pub mod Placement
 pub mod Classing
 pub mod GrownLaws
+pub mod PlacementLaws
+pub mod GroupingLaws
+pub mod KeyLaws
+pub mod Beginning
 pub mod Lexicographic
 pub mod Ascii

@@ -6,6 +6,9 @@ pub mod Steps
 pub mod Runs
 pub mod Best
 pub mod Admissible
+pub mod Sound
+pub mod Canonical
+pub mod Complete
 pub mod Potential
 pub mod Progress
 pub mod Rising
