@@ -1,6 +1,8 @@
--- What the definitions of all crates are written with: lists under a Boolean test, placements in classes, and words as bytes.
+-- What the definitions of all crates are written with: lists under a Boolean test, lists in order, placements in classes, and words as bytes.
 pub mod Lists
 pub mod TestLaws
+pub mod Ordered
+pub mod ReverseLaws
 pub mod Placement
 pub mod Classing
 pub mod GrownLaws
