@@ -7,3 +7,4 @@ pub mod Cover
 pub mod Cases
 pub mod NumberLaws
 pub mod CoverLaws
+pub mod CellSets
