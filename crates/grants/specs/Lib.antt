@@ -5,5 +5,7 @@ pub mod WithoutLaws
 pub mod Reduction
 pub mod Witness
 pub mod Cover
+pub mod Cases
 pub mod NumberLaws
 pub mod CoverLaws
+pub mod CellSets

@@ -1,5 +1,5 @@
--- What a grouping by any test is: as long as asked, grown and valid. The class that a number takes is one in use or the next one, and either its members
--- all go together with the number or there are none.
+-- What a grouping by any test is: as long as asked, grown and valid. The class that a number takes is one in use or the next one, and either its
+-- members all go together with the number or there are none.
 -- Assumes nothing.
 use Prim.Native.Nat.{ℕ, zero, suc, _≤_}
 use mathlib.Core.Path.{_≡_, refl, ap}

@@ -8,7 +8,10 @@ pub mod LeastLaws
 pub mod ReverseLaws
 pub mod Placement
 pub mod Classing
+pub mod GrownLaws
 pub mod PlacementLaws
 pub mod GroupingLaws
 pub mod KeyLaws
+pub mod Beginning
+pub mod Lexicographic
 pub mod Ascii

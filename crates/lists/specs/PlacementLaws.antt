@@ -7,7 +7,7 @@ use mathlib.Core.Path.{_≡_, refl, sym, _∙_}
 use mathlib.Core.Logic.{⊎-elim}
 use mathlib.Core.Bool.{Bool, So, _||_, not}
 use mathlib.Core.List.{List, [], _∷_, _++_}
-use native.Mathlib.Nat.{le-refl, le-step, le-trans, le-max-left, le-max-right, lt-suc-self, lt-trans, not-suc-le-zero}
+use native.Mathlib.Nat.{le-step, le-trans, le-max-left, le-max-right, lt-suc-self, lt-trans, not-suc-le-zero}
 use native.Mathlib.Omega.{arith}
 use borrow.Author.Tests.{eqb-true, eqb-false, eq-eqb, ne-eqb}
 use lib.Dec.{eqb}
@@ -19,17 +19,17 @@ use Rattle.lists.specs.Classing.{class-in, Valid, Grown, Classing}
 
 -- ---- the class of a number
 
-pub class-of-latest : (a : ℕ) (earlier : List ℕ) {i : ℕ} → i ≡ length earlier → class-in (a ∷ earlier) i ≡ a
-class-of-latest a earlier {i} e = rw (eq-eqb i (length earlier) e)
+pub class-in-latest : (a : ℕ) (earlier : List ℕ) {i : ℕ} → i ≡ length earlier → class-in (a ∷ earlier) i ≡ a
+class-in-latest a earlier {i} e = rw (eq-eqb i (length earlier) e)
 
-pub class-of-earlier : (a : ℕ) (earlier : List ℕ) {i : ℕ} → i < length earlier → class-in (a ∷ earlier) i ≡ class-in earlier i
-class-of-earlier a earlier {i} l = rw (ne-eqb i (length earlier) (omega arith))
+pub class-in-earlier : (a : ℕ) (earlier : List ℕ) {i : ℕ} → i < length earlier → class-in (a ∷ earlier) i ≡ class-in earlier i
+class-in-earlier a earlier {i} l = rw (ne-eqb i (length earlier) (omega arith))
 
 -- a longer placement agrees on the earlier numbers
-pub class-of-part : (later earlier : List ℕ) {i : ℕ} → i < length earlier → class-in (later ++ earlier) i ≡ class-in earlier i
-class-of-part [] earlier l = refl
-class-of-part (a ∷ later) earlier l =
-    class-of-earlier a (later ++ earlier) (omega (arith, length-append later earlier)) ∙ class-of-part later earlier l
+pub class-in-part : (later earlier : List ℕ) {i : ℕ} → i < length earlier → class-in (later ++ earlier) i ≡ class-in earlier i
+class-in-part [] earlier l = refl
+class-in-part (a ∷ later) earlier l =
+    class-in-earlier a (later ++ earlier) (omega (arith, length-append later earlier)) ∙ class-in-part later earlier l
 
 -- ---- the number of classes
 
@@ -42,14 +42,9 @@ latest-below-used a earlier = le-max-left (suc a) (used earlier)
 pub class-below-used : (placed : List ℕ) {i : ℕ} → i < length placed → class-in placed i < used placed
 class-below-used [] l = absurd (not-suc-le-zero l)
 class-below-used (a ∷ earlier) {i} l =
-    ⊎-elim (λ e. rw (class-of-latest a earlier e) (latest-below-used a earlier))
-    (λ (k : i < length earlier). rw (class-of-earlier a earlier k) (le-trans (class-below-used earlier k) (earlier-uses-fewer a earlier)))
+    ⊎-elim (λ e. rw (class-in-latest a earlier e) (latest-below-used a earlier))
+    (λ (k : i < length earlier). rw (class-in-earlier a earlier k) (le-trans (class-below-used earlier k) (earlier-uses-fewer a earlier)))
     (last-or-below l)
-
--- no class is wasted, so there are at most as many as numbers
-pub grown-used-le : (placed : List ℕ) → Grown placed → used placed ≤ length placed
-grown-used-le [] g = le-refl 0
-grown-used-le (a ∷ earlier) g = omega (arith, g .0, grown-used-le earlier (g .1))
 
 -- ---- joining a class
 
@@ -59,8 +54,8 @@ joins-intro together d [] c h = refl
 joins-intro together d (a ∷ earlier) c h =
     and-intro (not (eqb a c) || together d (length earlier)) (joins together d earlier c)
     (implies-intro (eqb a c) (together d (length earlier))
-    (λ e. h (length earlier) (lt-suc-self (length earlier)) (class-of-latest a earlier refl ∙ eqb-true a c e)))
-    (joins-intro together d earlier c (λ i l e. h i (le-step l) (class-of-earlier a earlier l ∙ e)))
+    (λ e. h (length earlier) (lt-suc-self (length earlier)) (class-in-latest a earlier refl ∙ eqb-true a c e)))
+    (joins-intro together d earlier c (λ i l e. h i (le-step l) (class-in-earlier a earlier l ∙ e)))
 
 pub joins-elim : (together : ℕ → ℕ → Bool) (d : ℕ) (earlier : List ℕ) (c : ℕ) → So (joins together d earlier c)
     → {i : ℕ} → i < length earlier → class-in earlier i ≡ c → So (together d i)
@@ -69,10 +64,10 @@ joins-elim together d (a ∷ earlier) c j {i} l e =
     ⊎-elim
     (λ s. rw s (implies-elim (eqb a c) (together d (length earlier))
     (and-left (not (eqb a c) || together d (length earlier)) (joins together d earlier c) j)
-    (eq-eqb a c (sym (class-of-latest a earlier s) ∙ e))))
+    (eq-eqb a c (sym (class-in-latest a earlier s) ∙ e))))
     (λ k. joins-elim together d earlier c
     (and-right (not (eqb a c) || together d (length earlier)) (joins together d earlier c) j) k
-    (sym (class-of-earlier a earlier k) ∙ e))
+    (sym (class-in-earlier a earlier k) ∙ e))
     (last-or-below l)
 
 -- ---- valid placements
@@ -84,9 +79,9 @@ valid-elim together [] v i j k l e = absurd (not-suc-le-zero l)
 valid-elim together (a ∷ earlier) v i j k l e =
     ⊎-elim
     (λ (s : i ≡ length earlier). rw s (joins-elim together (length earlier) earlier a (v .0) (rw s at k)
-    (sym (class-of-earlier a earlier (rw s at k)) ∙ sym e ∙ class-of-latest a earlier s)))
+    (sym (class-in-earlier a earlier (rw s at k)) ∙ sym e ∙ class-in-latest a earlier s)))
     (λ (m : i < length earlier). valid-elim together earlier (v .1) i j k m
-    (sym (class-of-earlier a earlier m) ∙ e ∙ class-of-earlier a earlier (lt-trans k m)))
+    (sym (class-in-earlier a earlier m) ∙ e ∙ class-in-earlier a earlier (lt-trans k m)))
     (last-or-below l)
 
 pub valid-intro : (together : ℕ → ℕ → Bool) (placed : List ℕ)
@@ -94,9 +89,9 @@ pub valid-intro : (together : ℕ → ℕ → Bool) (placed : List ℕ)
 valid-intro together [] h = tt
 valid-intro together (a ∷ earlier) h = (
   joins-intro together (length earlier) earlier a (λ j l e. h (length earlier) j l (lt-suc-self (length earlier))
-      (class-of-latest a earlier refl ∙ sym e ∙ sym (class-of-earlier a earlier l))),
+      (class-in-latest a earlier refl ∙ sym e ∙ sym (class-in-earlier a earlier l))),
   valid-intro together earlier (λ i j k l e. h i j k (le-step l)
-      (class-of-earlier a earlier l ∙ e ∙ sym (class-of-earlier a earlier (lt-trans k l)))),
+      (class-in-earlier a earlier l ∙ e ∙ sym (class-in-earlier a earlier (lt-trans k l)))),
 )
 
 -- a valid placement classes its numbers
@@ -124,7 +119,7 @@ pub grown-member : (placed : List ℕ) → Grown placed → {c : ℕ} → c < us
 grown-member [] g l = absurd (not-suc-le-zero l)
 grown-member (a ∷ earlier) g {c} l =
     ⊎-elim
-    (λ e. record { number = length earlier; within = lt-suc-self (length earlier); classed = class-of-latest a earlier refl ∙ eqb-true a c e })
+    (λ e. record { number = length earlier; within = lt-suc-self (length earlier); classed = class-in-latest a earlier refl ∙ eqb-true a c e })
     (λ e. kept (grown-member earlier (g .1) (omega (arith, g .0, eqb-false a c e))))
     (passes-or-fails (eqb a c))
   where
@@ -132,5 +127,5 @@ grown-member (a ∷ earlier) g {c} l =
     kept m = record {
       number = m .number;
       within = le-step (m .within);
-      classed = class-of-earlier a earlier (m .within) ∙ m .classed;
+      classed = class-in-earlier a earlier (m .within) ∙ m .classed;
     }

@@ -11,7 +11,7 @@ use lib.ListN.{length, length-reverse}
 use Rattle.bits.specs.BelowLaws.{last-or-below}
 use Rattle.lists.specs.ReverseLaws.{reverse-first-is-last, reverse-rest-keeps}
 use Rattle.lists.specs.Classing.{class-in}
-use Rattle.lists.specs.PlacementLaws.{class-of-latest, class-of-earlier}
+use Rattle.lists.specs.PlacementLaws.{class-in-latest, class-in-earlier}
 use Rattle.sheet.specs.Sheet.{Grant, same-grant}
 use Rattle.sheet.specs.GrantLaws.{same-grant-refl}
 use Rattle.grants.specs.Cover.{grant-at}
@@ -52,7 +52,7 @@ backwards-only (g ∷ later) (a ∷ placed) e {x} m =
           number = length placed;
           within = le-refl (suc (length placed));
           grant = ap (λ y. y .grant) s ∙ sym (latest-grant g later placed (suc-inj e));
-          class = ap (λ y. y .class) s ∙ sym (class-of-latest a placed refl);
+          class = ap (λ y. y .class) s ∙ sym (class-in-latest a placed refl);
         }
 
     earlier : PairedAt (reverse later) placed x → PairedAt (reverse (g ∷ later)) (a ∷ placed) x
@@ -61,7 +61,7 @@ backwards-only (g ∷ later) (a ∷ placed) e {x} m =
           number = r .number;
           within = le-step (r .within);
           grant = r .grant ∙ sym (earlier-grant g later placed (suc-inj e) (r .within));
-          class = r .class ∙ sym (class-of-earlier a placed (r .within));
+          class = r .class ∙ sym (class-in-earlier a placed (r .within));
         }
 
 backwards-has : (backwards : List Grant) (placed : List ℕ) → length backwards ≡ length placed → (i : ℕ) → i < length placed
@@ -71,9 +71,9 @@ backwards-has [] (a ∷ placed) e i l = absurd (omega arith)
 backwards-has (g ∷ later) [] e i l = absurd (not-suc-le-zero l)
 backwards-has (g ∷ later) (a ∷ placed) e i l =
     ⊎-elim
-    (λ (s : i ≡ length placed). List·Memᴰ·head (same-classed (rw s (latest-grant g later placed (suc-inj e))) (class-of-latest a placed s)))
+    (λ (s : i ≡ length placed). List·Memᴰ·head (same-classed (rw s (latest-grant g later placed (suc-inj e))) (class-in-latest a placed s)))
     (λ (k : i < length placed). List·Memᴰ·tail (Memᴰ·cast
-    (same-classed (earlier-grant g later placed (suc-inj e) k) (class-of-earlier a placed k))
+    (same-classed (earlier-grant g later placed (suc-inj e) k) (class-in-earlier a placed k))
     (backwards-has later placed (suc-inj e) i k)))
     (last-or-below l)
 
@@ -98,10 +98,10 @@ backwards-class [] (a ∷ placed) e differ i l = absurd (omega arith)
 backwards-class (g ∷ later) [] e differ i l = absurd (not-suc-le-zero l)
 backwards-class (g ∷ later) (a ∷ placed) e differ i l =
     ⊎-elim
-    (λ (s : i ≡ length placed). rw (s, latest-grant g later placed (suc-inj e), same-grant-refl g) (sym (class-of-latest a placed refl)))
+    (λ (s : i ≡ length placed). rw (s, latest-grant g later placed (suc-inj e), same-grant-refl g) (sym (class-in-latest a placed refl)))
     (λ (k : i < length placed).
     rw (earlier-grant g later placed (suc-inj e) k, other k, backwards-class later placed (suc-inj e) differ-earlier i k)
-    (sym (class-of-earlier a placed k)))
+    (sym (class-in-earlier a placed k)))
     (last-or-below l)
   where
     other : i < length placed → same-grant (grant-at (reverse later) i) g ≡ false

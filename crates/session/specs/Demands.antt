@@ -72,17 +72,21 @@ pub record Ended (text : Bytes) (given : ℕ) : Type 0 where
   pub searchable : length (kernel (sheet-of text)) ≤ search-limit
   pub sufficient : enough (length (kernel (sheet-of text))) ≤ given
 
--- what is owed of one outcome, after the earlier calls
+-- what is owed of a book that an accepted writing brought out, after the earlier calls
+pub record BookOwed (book : Bytes) (earlier : List Call) : Type 0 where
+  -- the sheet of the last accepted load
+  pub text : Bytes
+  pub last : last-accepted earlier ≡ some text
+  pub believed : Believed text book
+  -- once the budgets since that load add up, no book says `open`
+  pub settled : Ended text (budgets-given earlier) → said (sheet-of text) book .standing ≢ unsettled
+
+-- what is owed of one outcome, after the earlier calls: once the budgets add up, the answering one included, no search answers `open`
 abbrev pub Owed : (call : Call) → Outcome call → List Call → Type 0
 Owed (load text) answer earlier = Unit {0}
 Owed (search budget) answer earlier =
     (text : Bytes) → last-accepted earlier ≡ some text → Ended text (budget + budgets-given earlier) → answer .standing ≢ some unsettled
-Owed (write buffer) written earlier =
-    written .answer .number ≡ 0
-    → (text : Bytes)
-    × (last-accepted earlier ≡ some text)
-    × Believed text (brought-out written)
-    × (Ended text (budgets-given earlier) → said (sheet-of text) (brought-out written) .standing ≢ unsettled)
+Owed (write buffer) written earlier = written .answer .number ≡ 0 → BookOwed (brought-out written) earlier
 
 -- what is owed of all outcomes of a sequence
 abbrev pub OwedOfAll : List Event → Type 0

@@ -7,11 +7,15 @@ use Rattle.bits.specs.Below.{lowest-below}
 use Rattle.lists.specs.Ascii.{ascii}
 use Rattle.sheet.specs.Text.{Bytes}
 use Rattle.sheet.specs.Sheet.{Grant, sheet-of}
+use Rattle.sheet.specs.Refusal.{refusal}
+use Rattle.grants.specs.Reduction.{kernel}
 use Rattle.grants.specs.Witness.{witness}
-use Rattle.search.specs.Machine.{depth}
-use Rattle.roles.specs.Roles.{Standing, witnessed, searched, unsettled}
-use Rattle.session.specs.Session.{Session, no-sheet, loaded, fresh, LoadAnswer, load-answer, load-refused, after-load, SearchAnswer, search-answer, search-refused, after-search, session-book}
-use Rattle.session.specs.Program.{program-output}
+use Rattle.search.specs.Machine.{depth, search}
+use Rattle.roles.specs.Roles.{Standing, witnessed, searched, unsettled, kernel-of, start-of, role-count, bound, standing}
+use Rattle.book.specs.Decimal.{decimal}
+use Rattle.book.specs.Book.{book}
+use Rattle.session.specs.Session.{Session, no-sheet, loaded, fresh, LoadAnswer, load-answer, load-refused, after-load, SearchAnswer, search-answer, search-refused, searched-on, after-search, session-book}
+use Rattle.session.specs.Program.{budget-limit, is-budget, budget-of, program-output}
 
 -- a sheet to load into a fresh session, and the budget of one search after it
 pub record Trial : Type 0 where
@@ -29,7 +33,7 @@ placed-in-session no-sheet = 0
 placed-in-session (loaded text st) = depth st
 
 finding : Trial → Finding
-unfolding load-answer search-answer after-load after-search placed-in-session
+unfolding load-answer search-answer after-load after-search placed-in-session searched-on refusal sheet-of kernel witness start-of kernel-of search role-count bound standing
 finding trial =
     let session : Session = after-load fresh (trial .sheet) in
     record {
@@ -111,5 +115,5 @@ second-grant = refl
 -- the worked example's whole book from the sheet's bytes
 worked-book : program-output worked [] ≡
     ascii "roles,bound,state\n2,2,witnessed\n\nrole,rec,id,map\nR1,1,1,0\nR2,0,1,1\n\nuser,R1,R2\nann,1,0\nbo,0,1\ncy,1,1\n\nuser,permission\nann,rec\nbo,map\n"
-unfolding program-output worked lowest-below
+unfolding program-output worked lowest-below budget-of is-budget budget-limit after-load after-search searched-on session-book refusal sheet-of kernel-of start-of search book decimal
 worked-book = refl

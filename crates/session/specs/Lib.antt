@@ -4,3 +4,6 @@ pub mod Program
 pub mod Sequence
 pub mod Demands
 pub mod Edges
+pub mod Reached
+pub mod Owed
+pub mod Settled

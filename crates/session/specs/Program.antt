@@ -15,18 +15,15 @@ budget-limit = 4_294_967_295
 
 -- a number of that range: decimal digits, at least one
 unfoldable pub is-budget : Bytes → Bool
-unfolding budget-limit
 is-budget word = not (empty word) && all is-digit word && leb (number-of word) budget-limit
 
 -- the budget is the first argument, and 0 where there is none or it is no number of that range
 unfoldable pub budget-of : List Bytes → ℕ
-unfolding is-budget
 budget-of [] = 0
 budget-of (word ∷ further) = cond (is-budget word) (number-of word) 0
 
 -- what the program prints
 unfoldable pub program-output : Bytes → List Bytes → Bytes
-unfolding refusal after-load after-search session-book budget-of decimal
 program-output text arguments =
     let found : Bytes = session-book (after-search (after-load fresh text) (budget-of arguments)) in
     cond (accepted text) found (decimal (refusal text) ++ line-feed ∷ [])

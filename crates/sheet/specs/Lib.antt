@@ -6,3 +6,4 @@ pub mod GrantLaws
 pub mod GrantOrderLaws
 pub mod Refusal
 pub mod Rules
+pub mod Rows
