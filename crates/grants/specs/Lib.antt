@@ -2,6 +2,7 @@
 pub mod Fit
 pub mod FitLaws
 pub mod WithoutLaws
+pub mod AmongLaws
 pub mod Reduction
 pub mod Witness
 pub mod Cover

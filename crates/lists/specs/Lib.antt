@@ -2,6 +2,7 @@
 pub mod Lists
 pub mod TestLaws
 pub mod Ordered
+pub mod OrderedUnique
 pub mod FilterLength
 pub mod Distinct
 pub mod LeastLaws

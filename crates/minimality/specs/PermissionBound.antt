@@ -20,7 +20,8 @@ use Rattle.sheet.specs.GrantLaws.{grant-held}
 use Rattle.grants.specs.FitLaws.{one-permission-fits}
 use Rattle.grants.specs.Reduction.{kernel, singles}
 use Rattle.grants.specs.NumberLaws.{grant-at-member}
-use Rattle.grants.specs.Cover.{grant-at, permission-at}
+use Rattle.grants.specs.Cover.{grant-at, permission-at, first-best}
+use Rattle.grants.specs.CoverLaws.{best-le-by-permission}
 use Rattle.minimality.specs.GrantClassing.{Even}
 use Rattle.minimality.specs.RoleSets.{even-permission-below}
 use Rattle.minimality.specs.Removals.{Unfit}
@@ -76,3 +77,8 @@ singles-and-permissions {sheet} even =
     outside p m =
         let r = Memᴰ·of-map (λ g. g .permission) (singles sheet) m in
         rw (← (r .2)) (permission-below even (single-granted sheet (r .1)), single-permission-not-kernel sheet (r .1))
+
+-- and so are singles and the classes of the first best
+pub singles-and-first-best : {sheet : Sheet} → Even sheet → length (singles sheet) + used (first-best sheet) ≤ permission-count sheet
+unfolding first-best
+singles-and-first-best {sheet} even = omega (arith, singles-and-permissions even, best-le-by-permission sheet (kernel sheet))

@@ -5,17 +5,18 @@ use Prim.Native.Nat.{_+_}
 use native.Mathlib.Omega.{arith}
 use mathlib.Core.Path.{_≡_}
 use mathlib.Core.Logic.{⊎-elim, _≢_}
-use mathlib.Core.Bool.{So, _||_}
-use mathlib.Core.List.{List, _++_, List·Memᴰ, List·Memᴰ·append-cases, Memᴰ·cast, Memᴰ·append-left, Memᴰ·append-right}
+use mathlib.Core.Bool.{_||_}
+use mathlib.Core.List.{_++_, List·Memᴰ, List·Memᴰ·append-cases, Memᴰ·append-left, Memᴰ·append-right}
 use lib.ListN.{length, length-append}
 use Rattle.bits.specs.Truth.{not-both, or-left, or-right, or-cases}
-use Rattle.lists.specs.TestLaws.{any-intro, any-elim, filter-member, filter-kept, member-at}
+use Rattle.lists.specs.TestLaws.{filter-member, filter-kept, member-at}
 use Rattle.lists.specs.Ordered.{Ordered, ordered-places, ordered-append, ordered-filter}
 use Rattle.lists.specs.Distinct.{Distinct, ordered-distinct, ordered-either, distinct-within}
-use Rattle.sheet.specs.Sheet.{Sheet, Grant, same-grant, grants}
-use Rattle.sheet.specs.GrantLaws.{same-grant-equal, same-grant-refl, grant-held}
+use Rattle.sheet.specs.Sheet.{Sheet, Grant, grants}
+use Rattle.sheet.specs.GrantLaws.{grant-held}
 use Rattle.sheet.specs.GrantOrderLaws.{Before, grants-ordered}
 use Rattle.grants.specs.Fit.{among}
+use Rattle.grants.specs.AmongLaws.{among-member, member-among}
 use Rattle.grants.specs.FitLaws.{fits-itself}
 use Rattle.grants.specs.Reduction.{singles}
 use Rattle.grants.specs.Witness.{chosen, witness}
@@ -45,12 +46,6 @@ bearing-distinct sheet =
     (λ g m e. not-both (fits-itself sheet g (grant-held sheet (bearing-granted sheet m))) e) (bearing-unfit sheet)
 
 -- ---- the witness
-
-among-member : (l : List Grant) (g : Grant) → So (among l g) → List·Memᴰ g l
-among-member l g e = let r = any-elim (same-grant g) l e in Memᴰ·cast (same-grant-equal g (r .element) (r .passes)) (r .member)
-
-member-among : (l : List Grant) {g : Grant} → List·Memᴰ g l → So (among l g)
-member-among l {g} m = any-intro (same-grant g) l m (same-grant-refl g)
 
 -- the witness's grants are grants of the sheet
 pub witness-granted : (sheet : Sheet) {g : Grant} → List·Memᴰ g (witness sheet) → List·Memᴰ g (grants sheet)
