@@ -12,3 +12,5 @@ pub mod PuttingBack
 pub mod Chosen
 pub mod WitnessLaws
 pub mod PermissionBound
+pub mod SheetRoles
+pub mod StateBound
