@@ -22,7 +22,7 @@ use Rattle.roles.specs.Classes.{Classed, Classes, paired, class-of, put-back, p
 use Rattle.minimality.specs.GrantClassing.{ClassingOf}
 use Rattle.minimality.specs.KernelLaws.{kernel-distinct}
 use Rattle.minimality.specs.ClassRoles.{InClass}
-use Rattle.minimality.specs.Removals.{Covers, Reached, at-first, by-single, by-tie, remaining-granted, reduction-reached}
+use Rattle.minimality.specs.Removals.{Dominating, Reached, at-first, by-single, by-tie, remaining-granted, reduction-reached}
 
 -- the grants of some members
 abbrev pub grants-in : List Classed → List Grant
@@ -58,7 +58,7 @@ module _ (sheet : Sheet) (l : List Grant) (it : Grant) (c count more : ℕ) (mem
   joining-classes : Held sheet it → count ≤ more → c < more
       → ((h : Grant) → List·Memᴰ h (without it l) → class-of members h ≡ c → So (fits sheet it h))
       → ClassingOf sheet (without it l) count (class-of members) → ClassingOf sheet l more (class-of (joined-by it c members))
-  joining-classes held grows within friends classing =
+  joining-classes held grows within all-fit classing =
       record { within = λ g m. inside g (without-cases it l m); fitting = λ g h m n. together g h (without-cases it l m) (without-cases it l n) }
     where
       inside : (g : Grant) → (g ≡ it) ⊎ List·Memᴰ g (without it l) → class-of (joined-by it c members) g < more
@@ -69,9 +69,9 @@ module _ (sheet : Sheet) (l : List Grant) (it : Grant) (c count more : ℕ) (mem
           → class-of (joined-by it c members) g ≡ class-of (joined-by it c members) h → So (fits sheet g h)
       together g h (inl p) (inl q) e = rw (p, q) (fits-itself sheet it held)
       together g h (inl p) (inr n) e =
-          rw p (friends h n (sym (class-of-other it c members l n) ∙ sym e ∙ rw (p, class-of-joined it c members)))
+          rw p (all-fit h n (sym (class-of-other it c members l n) ∙ sym e ∙ rw (p, class-of-joined it c members)))
       together g h (inr m) (inl q) e =
-          rw q (fits-symmetric sheet g it ∙ friends g m (sym (class-of-other it c members l m) ∙ e ∙ rw (q, class-of-joined it c members)))
+          rw q (fits-symmetric sheet g it ∙ all-fit g m (sym (class-of-other it c members l m) ∙ e ∙ rw (q, class-of-joined it c members)))
       together g h (inr m) (inr n) e =
           classing .fitting g h m n (sym (class-of-other it c members l m) ∙ e ∙ class-of-other it c members l n)
 
@@ -79,13 +79,13 @@ module _ (sheet : Sheet) (l : List Grant) (it : Grant) (c count more : ℕ) (mem
   joining-members : ((h : Grant) → List·Memᴰ h (without it l) → class-of members h ≡ c → So (fits sheet it h)) → Held sheet it
       → count ≤ more → c < more → ClassesOf sheet (without it l) (record { members = members; count = count })
       → ClassesOf sheet l (record { members = joined-by it c members; count = more })
-  joining-members friends held grows within classes =
+  joining-members all-fit held grows within classes =
       record {
         has = λ g m. ⊎-elim (λ e. List·Memᴰ·head e) (λ n. List·Memᴰ·tail (classes .has g n)) (without-cases it l m);
         only = λ g m.
             ⊎-elim (λ e. Memᴰ·cast e there) (λ n. without-member it l (classes .only g n)) (List·Memᴰ·cases-cons m);
         once = (λ g m. without-differs it l (classes .only g m), classes .once);
-        classing = joining-classes held grows within friends (classes .classing);
+        classing = joining-classes held grows within all-fit (classes .classing);
       }
 
   -- where all earlier classes are in use and the grant's class is one of them or the next one, all are in use
@@ -114,11 +114,11 @@ single-opens-a-class sheet l it classes m held c =
 
 -- a tied grant joins its partner's class
 pub tied-joins-its-partner : (sheet : Sheet) (l : List Grant) (it g : Grant) (classes : Classes) → List·Memᴰ it l → Held sheet it
-    → Covers sheet (without it l) it g → ClassesOf sheet (without it l) classes → ClassesOf sheet l (put-back (tied it g) classes)
-tied-joins-its-partner sheet l it g classes m held covers c =
+    → Dominating sheet (without it l) it g → ClassesOf sheet (without it l) classes → ClassesOf sheet l (put-back (tied it g) classes)
+tied-joins-its-partner sheet l it g classes m held dominating c =
     joining-members sheet l it (class-of (classes .members) g) (classes .count) (classes .count) (classes .members) m
-    (λ h n e. covers .fits-all h n (c .classing .fitting g h (covers .is-left) n (sym e))) held (le-refl (classes .count))
-    (c .classing .within g (covers .is-left)) c
+    (λ h n e. dominating .fits-all h n (c .classing .fitting g h (dominating .is-left) n (sym e))) held (le-refl (classes .count))
+    (c .classing .within g (dominating .is-left)) c
 
 -- ---- all of them put back
 
@@ -128,9 +128,9 @@ put-all-back-classes classes at-first c = c
 put-all-back-classes {sheet} classes (by-single {r} it reached m alone) c =
     put-all-back-classes (put-back (single it) classes) reached
     (single-opens-a-class sheet (r .remaining) it classes m (grant-held sheet (remaining-granted reached m)) c)
-put-all-back-classes {sheet} classes (by-tie {r} it g reached m covers) c =
+put-all-back-classes {sheet} classes (by-tie {r} it g reached m dominating) c =
     put-all-back-classes (put-back (tied it g) classes) reached
-    (tied-joins-its-partner sheet (r .remaining) it g classes m (grant-held sheet (remaining-granted reached m)) covers c)
+    (tied-joins-its-partner sheet (r .remaining) it g classes m (grant-held sheet (remaining-granted reached m)) dominating c)
 
 pub put-all-back-counts : (removed : List Removal) (classes : Classes)
     → put-all-back removed classes .count ≡ classes .count + length (singles-of removed)
@@ -145,7 +145,7 @@ put-all-back-fills {sheet} classes (by-single {r} it reached m alone) filled =
     put-all-back-fills (put-back (single it) classes) reached
     (joining-fills sheet (r .remaining) it (classes .count) (classes .count) (suc (classes .count)) (classes .members) m
     (λ a k. ⊎-elim (λ e. inr e) (λ n. inl n) (last-or-below k)) filled)
-put-all-back-fills {sheet} classes (by-tie {r} it g reached m covers) filled =
+put-all-back-fills {sheet} classes (by-tie {r} it g reached m dominating) filled =
     put-all-back-fills (put-back (tied it g) classes) reached
     (joining-fills sheet (r .remaining) it (class-of (classes .members) g) (classes .count) (classes .count) (classes .members) m
     (λ a k. inl k) filled)

@@ -67,15 +67,16 @@ classing-of-fewer sheet l it c =
 
 -- ---- all removals
 
--- a classing of what remains, with a class to spare for each single removed
-pub record Left (sheet : Sheet) (r : Reduction) (count : ℕ) : Type 0 where
+-- a classing of what is left, with a class to spare for each grant removed as single
+pub record Left (sheet : Sheet) (left removed : List Grant) (count : ℕ) : Type 0 where
   pub rest : ℕ
   pub class : Grant → ℕ
-  pub classing : ClassingOf sheet (r .remaining) rest class
-  pub spared : length (singles-of (r .removed)) + rest ≤ count
+  pub classing : ClassingOf sheet left rest class
+  pub spared : length removed + rest ≤ count
 
+-- a classing of all grants leaves one in every state of the reduction
 pub reduction-keeps-a-classing : {sheet : Sheet} {r : Reduction} {count : ℕ} {class : Grant → ℕ} → Reached sheet r
-    → ClassingOf sheet (grants sheet) count class → Left sheet r count
+    → ClassingOf sheet (grants sheet) count class → Left sheet (r .remaining) (singles-of (r .removed)) count
 reduction-keeps-a-classing {count} {class} at-first c = record { rest = count; class = class; classing = c; spared = omega arith }
 reduction-keeps-a-classing {sheet} (by-single {r} it reached m alone) c =
     let before = reduction-keeps-a-classing reached c in
@@ -85,7 +86,7 @@ reduction-keeps-a-classing {sheet} (by-single {r} it reached m alone) c =
       classing = single-frees-its-class sheet (r .remaining) it m alone (before .classing);
       spared = omega (arith, before .spared, before .classing .within it m);
     }
-reduction-keeps-a-classing {sheet} (by-tie {r} it g reached m covers) c =
+reduction-keeps-a-classing {sheet} (by-tie {r} it g reached m dominating) c =
     let before = reduction-keeps-a-classing reached c in
     record {
       rest = before .rest;
@@ -94,16 +95,8 @@ reduction-keeps-a-classing {sheet} (by-tie {r} it g reached m covers) c =
       spared = before .spared;
     }
 
--- a classing of the kernel, with a class to spare for each single
-pub record KernelLeft (sheet : Sheet) (count : ℕ) : Type 0 where
-  pub rest : ℕ
-  pub class : Grant → ℕ
-  pub classing : ClassingOf sheet (kernel sheet) rest class
-  pub spared : length (singles sheet) + rest ≤ count
-
+-- and so one of the kernel
 pub kernel-keeps-a-classing : (sheet : Sheet) {count : ℕ} {class : Grant → ℕ} → ClassingOf sheet (grants sheet) count class
-    → KernelLeft sheet count
+    → Left sheet (kernel sheet) (singles sheet) count
 unfolding kernel singles
-kernel-keeps-a-classing sheet c =
-    let left = reduction-keeps-a-classing (reduction-reached sheet) c in
-    record { rest = left .rest; class = left .class; classing = left .classing; spared = left .spared }
+kernel-keeps-a-classing sheet c = reduction-keeps-a-classing (reduction-reached sheet) c

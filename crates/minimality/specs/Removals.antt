@@ -1,6 +1,6 @@
--- The states of a reduction, each reached from the whole sheet by removals. A single fits nothing that is left; a tied grant fits its partner and
--- all that is left and fits that partner. Every visit of a remaining grant makes such a removal or none, and a sweep visits only grants
--- that still remain at their moment, since no grant stands twice. So what every removal keeps, the whole reduction keeps: an induction on `Reached`.
+-- The states of a reduction, each reached from the whole sheet by removals. A single fits nothing that is left; a tied grant fits all that is left and
+-- fits its partner. Every visit of a remaining grant makes such a removal or none, and a sweep visits only grants that still remain at
+-- their moment, since no grant stands twice. So what every removal keeps, the whole reduction keeps: an induction on `Reached`.
 use Prim.Native.Nat.{ℕ, zero, suc}
 use mathlib.Core.Path.{_≡_, refl}
 use mathlib.Core.Logic.{⊎-elim, _≢_}
@@ -9,7 +9,7 @@ use mathlib.Core.List.{List, [], _∷_, List·Memᴰ, List·Memᴰ·head, List·
 use mathlib.Core.Option.{Option, none, some}
 use lib.Dec.{eqb}
 use lib.ListN.{length}
-use Rattle.bits.specs.Truth.{not-both, fails-unless, and-intro, and-left, and-right, or-left, or-right, or-cases, implies-elim, not-passes, not-fails}
+use Rattle.bits.specs.Truth.{not-both, fails-unless, and-intro, and-left, and-right, or-right, or-cases, implies-elim, not-passes, not-fails}
 use Rattle.lists.specs.Lists.{empty}
 use Rattle.lists.specs.TestLaws.{Kept, all-elim, filter-member, first-passes}
 use Rattle.lists.specs.Ordered.{Ordered, ordered-filter}
@@ -29,10 +29,9 @@ Unfit sheet g h = fits sheet g h ≡ false
 abbrev pub Alone : Sheet → List Grant → Grant → Type 0
 Alone sheet left it = (h : Grant) → List·Memᴰ h left → Unfit sheet it h
 
--- a grant fits another, which is left, and all of what is left that fits that other one
-pub record Covers (sheet : Sheet) (left : List Grant) (it g : Grant) : Type 0 where
+-- a grant fits all of what is left that fits another one, which is left too
+pub record Dominating (sheet : Sheet) (left : List Grant) (it g : Grant) : Type 0 where
   pub is-left : List·Memᴰ g left
-  pub fits-it : So (fits sheet it g)
   pub fits-all : (h : Grant) → List·Memᴰ h left → So (fits sheet g h) → So (fits sheet it h)
 
 -- a state that removals lead to from the whole sheet
@@ -40,7 +39,7 @@ pub data Reached (sheet : Sheet) : Reduction → Type 0 where
   at-first : Reached sheet (unreduced sheet)
   by-single : {r : Reduction} (it : Grant) → Reached sheet r → List·Memᴰ it (r .remaining) → Alone sheet (without it (r .remaining)) it
       → Reached sheet (carry-out is-single it r)
-  by-tie : {r : Reduction} (it g : Grant) → Reached sheet r → List·Memᴰ it (r .remaining) → Covers sheet (without it (r .remaining)) it g
+  by-tie : {r : Reduction} (it g : Grant) → Reached sheet r → List·Memᴰ it (r .remaining) → Dominating sheet (without it (r .remaining)) it g
       → Reached sheet (carry-out (is-tied g) it r)
 
 -- ---- a visit makes a removal or none
@@ -50,30 +49,26 @@ empty-member [] e m = List·Memᴰ·not-nil m
 empty-member (a ∷ rest) e m = false≢true e
 
 -- no other remaining grant fits it
-pub lonely-is-alone : (sheet : Sheet) (remaining : List Grant) (it : Grant) → So (empty (partners sheet remaining it))
+pub partnerless-is-alone : (sheet : Sheet) (remaining : List Grant) (it : Grant) → So (empty (partners sheet remaining it))
     → Alone sheet (without it remaining) it
-lonely-is-alone sheet remaining it e h m =
+partnerless-is-alone sheet remaining it e h m =
     fails-unless (fits sheet it h) (λ p. empty-member (partners sheet remaining it) e
     (filter-member (λ k. not (same-grant it k) && fits sheet it k) remaining (without-member it remaining m)
     (and-intro (not (same-grant it h)) (fits sheet it h) (not-passes (same-grant it h) (without-fails it remaining m)) p)))
 
 -- the lowest other remaining grant that it dominates
-pub dominated-is-covered : (sheet : Sheet) (remaining : List Grant) (it : Grant) {g : Grant} → dominated sheet remaining it ≡ some g
-    → Covers sheet (without it remaining) it g
-dominated-is-covered sheet remaining it {g} e =
+pub dominated-is-left : (sheet : Sheet) (remaining : List Grant) (it : Grant) {g : Grant} → dominated sheet remaining it ≡ some g
+    → Dominating sheet (without it remaining) it g
+dominated-is-left sheet remaining it {g} e =
     record {
-      is-left = left;
-      fits-it = reaches g left (or-left (same-grant g g) (fits sheet g g) (same-grant-refl g));
+      is-left =
+          without-keeps it remaining (found .member)
+          (not-fails (same-grant it g) (and-left (not (same-grant it g)) (dominates sheet remaining it g) (found .passes)));
       fits-all = λ h m p. reaches h m (or-right (same-grant g h) (fits sheet g h) p);
     }
   where
     found : Kept (λ g. not (same-grant it g) && dominates sheet remaining it g) remaining g
     found = first-passes (λ g. not (same-grant it g) && dominates sheet remaining it g) remaining e
-
-    left : List·Memᴰ g (without it remaining)
-    left =
-        without-keeps it remaining (found .member)
-        (not-fails (same-grant it g) (and-left (not (same-grant it g)) (dominates sheet remaining it g) (found .passes)))
 
     reaches : (h : Grant) → List·Memᴰ h (without it remaining) → So (same-grant g h || fits sheet g h) → So (fits sheet it h)
     reaches h m p =
@@ -87,12 +82,12 @@ pub visit-reaches : (sheet : Sheet) (it : Grant) {r : Reduction} → Reached she
 visit-reaches sheet it {r} reached m =
     judged (empty (partners sheet (r .remaining) it)) refl (dominated sheet (r .remaining) it) refl
   where
-    judged : (lonely : Bool) → empty (partners sheet (r .remaining) it) ≡ lonely
+    judged : (partnerless : Bool) → empty (partners sheet (r .remaining) it) ≡ partnerless
         → (found : Option Grant) → dominated sheet (r .remaining) it ≡ found
-        → Reached sheet (carry-out (cond lonely is-single (tied-if found)) it r)
-    judged true e found f = by-single it reached m (lonely-is-alone sheet (r .remaining) it e)
+        → Reached sheet (carry-out (cond partnerless is-single (tied-if found)) it r)
+    judged true e found f = by-single it reached m (partnerless-is-alone sheet (r .remaining) it e)
     judged false e none f = reached
-    judged false e (some g) f = by-tie it g reached m (dominated-is-covered sheet (r .remaining) it f)
+    judged false e (some g) f = by-tie it g reached m (dominated-is-left sheet (r .remaining) it f)
 
 -- ---- what remains
 
@@ -101,7 +96,7 @@ pub remaining-ordered : {sheet : Sheet} {r : Reduction} → Reached sheet r → 
 remaining-ordered {sheet} at-first = grants-ordered sheet
 remaining-ordered (by-single {r} it reached m alone) =
     ordered-filter Before (λ h. not (same-grant it h)) (r .remaining) (remaining-ordered reached)
-remaining-ordered (by-tie {r} it g reached m covers) =
+remaining-ordered (by-tie {r} it g reached m dominating) =
     ordered-filter Before (λ h. not (same-grant it h)) (r .remaining) (remaining-ordered reached)
 
 -- no grant remains twice
@@ -118,9 +113,9 @@ pub remaining-granted : {sheet : Sheet} {r : Reduction} → Reached sheet r → 
     → List·Memᴰ g (grants sheet)
 remaining-granted at-first n = n
 remaining-granted (by-single {r} it reached m alone) n = remaining-granted reached (without-member it (r .remaining) n)
-remaining-granted (by-tie {r} it g reached m covers) n = remaining-granted reached (without-member it (r .remaining) n)
+remaining-granted (by-tie {r} it g reached m dominating) n = remaining-granted reached (without-member it (r .remaining) n)
 
--- ---- the whole reduction
+-- ---- the whole reduction is reached by removals
 
 -- a visit leaves every other grant
 pub carry-out-leaves : (judged : Verdict) (it : Grant) (r : Reduction) {g : Grant} → it ≢ g → List·Memᴰ g (r .remaining)

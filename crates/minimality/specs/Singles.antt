@@ -19,7 +19,7 @@ pub removed-single-granted : {sheet : Sheet} {r : Reduction} → Reached sheet r
 removed-single-granted at-first n = absurd (List·Memᴰ·not-nil n)
 removed-single-granted (by-single it reached m alone) n =
     ⊎-elim (λ e. Memᴰ·cast e (remaining-granted reached m)) (λ k. removed-single-granted reached k) (List·Memᴰ·cases-cons n)
-removed-single-granted (by-tie it g reached m covers) n = removed-single-granted reached n
+removed-single-granted (by-tie it g reached m dominating) n = removed-single-granted reached n
 
 -- a single fits nothing that remains
 pub removed-single-unfit : {sheet : Sheet} {r : Reduction} → Reached sheet r → {g h : Grant} → List·Memᴰ g (singles-of (r .removed))
@@ -27,14 +27,14 @@ pub removed-single-unfit : {sheet : Sheet} {r : Reduction} → Reached sheet r �
 removed-single-unfit at-first n k = absurd (List·Memᴰ·not-nil n)
 removed-single-unfit (by-single {r} it reached m alone) {g} {h} n k =
     ⊎-elim (λ e. rw e (alone h k)) (λ j. removed-single-unfit reached j (without-member it (r .remaining) k)) (List·Memᴰ·cases-cons n)
-removed-single-unfit (by-tie {r} it g reached m covers) n k = removed-single-unfit reached n (without-member it (r .remaining) k)
+removed-single-unfit (by-tie {r} it g reached m dominating) n k = removed-single-unfit reached n (without-member it (r .remaining) k)
 
 -- no two singles fit
 pub removed-singles-apart : {sheet : Sheet} {r : Reduction} → Reached sheet r → Ordered (Unfit sheet) (singles-of (r .removed))
 removed-singles-apart at-first = tt
 removed-singles-apart {sheet} (by-single it reached m alone) =
     (λ h n. unfit-turned sheet h it (removed-single-unfit reached n m), removed-singles-apart reached)
-removed-singles-apart (by-tie it g reached m covers) = removed-singles-apart reached
+removed-singles-apart (by-tie it g reached m dominating) = removed-singles-apart reached
 
 -- ---- the singles of a sheet
 

@@ -6,7 +6,7 @@ use native.Mathlib.Omega.{arith}
 use mathlib.Core.Path.{_≡_}
 use mathlib.Core.Logic.{⊎-elim, _≢_}
 use mathlib.Core.Bool.{_||_}
-use mathlib.Core.List.{_++_, List·Memᴰ, List·Memᴰ·append-cases, Memᴰ·append-left, Memᴰ·append-right}
+use mathlib.Core.List.{List, _++_, List·Memᴰ, List·Memᴰ·append-cases, Memᴰ·append-left, Memᴰ·append-right}
 use lib.ListN.{length, length-append}
 use Rattle.bits.specs.Truth.{not-both, or-left, or-right, or-cases}
 use Rattle.lists.specs.TestLaws.{filter-member, filter-kept, member-at}
@@ -26,24 +26,28 @@ use Rattle.minimality.specs.KernelLaws.{kernel-granted}
 use Rattle.minimality.specs.Singles.{unfit-turned, single-granted, single-unfit-kernel, singles-apart}
 use Rattle.minimality.specs.Chosen.{chosen-member, chosen-apart}
 
--- ---- the chosen grants and all singles, one list after the other
+-- ---- the grants chosen and all singles
+
+-- one list after the other
+abbrev pub chosen-and-singles : Sheet → List Grant
+chosen-and-singles sheet = chosen sheet ++ singles sheet
 
 pub chosen-granted : (sheet : Sheet) {g : Grant} → List·Memᴰ g (chosen sheet) → List·Memᴰ g (grants sheet)
 chosen-granted sheet m = kernel-granted sheet (chosen-member sheet m)
 
-bearing-granted : (sheet : Sheet) {g : Grant} → List·Memᴰ g (chosen sheet ++ singles sheet) → List·Memᴰ g (grants sheet)
-bearing-granted sheet m =
+chosen-and-singles-granted : (sheet : Sheet) {g : Grant} → List·Memᴰ g (chosen-and-singles sheet) → List·Memᴰ g (grants sheet)
+chosen-and-singles-granted sheet m =
     ⊎-elim (chosen-granted sheet) (single-granted sheet) (List·Memᴰ·append-cases (chosen sheet) m)
 
-bearing-unfit : (sheet : Sheet) → Ordered (Unfit sheet) (chosen sheet ++ singles sheet)
-bearing-unfit sheet =
+chosen-and-singles-unfit : (sheet : Sheet) → Ordered (Unfit sheet) (chosen-and-singles sheet)
+chosen-and-singles-unfit sheet =
     ordered-append (Unfit sheet) (chosen sheet) (singles sheet) (chosen-apart sheet) (singles-apart sheet)
     (λ g h m n. unfit-turned sheet h g (single-unfit-kernel sheet n (chosen-member sheet m)))
 
-bearing-distinct : (sheet : Sheet) → Distinct (chosen sheet ++ singles sheet)
-bearing-distinct sheet =
-    ordered-distinct (Unfit sheet) (chosen sheet ++ singles sheet)
-    (λ g m e. not-both (fits-itself sheet g (grant-held sheet (bearing-granted sheet m))) e) (bearing-unfit sheet)
+chosen-and-singles-distinct : (sheet : Sheet) → Distinct (chosen-and-singles sheet)
+chosen-and-singles-distinct sheet =
+    ordered-distinct (Unfit sheet) (chosen-and-singles sheet)
+    (λ g m e. not-both (fits-itself sheet g (grant-held sheet (chosen-and-singles-granted sheet m))) e) (chosen-and-singles-unfit sheet)
 
 -- ---- the witness
 
@@ -53,18 +57,18 @@ unfolding witness
 witness-granted sheet m = filter-kept (λ g. among (chosen sheet) g || among (singles sheet) g) (grants sheet) m .member
 
 -- each is chosen or single
-pub witness-bears : (sheet : Sheet) {g : Grant} → List·Memᴰ g (witness sheet) → List·Memᴰ g (chosen sheet ++ singles sheet)
+pub witness-chosen-or-single : (sheet : Sheet) {g : Grant} → List·Memᴰ g (witness sheet) → List·Memᴰ g (chosen-and-singles sheet)
 unfolding witness
-witness-bears sheet {g} m =
+witness-chosen-or-single sheet {g} m =
     ⊎-elim (λ e. Memᴰ·append-left (singles sheet) (among-member (chosen sheet) g e))
     (λ e. Memᴰ·append-right (chosen sheet) (among-member (singles sheet) g e))
     (or-cases (among (chosen sheet) g) (among (singles sheet) g)
     (filter-kept (λ g. among (chosen sheet) g || among (singles sheet) g) (grants sheet) m .passes))
 
-pub witness-has : (sheet : Sheet) {g : Grant} → List·Memᴰ g (chosen sheet ++ singles sheet) → List·Memᴰ g (witness sheet)
+pub witness-has : (sheet : Sheet) {g : Grant} → List·Memᴰ g (chosen-and-singles sheet) → List·Memᴰ g (witness sheet)
 unfolding witness
 witness-has sheet {g} m =
-    filter-member (λ g. among (chosen sheet) g || among (singles sheet) g) (grants sheet) (bearing-granted sheet m)
+    filter-member (λ g. among (chosen sheet) g || among (singles sheet) g) (grants sheet) (chosen-and-singles-granted sheet m)
     (⊎-elim (λ n. or-left (among (chosen sheet) g) (among (singles sheet) g) (member-among (chosen sheet) n))
     (λ n. or-right (among (chosen sheet) g) (among (singles sheet) g) (member-among (singles sheet) n))
     (List·Memᴰ·append-cases (chosen sheet) m))
@@ -86,9 +90,9 @@ witness-independent sheet =
     record {
       apart = λ i j k l.
           ⊎-elim (λ e. absurd (ordered-places _≢_ (witness sheet) (witness-distinct sheet) i j nowhere k l e)) (λ e. e)
-          (ordered-either (Unfit sheet) (chosen sheet ++ singles sheet) (unfit-turned sheet) (bearing-unfit sheet)
-          (witness-bears sheet (member-at (witness sheet) i nowhere (omega arith)))
-          (witness-bears sheet (member-at (witness sheet) j nowhere l)));
+          (ordered-either (Unfit sheet) (chosen-and-singles sheet) (unfit-turned sheet) (chosen-and-singles-unfit sheet)
+          (witness-chosen-or-single sheet (member-at (witness sheet) i nowhere (omega arith)))
+          (witness-chosen-or-single sheet (member-at (witness sheet) j nowhere l)));
     }
   where
     nowhere : Grant
@@ -100,6 +104,6 @@ witness-length sheet =
     omega (
       arith,
       length-append (chosen sheet) (singles sheet),
-      distinct-within (witness sheet) (chosen sheet ++ singles sheet) (witness-distinct sheet) (λ g m. witness-bears sheet m),
-      distinct-within (chosen sheet ++ singles sheet) (witness sheet) (bearing-distinct sheet) (λ g m. witness-has sheet m),
+      distinct-within (witness sheet) (chosen-and-singles sheet) (witness-distinct sheet) (λ g m. witness-chosen-or-single sheet m),
+      distinct-within (chosen-and-singles sheet) (witness sheet) (chosen-and-singles-distinct sheet) (λ g m. witness-has sheet m),
     )
