@@ -3,6 +3,8 @@ pub mod Lists
 pub mod TestLaws
 pub mod CutLaws
 pub mod JoinLaws
+pub mod ListOfLaws
+pub mod SameLaws
 pub mod Placement
 pub mod Classing
 pub mod Ascii
