@@ -5,6 +5,7 @@ pub mod CutLaws
 pub mod JoinLaws
 pub mod ListOfLaws
 pub mod SameLaws
+pub mod TailLaws
 pub mod Placement
 pub mod Classing
 pub mod Ascii

@@ -16,3 +16,4 @@ pub mod TextBytes
 pub mod KeepsLaws
 pub mod AcceptedKeeps
 pub mod Accepted
+pub mod AcceptedFacts
