@@ -39,7 +39,8 @@ module _ {A : Type 0} where
   same-by-length same [] [] e = refl
   same-by-length same [] (b ∷ others) e = absurd (false≢true e)
   same-by-length same (a ∷ rest) [] e = absurd (false≢true e)
-  same-by-length same (a ∷ rest) (b ∷ others) e = ap suc (same-by-length same rest others (and-right (same a b) (same-by same rest others) e))
+  same-by-length same (a ∷ rest) (b ∷ others) e =
+      ap suc (same-by-length same rest others (and-right (same a b) (same-by same rest others) e))
 
   -- ---- no element stands twice
 

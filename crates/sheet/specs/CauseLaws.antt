@@ -96,10 +96,12 @@ NoneApplies (cause ∷ later) = (cause .applies ≡ false) × NoneApplies later
 -- the number 0 says that no cause applies
 pub zero-none-applies : (low : ℕ) (causes : List Cause) → So (rising low causes) → first-number causes ≡ 0 → NoneApplies causes
 zero-none-applies low [] r e = tt
-zero-none-applies low (first ∷ later) r e = choose (first .applies) refl (zero-none-applies (first .number) later (rising-later low first later r))
+zero-none-applies low (first ∷ later) r e =
+    choose (first .applies) refl (zero-none-applies (first .number) later (rising-later low first later r))
   where
     choose : (t : Bool) → first .applies ≡ t → (first-number later ≡ 0 → NoneApplies later) → NoneApplies (first ∷ later)
-    choose true p deeper = absurd (let here = rising-here low first later r in let none : first .number ≡ 0 = rw p at e in omega arith)
+    choose true p deeper =
+        let none : first .number ≡ 0 = rw p at e in absurd (omega (arith, rising-here low first later r))
     choose false p deeper = (p, deeper (rw p at e))
 
 -- and back
