@@ -8,3 +8,4 @@ pub mod Reached
 pub mod Answers
 pub mod Owed
 pub mod Settled
+pub mod Demand1
