@@ -7,6 +7,11 @@ pub mod FilterLength
 pub mod Distinct
 pub mod LeastLaws
 pub mod ReverseLaws
+pub mod CutLaws
+pub mod JoinLaws
+pub mod ListOfLaws
+pub mod SameLaws
+pub mod TailLaws
 pub mod Placement
 pub mod Classing
 pub mod GrownLaws
