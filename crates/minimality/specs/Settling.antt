@@ -1,4 +1,4 @@
--- The sweeps come to rest: one more sweep over the whole reduction removes nothing. A visit of a remaining grant changes nothing or leaves fewer
+-- The reduction is whole: one more sweep over it removes nothing. A visit of a remaining grant changes nothing or leaves fewer
 -- grants, and so does a sweep; as many sweeps as there are grants, and one more, cannot all leave fewer.
 use Prim.Native.Nat.{ℕ, zero, suc, _<_}
 use native.Mathlib.Nat.{not-suc-le-zero, le-refl}
@@ -48,12 +48,12 @@ pub sweep-same-or-less : (sheet : Sheet) {r : Reduction} → Reached sheet r →
 sweep-same-or-less sheet {r} reached = visits-same-or-less sheet (r .remaining) r (remaining-distinct reached) (λ g m. m)
 
 -- with more sweeps at hand than grants remain, the last of them removes nothing
-pub sweeps-rest : (sheet : Sheet) (fuel : ℕ) {r : Reduction} → Reached sheet r → length (r .remaining) < fuel
+pub sweeps-end : (sheet : Sheet) (fuel : ℕ) {r : Reduction} → Reached sheet r → length (r .remaining) < fuel
     → sweep sheet (sweeps sheet fuel r) ≡ sweeps sheet fuel r
-sweeps-rest sheet zero reached enough = absurd (not-suc-le-zero enough)
-sweeps-rest sheet (suc more) {r} reached enough =
+sweeps-end sheet zero reached enough = absurd (not-suc-le-zero enough)
+sweeps-end sheet (suc more) {r} reached enough =
     either (eqb (length (sweep sheet r .remaining)) (length (r .remaining))) refl (sweep-same-or-less sheet reached)
-    (sweeps-rest sheet more (sweep-reaches sheet reached))
+    (sweeps-end sheet more (sweep-reaches sheet reached))
   where
     either : (settled : Bool) → eqb (length (sweep sheet r .remaining)) (length (r .remaining)) ≡ settled → SameOrLess (sweep sheet r) r
         → (length (sweep sheet r .remaining) < more → sweep sheet (sweeps sheet more (sweep sheet r)) ≡ sweeps sheet more (sweep sheet r))
@@ -68,4 +68,4 @@ sweeps-rest sheet (suc more) {r} reached enough =
 -- one more sweep removes nothing
 pub sweeps-settle : (sheet : Sheet) → sweep sheet (reduction sheet) ≡ reduction sheet
 unfolding reduction
-sweeps-settle sheet = sweeps-rest sheet (suc (length (grants sheet))) at-first (le-refl (suc (length (grants sheet))))
+sweeps-settle sheet = sweeps-end sheet (suc (length (grants sheet))) at-first (le-refl (suc (length (grants sheet))))

@@ -14,6 +14,7 @@ use Rattle.minimality.specs.Removals.{Unfit, Reached, at-first, by-singl
 pub unfit-turned : (sheet : Sheet) (g h : Grant) → Unfit sheet g h → Unfit sheet h g
 unfit-turned sheet g h e = fits-symmetric sheet h g ∙ e
 
+-- a single is a grant of the sheet
 pub removed-single-granted : {sheet : Sheet} {r : Reduction} → Reached sheet r → {g : Grant} → List·Memᴰ g (singles-of (r .removed))
     → List·Memᴰ g (grants sheet)
 removed-single-granted at-first n = absurd (List·Memᴰ·not-nil n)
