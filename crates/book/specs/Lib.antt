@@ -1,5 +1,6 @@
 -- The role book (role decomposition with its certificate) as bytes.
 pub mod Decimal
+pub mod DecimalLaws
 pub mod Words
 pub mod Blocks
 pub mod Book

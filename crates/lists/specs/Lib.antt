@@ -1,6 +1,7 @@
 -- What the definitions of all crates are written with: lists under a Boolean test, and words as bytes.
 pub mod Lists
 pub mod TestLaws
+pub mod AppendLaws
 pub mod Placement
 pub mod Classing
 pub mod Ascii
