@@ -2,6 +2,7 @@
 pub mod Lists
 pub mod TestLaws
 pub mod AppendLaws
+pub mod CutLaws
 pub mod Placement
 pub mod Classing
 pub mod Ascii

@@ -4,3 +4,4 @@ pub mod Text
 pub mod Sheet
 pub mod Refusal
 pub mod Rules
+pub mod TextLaws
