@@ -3,4 +3,5 @@ pub mod Decimal
 pub mod DecimalLaws
 pub mod Words
 pub mod Blocks
+pub mod BlockLaws
 pub mod Book
