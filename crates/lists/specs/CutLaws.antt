@@ -1,13 +1,13 @@
 -- Cutting a list at separators and joining the parts are inverse to each other. A part that holds no separator is read off whole before
 -- the next separator stands, and `cut` puts one element before the parts of the rest just as joining the parts puts it before the rest.
 -- Assumes nothing.
-use Prim.Native.Nat.{ℕ, zero, suc, _≤_, _<_}
+use Prim.Native.Nat.{_≤_}
 use native.Mathlib.Nat.{not-suc-le-zero}
 use native.Mathlib.Omega.{arith}
-use mathlib.Core.Path.{_≡_, refl, sym, ap, _∙_}
+use mathlib.Core.Path.{_≡_, refl, _∙_}
 use mathlib.Core.Logic.{_⊎_, inl, inr, ⊎-elim}
-use mathlib.Core.Bool.{Bool, true, false, So, false≢true}
-use mathlib.Core.List.{List, [], _∷_, _++_, map, append-assoc, append-nil, List·Memᴰ, List·Memᴰ·head, List·Memᴰ·tail, List·Memᴰ·not-nil, List·Memᴰ·cases-cons, List·Memᴰ·eq-of-singleton}
+use mathlib.Core.Bool.{Bool, true, false, So}
+use mathlib.Core.List.{List, [], _∷_, _++_, map, append-assoc, List·Memᴰ, List·Memᴰ·head, List·Memᴰ·tail, List·Memᴰ·not-nil, List·Memᴰ·cases-cons, List·Memᴰ·eq-of-singleton}
 use lib.ListN.{length}
 use Rattle.bits.specs.Truth.{not-both}
 use Rattle.lists.specs.Lists.{cut, ended-by, parted-by, joined, concat}
@@ -59,8 +59,10 @@ module _ {A : Type 0} where
   parted-joined separator s p [] some h = absurd (not-suc-le-zero some)
   parted-joined separator s p (part ∷ []) some h = parted-part separator part (h part (List·Memᴰ·head refl))
   parted-joined separator s p (part ∷ next ∷ later) some h =
-      rw (parted-front separator s p part (joined s (next ∷ later)) (h part (List·Memᴰ·head refl)),
-        parted-joined separator s p (next ∷ later) (omega arith) (later-parts h))
+      rw (
+        parted-front separator s p part (joined s (next ∷ later)) (h part (List·Memᴰ·head refl)),
+        parted-joined separator s p (next ∷ later) (omega arith) (later-parts h),
+      )
 
   pub append-ending : (s : A) (part rest : List A) → ending s part ++ rest ≡ part ++ s ∷ rest
   append-ending s part rest = append-assoc part (s ∷ []) rest
@@ -69,9 +71,11 @@ module _ {A : Type 0} where
       → ended-by separator (concat (map (ending s) parts)) ≡ parts
   ended-concat separator s p [] h = refl
   ended-concat separator s p (part ∷ later) h =
-      rw (append-ending s part (concat (map (ending s) later)),
+      rw (
+        append-ending s part (concat (map (ending s) later)),
         ended-front separator s p part (concat (map (ending s) later)) (h part (List·Memᴰ·head refl)),
-        ended-concat separator s p later (later-parts h))
+        ended-concat separator s p later (later-parts h),
+      )
 
   -- ---- from the list to parts and back
 

@@ -3,6 +3,7 @@ pub mod Lists
 pub mod TestLaws
 pub mod AppendLaws
 pub mod CutLaws
+pub mod JoinLaws
 pub mod Placement
 pub mod Classing
 pub mod Ascii
