@@ -2,6 +2,7 @@
 pub mod Decimal
 pub mod DecimalLaws
 pub mod Words
+pub mod WordLaws
 pub mod Blocks
 pub mod BlockLaws
 pub mod Book
