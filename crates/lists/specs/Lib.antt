@@ -4,6 +4,8 @@ pub mod TestLaws
 pub mod AppendLaws
 pub mod CutLaws
 pub mod JoinLaws
+pub mod ListOfLaws
+pub mod SameLaws
 pub mod Placement
 pub mod Classing
 pub mod Ascii
