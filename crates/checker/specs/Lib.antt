@@ -1,5 +1,6 @@
 -- The checker: whether a book is of the form, its counts agree, its product is the sheet and its witness stands.
 pub mod Form
 pub mod NameLaws
+pub mod FormParts
 pub mod Check
 pub mod Right
