@@ -2,5 +2,8 @@
 pub mod Form
 pub mod NameLaws
 pub mod FormParts
+pub mod WrittenForm
+pub mod WrittenLines
+pub mod ReadBack
 pub mod Check
 pub mod Right

@@ -5,6 +5,7 @@ pub mod AppendLaws
 pub mod CutLaws
 pub mod JoinLaws
 pub mod ListOfLaws
+pub mod EachLaws
 pub mod SameLaws
 pub mod Placement
 pub mod Classing
