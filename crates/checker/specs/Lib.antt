@@ -5,5 +5,6 @@ pub mod FormParts
 pub mod WrittenForm
 pub mod WrittenLines
 pub mod ReadBack
+pub mod ReadForm
 pub mod Check
 pub mod Right
