@@ -5,3 +5,9 @@ pub mod Sheet
 pub mod Refusal
 pub mod Rules
 pub mod TextLaws
+pub mod CauseLaws
+pub mod SheetLines
+pub mod ByteLaws
+pub mod ByteCauses
+pub mod LineCauses
+pub mod NameCauses
