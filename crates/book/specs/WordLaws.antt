@@ -14,6 +14,7 @@ use Rattle.lists.specs.Lists.{all}
 use Rattle.lists.specs.TestLaws.{all-intro, all-elim}
 use Rattle.sheet.specs.Text.{Bytes, comma, line-feed, between, name-byte}
 use Rattle.sheet.specs.Sheet.{cell-text}
+use Rattle.sheet.specs.ByteLaws.{name-byte-no-comma, name-byte-no-line-feed}
 use Rattle.sheet.specs.TextLaws.{Field}
 use Rattle.roles.specs.Roles.{Standing, witnessed, searched, unsettled}
 use Rattle.book.specs.Decimal.{decimal, is-digit, is-count, number-of}
@@ -22,24 +23,12 @@ use Rattle.book.specs.Words.{standing-word, role-name}
 
 -- ---- bytes of a name
 
--- neither comma nor line feed is a byte of a name
-no-comma-in-name : name-byte comma ≡ false
-unfolding name-byte
-no-comma-in-name = refl
-
-no-feed-in-name : name-byte line-feed ≡ false
-unfolding name-byte
-no-feed-in-name = refl
-
 pub name-bytes-field : (field : Bytes) → So (all name-byte field) → Field field
 name-bytes-field field e =
-    record { no-comma = λ b m. apart comma b no-comma-in-name (bytes b m); no-line-feed = λ b m. apart line-feed b no-feed-in-name (bytes b m) }
-  where
-    bytes : (b : ℕ) → List·Memᴰ b field → So (name-byte b)
-    bytes b m = all-elim name-byte field e m
-
-    apart : (c b : ℕ) → name-byte c ≡ false → So (name-byte b) → eqb c b ≡ false
-    apart c b f p = fails-unless (eqb c b) (λ q. not-both p (rw (eqb-true c b q) at f))
+    record {
+      no-comma = λ b m. name-byte-no-comma b (all-elim name-byte field e m);
+      no-line-feed = λ b m. name-byte-no-line-feed b (all-elim name-byte field e m);
+    }
 
 -- a digit is a byte of a name
 pub digit-name-byte : (b : ℕ) → So (is-digit b) → So (name-byte b)

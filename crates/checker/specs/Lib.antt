@@ -8,3 +8,4 @@ pub mod ReadBack
 pub mod ReadForm
 pub mod Check
 pub mod Right
+pub mod CheckParts
