@@ -9,3 +9,5 @@ pub mod ReadForm
 pub mod Check
 pub mod Right
 pub mod CheckParts
+pub mod Verdict
+pub mod Exact
