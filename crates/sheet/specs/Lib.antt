@@ -11,3 +11,8 @@ pub mod ByteLaws
 pub mod ByteCauses
 pub mod LineCauses
 pub mod NameCauses
+pub mod Unrefused
+pub mod TextBytes
+pub mod KeepsLaws
+pub mod AcceptedKeeps
+pub mod Accepted
