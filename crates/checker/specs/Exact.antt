@@ -4,18 +4,19 @@ use Prim.Native.Nat.{ℕ, _≤_, _<_}
 use mathlib.Core.Path.{_≡_, refl, sym, ap, _∙_}
 use mathlib.Core.Logic.{_↔_}
 use mathlib.Core.Bool.{Bool, So, _&&_}
-use lib.ListN.{length}
+use borrow.Author.Tests.{eqb-true}
 use Rattle.bits.specs.Below.{some-below}
 use Rattle.bits.specs.BelowLaws.{some-below-ext}
 use Rattle.sheet.specs.Text.{Bytes}
 use Rattle.sheet.specs.Sheet.{Sheet, sheet-of, user-count, permission-count, holds}
 use Rattle.sheet.specs.Refusal.{refusal, accepted}
+use Rattle.sheet.specs.Accepted.{accepted-keeps}
 use Rattle.roles.specs.RoleSet.{RoleSet, product, Multiplies}
 use Rattle.book.specs.Book.{Said, book-text}
 use Rattle.checker.specs.Form.{said}
 use Rattle.checker.specs.Check.{counts-agree, check}
 use Rattle.checker.specs.Right.{OfForm, Right}
-use Rattle.checker.specs.NameLaws.{GoodSheet}
+use Rattle.checker.specs.NameLaws.{GoodSheet, good-names}
 use Rattle.checker.specs.WrittenLines.{Sayable}
 use Rattle.checker.specs.ReadBack.{SaysSame, written-has-form, read-back}
 use Rattle.checker.specs.ReadForm.{form-is-written, form-is-sayable}
@@ -90,11 +91,27 @@ right-passes sheet good text says r =
 
 -- ---- the checker's answer
 
-pub accepts-exactly : (text book : Bytes) → GoodSheet (sheet-of text) → refusal text ≡ 0
+-- the names of an accepted sheet are such as a book can hold
+pub accepted-good : (text : Bytes) → So (accepted text) → GoodSheet (sheet-of text)
+accepted-good text e =
+    let kept = accepted-keeps text e in
+    record { users = good-names (kept .user-names); permissions = good-names (kept .permission-names) }
+
+-- what the checker read from a book that it accepts makes the book right, whatever the sheet
+pub accepted-is-right : (text book : Bytes) → check text book .number ≡ 0 → Right (sheet-of text) book (said (sheet-of text) book)
+accepted-is-right text book z = passes-right (sheet-of text) book (zero-unrefused text book z .book-passes)
+
+pub right-is-accepted : (text book : Bytes) → So (accepted text) → (says : Said) → Right (sheet-of text) book says
+    → check text book .number ≡ 0
+right-is-accepted text book e says r =
+    unrefused-zero text book
+    (record {
+      sheet-stands = eqb-true (refusal text) 0 e;
+      book-passes = right-passes (sheet-of text) (accepted-good text e) book says r;
+    })
+
+-- for an accepted sheet the checker accepts a book exactly when form, counts, product and witness are right
+pub accepts-books : (text book : Bytes) → So (accepted text)
     → (check text book .number ≡ 0) ↔ ((says : Said) × Right (sheet-of text) book says)
-accepts-exactly text book good e = (
-  λ z. (said (sheet-of text) book, passes-right (sheet-of text) book (zero-unrefused text book z .book-passes)),
-  λ right.
-      unrefused-zero text book
-      (record { sheet-stands = e; book-passes = right-passes (sheet-of text) good book (right .0) (right .1) }),
-)
+accepts-books text book e =
+    (λ z. (said (sheet-of text) book, accepted-is-right text book z), λ right. right-is-accepted text book e (right .0) (right .1))
