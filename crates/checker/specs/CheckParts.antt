@@ -1,11 +1,13 @@
--- The checker's tests of product and witness say what they should: the product test passes exactly where every cell of the product is the
--- sheet's, and the witness test exactly where every grant is held and no two on different lines fit.
+-- The checker's tests say what they should. The counts test passes exactly where the counts agree as the state asks, the product test where
+-- every cell of the product is the sheet's, and the witness test where every grant is held and no two on different lines fit.
 use Prim.Native.Nat.{ℕ, zero, suc, _<_}
 use native.Mathlib.Nat.{not-suc-le-zero, le-of-suc-le-suc}
 use native.Mathlib.Omega.{arith}
 use mathlib.Core.Path.{_≡_, refl, sym}
 use mathlib.Core.Bool.{Bool, true, false, So, _&&_, _||_, not, Bool·beq, false≢true}
 use mathlib.Core.List.{List, [], _∷_, List·Memᴰ}
+use borrow.Author.Tests.{eqb-true, eq-eqb, ltb-true, lt-ltb}
+use lib.Dec.{eqb, ltb}
 use lib.ListN.{length}
 use Rattle.bits.specs.Truth.{and-intro, and-left, and-right, or-fails, or-fails-left, or-fails-right, not-passes, not-fails}
 use Rattle.bits.specs.Below.{every-below}
@@ -16,8 +18,56 @@ use Rattle.sheet.specs.Sheet.{Sheet, Grant, user-count, permission-count, holds
 use Rattle.grants.specs.Fit.{fits}
 use Rattle.grants.specs.Cover.{grant-at}
 use Rattle.roles.specs.RoleSet.{RoleSet, product, Multiplies}
-use Rattle.checker.specs.Check.{product-agrees, held, some-fit, witness-stands}
+use Rattle.roles.specs.Roles.{Standing, witnessed, searched, unsettled}
+use Rattle.book.specs.Decimal.{number-of}
+use Rattle.book.specs.Book.{Said}
+use Rattle.checker.specs.Check.{bound-agrees, counts-agree, product-agrees, held, some-fit, witness-stands}
 use Rattle.checker.specs.Right.{Stands}
+
+-- ---- the counts
+
+-- how the bound agrees with the number of roles and of witness lines
+abbrev pub BoundAgrees : Standing → ℕ → ℕ → ℕ → Type 0
+BoundAgrees witnessed bound roles lines = (bound ≡ roles) × (roles ≡ lines)
+BoundAgrees searched bound roles lines = (bound ≡ roles) × (lines < roles)
+BoundAgrees unsettled bound roles lines = (bound ≡ lines) × (lines < roles)
+
+pub record CountsAgree (book : Said) : Type 0 where
+  pub roles : number-of (book .role-digits) ≡ book .roles .count
+  pub bound : BoundAgrees (book .standing) (number-of (book .bound-digits)) (book .roles .count) (length (book .witness))
+
+bound-agrees-elim : (s : Standing) (bound roles lines : ℕ) → So (bound-agrees s bound roles lines) → BoundAgrees s bound roles lines
+bound-agrees-elim witnessed bound roles lines e =
+    (eqb-true bound roles (and-left (eqb bound roles) (eqb roles lines) e), eqb-true roles lines (and-right (eqb bound roles) (eqb roles lines) e))
+bound-agrees-elim searched bound roles lines e =
+    (eqb-true bound roles (and-left (eqb bound roles) (ltb lines roles) e), ltb-true lines roles (and-right (eqb bound roles) (ltb lines roles) e))
+bound-agrees-elim unsettled bound roles lines e =
+    (eqb-true bound lines (and-left (eqb bound lines) (ltb lines roles) e), ltb-true lines roles (and-right (eqb bound lines) (ltb lines roles) e))
+
+bound-agrees-intro : (s : Standing) (bound roles lines : ℕ) → BoundAgrees s bound roles lines → So (bound-agrees s bound roles lines)
+bound-agrees-intro witnessed bound roles lines b =
+    and-intro (eqb bound roles) (eqb roles lines) (eq-eqb bound roles (b .0)) (eq-eqb roles lines (b .1))
+bound-agrees-intro searched bound roles lines b =
+    and-intro (eqb bound roles) (ltb lines roles) (eq-eqb bound roles (b .0)) (lt-ltb lines roles (b .1))
+bound-agrees-intro unsettled bound roles lines b =
+    and-intro (eqb bound lines) (ltb lines roles) (eq-eqb bound lines (b .0)) (lt-ltb lines roles (b .1))
+
+pub counts-agree-elim : (book : Said) → So (counts-agree book) → CountsAgree book
+unfolding counts-agree
+counts-agree-elim book e =
+    record {
+      roles = eqb-true (number-of (book .role-digits)) (book .roles .count) (search (and-left));
+      bound =
+          bound-agrees-elim (book .standing) (number-of (book .bound-digits)) (book .roles .count) (length (book .witness)) (search (and-right));
+    }
+
+pub counts-agree-intro : (book : Said) → CountsAgree book → So (counts-agree book)
+unfolding counts-agree
+counts-agree-intro book c =
+    let roles = eq-eqb (number-of (book .role-digits)) (book .roles .count) (c .roles) in
+    let bound =
+    bound-agrees-intro (book .standing) (number-of (book .bound-digits)) (book .roles .count) (length (book .witness)) (c .bound) in
+    search and-intro
 
 -- ---- the product
 

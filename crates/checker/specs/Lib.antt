@@ -11,3 +11,4 @@ pub mod Right
 pub mod CheckParts
 pub mod Verdict
 pub mod Exact
+pub mod Alone

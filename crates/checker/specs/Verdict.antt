@@ -2,9 +2,10 @@
 -- where its tests all pass.
 use Prim.Native.Nat.{ℕ, _≤_}
 use mathlib.Core.Path.{_≡_, refl, sym, ap, _∙_}
+use mathlib.Core.Logic.{_≢_}
 use mathlib.Core.Bool.{Bool, true, false, So, _||_, not, cond}
 use mathlib.Core.List.{List, [], _∷_, _++_}
-use borrow.Author.Tests.{eqb-true, ltb-false, le-ltb, not-false}
+use borrow.Author.Tests.{eqb-true, eq-eqb, ne-eqb, ltb-false, le-ltb, not-false}
 use lib.Dec.{eqb, ltb}
 use lib.ListN.{length}
 use Rattle.bits.specs.Truth.{or-fails, or-fails-left, or-fails-right}
@@ -14,7 +15,7 @@ use Rattle.sheet.specs.Refusal.{Cause, first-number, sheet-causes, refusal}
 use Rattle.sheet.specs.CauseLaws.{rising, NoneApplies, zero-none-applies, none-applies-zero, sheet-causes-rise}
 use Rattle.book.specs.Book.{Said}
 use Rattle.checker.specs.Form.{book-limit, form, said}
-use Rattle.checker.specs.Check.{counts-agree, product-agrees, witness-stands, book-causes, check-causes, check-refused, confirmed, check}
+use Rattle.checker.specs.Check.{counts-agree, product-agrees, witness-stands, book-causes, check-causes, CheckAnswer, check-refused, confirmed, check}
 
 -- all tests of a book pass
 pub record Passes (sheet : Sheet) (text : Bytes) : Type 0 where
@@ -58,11 +59,16 @@ none-applies-both (cause ∷ a) b n m = (n .0, none-applies-both a b (n .1) m)
 
 -- ---- the number
 
-check-causes-rise : (text book : Bytes) → So (rising 0 (check-causes text book))
+pub check-causes-rise : (text book : Bytes) → So (rising 0 (check-causes text book))
 unfolding check-causes sheet-causes book-causes
 check-causes-rise text book = refl
 
-answered-number : (number : ℕ) (book : Said) → cond (eqb number 0) (confirmed book) (check-refused number) .number ≡ number
+-- the answer of a number: the counts, where it is 0, else the number alone
+answered : ℕ → Said → CheckAnswer
+answered number book = cond (eqb number 0) (confirmed book) (check-refused number)
+
+answered-number : (number : ℕ) (book : Said) → answered number book .number ≡ number
+unfolding answered
 answered-number number book = choose (eqb number 0) refl
   where
     choose : (t : Bool) → eqb number 0 ≡ t → cond t (confirmed book) (check-refused number) .number ≡ number
@@ -71,8 +77,20 @@ answered-number number book = choose (eqb number 0) refl
 
 -- the checker answers the number of the first cause that applies
 pub check-number : (text book : Bytes) → check text book .number ≡ first-number (check-causes text book)
-unfolding check
+unfolding check answered
 check-number text book = answered-number (first-number (check-causes text book)) (said (sheet-of text) book)
+
+-- a number above 0 is returned with counts 0
+pub check-refuses : (text book : Bytes) → check text book .number ≢ 0 → check text book ≡ check-refused (check text book .number)
+unfolding check
+check-refuses text book h =
+    let n = check-number text book in
+    rw n (rw (ne-eqb (first-number (check-causes text book)) 0 (λ e. h (n ∙ e))))
+
+-- with no number above 0 the counts that were read are returned
+pub check-confirms : (text book : Bytes) → check text book .number ≡ 0 → check text book ≡ confirmed (said (sheet-of text) book)
+unfolding check
+check-confirms text book e = rw (eq-eqb (first-number (check-causes text book)) 0 (sym (check-number text book) ∙ e))
 
 -- what an answer of 0 says
 pub record Unrefused (text book : Bytes) : Type 0 where
