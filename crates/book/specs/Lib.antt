@@ -5,4 +5,5 @@ pub mod Words
 pub mod WordLaws
 pub mod Blocks
 pub mod BlockLaws
+pub mod LengthLaws
 pub mod Book

@@ -6,6 +6,7 @@ pub mod CutLaws
 pub mod JoinLaws
 pub mod ListOfLaws
 pub mod EachLaws
+pub mod Total
 pub mod SameLaws
 pub mod Placement
 pub mod Classing
