@@ -12,3 +12,4 @@ pub mod CheckParts
 pub mod Verdict
 pub mod Exact
 pub mod Alone
+pub mod BookLength
