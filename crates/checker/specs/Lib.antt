@@ -13,3 +13,4 @@ pub mod Verdict
 pub mod Exact
 pub mod Alone
 pub mod BookLength
+pub mod Confirmed
