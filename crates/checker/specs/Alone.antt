@@ -15,7 +15,6 @@ use Rattle.book.specs.Decimal.{number-of}
 use Rattle.book.specs.Book.{Said}
 use Rattle.checker.specs.Form.{said}
 use Rattle.checker.specs.Check.{held, check}
-use Rattle.checker.specs.Right.{Right}
 use Rattle.checker.specs.CheckParts.{NoneFit, BoundAgrees, counts-agree-elim}
 use Rattle.checker.specs.Exact.{accepted-is-right}
 

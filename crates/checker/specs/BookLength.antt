@@ -3,7 +3,7 @@
 use Prim.Native.Nat.{ℕ, suc, _+_, _*_, _≤_, _<_, suc-le-suc}
 use native.Mathlib.Nat.{le-trans}
 use native.Mathlib.Omega.{arith}
-use mathlib.Core.Path.{_≡_, refl}
+use mathlib.Core.Path.{_≡_}
 use mathlib.Core.Logic.{⊎-elim}
 use mathlib.Core.Bool.{Bool, true, false}
 use mathlib.Core.List.{List, [], _∷_, map}
@@ -23,9 +23,8 @@ use Rattle.roles.specs.RoleSet.{RoleSet}
 use Rattle.roles.specs.Roles.{Standing, witnessed, searched, unsettled}
 use Rattle.book.specs.Decimal.{decimal}
 use Rattle.book.specs.DecimalLaws.{decimal-length-three}
-use Rattle.book.specs.Words.{standing-word, role-name, counts-heading, witness-heading}
+use Rattle.book.specs.Words.{standing-word, role-name}
 use Rattle.book.specs.WordLaws.{role-name-parts}
-use Rattle.book.specs.Blocks.{Block}
 use Rattle.book.specs.LengthLaws.{field-length, line-length, block-length, line-length-fields, blocks-length}
 use Rattle.book.specs.Book.{Said, user-name, permission-name, counts-block, roles-block, users-block, witness-line, witness-block, blocks-saying, book-text}
 use Rattle.checker.specs.Form.{book-limit, role-limit}

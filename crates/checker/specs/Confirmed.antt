@@ -6,23 +6,24 @@ use native.Mathlib.Omega.{arith}
 use mathlib.Core.Path.{_≡_, refl, sym, ap, _∙_}
 use mathlib.Core.Logic.{⊎-elim}
 use mathlib.Core.Bool.{Bool, false, So, false≢true}
-use mathlib.Core.List.{List, [], List·Memᴰ}
+use mathlib.Core.List.{List, []}
 use lib.ListN.{length, getD, List·getD-eq-default}
 use Rattle.bits.specs.BelowLaws.{below-or-from}
 use Rattle.lists.specs.TestLaws.{member-at}
 use Rattle.sheet.specs.Text.{Bytes}
-use Rattle.sheet.specs.Sheet.{Sheet, Grant, sheet-of, user-count, permission-count, holds}
+use Rattle.sheet.specs.Sheet.{Sheet, Grant, sheet-of, user-count, permission-count}
 use Rattle.sheet.specs.Refusal.{accepted}
 use Rattle.sheet.specs.Rules.{Keeps}
 use Rattle.sheet.specs.Accepted.{accepted-keeps}
 use Rattle.roles.specs.RoleSet.{Multiplies}
 use Rattle.roles.specs.Roles.{Standing, witnessed, searched, unsettled}
 use Rattle.book.specs.Decimal.{decimal, number-of}
-use Rattle.book.specs.DecimalLaws.{number-of-decimal, decimal-is-count}
+use Rattle.book.specs.DecimalLaws.{number-of-decimal}
+use Rattle.book.specs.CountLaws.{decimal-is-count}
 use Rattle.book.specs.Book.{Said, book-text}
-use Rattle.checker.specs.Form.{book-limit, role-limit, said}
+use Rattle.checker.specs.Form.{role-limit, said}
 use Rattle.checker.specs.Check.{held, confirmed, check}
-use Rattle.checker.specs.Right.{OfForm, Stands, Right}
+use Rattle.checker.specs.Right.{Stands, Right}
 use Rattle.checker.specs.CheckParts.{BoundAgrees, counts-agree-intro}
 use Rattle.checker.specs.Verdict.{check-confirms}
 use Rattle.checker.specs.ReadBack.{SaysSame}

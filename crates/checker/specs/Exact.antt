@@ -1,18 +1,17 @@
 -- The checker accepts a book exactly when it is right. What it read from an accepted book makes the book right, since a text of the form is
 -- what is written for it; and a right book is read as what it says of every user, permission and role, so that every test passes.
-use Prim.Native.Nat.{ℕ, _≤_, _<_}
-use mathlib.Core.Path.{_≡_, refl, sym, ap, _∙_}
+use Prim.Native.Nat.{ℕ, _<_}
+use mathlib.Core.Path.{_≡_, _∙_}
 use mathlib.Core.Logic.{_↔_}
-use mathlib.Core.Bool.{Bool, So, _&&_}
+use mathlib.Core.Bool.{So, _&&_}
 use borrow.Author.Tests.{eqb-true}
-use Rattle.bits.specs.Below.{some-below}
 use Rattle.bits.specs.BelowLaws.{some-below-ext}
 use Rattle.sheet.specs.Text.{Bytes}
-use Rattle.sheet.specs.Sheet.{Sheet, sheet-of, user-count, permission-count, holds}
+use Rattle.sheet.specs.Sheet.{Sheet, sheet-of, user-count, permission-count}
 use Rattle.sheet.specs.Refusal.{refusal, accepted}
 use Rattle.sheet.specs.Accepted.{accepted-keeps}
-use Rattle.roles.specs.RoleSet.{RoleSet, product, Multiplies}
-use Rattle.book.specs.Book.{Said, book-text}
+use Rattle.roles.specs.RoleSet.{product, Multiplies}
+use Rattle.book.specs.Book.{Said}
 use Rattle.checker.specs.Form.{said}
 use Rattle.checker.specs.Check.{counts-agree, check}
 use Rattle.checker.specs.Right.{OfForm, Right}
@@ -21,7 +20,7 @@ use Rattle.checker.specs.WrittenLines.{Sayable}
 use Rattle.checker.specs.ReadBack.{SaysSame, written-has-form, read-back}
 use Rattle.checker.specs.ReadForm.{form-is-written, form-is-sayable}
 use Rattle.checker.specs.CheckParts.{product-agrees-elim, product-agrees-intro, witness-stands-elim, witness-stands-intro}
-use Rattle.checker.specs.Verdict.{Passes, Unrefused, zero-unrefused, unrefused-zero}
+use Rattle.checker.specs.Verdict.{Passes, zero-unrefused, unrefused-zero}
 
 -- ---- what passes is right
 

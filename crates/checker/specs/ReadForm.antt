@@ -1,29 +1,29 @@
 -- A text of the form is the very text that is written for what was read from it: the form leaves no byte of a line open but the counts,
 -- the state word, the cells and the names of witness lines, and each of these is what is written for what it says.
-use Prim.Native.Nat.{ℕ, suc, _≤_, _<_}
+use Prim.Native.Nat.{ℕ, suc, _<_}
 use native.Mathlib.Omega.{arith}
 use mathlib.Core.Path.{_≡_, refl, sym, ap, _∙_}
-use mathlib.Core.Logic.{_⊎_, inl, inr, ⊎-elim}
-use mathlib.Core.Bool.{Bool, true, false, So, _||_}
-use mathlib.Core.List.{List, [], _∷_, map, map-map, tail, List·Memᴰ}
+use mathlib.Core.Logic.{⊎-elim}
+use mathlib.Core.Bool.{So, _||_}
+use mathlib.Core.List.{List, [], _∷_, map, map-map, tail}
 use lib.ListN.{length, getD}
 use Rattle.bits.specs.Truth.{or-cases}
 use Rattle.lists.specs.Ascii.{ascii}
-use Rattle.lists.specs.Lists.{all, same-bytes, list-of}
+use Rattle.lists.specs.Lists.{same-bytes, list-of}
 use Rattle.lists.specs.TestLaws.{all-elim, member-at, same-bytes-equal}
 use Rattle.lists.specs.JoinLaws.{map-fixed}
 use Rattle.lists.specs.ListOfLaws.{list-of-places, list-of-same}
-use Rattle.lists.specs.EachLaws.{Each, each-mapped}
+use Rattle.lists.specs.EachLaws.{each-mapped}
 use Rattle.sheet.specs.Text.{Bytes, Line}
-use Rattle.sheet.specs.Sheet.{Sheet, Grant, first-field, is-one, cell-text, user-count, permission-count}
+use Rattle.sheet.specs.Sheet.{Sheet, is-one, cell-text, user-count, permission-count}
 use Rattle.sheet.specs.Refusal.{is-bit}
 use Rattle.roles.specs.RoleSet.{RoleSet}
-use Rattle.roles.specs.Roles.{Standing, witnessed, searched, unsettled}
-use Rattle.book.specs.Words.{standing-word, role-name, witness-heading}
+use Rattle.roles.specs.Roles.{witnessed, searched, unsettled}
+use Rattle.book.specs.Words.{standing-word, role-name}
 use Rattle.book.specs.Blocks.{Block, text-of-blocks, blocks-of}
 use Rattle.book.specs.BlockLaws.{blocks-written-as-read}
-use Rattle.book.specs.Book.{Said, user-name, permission-name, counts-block, roles-block, users-block, witness-line, witness-block, blocks-saying, book-text}
-use Rattle.checker.specs.Form.{role-limit, block-at, line-at, field-at, is-standing, grant-of-line, standing-said, form, said-by-blocks, said}
+use Rattle.book.specs.Book.{user-name, counts-block, roles-block, users-block, witness-line, witness-block, blocks-saying, book-text}
+use Rattle.checker.specs.Form.{block-at, line-at, field-at, is-standing, grant-of-line, standing-said, form, said-by-blocks, said}
 use Rattle.checker.specs.FormParts.{CountsForm, counts-form-elim, CellsLine, RolesForm, roles-form-elim, UsersForm, users-form-elim, WitnessLine, WitnessForm, witness-form-elim, FormOf, form-elim}
 use Rattle.checker.specs.WrittenLines.{Sayable}
 use Rattle.checker.specs.NameLaws.{known-stands}
