@@ -1,19 +1,15 @@
--- A book that is written from counts, roles and a witness that are right is confirmed by the checker, and is read as what was written: such a
+-- A book that is written from counts, roles and a witness that are right is accepted by the checker, and is read as what was written: such a
 -- book is of the form, short enough and right, and the checker accepts what is right.
-use Prim.Native.Nat.{ℕ, _≤_, _<_}
-use native.Mathlib.Nat.{le-trans}
+use Prim.Native.Nat.{ℕ, _≤_}
+use native.Mathlib.Nat.{le-trans, le-of-eq, lt-of-lt-of-le}
 use native.Mathlib.Omega.{arith}
-use mathlib.Core.Path.{_≡_, refl, sym, ap, _∙_}
-use mathlib.Core.Logic.{⊎-elim}
-use mathlib.Core.Bool.{Bool, false, So, false≢true}
-use mathlib.Core.List.{List, []}
-use lib.ListN.{length, getD, List·getD-eq-default}
-use Rattle.bits.specs.BelowLaws.{below-or-from}
-use Rattle.lists.specs.TestLaws.{member-at}
+use mathlib.Core.Path.{_≡_, refl, ap, _∙_}
+use mathlib.Core.Bool.{So}
+use lib.ListN.{length}
 use Rattle.sheet.specs.Text.{Bytes}
-use Rattle.sheet.specs.Sheet.{Sheet, Grant, sheet-of, user-count, permission-count}
+use Rattle.sheet.specs.Sheet.{Sheet, sheet-of, permission-count}
 use Rattle.sheet.specs.Refusal.{accepted}
-use Rattle.sheet.specs.Rules.{Keeps}
+use Rattle.sheet.specs.GrantLaws.{held-user-below, held-permission-below}
 use Rattle.sheet.specs.Accepted.{accepted-keeps}
 use Rattle.roles.specs.RoleSet.{Multiplies}
 use Rattle.roles.specs.Roles.{Standing, witnessed, searched, unsettled}
@@ -22,12 +18,11 @@ use Rattle.book.specs.DecimalLaws.{number-of-decimal}
 use Rattle.book.specs.CountLaws.{decimal-is-count}
 use Rattle.book.specs.Book.{Said, book-text}
 use Rattle.checker.specs.Form.{role-limit, said}
-use Rattle.checker.specs.Check.{held, confirmed, check}
+use Rattle.checker.specs.Check.{check}
 use Rattle.checker.specs.Right.{Stands, Right}
 use Rattle.checker.specs.CheckParts.{BoundAgrees, counts-agree-intro}
-use Rattle.checker.specs.Verdict.{check-confirms}
 use Rattle.checker.specs.ReadBack.{SaysSame}
-use Rattle.checker.specs.Exact.{accepted-good, right-read, right-is-accepted}
+use Rattle.checker.specs.Exact.{says-as-read, right-is-accepted}
 use Rattle.checker.specs.BookLength.{Small, short-count, book-within-limit}
 
 -- a book with its counts in decimal, whose counts agree, whose product is the sheet and whose witness stands
@@ -38,27 +33,6 @@ pub record Sound (sheet : Sheet) (book : Said) (bound : ℕ) : Type 0 where
   pub bound-agrees : BoundAgrees (book .standing) bound (book .roles .count) (length (book .witness))
   pub product : Multiplies (book .roles) sheet
   pub witness : Stands sheet (book .witness)
-
--- ---- a grant that is held is a grant of the sheet
-
-cell-within : (row : List Bool) (p : ℕ) → So (getD row p false) → p < length row
-cell-within row p e =
-    ⊎-elim (λ h. h) (λ h. absurd (false≢true (sym (List·getD-eq-default row false {n = p} h) ∙ e))) (below-or-from p (length row))
-
-row-within : (rows : List (List Bool)) (u p : ℕ) → So (getD (getD rows u []) p false) → u < length rows
-row-within rows u p e = ⊎-elim (λ h. h) past (below-or-from u (length rows))
-  where
-    past : length rows ≤ u → u < length rows
-    past h = absurd (false≢true (rw (List·getD-eq-default rows [] {n = u} h) at e))
-
-held-user : {text : Bytes} {sheet : Sheet} → Keeps text sheet → (g : Grant) → So (held sheet g) → g .user < user-count sheet
-held-user {sheet} kept g e = omega (arith, row-within (sheet .rows) (g .user) (g .permission) e, kept .a-row-each)
-
-held-permission : {text : Bytes} {sheet : Sheet} → Keeps text sheet → (g : Grant) → So (held sheet g) → g .permission < permission-count sheet
-held-permission {sheet} kept g e =
-    let row : List Bool = getD (sheet .rows) (g .user) [] in
-    let there = member-at (sheet .rows) (g .user) [] (row-within (sheet .rows) (g .user) (g .permission) e) in
-    omega (arith, cell-within row (g .permission) e, kept .even-rows row there)
 
 -- ---- what is sound is right
 
@@ -93,8 +67,11 @@ module _ (text : Bytes) (takes : So (accepted text)) (book : Said) (bound : ℕ)
           role-count = rw (s .role-digits) (decimal-is-count (book .roles .count));
           bound-count = rw (s .bound-digits) (decimal-is-count bound);
           few-roles = s .few-roles;
-          known-users = λ g m. held-user kept g (s .witness .all-held g m);
-          known-permissions = λ g m. held-permission kept g (s .witness .all-held g m);
+          known-users = λ g m.
+              lt-of-lt-of-le (held-user-below (sheet-of text) (g .user) (g .permission) (s .witness .all-held g m)) (le-of-eq (kept .a-row-each));
+          known-permissions = λ g m.
+              held-permission-below (sheet-of text) (g .user) (g .permission) (permission-count (sheet-of text)) (kept .even-rows)
+              (s .witness .all-held g m);
         };
         counts =
             counts-agree-intro book
@@ -106,13 +83,12 @@ module _ (text : Bytes) (takes : So (accepted text)) (book : Said) (bound : ℕ)
         witness = s .witness;
       }
 
-  -- the checker confirms it
-  pub sound-is-confirmed :
-      check text (book-text (sheet-of text) book) ≡ confirmed (said (sheet-of text) (book-text (sheet-of text) book))
-  sound-is-confirmed =
-      check-confirms text (book-text (sheet-of text) book)
-      (right-is-accepted text (book-text (sheet-of text) book) takes book sound-is-right)
+  -- the checker accepts it
+  pub sound-is-accepted : check text (book-text (sheet-of text) book) .number ≡ 0
+  sound-is-accepted =
+      right-is-accepted text (book-text (sheet-of text) book) (sheet-of text) book (accepted-keeps text takes) sound-is-right
 
-  -- and it is read as it was written
+  -- and reads it as it was written
   pub sound-is-read : SaysSame (sheet-of text) (said (sheet-of text) (book-text (sheet-of text) book)) book
-  sound-is-read = right-read (sheet-of text) (accepted-good text takes) (book-text (sheet-of text) book) book sound-is-right
+  sound-is-read =
+      says-as-read text (book-text (sheet-of text) book) (sheet-of text) book (accepted-keeps text takes) sound-is-right

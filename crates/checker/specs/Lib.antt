@@ -16,3 +16,4 @@ pub mod Exact
 pub mod Alone
 pub mod BookLength
 pub mod Confirmed
+pub mod OwnBook

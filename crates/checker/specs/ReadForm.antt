@@ -33,8 +33,8 @@ by-places : {A : Type 0} (l : List A) (d : A) (n : ℕ) → length l ≡ n → l
 by-places l d n e = sym (list-of-places l d) ∙ ap (λ k. list-of k (λ i. getD l i d)) e
 
 -- lists of one first element and one rest
-same-parts : {A : Type 0} {a b : A} {l m : List A} → a ≡ b → l ≡ m → a ∷ l ≡ b ∷ m
-same-parts p q = cc
+same-first-and-rest : {A : Type 0} {a b : A} {l m : List A} → a ≡ b → l ≡ m → a ∷ l ≡ b ∷ m
+same-first-and-rest p q = cc
 
 -- ---- block 1
 
@@ -70,7 +70,7 @@ cells-written (field ∷ rest) name count f =
     by-places rest [] count same
     ∙ list-of-same count (λ j. getD rest j []) (λ j. cell-text (is-one (getD rest j [])))
     (λ j h. bit-written (getD rest j []) (all-elim is-bit rest (f .cells) (member-at rest j [] (omega arith)))) in
-    same-parts (f .named) cells
+    same-first-and-rest (f .named) cells
 
 -- lines of names and cells
 lines-written : (lines : List Line) (count width : ℕ) (name : ℕ → Bytes) → length lines ≡ count
@@ -97,7 +97,7 @@ unfolding roles-said
 roles-written sheet [] users f = absurd (let z : _≡_ {A = ℕ} 0 1 = cc in omega arith)
 roles-written sheet ([] ∷ lines) users f = absurd (let z : _≡_ {A = ℕ} 0 1 = cc in omega arith)
 roles-written sheet ((word ∷ names) ∷ lines) users f =
-    same-parts (same-parts (f .heading) (f .permissions))
+    same-first-and-rest (same-first-and-rest (f .heading) (f .permissions))
     (lines-written lines (length lines) (permission-count sheet) role-name refl (f .lines))
 
 -- ---- block 3
@@ -107,7 +107,7 @@ users-written : (sheet : Sheet) (roles block : Block) → UsersForm sheet (lengt
 unfolding roles-said
 users-written sheet roles [] f = absurd (let z : _≡_ {A = ℕ} 0 1 = cc in omega arith)
 users-written sheet roles (heading ∷ lines) f =
-    same-parts (f .heading) (lines-written lines (user-count sheet) (length (tail roles)) (user-name sheet) (f .a-line-each) (f .lines))
+    same-first-and-rest (f .heading) (lines-written lines (user-count sheet) (length (tail roles)) (user-name sheet) (f .a-line-each) (f .lines))
 
 -- ---- block 4
 
@@ -123,7 +123,7 @@ witness-written : (sheet : Sheet) (block : Block) → WitnessForm sheet block
     → block ≡ witness-block sheet (map (grant-of-line sheet) (tail block))
 witness-written sheet [] f = absurd (let z : _≡_ {A = ℕ} 0 1 = cc in omega arith)
 witness-written sheet (heading ∷ lines) f =
-    same-parts (f .heading)
+    same-first-and-rest (f .heading)
     (sym
     (map-map (witness-line sheet) (grant-of-line sheet) lines
     ∙ map-fixed (λ line. witness-line sheet (grant-of-line sheet line)) lines (λ line m. witness-line-written sheet line (f .lines line m))))
@@ -135,12 +135,12 @@ blocks-written : (sheet : Sheet) (text : Bytes) (blocks : List Block) → FormOf
 unfolding blocks-saying roles-said
 blocks-written sheet text blocks f =
     by-places blocks [] 4 (f .four-blocks)
-    ∙ same-parts (counts-written (block-at blocks 0) (counts-form-elim (block-at blocks 0) (f .counts)))
-    (same-parts (roles-written sheet (block-at blocks 1) (block-at blocks 2) (roles-form-elim sheet (block-at blocks 1) (f .roles)))
-    (same-parts
+    ∙ same-first-and-rest (counts-written (block-at blocks 0) (counts-form-elim (block-at blocks 0) (f .counts)))
+    (same-first-and-rest (roles-written sheet (block-at blocks 1) (block-at blocks 2) (roles-form-elim sheet (block-at blocks 1) (f .roles)))
+    (same-first-and-rest
     (users-written sheet (block-at blocks 1) (block-at blocks 2)
     (users-form-elim sheet (length (tail (block-at blocks 1))) (block-at blocks 2) (f .users)))
-    (same-parts (witness-written sheet (block-at blocks 3) (witness-form-elim sheet (block-at blocks 3) (f .witness))) refl)))
+    (same-first-and-rest (witness-written sheet (block-at blocks 3) (witness-form-elim sheet (block-at blocks 3) (f .witness))) refl)))
 
 pub form-is-written : (sheet : Sheet) (text : Bytes) → So (form sheet text) → text ≡ book-text sheet (said sheet text)
 unfolding book-text said

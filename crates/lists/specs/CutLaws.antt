@@ -39,15 +39,18 @@ module _ {A : Type 0} where
   later-parts : {separator : A → Bool} {part : List A} {later : List (List A)} → Parts separator (part ∷ later) → Parts separator later
   later-parts h q m = h q (List·Memᴰ·tail m)
 
+  -- a list without separators is one part
   pub parted-part : (separator : A → Bool) (part : List A) → Free separator part → parted-by separator part ≡ part ∷ []
   parted-part separator [] h = refl
   parted-part separator (a ∷ part) h = rw (parted-part separator part (free-rest h), h a (List·Memᴰ·head refl))
 
+  -- what stands before the first separator is the first part
   pub parted-front : (separator : A → Bool) (s : A) → So (separator s) → (part rest : List A) → Free separator part
       → parted-by separator (part ++ s ∷ rest) ≡ part ∷ parted-by separator rest
   parted-front separator s p [] rest h = rw p
   parted-front separator s p (a ∷ part) rest h = rw (parted-front separator s p part rest (free-rest h), h a (List·Memᴰ·head refl))
 
+  -- and so it is where separators end the parts
   pub ended-front : (separator : A → Bool) (s : A) → So (separator s) → (part rest : List A) → Free separator part
       → ended-by separator (part ++ s ∷ rest) ≡ part ∷ ended-by separator rest
   ended-front separator s p [] rest h = rw p
@@ -67,6 +70,7 @@ module _ {A : Type 0} where
   pub append-ending : (s : A) (part rest : List A) → ending s part ++ rest ≡ part ++ s ∷ rest
   append-ending s part rest = append-assoc part (s ∷ []) rest
 
+  -- parts that hold no separator, each with a separator after it, are the parts of the whole
   pub ended-concat : (separator : A → Bool) (s : A) → So (separator s) → (parts : List (List A)) → Parts separator parts
       → ended-by separator (concat (map (ending s) parts)) ≡ parts
   ended-concat separator s p [] h = refl
@@ -133,7 +137,7 @@ module _ {A : Type 0} where
 
   -- ---- the elements of a part
 
-  -- an element of a part is an element of the list and no separator
+  -- an element of the list that is no separator
   pub record InList (separator : A → Bool) (l : List A) (c : A) : Type 0 where
     pub member : List·Memᴰ c l
     pub free : separator c ≡ false
@@ -141,7 +145,7 @@ module _ {A : Type 0} where
   in-rest : {separator : A → Bool} {a : A} {rest : List A} {c : A} → InList separator rest c → InList separator (a ∷ rest) c
   in-rest r = record { member = List·Memᴰ·tail (r .member); free = r .free }
 
-  -- what is known of the elements of all parts
+  -- every element of every part is such an element
   abbrev Within : (A → Bool) → List A → List (List A) → Type 0
   Within separator l parts = (part : List A) → List·Memᴰ part parts → (c : A) → List·Memᴰ c part → InList separator l c
 
@@ -160,18 +164,21 @@ module _ {A : Type 0} where
       choose (inl q) = record { member = List·Memᴰ·head q; free = rw q e }
       choose (inr k) = in-rest (later front (List·Memᴰ·head refl) c k)
 
+  -- an element of a part stands in the list and is no separator
   pub parted-element : (separator : A → Bool) (l : List A) (part : List A) → List·Memᴰ part (parted-by separator l)
       → (c : A) → List·Memᴰ c part → InList separator l c
   parted-element separator [] part m c n = absurd (List·Memᴰ·not-nil (rw (List·Memᴰ·eq-of-singleton m) at n))
   parted-element separator (a ∷ rest) part m c n =
       cut-element separator (separator a) a rest (parted-by separator rest) refl (parted-element separator rest) part m c n
 
+  -- and so it is where separators end the parts
   pub ended-element : (separator : A → Bool) (l : List A) (part : List A) → List·Memᴰ part (ended-by separator l)
       → (c : A) → List·Memᴰ c part → InList separator l c
   ended-element separator [] part m c n = absurd (List·Memᴰ·not-nil m)
   ended-element separator (a ∷ rest) part m c n =
       cut-element separator (separator a) a rest (ended-by separator rest) refl (ended-element separator rest) part m c n
 
+  -- no part holds a separator
   pub parted-parts : (separator : A → Bool) (l : List A) → Parts separator (parted-by separator l)
   parted-parts separator l part m c n = parted-element separator l part m c n .free
 

@@ -22,6 +22,7 @@ module _ {A : Type 0} where
 
   -- ---- all parts, one after the other
 
+  -- an element of all parts stands in some part
   pub concat-element : (parts : List (List A)) {a : A} → List·Memᴰ a (concat parts) → InPart parts a
   concat-element [] m = absurd (List·Memᴰ·not-nil m)
   concat-element (part ∷ later) m =
@@ -47,6 +48,7 @@ module _ {A : Type 0} where
 
   -- ---- parts with a separator between each two
 
+  -- an element of a joining is the separator or stands in some part
   pub joined-element : (s : A) (parts : List (List A)) {a : A} → List·Memᴰ a (joined s parts) → (a ≡ s) ⊎ InPart parts a
   joined-element s [] m = absurd (List·Memᴰ·not-nil m)
   joined-element s (part ∷ []) m = inr (in-first m)
@@ -61,6 +63,7 @@ module _ {A : Type 0} where
       choose deeper (inl n) = inr (in-first n)
       choose deeper (inr n) = ⊎-elim (λ e. inl e) (λ k. deepen (deeper k)) (List·Memᴰ·cases-cons n)
 
+  -- and what stands in a part stands in the joining
   pub joined-member : (s : A) (parts : List (List A)) {part : List A} {a : A} → List·Memᴰ part parts → List·Memᴰ a part
       → List·Memᴰ a (joined s parts)
   joined-member s [] m n = absurd (List·Memᴰ·not-nil m)
@@ -76,11 +79,13 @@ module _ {A : Type 0} where
 -- ---- maps
 
 module _ {A B : Type 0} where
+  -- maps that agree on the elements give one list
   pub map-same : (f g : A → B) (l : List A) → ((a : A) → List·Memᴰ a l → f a ≡ g a) → map f l ≡ map g l
   map-same f g [] h = refl
   map-same f g (a ∷ rest) h = rw (h a (List·Memᴰ·head refl), map-same f g rest (λ b m. h b (List·Memᴰ·tail m)))
 
 module _ {A : Type 0} where
+  -- a map that leaves every element as it is leaves the list
   pub map-fixed : (f : A → A) (l : List A) → ((a : A) → List·Memᴰ a l → f a ≡ a) → map f l ≡ l
   map-fixed f [] h = refl
   map-fixed f (a ∷ rest) h = rw (h a (List·Memᴰ·head refl), map-fixed f rest (λ b m. h b (List·Memᴰ·tail m)))

@@ -42,9 +42,11 @@ module _ {A : Type 0} where
   pub length-list-of : (count : ℕ) (f : ℕ → A) → length (list-of count f) ≡ count
   length-list-of = length-list-from zero
 
+  -- the element at a place below the count is f of the place
   pub getD-list-of : (count : ℕ) (f : ℕ → A) (i : ℕ) (d : A) → i < count → getD (list-of count f) i d ≡ f i
   getD-list-of count f i d h = getD-list-from zero count f i d h ∙ ap f (zero-add i)
 
+  -- two such lists are one where f and g agree below the count
   pub list-of-same : (count : ℕ) (f g : ℕ → A) → ((i : ℕ) → i < count → f i ≡ g i) → list-of count f ≡ list-of count g
   list-of-same count f g h = list-from-same zero count f g (λ j low high. h j (omega arith))
 
@@ -62,6 +64,7 @@ module _ {A : Type 0} where
       ext-getD d (list-of (length l) (λ i. getD l i d)) l (length-list-of (length l) (λ i. getD l i d))
       (λ i h. getD-list-of (length l) (λ j. getD l j d) i d (rw length-list-of at h))
 
+  -- f of each number below the count is in the list
   pub list-of-member : (count : ℕ) (f : ℕ → A) (i : ℕ) → i < count → List·Memᴰ (f i) (list-of count f)
   list-of-member count f i h =
       Memᴰ·cast (sym (getD-list-of count f i (f i) h))
@@ -73,6 +76,7 @@ module _ {A : Type 0} where
     pub within : place < count
     pub there : f place ≡ a
 
+  -- and only those
   pub list-of-element : (count : ℕ) (f : ℕ → A) {a : A} → List·Memᴰ a (list-of count f) → ListedAt count f a
   list-of-element count f {a} m =
       let r = place-of (list-of count f) a m in

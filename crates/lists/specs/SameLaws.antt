@@ -1,5 +1,5 @@
--- Lists that are the same place by place are equal, where the test of two elements is equality; and names that no test finds twice stand
--- in no two places. Each law is an induction on the list. Assumes nothing.
+-- Lists that are the same place by place are equal, where the test of two elements is equality; and elements that the test finds once only
+-- stand in one place each. Each law is an induction on the list. Assumes nothing.
 use Prim.Native.Nat.{ℕ, zero, suc, _<_}
 use native.Mathlib.Nat.{not-suc-le-zero, le-of-suc-le-suc}
 use native.Mathlib.Omega.{arith}
@@ -21,6 +21,7 @@ abbrev pub Reflexive : {A : Type 0} → (A → A → Bool) → Type 0
 Reflexive {A} same = (a : A) → So (same a a)
 
 module _ {A : Type 0} where
+  -- lists that are the same place by place are equal
   pub same-by-equal : (same : A → A → Bool) → OnlyEquals same → OnlyEquals (same-by same)
   same-by-equal same only [] [] e = refl
   same-by-equal same only [] (b ∷ others) e = absurd (false≢true e)
@@ -38,7 +39,8 @@ module _ {A : Type 0} where
   same-by-length same [] [] e = refl
   same-by-length same [] (b ∷ others) e = absurd (false≢true e)
   same-by-length same (a ∷ rest) [] e = absurd (false≢true e)
-  same-by-length same (a ∷ rest) (b ∷ others) e = ap suc (same-by-length same rest others (and-right (same a b) (same-by same rest others) e))
+  same-by-length same (a ∷ rest) (b ∷ others) e =
+      ap suc (same-by-length same rest others (and-right (same a b) (same-by same rest others) e))
 
   -- ---- no element stands twice
 
@@ -46,16 +48,19 @@ module _ {A : Type 0} where
   abbrev pub DistinctPlaces : A → List A → Type 0
   DistinctPlaces d l = (i j : ℕ) → i < j → j < length l → getD l i d ≢ getD l j d
 
+  -- where no element is the same as a later one, the elements of two places differ
   pub distinct-places : (same : A → A → Bool) → Reflexive same → (d : A) (l : List A) → repeats same l ≡ false → DistinctPlaces d l
   distinct-places same self d [] e i j h k = absurd (not-suc-le-zero k)
   distinct-places same self d (a ∷ rest) e i zero h k = absurd (not-suc-le-zero h)
   distinct-places same self d (a ∷ rest) e zero (suc j) h k =
-      λ p. not-both (subst (λ (b : A). So (same a b)) p (self a)) (none-elim (same a) rest (or-fails-left (any (same a) rest) (repeats same rest) e)
-      (member-at rest j d (le-of-suc-le-suc k)))
+      let none : any (same a) rest ≡ false = or-fails-left (any (same a) rest) (repeats same rest) e in
+      let unlike : same a (getD rest j d) ≡ false = none-elim (same a) rest none (member-at rest j d (le-of-suc-le-suc k)) in
+      λ p. not-both (subst (λ (b : A). So (same a b)) p (self a)) unlike
   distinct-places same self d (a ∷ rest) e (suc i) (suc j) h k =
       distinct-places same self d rest (or-fails-right (any (same a) rest) (repeats same rest) e) i j (le-of-suc-le-suc h)
       (le-of-suc-le-suc k)
 
+  -- and back
   pub no-repeats : (same : A → A → Bool) → OnlyEquals same → (d : A) (l : List A) → DistinctPlaces d l → repeats same l ≡ false
   no-repeats same only d [] h = refl
   no-repeats same only d (a ∷ rest) h =

@@ -58,15 +58,15 @@ module _ {A : Type 0} where
   pub none-elim : (test : A → Bool) (l : List A) → any test l ≡ false → {a : A} → List·Memᴰ a l → test a ≡ false
   none-elim test l e {a} m = fails-unless (test a) (λ p. not-both (any-intro test l m p) e)
 
-  keep-member : (b : Bool) (a : A) (rest : List A) → So b → List·Memᴰ a (keep b a rest)
+  pub keep-member : (b : Bool) (a : A) (rest : List A) → So b → List·Memᴰ a (keep b a rest)
   keep-member true a rest p = List·Memᴰ·head refl
   keep-member false a rest p = absurd (false≢true p)
 
-  keep-later : (b : Bool) (a : A) {rest : List A} {c : A} → List·Memᴰ c rest → List·Memᴰ c (keep b a rest)
+  pub keep-later : (b : Bool) (a : A) {rest : List A} {c : A} → List·Memᴰ c rest → List·Memᴰ c (keep b a rest)
   keep-later true a m = List·Memᴰ·tail m
   keep-later false a m = m
 
-  keep-cases : (b : Bool) (a : A) {rest : List A} {c : A} → List·Memᴰ c (keep b a rest) → (So b × (c ≡ a)) ⊎ List·Memᴰ c rest
+  pub keep-cases : (b : Bool) (a : A) {rest : List A} {c : A} → List·Memᴰ c (keep b a rest) → (So b × (c ≡ a)) ⊎ List·Memᴰ c rest
   keep-cases true a {rest} {c} m = ⊎-elim (λ e. inl (refl, e)) (λ n. inr n) (List·Memᴰ·cases-cons m)
   keep-cases false a m = inr m
 

@@ -4,3 +4,8 @@ pub mod Program
 pub mod Sequence
 pub mod Demands
 pub mod Edges
+pub mod Reached
+pub mod Answers
+pub mod Owed
+pub mod Settled
+pub mod Demand1

@@ -48,14 +48,12 @@ load-counts sheet =
     }
 
 unfoldable pub load-answer : Bytes → LoadAnswer
-unfolding refusal sheet-of kernel witness
 load-answer text =
     let counts : LoadAnswer = load-counts (sheet-of text) in
     cond (accepted text) counts (load-refused (refusal text))
 
 -- an accepted load starts anew; a refused one leaves the session as it was
 unfoldable pub after-load : Session → Bytes → Session
-unfolding refusal sheet-of start-of
 after-load session text =
     let anew : Session = loaded text (start-of (sheet-of text)) in
     cond (accepted text) anew session
@@ -73,7 +71,6 @@ search-refused number = record { number = number; steps = 0; roles = 0; bound = 
 
 -- the session's own position moved forward
 unfoldable pub searched-on : Bytes → ℕ → State → Ran
-unfolding sheet-of kernel-of search
 searched-on text budget st = search (kernel-of (sheet-of text)) budget st
 
 abbrev pub search-found : Sheet → Ran → SearchAnswer
@@ -95,12 +92,10 @@ abbrev pub search-causes : Session → List Cause
 search-causes session = record { number = 10; applies = lacks-sheet session } ∷ []
 
 unfoldable pub search-answer : Session → ℕ → SearchAnswer
-unfolding searched-on sheet-of role-count bound standing
 search-answer no-sheet budget = search-refused (first-number (search-causes no-sheet))
 search-answer (loaded text st) budget = search-found (sheet-of text) (searched-on text budget st)
 
 unfoldable pub after-search : Session → ℕ → Session
-unfolding searched-on
 after-search no-sheet budget = no-sheet
 after-search (loaded text st) budget = loaded text (searched-on text budget st .state)
 
@@ -114,27 +109,23 @@ write-refused number = record { number = number; count = 0 }
 
 -- the book of a session; without a sheet there is none
 unfoldable pub session-book : Session → Bytes
-unfolding sheet-of book
 session-book no-sheet = []
 session-book (loaded text st) = book (sheet-of text) st
 
 -- 11: buffer shorter than the book
 unfoldable pub write-causes : Session → Bytes → List Cause
-unfolding session-book
 write-causes session buffer =
     record { number = 10; applies = lacks-sheet session }
     ∷ record { number = 11; applies = ltb (length buffer) (length (session-book session)) }
     ∷ []
 
 unfoldable pub write-answer : Session → Bytes → WriteAnswer
-unfolding write-causes session-book
 write-answer session buffer =
     let number : ℕ = first-number (write-causes session buffer) in
     cond (eqb number 0) (record { number = 0; count = length (session-book session) }) (write-refused number)
 
 -- the lent buffer after a writing: the book, and past it the buffer's own bytes; untouched by a refusal
 unfoldable pub buffer-after : Session → Bytes → Bytes
-unfolding write-causes session-book
 buffer-after session buffer =
     let written : Bytes = session-book session ++ drop (length (session-book session)) buffer in
     cond (eqb (first-number (write-causes session buffer)) 0) written buffer

@@ -15,9 +15,11 @@ use Rattle.sheet.specs.KeepsLaws.{keeps-unrefused, sheet-read}
 pub accepted-keeps : (text : Bytes) → So (accepted text) → Keeps text (sheet-of text)
 accepted-keeps text p = unrefused-keeps text (accepted-unrefused text p)
 
+-- a sheet is accepted exactly when it keeps the rules
 pub accepts-sheets : (text : Bytes) → So (accepted text) ↔ ((sheet : Sheet) × Keeps text sheet)
 accepts-sheets text =
     (λ p. (sheet-of text, accepted-keeps text p), λ kept. unrefused-accepted text (keeps-unrefused text (kept .0) (kept .1)))
 
+-- a sheet that keeps the rules is read as the sheet it says
 pub reads-sheets : (text : Bytes) (sheet : Sheet) → Keeps text sheet → sheet-of text ≡ sheet
 reads-sheets text sheet k = sheet-read text sheet k

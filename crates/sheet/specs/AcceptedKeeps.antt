@@ -3,11 +3,12 @@
 use Prim.Native.Nat.{ℕ, suc, _≤_}
 use native.Mathlib.Nat.{not-suc-le-zero}
 use native.Mathlib.Omega.{arith}
-use mathlib.Core.Path.{_≡_, refl, sym, ap, _∙_}
+use mathlib.Core.Path.{_≡_, sym, ap, _∙_}
 use mathlib.Core.Bool.{Bool, So}
-use mathlib.Core.List.{List, [], _∷_, tail, List·Memᴰ, List·Memᴰ·tail, List·Memᴰ·not-nil, Memᴰ·of-map}
+use mathlib.Core.List.{List, [], _∷_, tail, List·Memᴰ, Memᴰ·of-map}
 use lib.ListN.{length, length-map}
 use Rattle.lists.specs.TestLaws.{member-at}
+use Rattle.lists.specs.TailLaws.{tail-member, length-tail}
 use Rattle.sheet.specs.Text.{Bytes, Line, name-byte, lines-of, text-of}
 use Rattle.sheet.specs.Sheet.{first-field, first-line, is-one, sheet-of}
 use Rattle.sheet.specs.Rules.{Name, Names, Keeps, sheet-text}
@@ -17,21 +18,15 @@ use Rattle.sheet.specs.SheetLines.{cells, UserLine, sheet-text-lines, li
 use Rattle.sheet.specs.NameCauses.{Sized}
 use Rattle.sheet.specs.Unrefused.{Unrefused}
 
-module _ {A : Type 0} where
-  tail-member : {l : List A} {a : A} → List·Memᴰ a (tail l) → List·Memᴰ a l
-  tail-member {l = []} m = absurd (List·Memᴰ·not-nil m)
-  tail-member {l = b ∷ rest} m = List·Memᴰ·tail m
-
-  pub length-tail : (l : List A) → 1 ≤ length l → suc (length (tail l)) ≡ length l
-  length-tail [] h = absurd (not-suc-le-zero h)
-  length-tail (a ∷ rest) h = refl
-
 some-line : (lines : List Line) → 1 ≤ length (first-line lines) → 1 ≤ length lines
 some-line [] h = absurd (not-suc-le-zero h)
 some-line (line ∷ others) h = omega arith
 
 first-field-member : (line : Line) → 1 ≤ length line → List·Memᴰ (first-field line) line
 first-field-member line h = member-at line 0 [] h
+
+spelled-name : (name : Bytes) → Sized name → ((b : ℕ) → List·Memᴰ b name → So (name-byte b)) → Name name
+spelled-name name s spelled = record { some-byte = s .some-byte; short = s .short; spelled = spelled }
 
 module _ (text : Bytes) (u : Unrefused text) where
   -- every field is spelled with the bytes of names
@@ -44,19 +39,18 @@ module _ (text : Bytes) (u : Unrefused text) where
   first-line-member : List·Memᴰ (first-line (lines-of text)) (lines-of text)
   first-line-member = member-at (lines-of text) 0 [] (some-line (lines-of text) (omega (arith, u .first .some-permission)))
 
+  -- every line after the first is a user line
   user-line : (line : Line) → List·Memᴰ line (tail (lines-of text)) → UserLine line
   user-line line m =
-      record { some-field = read-lines text line (tail-member m) .some-field; bits = u .bits line m }
-
-  name : (name : Bytes) → Sized name → ((b : ℕ) → List·Memᴰ b name → So (name-byte b)) → Name name
-  name field s spelled = record { some-byte = s .some-byte; short = s .short; spelled = spelled }
+      record { some-field = read-lines text line (tail-member (lines-of text) m) .some-field; bits = u .bits line m }
 
   permission-names : Names (sheet-of text .permissions)
   unfolding sheet-of
   permission-names =
       record {
         each = λ field m.
-            name field (u .sized .permissions field m) (field-spelled (first-line (lines-of text)) first-line-member field (tail-member m));
+            spelled-name field (u .sized .permissions field m) (field-spelled (first-line (lines-of text)) first-line-member field
+            (tail-member (first-line (lines-of text)) m));
         distinct = u .distinct .permissions;
       }
 
@@ -65,15 +59,16 @@ module _ (text : Bytes) (u : Unrefused text) where
   user-names = record { each = each; distinct = u .distinct .users }
     where
       each : (field : Bytes) → List·Memᴰ field (sheet-of text .users) → Name field
-      each field m = name field (u .sized .users field m) spelled
+      each field m = spelled-name field (u .sized .users field m) spelled
         where
           spelled : (b : ℕ) → List·Memᴰ b field → So (name-byte b)
           spelled b n =
               let line = Memᴰ·of-map first-field (tail (lines-of text)) m in
-              let member : List·Memᴰ (line .0) (lines-of text) = tail-member (line .1) in
+              let member : List·Memᴰ (line .0) (lines-of text) = tail-member (lines-of text) (line .1) in
               field-spelled (line .0) member (first-field (line .0))
               (first-field-member (line .0) (read-lines text (line .0) member .some-field)) b (rw (← line .2) at n)
 
+  -- the bytes are those of the sheet that they say
   written : text ≡ sheet-text (sheet-of text)
   unfolding sheet-of
   written =
@@ -97,10 +92,9 @@ module _ (text : Bytes) (u : Unrefused text) where
   unfolding sheet-of
   even-rows row m =
       let line = Memᴰ·of-map cells (tail (lines-of text)) m in
-      let fields : suc (length row) ≡ length (line .0) =
-      ap suc (sym (ap length (line .2)) ∙ length-map (tail (line .0)) is-one)
-      ∙ length-tail (line .0) (user-line (line .0) (line .1) .some-field) in
-      omega (arith, fields, u .even (line .0) (line .1), permission-total)
+      let said : length row ≡ length (tail (line .0)) = sym (ap length (line .2)) ∙ length-map (tail (line .0)) is-one in
+      let shorter = length-tail (line .0) (user-line (line .0) (line .1) .some-field) in
+      omega (arith, said, shorter, u .even (line .0) (line .1), permission-total)
 
   -- the sheet that the bytes say keeps the rules
   pub unrefused-keeps : Keeps text (sheet-of text)

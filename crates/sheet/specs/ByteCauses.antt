@@ -1,4 +1,5 @@
--- What it means that the causes of a sheet's bytes, numbers 1 and 2, do not apply. Assumes nothing.
+-- What it means that the causes of a sheet's bytes, numbers 1 and 2, do not apply: each cause is a test, and the facts are what the test
+-- asks, in both directions. Assumes nothing.
 use Prim.Native.Nat.{ℕ, _≤_}
 use mathlib.Core.Path.{_≡_, ap}
 use mathlib.Core.Logic.{_↔_}

@@ -9,6 +9,7 @@ use lib.Dec.{eqb, leb}
 use Rattle.bits.specs.Truth.{not-both, fails-unless, and-intro, and-left, and-right, or-left, or-cases}
 use Rattle.sheet.specs.Text.{comma, line-feed, between, name-byte, allowed-byte}
 
+-- n lies between two bounds
 pub between-intro : (low high n : ℕ) → low ≤ n → n ≤ high → So (between low high n)
 between-intro low high n h k = and-intro (leb low n) (leb n high) (le-leb low n h) (le-leb n high k)
 

@@ -24,6 +24,7 @@ rising-here low cause later r = ltb-true low (cause .number) (and-left (ltb low 
 rising-later : (low : ℕ) (cause : Cause) (later : List Cause) → So (rising low (cause ∷ later)) → So (rising (cause .number) later)
 rising-later low cause later r = and-right (ltb low (cause .number)) (rising (cause .number) later) r
 
+-- every number is above low
 pub rising-member : (low : ℕ) (causes : List Cause) → So (rising low causes) → (cause : Cause) → List·Memᴰ cause causes
     → low < cause .number
 rising-member low [] r cause m = absurd (List·Memᴰ·not-nil m)
@@ -76,6 +77,7 @@ none-lower causes r cause m p = let b = lowest-bounded 0 causes r cause m p in (
 abbrev pub SomeApplies : List Cause → ℕ → Type 0
 SomeApplies causes number = (cause : Cause) × List·Memᴰ cause causes × So (cause .applies) × (cause .number ≡ number)
 
+-- where the number is not 0, a cause of that number applies
 pub some-applies : (causes : List Cause) → first-number causes ≢ 0 → SomeApplies causes (first-number causes)
 some-applies [] h = absurd (h refl)
 some-applies (first ∷ later) h = choose (first .applies) refl (some-applies later)
@@ -91,14 +93,18 @@ abbrev pub NoneApplies : List Cause → Type 0
 NoneApplies [] = Unit {0}
 NoneApplies (cause ∷ later) = (cause .applies ≡ false) × NoneApplies later
 
+-- the number 0 says that no cause applies
 pub zero-none-applies : (low : ℕ) (causes : List Cause) → So (rising low causes) → first-number causes ≡ 0 → NoneApplies causes
 zero-none-applies low [] r e = tt
-zero-none-applies low (first ∷ later) r e = choose (first .applies) refl (zero-none-applies (first .number) later (rising-later low first later r))
+zero-none-applies low (first ∷ later) r e =
+    choose (first .applies) refl (zero-none-applies (first .number) later (rising-later low first later r))
   where
     choose : (t : Bool) → first .applies ≡ t → (first-number later ≡ 0 → NoneApplies later) → NoneApplies (first ∷ later)
-    choose true p deeper = absurd (let here = rising-here low first later r in let none : first .number ≡ 0 = rw p at e in omega arith)
+    choose true p deeper =
+        let none : first .number ≡ 0 = rw p at e in absurd (omega (arith, rising-here low first later r))
     choose false p deeper = (p, deeper (rw p at e))
 
+-- and back
 pub none-applies-zero : (causes : List Cause) → NoneApplies causes → first-number causes ≡ 0
 none-applies-zero [] n = refl
 none-applies-zero (first ∷ later) n = rw (n .0) (none-applies-zero later (n .1))

@@ -27,7 +27,8 @@ use Rattle.sheet.specs.Unrefused.{Unrefused}
 abbrev pub Spelled : Bytes → Type 0
 Spelled field = (b : ℕ) → List·Memᴰ b field → So (name-byte b)
 
-spelled-field : (field : Bytes) → Spelled field → Field field
+-- so spelled, it is a field that a line can hold
+pub spelled-field : (field : Bytes) → Spelled field → Field field
 spelled-field field s =
     record { no-comma = λ b m. name-byte-no-comma b (s b m); no-line-feed = λ b m. name-byte-no-line-feed b (s b m) }
 
@@ -48,6 +49,7 @@ pub record UserRow (names : List Bytes) (rows : List (List Bool)) (line : Line) 
   pub row-member : List·Memᴰ row rows
   pub says : line ≡ name ∷ map cell-text row
 
+-- every user line is such a line
 pub user-row : (names : List Bytes) (rows : List (List Bool)) (line : Line) → List·Memᴰ line (user-lines names rows)
     → UserRow names rows line
 user-row [] rows line m = absurd (List·Memᴰ·not-nil m)

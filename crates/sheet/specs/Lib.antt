@@ -1,9 +1,12 @@
--- The grant sheet (user-permission assignment): its text, its rules, and which user holds which permission.
+-- The grant sheet (user-permission assignment): its text, its rules, which user holds which permission, and its grants.
 pub mod Limits
 pub mod Text
 pub mod Sheet
+pub mod GrantLaws
+pub mod GrantOrderLaws
 pub mod Refusal
 pub mod Rules
+pub mod Rows
 pub mod TextLaws
 pub mod CauseLaws
 pub mod SheetLines
@@ -16,3 +19,4 @@ pub mod TextBytes
 pub mod KeepsLaws
 pub mod AcceptedKeeps
 pub mod Accepted
+pub mod AcceptedFacts

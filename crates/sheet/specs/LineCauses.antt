@@ -1,4 +1,5 @@
--- What it means that the causes of a sheet's lines, numbers 3, 4, 6 and 7, do not apply. Assumes nothing.
+-- What it means that the causes of a sheet's lines, numbers 3, 4, 6 and 7, do not apply: each cause is a test, and the facts are what the
+-- test asks of the first line or of every later one, in both directions. Assumes nothing.
 use Prim.Native.Nat.{suc, _≤_}
 use mathlib.Core.Path.{_≡_, ap}
 use mathlib.Core.Logic.{_↔_}

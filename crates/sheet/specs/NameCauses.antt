@@ -1,4 +1,5 @@
--- What it means that the causes of what a sheet says, numbers 5, 8 and 9, do not apply. Assumes nothing.
+-- What it means that the causes of what a sheet says, numbers 5, 8 and 9, do not apply: each cause is a test, and the facts are what the
+-- test asks of the names and of the grants, in both directions. Assumes nothing.
 use Prim.Native.Nat.{_≤_}
 use mathlib.Core.Path.{_≡_, ap}
 use mathlib.Core.Logic.{_↔_}

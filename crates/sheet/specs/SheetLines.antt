@@ -20,6 +20,7 @@ use Rattle.sheet.specs.Rules.{user-lines, sheet-text}
 
 -- ---- cells
 
+-- the field of a cell says the cell
 pub cell-said : (cell : Bool) → is-one (cell-text cell) ≡ cell
 cell-said true = refl
 cell-said false = refl
@@ -28,6 +29,7 @@ pub cell-is-bit : (cell : Bool) → So (is-bit (cell-text cell))
 cell-is-bit true = refl
 cell-is-bit false = refl
 
+-- and a field that is `0` or `1` is the field of the cell that it says
 pub bit-spelled : (field : Bytes) → So (is-bit field) → cell-text (is-one field) ≡ field
 bit-spelled field p =
     ⊎-elim (λ e. let q : field ≡ ascii "0" = same-bytes-equal field (ascii "0") e in rw q)
@@ -47,6 +49,7 @@ row-spelled line h =
 abbrev pub cells : Line → List Bool
 cells line = map is-one (tail line)
 
+-- user lines say their names
 pub users-said : (names : List Bytes) (rows : List (List Bool)) → length rows ≡ length names
     → map first-field (user-lines names rows) ≡ names
 users-said [] [] e = refl
@@ -54,6 +57,7 @@ users-said [] (row ∷ rows) e = absurd (omega arith)
 users-said (name ∷ names) [] e = absurd (omega arith)
 users-said (name ∷ names) (row ∷ rows) e = rw (users-said names rows (omega arith))
 
+-- and their rows
 pub rows-said : (names : List Bytes) (rows : List (List Bool)) → length rows ≡ length names → map cells (user-lines names rows) ≡ rows
 rows-said [] [] e = refl
 rows-said [] (row ∷ rows) e = absurd (omega arith)
@@ -74,6 +78,7 @@ pub user-line-spelled : (line : Line) → UserLine line → _≡_ {A = Line} (fi
 user-line-spelled [] u = absurd (not-suc-le-zero (u .some-field))
 user-line-spelled (name ∷ rest) u = rw (row-spelled rest (u .bits))
 
+-- and user lines are those of the names and rows that they say
 pub user-lines-spelled : (others : List Line) → ((line : Line) → List·Memᴰ line others → UserLine line)
     → user-lines (map first-field others) (map cells others) ≡ others
 user-lines-spelled [] h = refl
@@ -90,10 +95,12 @@ pub sheet-text-lines : (sheet : Sheet) → sheet-text sheet ≡ text-of (sheet-l
 unfolding sheet-text
 sheet-text-lines sheet = refl
 
+-- the lines of a sheet say the sheet
 pub sheet-said : (sheet : Sheet) → length (sheet .rows) ≡ length (sheet .users) → sheet-of-lines (sheet-lines sheet) ≡ sheet
 unfolding sheet-of-lines
 sheet-said sheet e = rw (users-said (sheet .users) (sheet .rows) e, rows-said (sheet .users) (sheet .rows) e)
 
+-- and lines that say a sheet are its lines
 pub lines-spelled : (lines : List Line) → first-field (first-line lines) ≡ ascii "user" → 1 ≤ length (first-line lines)
     → ((line : Line) → List·Memᴰ line (tail lines) → UserLine line) → sheet-lines (sheet-of-lines lines) ≡ lines
 unfolding sheet-of-lines

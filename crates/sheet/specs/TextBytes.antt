@@ -1,5 +1,6 @@
 -- The bytes of written lines: there are some, the last is a line feed, and each is a line feed, a comma or a byte of a field.
--- Assumes nothing.
+-- They follow line by line from
+-- how a line is written. Assumes nothing.
 use Prim.Native.Nat.{ℕ}
 use mathlib.Core.Path.{_≡_, refl, _∙_}
 use mathlib.Core.Logic.{_⊎_, inl, inr, ⊎-elim}
@@ -10,7 +11,7 @@ use Rattle.lists.specs.JoinLaws.{InPart, concat-element, joined-element}
 use Rattle.sheet.specs.Text.{Bytes, Line, comma, line-feed, line-text, text-of}
 use Rattle.sheet.specs.Refusal.{last-byte}
 
--- some list of bytes is not empty with a byte in it, before and after more
+-- bytes with a byte among them are not empty
 some-before : (front : Bytes) (b : ℕ) (back : Bytes) → empty (front ++ b ∷ back) ≡ false
 some-before [] b back = refl
 some-before (c ∷ front) b back = refl
@@ -19,6 +20,7 @@ some-after : (front back : Bytes) → empty front ≡ false → empty (front ++ 
 some-after [] back e = absurd (true≢false e)
 some-after (b ∷ front) back e = refl
 
+-- a text of some line is not empty
 pub text-some : (line : Line) (later : List Line) → empty (text-of (line ∷ later)) ≡ false
 text-some line later = some-after (line-text line) (text-of later) (some-before (joined comma line) line-feed [])
 
@@ -28,6 +30,7 @@ last-after (b ∷ []) [] e = absurd (true≢false e)
 last-after (b ∷ []) (c ∷ back) e = refl
 last-after (b ∷ next ∷ front) back e = last-after (next ∷ front) back e
 
+-- and its last byte is a line feed
 pub text-ends : (line : Line) (later : List Line) → last-byte (text-of (line ∷ later)) ≡ line-feed
 text-ends line [] = rw (append-nil (line-text line)) (last-after (joined comma line) (line-feed ∷ []) refl)
 text-ends line (next ∷ later) =
@@ -51,6 +54,7 @@ line-byte all-lines line m b n =
     found r =
         record { line = line; line-member = m; field = r .part; field-member = r .member; byte-member = r .element }
 
+-- each byte is a line feed, a comma or a byte of a field
 pub text-byte : (all-lines : List Line) (b : ℕ) → List·Memᴰ b (text-of all-lines)
     → (b ≡ line-feed) ⊎ ((b ≡ comma) ⊎ FieldByte all-lines b)
 text-byte all-lines b m =

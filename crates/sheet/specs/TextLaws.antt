@@ -33,10 +33,12 @@ only b c e = sym (eqb-true b c e)
 
 -- ---- written, then read
 
+-- a line that was written is read as its fields
 pub fields-of-line : (line : Line) → Fields line → fields (joined comma line) ≡ line
 fields-of-line line h =
     parted-joined (eqb comma) comma refl line (h .some-field) (λ field m. h .each field m .no-comma)
 
+-- no line feed stands in a line
 pub line-without-feed : (line : Line) → Fields line → Free (eqb line-feed) (joined comma line)
 line-without-feed line h b m =
     ⊎-elim (λ e. rw e) (λ r. h .each (r .part) (r .member) .no-line-feed b (r .element)) (joined-element comma line m)
@@ -44,6 +46,7 @@ line-without-feed line h b m =
 text-of-joined : (all-lines : List Line) → text-of all-lines ≡ concat (map (ending line-feed) (map (joined comma) all-lines))
 text-of-joined all-lines = ap concat (sym (map-map (ending line-feed) (joined comma) all-lines))
 
+-- lines that were written are read as they were
 pub read-as-written : (all-lines : List Line) → Lines all-lines → lines-of (text-of all-lines) ≡ all-lines
 read-as-written all-lines h =
     ap (λ (text : Bytes). lines-of text) (text-of-joined all-lines)
@@ -58,6 +61,7 @@ read-as-written all-lines h =
 
 -- ---- read, then written
 
+-- a text with nothing after its last line feed is what is written of its lines
 pub written-as-read : (text : Bytes) → So (closed (eqb line-feed) text) → text-of (lines-of text) ≡ text
 written-as-read text e =
     text-of-joined (lines-of text)
@@ -72,10 +76,12 @@ ends-in-feed [] e = refl
 ends-in-feed (b ∷ []) e = eq-eqb line-feed b (sym e)
 ends-in-feed (b ∷ next ∷ rest) e = ends-in-feed (next ∷ rest) e
 
+-- and back
 pub feed-at-end : (b : ℕ) (rest : Bytes) → So (closed (eqb line-feed) (b ∷ rest)) → last-byte (b ∷ rest) ≡ line-feed
 feed-at-end b [] e = only line-feed b e
 feed-at-end b (next ∷ rest) e = feed-at-end next rest e
 
+-- so a text that ends in a line feed is what is written of its lines
 pub written-as-read-to-feed : (text : Bytes) → last-byte text ≡ line-feed → text-of (lines-of text) ≡ text
 written-as-read-to-feed text e = written-as-read text (ends-in-feed text e)
 
@@ -87,6 +93,7 @@ pub record ReadByte (text : Bytes) (b : ℕ) : Type 0 where
   pub no-comma : eqb comma b ≡ false
   pub no-line-feed : eqb line-feed b ≡ false
 
+-- every byte of every field that is read is such a byte
 pub read-byte : (text : Bytes) (line : Line) → List·Memᴰ line (lines-of text) → (field : Bytes) → List·Memᴰ field line
     → (b : ℕ) → List·Memᴰ b field → ReadByte text b
 read-byte text line m field n b k =
@@ -95,6 +102,7 @@ read-byte text line m field n b k =
     let outer = ended-element (eqb line-feed) text (r .0) (r .1) b (inner .member) in
     record { in-text = outer .member; no-comma = inner .free; no-line-feed = outer .free }
 
+-- what is read are lines that a text can hold
 pub read-lines : (text : Bytes) → Lines (lines-of text)
 read-lines text line m =
     record {

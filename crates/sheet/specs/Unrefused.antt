@@ -65,11 +65,13 @@ unrefused-none-applies text u = (
   ),
 )
 
+-- to an accepted sheet no cause applies
 pub accepted-unrefused : (text : Bytes) → So (accepted text) → Unrefused text
 unfolding refusal
 accepted-unrefused text p =
     none-applies-unrefused text (zero-none-applies 0 (sheet-causes text) (sheet-causes-rise text) (eqb-true (refusal text) 0 p))
 
+-- and back
 pub unrefused-accepted : (text : Bytes) → Unrefused text → So (accepted text)
 unfolding refusal
 unrefused-accepted text u = eq-eqb (refusal text) 0 (none-applies-zero (sheet-causes text) (unrefused-none-applies text u))

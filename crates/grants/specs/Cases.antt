@@ -1,0 +1,44 @@
+-- Small sheets on which a slip in the reduction or the witness would give another answer, computed from the definitions. Assumes nothing.
+-- One user with two ones: each grant dominates the other, and only the first may go. Two such users: (0,1) and (1,0) fit though (0,0) is gone.
+use Prim.Native.Nat.{ℕ}
+use mathlib.Core.Path.{_≡_, refl}
+use mathlib.Core.Bool.{Bool, true, false}
+use mathlib.Core.List.{List, [], _∷_, map}
+use Rattle.lists.specs.Ascii.{ascii}
+use Rattle.sheet.specs.Sheet.{Sheet, Grant}
+use Rattle.grants.specs.Reduction.{Removal, single, tied, Reduction, reduction}
+use Rattle.grants.specs.Witness.{witness}
+
+-- a sheet of two permissions and these rows
+with-rows : List (List Bool) → Sheet
+with-rows rows = record { users = map (λ row. ascii "u") rows; permissions = ascii "a" ∷ ascii "b" ∷ []; rows = rows }
+
+-- what is computed of a sheet
+record Reduced : Type 0 where
+  removed : List Removal
+  kernel : List Grant
+  witness : List Grant
+
+reduced : List (List Bool) → Reduced
+unfolding reduction witness with-rows
+reduced rows =
+    let sheet : Sheet = with-rows rows in
+    record { removed = reduction sheet .removed; kernel = reduction sheet .remaining; witness = witness sheet }
+
+-- the grant of a user and a permission
+at : ℕ → ℕ → Grant
+at u p = record { user = u; permission = p }
+
+both : List Bool
+both = true ∷ true ∷ []
+
+cases : map reduced ((both ∷ []) ∷ (both ∷ both ∷ []) ∷ [])
+    ≡ record { removed = single (at 0 1) ∷ tied (at 0 0) (at 0 1) ∷ []; kernel = []; witness = at 0 1 ∷ [] }
+    ∷ record {
+      removed = single (at 1 1) ∷ tied (at 1 0) (at 1 1) ∷ tied (at 0 1) (at 1 0) ∷ tied (at 0 0) (at 0 1) ∷ [];
+      kernel = [];
+      witness = at 1 1 ∷ [];
+    }
+    ∷ []
+unfolding reduced at both
+cases = refl
