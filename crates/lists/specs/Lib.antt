@@ -1,6 +1,7 @@
 -- What the definitions of all crates are written with: lists under a Boolean test, lists in order, placements in classes, and words as bytes.
 pub mod Lists
 pub mod TestLaws
+pub mod AppendLaws
 pub mod Ordered
 pub mod OrderedUnique
 pub mod FilterLength
@@ -10,6 +11,8 @@ pub mod ReverseLaws
 pub mod CutLaws
 pub mod JoinLaws
 pub mod ListOfLaws
+pub mod EachLaws
+pub mod Total
 pub mod SameLaws
 pub mod TailLaws
 pub mod Placement
