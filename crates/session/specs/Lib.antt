@@ -6,6 +6,8 @@ pub mod Demands
 pub mod Edges
 pub mod Reached
 pub mod Answers
+pub mod Believed
 pub mod Owed
 pub mod Settled
 pub mod Demand1
+pub mod Proved
