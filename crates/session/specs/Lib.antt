@@ -9,3 +9,4 @@ pub mod Answers
 pub mod Owed
 pub mod Settled
 pub mod Demand1
+pub mod Demand2
