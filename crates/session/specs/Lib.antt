@@ -11,3 +11,4 @@ pub mod Owed
 pub mod Settled
 pub mod Demand1
 pub mod Proved
+pub mod Demand2
