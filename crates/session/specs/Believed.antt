@@ -55,7 +55,7 @@ few-roles text takes given =
     omega (
       arith,
       state-le-permissions (sheet-of text) (reached text given) (reached-searching text given) (accepted-even text takes),
-      accepted-keeps text takes .few-permissions
+      accepted-keeps text takes .few-permissions,
     )
 
 own-facts : (text : Bytes) → So (accepted text) → (given : ℕ) → OwnFacts (sheet-of text) (reached text given)
@@ -65,7 +65,7 @@ own-facts text takes given =
       few-roles = few-roles text takes given;
       enough-roles = witness-le-state (sheet-of text) (reached text given) s (accepted-even text takes);
       product = state-multiplies (sheet-of text) (reached text given) s;
-      witness-stands = witness-holds (sheet-of text)
+      witness-stands = witness-holds (sheet-of text);
     }
 
 module _ (text : Bytes) (takes : So (accepted text)) (given : ℕ) where
@@ -102,7 +102,7 @@ module _ (text : Bytes) (takes : So (accepted text)) (given : ℕ) where
         arith,
         book-roles,
         settled-is-smallest (sheet-of text) (reached text given) (reached-searching text given) (accepted-even text takes) roles multiplies
-        (λ o. not-open (book-says ∙ o))
+            (λ o. not-open (book-says ∙ o)),
       )
 
   pub book-believed : Believed text (book (sheet-of text) (reached text given))
@@ -113,11 +113,11 @@ module _ (text : Bytes) (takes : So (accepted text)) (given : ℕ) where
         right = right;
         multiplies = right .product;
         bounded = λ roles multiplies.
-          omega (
-            arith,
-            book-bound,
-            bound-bounds (sheet-of text) (reached text given) (reached-searching text given) (accepted-even text takes) roles multiplies
-          );
+            omega (
+              arith,
+              book-bound,
+              bound-bounds (sheet-of text) (reached text given) (reached-searching text given) (accepted-even text takes) roles multiplies,
+            );
         smallest = smallest;
-        confirmed-by-check = check-confirms text (book (sheet-of text) (reached text given)) accepts
+        confirmed-by-check = check-confirms text (book (sheet-of text) (reached text given)) accepts;
       }

@@ -10,5 +10,5 @@ pub mod Believed
 pub mod Owed
 pub mod Settled
 pub mod Demand1
-pub mod Proved
+pub mod Demand3
 pub mod Demand2
