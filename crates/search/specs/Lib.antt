@@ -9,3 +9,6 @@ pub mod Admissible
 pub mod Potential
 pub mod Progress
 pub mod Rising
+pub mod Marks
+pub mod MarkLaws
+pub mod View
