@@ -12,3 +12,7 @@ pub mod Rising
 pub mod Marks
 pub mod MarkLaws
 pub mod View
+pub mod Gathered
+pub mod BelowCut
+pub mod PlacedLaws
+pub mod ChoiceLaws

@@ -5,13 +5,13 @@ use crate::Marks;
 use crate::TABLE_WORDS;
 use bits::WORD_BITS;
 ghost use mathlib.Core.Path.{_≡_};
-ghost use mathlib.Core.Bool.{So, _&&_, _||_};
+ghost use mathlib.Core.Bool.{So, _||_};
 ghost use mathlib.Core.Option.{Option·getD};
 ghost use Prim.Native.Nat.{ℕ, _+_, _<_, _≤_};
-ghost use lib.Dec.{eqb};
 ghost use lib.ListN.{getD};
-ghost use Rattle.bits.specs.Below.{some-below, lowest-below};
+ghost use Rattle.bits.specs.Below.{lowest-below};
 ghost use Rattle.bits.specs.Bit.{bit, word-bits};
+ghost use Rattle.search.specs.Gathered.{class-among};
 ghost use Rattle.search.specs.Marks.{mark-limit, marked};
 ghost use Rattle.search.specs.View.{class-end, joinable};
 
@@ -31,9 +31,8 @@ pub fn class_end(depth: usize, size: usize, used: usize, count: usize) -> usize
 // The marks, and the classes of the grants at a word's positions, the first of which is grant `from`.
 fn with_classes(marks: Marks, word: u64, from: usize, classes: &[u8; KERNEL_LIMIT]) -> Marks
     requires { ⌜ from + word-bits ≤ mark-limit ⌝ }
-    requires { ⌜ ((i : ℕ) → So (bit word i) → getD (now classes) (from + i) 0 < mark-limit) ⌝ }
-    ensures { λ r. ⌜ ((c : ℕ)
-        → marked r c ≡ (marked marks c || some-below word-bits (λ i. bit word i && eqb (getD (now (classes .entry)) (from + i) 0) c))) ⌝ }
+    requires { ⌜ ((i : ℕ) → i < word-bits → So (bit word i) → getD (now classes) (from + i) 0 < mark-limit) ⌝ }
+    ensures { λ r. ⌜ ((c : ℕ) → marked r c ≡ (marked marks c || class-among (now (classes .entry)) from word c)) ⌝ }
 {
     let mut all = marks;
     let mut left = word;

@@ -1,32 +1,33 @@
+-- `class_end`: each test decides one part of the definition, and with fewer classes in use than the best placement has, at most one more is
+-- the next one.
 use borrow.Author.Needs.{needs}
+use borrow.Author.Tests.{lt-ltb, le-ltb}
+use mathlib.Core.Bool.{and-false}
+use native.Mathlib.Omega.{arith}
 use Rattle.search.proofs.choice.class_end.Statement.{statement}
 use Rattle.search.proofs.choice.class_end.Tie as tie
-use Rattle.search.proofs.choice.class_end.Reads as reads
-use Rattle.search.proofs.choice.class_end.Lts as lts
 
--- src/choice.rt:23:9
 returns : tie.Need-returns
-returns c = ?
+returns c = let a = c .before .args in rw (le-ltb (a .depth) (a .size) (c .if1 .taken))
 
--- src/choice.rt:26:9
 returns-2 : tie.Need-returns-2
-returns-2 c = ?
+returns-2 c = let a = c .before .before .args in rw (le-ltb (a .used) (a .count) (c .if2 .taken), and-false)
 
--- src/choice.rt:28:8
 add-if3 : tie.Need-add-if3
 add-if3 c = search needs
 
--- src/choice.rt:28:27
 add-result : tie.Need-add-result
 add-result c = search needs
 
--- src/choice.rt:19:1
 returns-3 : tie.Need-returns-3
-returns-3 c = ?
+returns-3 c =
+    let a = c .before .before .before .args in
+    rw (lt-ltb (a .depth) (a .size) (c .before .before .if1 .left), lt-ltb (a .used) (a .count) (c .before .if2 .left)) (omega arith)
 
--- src/choice.rt:19:1
 returns-4 : tie.Need-returns-4
-returns-4 c = ?
+returns-4 c =
+    let a = c .before .before .before .args in
+    rw (lt-ltb (a .depth) (a .size) (c .before .before .if1 .left), lt-ltb (a .used) (a .count) (c .before .if2 .left)) (omega arith)
 
 pub class-end-spec : {M : Type 1} → statement M
 class-end-spec = tie.close (tie.spec returns returns-2 add-if3 add-result returns-3 returns-4)
