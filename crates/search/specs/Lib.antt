@@ -15,4 +15,7 @@ pub mod View
 pub mod Gathered
 pub mod BelowCut
 pub mod PlacedLaws
+pub mod TrailLaws
 pub mod ChoiceLaws
+pub mod ClassEnd
+pub mod Moves

@@ -16,7 +16,7 @@ use Rattle.search.specs.declared.machine.Position.{Position}
 use Rattle.search.specs.declared.machine.Ran.{Ran}
 use Rattle.search.specs.Machine.{Kernel, State, search-limit}
 use Rattle.search.specs.Machine as machine
-use Rattle.search.specs.Marks.{kernel-words, marked}
+use Rattle.search.specs.Marks.{kernel-words, mark-limit, marked}
 
 -- the classes of the first n grants in an array of class numbers, the latest first
 abbrev pub placed-of : List ℕ → ℕ → List ℕ
@@ -45,17 +45,19 @@ view position size =
 abbrev pub view-ran : Ran → ℕ → machine.Ran
 view-ran ran size = record { state = view (ran .position) size; steps = ran .steps }
 
--- the kernel can be searched; as many grants are placed as there are, at most, in classes numbered by first appearance; the classes in use and
--- those of the best placement are counted; and the marked grants are those that opened a class
+-- the grants placed: no more than there are, in classes numbered by first appearance; the classes in use are counted, and a grant is marked where it
+-- opened its class
+pub record Trail (size depth in-use : ℕ) (opened : Marks) (classes : List ℕ) : Type 0 where
+  pub depth-within : depth ≤ size
+  pub grown : Grown (placed-of classes depth)
+  pub used-counted : in-use ≡ used (placed-of classes depth)
+  pub opened-marked : (i : ℕ) → i < depth → marked opened i ≡ eqb (getD classes i 0) (used (placed-of classes i))
+
+-- a position over a kernel that can be searched: its placed grants, and the class count of its best placement
 pub record Stands (size : ℕ) (position : Position) : Type 0 where
   pub size-within : size ≤ search-limit
-  pub depth-within : position .cursor .depth ≤ size
-  pub grown : Grown (placed-of (position .classes) (position .cursor .depth))
-  pub used-counted : position .cursor .used ≡ used (placed-of (position .classes) (position .cursor .depth))
+  pub trail : Trail size (position .cursor .depth) (position .cursor .used) (position .cursor .opened) (position .classes)
   pub best-counted : position .cursor .count ≡ used (placed-of (position .best) size)
-  pub opened-marked :
-      (i : ℕ) → i < position .cursor .depth
-      → marked (position .cursor .opened) i ≡ eqb (getD (position .classes) i 0) (used (placed-of (position .classes) i))
 
 -- the position before the first step: no grant is placed, and the best placement is the first one, whose classes are counted
 abbrev pub started : List ℕ → ℕ → ℕ → ℕ → Position
@@ -70,7 +72,7 @@ started first count singles witness =
             finished = eqb (count + singles) witness;
             opened = record { low = 0; high = 0 };
           };
-      classes = replicate 128 0;
+      classes = replicate mark-limit 0;
       best = first;
     }
 

@@ -52,16 +52,16 @@ impl Cursor {
         ensures { λ r. ⌜ Placed self class r ⌝ }
     {
         let d = self.depth;
-        let mut after = self;
         let opened = self.opened;
+        let mut after = self;
+        after.depth = d + 1;
+        after.next = 0;
         if class == self.used {
             after.used = class + 1;
             after.opened = opened.with(d);
-        } else {
-            after.opened = opened.without(d);
+            return after;
         }
-        after.depth = d + 1;
-        after.next = 0;
+        after.opened = opened.without(d);
         after
     }
 
@@ -74,13 +74,14 @@ impl Cursor {
         ensures { λ r. ⌜ r ≡ taken-back self class ⌝ }
     {
         let d = self.depth - 1;
-        let mut after = self;
         let opened = self.opened;
-        if opened.has(d) {
-            after.used = self.used - 1;
-        }
+        let mut after = self;
         after.depth = d;
         after.next = class + 1;
+        if opened.has(d) {
+            after.used = self.used - 1;
+            return after;
+        }
         after
     }
 }
