@@ -1,73 +1,106 @@
+-- `Position::step`: the class looked for is the machine's choice, and each return is one of the four ways that a step goes (`Moves`).
+use Prim.Native.Nat.{suc, _+_, _-_, _≤_, _<_}
+use mathlib.Core.Path.{_≡_, sym, _∙_}
+use native.Mathlib.Numerals.{add-one}
+use native.Mathlib.Omega.{arith}
 use borrow.Author.Needs.{needs}
+use lib.ListN.{length}
+use Rattle.search.specs.Marks.{mark-limit}
+use Rattle.search.specs.Moves.{Looked, depth-le-limit, class-below-limit, tried, end-within-limit, room-below-limit, closes, takes-back, places, improves}
+use Rattle.search.specs.TrailLaws.{trail-used-pos}
 use Rattle.search.proofs.machine.Position.step.Statement.{statement}
 use Rattle.search.proofs.machine.Position.step.Tie as tie
-use Rattle.search.proofs.machine.Position.step.Reads as reads
-use Rattle.search.proofs.machine.Position.step.Lts as lts
-use Rattle.search.proofs.choice.class_end.Reads as class-end-reads
-use Rattle.search.proofs.choice.class_for.Reads as class-for-reads
-use Rattle.search.proofs.machine.Cursor.placed.Reads as placed-reads
-use Rattle.search.proofs.machine.Cursor.taken_back.Reads as taken-back-reads
-use Rattle.search.proofs.machine.reaches.Reads as reaches-reads
 
--- src/machine.rt:118:13
 class-end-requires : tie.Need-class-end-requires
 class-end-requires c κs = search needs
 
--- src/machine.rt:119:13
 class-for-requires : tie.Need-class-for-requires
-class-for-requires c κs = ?
+class-for-requires c κs =
+    let s = c .before .before .before .before .before .pre in
+    let end = c .before .class-end in
+    (end-within-limit s (end .result) (end .ensures), (room-below-limit s (end .result) (end .ensures), class-below-limit s))
 
--- src/machine.rt:121:26
+looked : (c : tie.After-class-for)
+    → (let a = c .before .before .before .before .before .before .args in
+    Looked (a .fit .now) (a .size) (a .self) (c .before .before .class-end .result) (c .class-for .result))
+looked c = record { ends = c .before .before .class-end .ensures; finds = c .class-for .ensures }
+
+-- with a class found there is a next grant, and its class may be tried
+room : (c : tie.Then1) → c .before .before .before .before .before .before .before .args .self .cursor .depth < mark-limit
+room c =
+    let end = c .before .before .before .class-end in
+    room-below-limit (c .before .before .before .before .before .before .before .pre) (end .result) (end .ensures) (omega arith)
+
 cast-classes : tie.Need-cast-classes
-cast-classes c = ?
+cast-classes c =
+    let end = c .before .before .before .class-end in
+    omega (arith, end-within-limit (c .before .before .before .before .before .before .before .pre) (end .result) (end .ensures))
 
--- src/machine.rt:121:13
 array-write-classes : tie.Need-array-write-classes
-array-write-classes c = ?
+array-write-classes c = room c
 
--- src/machine.rt:122:17
 placed-requires : tie.Need-placed-requires
-placed-requires c κs = ?
+placed-requires c κs =
+    let t = tried (c .before .before .before .before .before .before .before .pre) (looked (c .before) .ends) (c .if1 .taken) in
+    (room c, (t .used-or-next, omega (arith, t .below-best)))
 
--- src/machine.rt:123:16
 add-if2 : tie.Need-add-if2
 add-if2 c = search needs
 
--- src/machine.rt:125:17
 reaches-requires : tie.Need-reaches-requires
 reaches-requires c κs = search needs
 
--- src/machine.rt:126:17
+whole-array : (c : tie.Start) → length (c .args .self .classes) ≡ mark-limit
+whole-array c = search needs
+
 returns : tie.Need-returns
-returns c = ?
+returns c =
+    let start = c .before .before .before .before .before .before .before .before .before .before in
+    let a = start .args in
+    let then = c .before .before .before in
+    improves (a .fit .now) (a .size) (a .singles) (a .witness) (a .self) (start .pre) (looked (then .before)) (then .if1 .taken)
+    (omega (arith, room then, whole-array start)) (c .before .before .placed .result) (c .before .before .placed .ensures)
+    (sym (add-one (a .self .cursor .depth)) ∙ c .before .if2 .taken) (c .reaches .result) (c .reaches .ensures)
 
--- src/machine.rt:128:13
 returns-2 : tie.Need-returns-2
-returns-2 c = ?
+returns-2 c =
+    let start = c .before .before .before .before .before .before .before .before .before in
+    let a = start .args in
+    let then = c .before .before in
+    places (a .fit .now) (a .size) (a .singles) (a .witness) (a .self) (start .pre) (looked (then .before)) (then .if1 .taken)
+    (omega (arith, room then, whole-array start)) (c .before .placed .result) (c .before .placed .ensures)
+    (λ e. c .if2 .left (add-one (a .self .cursor .depth) ∙ e))
 
--- src/machine.rt:133:13
 returns-3 : tie.Need-returns-3
-returns-3 c = ?
+returns-3 c =
+    let start = c .before .before .before .before .before .before .before .before in
+    let a = start .args in
+    closes (a .fit .now) (a .size) (a .singles) (a .witness) (a .self) (start .pre) (looked (c .before .before)) (c .before .if1 .left) (c .if3 .taken)
 
--- src/machine.rt:135:28
 sub-last : tie.Need-sub-last
 sub-last c = search needs
 
--- src/machine.rt:135:20
 array-read-last : tie.Need-array-read-last
-array-read-last c = ?
+array-read-last c = omega (arith, depth-le-limit (c .before .before .before .before .before .before .before .before .pre))
 
--- src/machine.rt:135:20
 cast-last : tie.Need-cast-last
 cast-last c = search needs
 
--- src/machine.rt:136:28
 taken-back-requires : tie.Need-taken-back-requires
-taken-back-requires c κs = ?
+taken-back-requires c κs =
+    let s = c .before .before .before .before .before .before .before .before .pre in
+    let d = c .before .before .before .before .before .before .before .before .args .self .cursor .depth in
+    let pos : 0 < d = omega arith in
+    let latest : d ≡ suc (d - 1) = omega arith in
+    (pos, (depth-le-limit s, (class-below-limit s (d - 1) (omega arith), trail-used-pos (d - 1) (rw latest at (s .trail)))))
 
--- src/machine.rt:109:5
 returns-4 : tie.Need-returns-4
-returns-4 c = ?
+returns-4 c =
+    let start = c .before .before .before .before .before .before .before .before .before in
+    let a = start .args in
+    let else = c .before in
+    takes-back (a .fit .now) (a .size) (a .singles) (a .witness) (a .self) (start .pre) (looked (else .before .before)) (else .before .if1 .left) (omega arith)
+    (c .taken-back .result) (c .taken-back .ensures)
 
 pub step-spec : {M : Type 1} → statement M
 step-spec =
