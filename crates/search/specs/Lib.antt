@@ -19,3 +19,4 @@ pub mod TrailLaws
 pub mod ChoiceLaws
 pub mod ClassEnd
 pub mod Moves
+pub mod Running
