@@ -201,6 +201,7 @@ impl Position {
         requires { ⌜ (size ≤ search-limit → Stands size self) ⌝ }
         ensures { λ r. ⌜ view-ran r size ≡ search (kernel-given (now (fit .entry)) size singles witness) budget (view self size) ⌝ }
         ensures { λ r. ⌜ (size ≤ search-limit → Stands size (r .position)) ⌝ }
+        ensures { λ r. ⌜ (search-limit < size → r .position ≡ self) ⌝ }
     {
         if KERNEL_LIMIT < size {
             return Ran {
