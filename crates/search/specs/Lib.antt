@@ -20,3 +20,4 @@ pub mod ChoiceLaws
 pub mod ClassEnd
 pub mod Moves
 pub mod Running
+pub mod Carried

@@ -87,6 +87,17 @@ impl Cursor {
 }
 
 impl Position {
+    // The parts as one position.
+    fn of(cursor: Cursor, classes: [u8; KERNEL_LIMIT], best: [u8; KERNEL_LIMIT]) -> Position
+        ensures { λ r. ⌜ r ≡ record { cursor = cursor; classes = classes; best = best } ⌝ }
+    {
+        Position {
+            cursor,
+            classes,
+            best,
+        }
+    }
+
     // The position before the first step, with a first placement and its class count.
     pub fn start(
         first: [u8; KERNEL_LIMIT],
@@ -100,15 +111,11 @@ impl Position {
             depth: 0,
             next: 0,
             used: 0,
-            count: count,
+            count,
             finished: reaches(count, singles, witness),
             opened: Marks { low: 0, high: 0 },
         };
-        Position {
-            cursor: cursor,
-            classes: [0u8; KERNEL_LIMIT],
-            best: first,
-        }
+        Position::of(cursor, [0u8; KERNEL_LIMIT], first)
     }
 
     // One step: it places one grant, takes one back, or closes the search.
@@ -135,33 +142,17 @@ impl Position {
             if d + 1 == size {
                 placed.count = placed.used;
                 placed.finished = reaches(placed.used, singles, witness);
-                return Position {
-                    cursor: placed,
-                    classes: classes,
-                    best: classes,
-                };
+                return Position::of(placed, classes, classes);
             }
-            return Position {
-                cursor: placed,
-                classes: classes,
-                best: best,
-            };
+            return Position::of(placed, classes, best);
         }
         if d == 0 {
             let mut closed = at;
             closed.finished = true;
-            return Position {
-                cursor: closed,
-                classes: classes,
-                best: best,
-            };
+            return Position::of(closed, classes, best);
         }
         let last = classes[d - 1] as usize;
-        Position {
-            cursor: at.taken_back(last),
-            classes: classes,
-            best: best,
-        }
+        Position::of(at.taken_back(last), classes, best)
     }
 
     // As many steps as the budget, or those left until finished if fewer.
@@ -183,10 +174,7 @@ impl Position {
             position = position.step(fit, size, singles, witness);
             steps += 1;
         }
-        Ran {
-            position: position,
-            steps: steps,
-        }
+        Ran { position, steps }
     }
 
     // A search: a run, or no step with more kernel grants than are searched.

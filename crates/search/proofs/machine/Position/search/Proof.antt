@@ -1,6 +1,6 @@
 -- `Position::search`: with more kernel grants than are searched the machine makes no step; else a search is a run.
 use Prim.Native.Nat.{_≤_, _<_}
-use mathlib.Core.Path.{refl, sym, _∙_}
+use mathlib.Core.Path.{refl, sym}
 use native.Mathlib.Omega.{arith}
 use Rattle.search.specs.Machine.{search-limit}
 use Rattle.search.specs.Runs.{search-within, search-above}
@@ -30,7 +30,7 @@ returns-2 c =
     let a = c .before .before .args in
     let kernel = kernel-given (a .fit .now) (a .size) (a .singles) (a .witness) in
     let l = within (c .before) in (
-      c .run .ensures .0 ∙ sym (search-within kernel (a .budget) (view (a .self) (a .size)) l),
+      rw (search-within kernel (a .budget) (view (a .self) (a .size)) l) (c .run .ensures .0),
       (λ k. c .run .ensures .1, λ (k : search-limit < a .size). absurd (omega arith)),
     )
 

@@ -6,8 +6,11 @@ use Rattle.search.proofs.machine.Position.start.Tie as tie
 reaches-requires : tie.Need-reaches-requires
 reaches-requires c κs = search needs
 
+of-requires : tie.Need-of-requires
+of-requires c κs = search needs
+
 returns : tie.Need-returns
-returns c = rw (c .reaches .ensures)
+returns c = rw (c .of .ensures, c .before .reaches .ensures)
 
 pub start-spec : {M : Type 1} → statement M
-start-spec = tie.close (tie.spec reaches-requires returns)
+start-spec = tie.close (tie.spec reaches-requires of-requires returns)

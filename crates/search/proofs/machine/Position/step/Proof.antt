@@ -53,29 +53,42 @@ reaches-requires c κs = search needs
 whole-array : (c : tie.Start) → length (c .args .self .classes) ≡ mark-limit
 whole-array c = search needs
 
+of-requires : tie.Need-of-requires
+of-requires c κs = search needs
+
 returns : tie.Need-returns
 returns c =
-    let start = c .before .before .before .before .before .before .before .before .before .before in
+    let start = c .before .before .before .before .before .before .before .before .before .before .before in
     let a = start .args in
-    let then = c .before .before .before in
-    improves (a .fit .now) (a .size) (a .singles) (a .witness) (a .self) (start .pre) (looked (then .before)) (then .if1 .taken)
-    (omega (arith, room then, whole-array start)) (c .before .before .placed .result) (c .before .before .placed .ensures)
-    (sym (add-one (a .self .cursor .depth)) ∙ c .before .if2 .taken) (c .reaches .result) (c .reaches .ensures)
+    let then = c .before .before .before .before in
+    rw (c .of .ensures)
+    (improves (a .fit .now) (a .size) (a .singles) (a .witness) (a .self) (start .pre) (looked (then .before)) (then .if1 .taken)
+    (omega (arith, room then, whole-array start)) (c .before .before .before .placed .result) (c .before .before .before .placed .ensures)
+    (sym (add-one (a .self .cursor .depth)) ∙ c .before .before .if2 .taken) (c .before .reaches .result) (c .before .reaches .ensures))
+
+of-requires-2 : tie.Need-of-requires-2
+of-requires-2 c κs = search needs
 
 returns-2 : tie.Need-returns-2
 returns-2 c =
-    let start = c .before .before .before .before .before .before .before .before .before in
+    let start = c .before .before .before .before .before .before .before .before .before .before in
     let a = start .args in
-    let then = c .before .before in
-    places (a .fit .now) (a .size) (a .singles) (a .witness) (a .self) (start .pre) (looked (then .before)) (then .if1 .taken)
-    (omega (arith, room then, whole-array start)) (c .before .placed .result) (c .before .placed .ensures)
-    (λ e. c .if2 .left (add-one (a .self .cursor .depth) ∙ e))
+    let then = c .before .before .before in
+    rw (c .of2 .ensures)
+    (places (a .fit .now) (a .size) (a .singles) (a .witness) (a .self) (start .pre) (looked (then .before)) (then .if1 .taken)
+    (omega (arith, room then, whole-array start)) (c .before .before .placed .result) (c .before .before .placed .ensures)
+    (λ e. c .before .if2 .left (add-one (a .self .cursor .depth) ∙ e)))
+
+of-requires-3 : tie.Need-of-requires-3
+of-requires-3 c κs = search needs
 
 returns-3 : tie.Need-returns-3
 returns-3 c =
-    let start = c .before .before .before .before .before .before .before .before in
+    let start = c .before .before .before .before .before .before .before .before .before in
     let a = start .args in
-    closes (a .fit .now) (a .size) (a .singles) (a .witness) (a .self) (start .pre) (looked (c .before .before)) (c .before .if1 .left) (c .if3 .taken)
+    rw (c .of3 .ensures)
+    (closes (a .fit .now) (a .size) (a .singles) (a .witness) (a .self) (start .pre) (looked (c .before .before .before)) (c .before .before .if1 .left)
+    (c .before .if3 .taken))
 
 sub-last : tie.Need-sub-last
 sub-last c = search needs
@@ -94,13 +107,17 @@ taken-back-requires c κs =
     let latest : d ≡ suc (d - 1) = omega arith in
     (pos, (depth-le-limit s, (class-below-limit s (d - 1) (omega arith), trail-used-pos (d - 1) (rw latest at (s .trail)))))
 
+of-requires-4 : tie.Need-of-requires-4
+of-requires-4 c κs = search needs
+
 returns-4 : tie.Need-returns-4
 returns-4 c =
-    let start = c .before .before .before .before .before .before .before .before .before in
+    let start = c .before .before .before .before .before .before .before .before .before .before in
     let a = start .args in
-    let else = c .before in
-    takes-back (a .fit .now) (a .size) (a .singles) (a .witness) (a .self) (start .pre) (looked (else .before .before)) (else .before .if1 .left) (omega arith)
-    (c .taken-back .result) (c .taken-back .ensures)
+    let else = c .before .before in
+    rw (c .of4 .ensures)
+    (takes-back (a .fit .now) (a .size) (a .singles) (a .witness) (a .self) (start .pre) (looked (else .before .before)) (else .before .if1 .left) (omega arith)
+    (c .before .taken-back .result) (c .before .taken-back .ensures))
 
 pub step-spec : {M : Type 1} → statement M
 step-spec =
@@ -113,11 +130,15 @@ step-spec =
     placed-requires
     add-if2
     reaches-requires
+    of-requires
     returns
+    of-requires-2
     returns-2
+    of-requires-3
     returns-3
     sub-last
     array-read-last
     cast-last
     taken-back-requires
+    of-requires-4
     returns-4)
