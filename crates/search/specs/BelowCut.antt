@@ -1,10 +1,10 @@
 -- What is looked for below a bound, when everything from a lesser bound on fails: the lesser bound gives the same.
 use Prim.Native.Nat.{ℕ, _≤_, _<_}
-use mathlib.Core.Path.{_≡_, refl, sym, _∙_}
+use mathlib.Core.Path.{_≡_, sym, _∙_}
 use mathlib.Core.Logic.{_⊎_, inl, inr, ⊎-elim}
 use mathlib.Core.Bool.{Bool, false, So}
 use mathlib.Core.Option.{Option, none, some, Option·getD}
-use native.Mathlib.Nat.{lt-of-lt-of-le, lt-trans, le-refl}
+use native.Mathlib.Nat.{lt-of-lt-of-le, lt-trans}
 use native.Mathlib.Omega.{arith}
 use Rattle.bits.specs.Truth.{not-both, same-truth}
 use Rattle.bits.specs.Below.{some-below, lowest-below, Lowest}

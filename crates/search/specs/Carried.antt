@@ -1,12 +1,11 @@
 -- Positions from their start through several searches: the position before the first step stands for the machine's start, and a search that goes on
 -- where another came to makes, with it, the search of both budgets.
 use Prim.Native.Nat.{ℕ, _+_, _≤_}
-use mathlib.Core.Path.{_≡_, refl, sym}
+use mathlib.Core.Path.{_≡_}
 use mathlib.Core.List.{List}
 use Rattle.lists.specs.Placement.{used}
 use Rattle.search.specs.declared.machine.Ran.{Ran}
 use Rattle.search.specs.Machine.{Kernel, State, search-limit, start, search}
-use Rattle.search.specs.Marks.{mark-limit}
 use Rattle.search.specs.Runs.{followed-by, search-add, search-steps-le}
 use Rattle.search.specs.View.{placed-of, kernel-given, view, view-ran, Stands, started}
 use Rattle.search.specs.TrailLaws.{trail-none}

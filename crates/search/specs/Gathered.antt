@@ -7,7 +7,7 @@ use mathlib.Core.Bool.{Bool, So, not, _&&_, _||_, or-false, or-assoc}
 use mathlib.Core.List.{List}
 use native.Mathlib.Nat.{lt-trans}
 use native.Mathlib.Omega.{arith}
-use borrow.Author.Tests.{eqb-true, eq-eqb, ne-eqb}
+use borrow.Author.Tests.{eqb-true, eq-eqb}
 use lib.Dec.{eqb}
 use lib.ListN.{getD}
 use Rattle.bits.specs.Truth.{passes-or-fails, same-truth, and-intro, and-left, and-right, or-left, or-right, or-cases, not-passes}

@@ -2,9 +2,9 @@
 -- latest grant is taken back, or the search is closed. In each case the view moves as the machine does, and the position still stands.
 use Prim.Native.Nat.{ℕ, zero, suc, _+_, _-_, _≤_, _<_, max}
 use mathlib.Core.Path.{_≡_, refl, sym, ap, _∙_}
-use mathlib.Core.Bool.{Bool, true, cond}
-use mathlib.Core.List.{List, [], _∷_}
-use mathlib.Core.Option.{Option, none, some, Option·getD}
+use mathlib.Core.Bool.{Bool, true}
+use mathlib.Core.List.{List, _∷_}
+use mathlib.Core.Option.{Option·getD}
 use native.Mathlib.Numerals.{add-one}
 use native.Mathlib.Omega.{arith}
 use borrow.Author.Tests.{eq-eqb, ne-eqb}
@@ -14,12 +14,12 @@ use Rattle.bits.specs.Below.{lowest-below}
 use Rattle.lists.specs.Placement.{used}
 use Rattle.search.specs.declared.machine.Cursor.{Cursor}
 use Rattle.search.specs.declared.machine.Position.{Position}
-use Rattle.search.specs.Machine.{Kernel, State, search-limit, choice, place, take-back, move, step}
+use Rattle.search.specs.Machine.{State, search-limit, choice, place, take-back, move, step}
 use Rattle.search.specs.Marks.{mark-limit}
 use Rattle.search.specs.View.{placed-of, kernel-given, view, Trail, Stands, class-end, joinable, Placed, taken-back}
-use Rattle.search.specs.PlacedLaws.{length-placed-of, placed-of-set, placed-of-next, grown-class-le}
-use Rattle.search.specs.TrailLaws.{trail-used-le, trail-placed, trail-taken-back, trail-used-pos}
-use Rattle.search.specs.ClassEnd.{Tried, below-class-end, class-end-le, choice-below-end}
+use Rattle.search.specs.PlacedLaws.{length-placed-of, placed-of-next, grown-class-le}
+use Rattle.search.specs.TrailLaws.{trail-used-le, trail-placed, trail-taken-back}
+use Rattle.search.specs.ClassEnd.{Tried, below-class-end, choice-below-end}
 use Rattle.search.specs.BelowCut.{getD-found, getD-missing}
 
 -- the view of a position moves as the machine does in one step, and the position stands

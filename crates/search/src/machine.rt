@@ -4,7 +4,7 @@ use crate::Marks;
 use crate::TABLE_WORDS;
 use crate::choice;
 ghost use mathlib.Core.Path.{_≡_};
-ghost use Prim.Native.Nat.{ℕ, _+_, _<_, _≤_};
+ghost use Prim.Native.Nat.{_+_, _<_, _≤_};
 ghost use lib.Dec.{eqb};
 ghost use Rattle.search.specs.Machine.{search-limit, step, run, search};
 ghost use Rattle.search.specs.Marks.{mark-limit};

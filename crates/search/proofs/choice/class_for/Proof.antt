@@ -1,6 +1,6 @@
 -- `class_for`: with no class from the next try on there is none to find. Else the classes below the next try are marked, and those of the earlier grants that do
 -- not fit, and the lowest class that is not marked is the one to find, unless it is past the end.
-use Prim.Native.Nat.{ℕ, _+_, _≤_, _<_}
+use Prim.Native.Nat.{ℕ, _+_, _<_}
 use mathlib.Core.Path.{_≡_}
 use mathlib.Core.Bool.{not, _&&_}
 use native.Mathlib.Nat.{zero-add}

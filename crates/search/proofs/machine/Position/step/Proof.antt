@@ -1,5 +1,5 @@
 -- `Position::step`: the class looked for is the machine's choice, and each return is one of the four ways that a step goes (`Moves`).
-use Prim.Native.Nat.{suc, _+_, _-_, _≤_, _<_}
+use Prim.Native.Nat.{suc, _-_, _<_}
 use mathlib.Core.Path.{_≡_, sym, _∙_}
 use native.Mathlib.Numerals.{add-one}
 use native.Mathlib.Omega.{arith}
