@@ -1,8 +1,26 @@
--- What the definitions of all crates are written with: lists under a Boolean test, and words as bytes.
+-- What the definitions of all crates are written with: lists under a Boolean test, lists in order, placements in classes, and words as bytes.
 pub mod Lists
 pub mod TestLaws
+pub mod AppendLaws
+pub mod Ordered
+pub mod OrderedUnique
+pub mod FilterLength
+pub mod Distinct
+pub mod LeastLaws
+pub mod ReverseLaws
+pub mod CutLaws
+pub mod JoinLaws
+pub mod ListOfLaws
+pub mod EachLaws
+pub mod Total
+pub mod SameLaws
+pub mod TailLaws
 pub mod Placement
 pub mod Classing
 pub mod GrownLaws
+pub mod PlacementLaws
+pub mod GroupingLaws
+pub mod KeyLaws
+pub mod Beginning
 pub mod Lexicographic
 pub mod Ascii

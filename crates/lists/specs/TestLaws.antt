@@ -1,18 +1,18 @@
 -- What a passed or failed test over a list says of its members, and back. Each law is an induction on the list: a member of
 -- `a ∷ rest` is a, or is a member of rest. Assumes nothing.
-use Prim.Native.Nat.{ℕ, zero, suc, _≤_, _<_}
-use native.Mathlib.Nat.{le-refl, le-step, le-of-suc-le-suc, not-suc-le-zero}
+use Prim.Native.Nat.{ℕ, zero, suc, _<_}
+use native.Mathlib.Nat.{le-of-suc-le-suc, not-suc-le-zero}
 use native.Mathlib.Omega.{arith}
-use mathlib.Core.Path.{_≡_, refl, sym, ap, _∙_}
+use mathlib.Core.Path.{_≡_, refl, sym}
 use mathlib.Core.Logic.{_⊎_, inl, inr, ⊎-elim}
-use mathlib.Core.Bool.{Bool, true, false, So, _&&_, _||_, not, false≢true}
+use mathlib.Core.Bool.{Bool, true, false, So, false≢true}
 use mathlib.Core.List.{List, [], _∷_, List·Memᴰ, List·Memᴰ·head, List·Memᴰ·tail, List·Memᴰ·not-nil, List·Memᴰ·cases-cons, Memᴰ·cast}
-use mathlib.Core.Option.{Option, none, some}
+use mathlib.Core.Option.{none, some}
 use borrow.Author.Tests.{eqb-true, eq-eqb}
 use lib.Dec.{eqb}
 use lib.ListN.{length, getD}
-use Rattle.bits.specs.Truth.{passes-or-fails, not-both, fails-unless, and-intro, and-left, and-right, or-left, or-right, or-cases}
-use Rattle.lists.specs.Lists.{any, all, keep, filter, or-later, first, same-by, same-bytes}
+use Rattle.bits.specs.Truth.{not-both, fails-unless, and-intro, and-left, and-right, or-left, or-right, or-cases}
+use Rattle.lists.specs.Lists.{any, all, keep, filter, first, same-bytes}
 
 module _ {A : Type 0} where
   pub all-intro : (test : A → Bool) (l : List A) → ((a : A) → List·Memᴰ a l → So (test a)) → So (all test l)
@@ -58,15 +58,15 @@ module _ {A : Type 0} where
   pub none-elim : (test : A → Bool) (l : List A) → any test l ≡ false → {a : A} → List·Memᴰ a l → test a ≡ false
   none-elim test l e {a} m = fails-unless (test a) (λ p. not-both (any-intro test l m p) e)
 
-  keep-member : (b : Bool) (a : A) (rest : List A) → So b → List·Memᴰ a (keep b a rest)
+  pub keep-member : (b : Bool) (a : A) (rest : List A) → So b → List·Memᴰ a (keep b a rest)
   keep-member true a rest p = List·Memᴰ·head refl
   keep-member false a rest p = absurd (false≢true p)
 
-  keep-later : (b : Bool) (a : A) {rest : List A} {c : A} → List·Memᴰ c rest → List·Memᴰ c (keep b a rest)
+  pub keep-later : (b : Bool) (a : A) {rest : List A} {c : A} → List·Memᴰ c rest → List·Memᴰ c (keep b a rest)
   keep-later true a m = List·Memᴰ·tail m
   keep-later false a m = m
 
-  keep-cases : (b : Bool) (a : A) {rest : List A} {c : A} → List·Memᴰ c (keep b a rest) → (So b × (c ≡ a)) ⊎ List·Memᴰ c rest
+  pub keep-cases : (b : Bool) (a : A) {rest : List A} {c : A} → List·Memᴰ c (keep b a rest) → (So b × (c ≡ a)) ⊎ List·Memᴰ c rest
   keep-cases true a {rest} {c} m = ⊎-elim (λ e. inl (refl, e)) (λ n. inr n) (List·Memᴰ·cases-cons m)
   keep-cases false a m = inr m
 

@@ -6,9 +6,13 @@ pub mod Steps
 pub mod Runs
 pub mod Best
 pub mod Admissible
+pub mod Sound
+pub mod Canonical
+pub mod Complete
 pub mod Potential
 pub mod Progress
 pub mod Rising
+pub mod SameFit
 pub mod Marks
 pub mod MarkLaws
 pub mod View

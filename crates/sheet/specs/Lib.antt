@@ -1,6 +1,22 @@
--- The grant sheet (user-permission assignment): its text, its rules, and which user holds which permission.
+-- The grant sheet (user-permission assignment): its text, its rules, which user holds which permission, and its grants.
 pub mod Limits
 pub mod Text
 pub mod Sheet
+pub mod GrantLaws
+pub mod GrantOrderLaws
 pub mod Refusal
 pub mod Rules
+pub mod Rows
+pub mod TextLaws
+pub mod CauseLaws
+pub mod SheetLines
+pub mod ByteLaws
+pub mod ByteCauses
+pub mod LineCauses
+pub mod NameCauses
+pub mod Unrefused
+pub mod TextBytes
+pub mod KeepsLaws
+pub mod AcceptedKeeps
+pub mod Accepted
+pub mod AcceptedFacts
