@@ -18,10 +18,15 @@ module _ (first : List ℕ) (size count singles witness : ℕ) (counted : count 
 
   pub started-stands : size ≤ search-limit → Stands size (started first count singles witness)
   started-stands l =
-      record { size-within = l; trail = trail-none size (record { low = 0; high = 0 }) (started first count singles witness .classes); best-counted = counted }
+      record {
+        size-within = l;
+        trail = trail-none size (record { low = 0; high = 0 }) (started first count singles witness .classes);
+        best-counted = counted;
+      }
 
 -- no more steps than the budget
-pub searched-steps-le : (kernel : Kernel) (budget size : ℕ) (st : State) (ran : Ran) → view-ran ran size ≡ search kernel budget st → ran .steps ≤ budget
+pub searched-steps-le : (kernel : Kernel) (budget size : ℕ) (st : State) (ran : Ran)
+    → view-ran ran size ≡ search kernel budget st → ran .steps ≤ budget
 searched-steps-le kernel budget size st ran e = rw (← e) at (search-steps-le kernel budget st)
 
 -- two searches, one after the other

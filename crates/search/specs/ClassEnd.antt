@@ -13,7 +13,7 @@ use Rattle.bits.specs.BelowLaws.{below-or-from}
 use Rattle.lists.specs.Placement.{used}
 use Rattle.search.specs.Machine.{Kernel, State, depth, best-count, possible, choice}
 use Rattle.search.specs.View.{placed-of, kernel-given, class-end, joinable}
-use Rattle.search.specs.BelowCut.{lowest-below-cut}
+use Rattle.bits.specs.CutLaws.{lowest-below-cut}
 use Rattle.search.specs.PlacedLaws.{length-placed-of}
 
 -- class c may be tried

@@ -1,5 +1,5 @@
--- `many_searches`: each search keeps the position standing and makes at most its budget of steps, so that the steps made have room. The measure is the
--- searches left.
+-- `many_searches`: each search keeps the position standing and makes at most its budget of steps, so that their sum fits. The measure is the
+-- number of searches left.
 use Prim.Native.Nat.{_*_, _-_, _≤_}
 use native.Mathlib.Omega.{arith}
 use borrow.Author.Needs.{needs}
