@@ -1,15 +1,14 @@
--- Why the class that the code finds is the machine's choice: the classes below the next try and those of earlier grants that do not fit are marked, so
--- that a class is free just where the grant can be placed in it; and the classes that may be tried are those below `class-end`.
-use Prim.Native.Nat.{ℕ, suc, _+_, _*_, _-_, _/_, _%_, _≤_, _<_, max, min, pred}
-use mathlib.Core.Path.{_≡_, refl, sym, ap, _∙_}
+-- Which classes are free for a grant: those below the next try are marked, and those of the earlier grants that do not fit it, so that a class is not
+-- marked just where the grant can be placed in it.
+use Prim.Native.Nat.{ℕ, _+_, _*_, _-_, _/_, _%_, _≤_, _<_}
+use mathlib.Core.Path.{_≡_, refl, sym, _∙_}
 use mathlib.Core.Logic.{⊎-elim}
 use mathlib.Core.Bool.{Bool, true, false, So, not, _&&_, _||_, or-assoc}
 use mathlib.Core.List.{List}
 use mathlib.Core.Option.{Option·getD}
-use native.Mathlib.Nat.{zero-add, add-zero, le-trans}
-use native.Mathlib.Numerals.{add-one}
+use native.Mathlib.Nat.{zero-add, add-zero}
 use native.Mathlib.Omega.{arith}
-use borrow.Author.Tests.{ltb-true, lt-ltb, le-ltb, leb-true, le-leb, lt-leb, ltb-false}
+use borrow.Author.Tests.{ltb-true, lt-ltb, le-ltb, le-leb, lt-leb}
 use lib.Dec.{eqb, leb, ltb}
 use lib.ListN.{getD}
 use Rattle.bits.specs.Truth.{and-left}
@@ -17,13 +16,12 @@ use Rattle.bits.specs.Below.{some-below, lowest-below}
 use Rattle.bits.specs.BelowLaws.{below-or-from, some-below-ext}
 use Rattle.bits.specs.LowestLaws.{lowest-below-none-intro}
 use Rattle.bits.specs.Bit.{bit, word-bits}
-use Rattle.lists.specs.Placement.{used, joins}
 use Rattle.search.specs.declared.marks.Marks.{Marks}
 use Rattle.search.specs.Marks.{kernel-words, mark-limit, marked}
 use Rattle.search.specs.MarkLaws.{marked-low, marked-high, marked-later, some-marked}
-use Rattle.search.specs.View.{placed-of, fit-in, class-end, joinable}
+use Rattle.search.specs.View.{fit-in, joinable}
 use Rattle.search.specs.Gathered.{class-among}
-use Rattle.search.specs.BelowCut.{some-below-cut, lowest-below-cut}
+use Rattle.bits.specs.CutLaws.{some-below-cut}
 use Rattle.search.specs.PlacedLaws.{joins-unless-apart}
 
 -- the words of grant d in the fit table
@@ -69,7 +67,7 @@ module _ (table classes : List ℕ) (d : ℕ) (apart : Marks) (within : d ≤ ma
       ≡ some-below d (λ i. not (fit-in table d i) && eqb (getD classes i 0) c)
   apart-among c =
       rw (
-        some-below-ext word-bits (λ i. bit (apart .low) i && eqb (getD classes (0 + i) 0) c) (λ i. bit (apart .low) i && class-is i) (λ i l. rw (zero-add i)),
+        some-below-ext word-bits (λ i. bit (apart .low) i && class-is (0 + i)) (λ i. bit (apart .low) i && class-is i) (λ i l. rw (zero-add i)),
         ← some-marked apart class-is,
       )
       (some-below-cut mark-limit d (λ i. marked apart i && class-is i) (λ i. not (fit-in table d i) && class-is i) within

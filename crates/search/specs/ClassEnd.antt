@@ -1,21 +1,19 @@
 -- The classes below `class-end` are those from 0 up to the next one with which fewer classes are in use than the best placement has, so that the
 -- machine's choice is the lowest of them that is not below the next try and that the grant can join.
 use Prim.Native.Nat.{ℕ, zero, suc, _≤_, _<_, max, min, pred}
-use mathlib.Core.Path.{_≡_, refl, sym, _∙_}
+use mathlib.Core.Path.{_≡_}
 use mathlib.Core.Logic.{⊎-elim}
-use mathlib.Core.Bool.{Bool, false, So, _&&_, and-true, and-false, and-eq-true-iff}
+use mathlib.Core.Bool.{Bool, false, So, and-true, and-eq-true-iff}
 use mathlib.Core.List.{List}
 use native.Mathlib.Omega.{arith}
-use borrow.Author.Tests.{ltb-true, lt-ltb, le-ltb, leb-true}
-use lib.Dec.{leb, ltb}
-use lib.ListN.{length}
+use borrow.Author.Tests.{ltb-true, lt-ltb, le-ltb}
 use Rattle.bits.specs.Truth.{fails-unless}
 use Rattle.bits.specs.Below.{lowest-below}
 use Rattle.bits.specs.BelowLaws.{below-or-from}
-use Rattle.lists.specs.Placement.{used, joins}
+use Rattle.lists.specs.Placement.{used}
 use Rattle.search.specs.Machine.{Kernel, State, depth, best-count, possible, choice}
 use Rattle.search.specs.View.{placed-of, kernel-given, class-end, joinable}
-use Rattle.search.specs.BelowCut.{lowest-below-cut}
+use Rattle.bits.specs.CutLaws.{lowest-below-cut}
 use Rattle.search.specs.PlacedLaws.{length-placed-of}
 
 -- class c may be tried

@@ -1,4 +1,5 @@
--- The search machine: its state, one step, a search within a budget; and what holds of every run.
+-- The search machine: its state, one step, a search within a budget; and what holds of every run. From `Marks` on: what the words and bytes of the
+-- code stand for (`View`), and why a step and a run of the code are the machine's.
 pub mod Machine
 pub mod Budget
 pub mod Cases
@@ -17,7 +18,6 @@ pub mod Marks
 pub mod MarkLaws
 pub mod View
 pub mod Gathered
-pub mod BelowCut
 pub mod PlacedLaws
 pub mod TrailLaws
 pub mod ChoiceLaws

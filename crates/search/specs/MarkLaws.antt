@@ -3,8 +3,8 @@
 use Prim.Native.Nat.{ℕ, _+_, _-_, _^_, _≤_, _<_}
 use mathlib.Core.Path.{_≡_, sym, ap, _∙_}
 use mathlib.Core.Logic.{⊎-elim}
-use mathlib.Core.Bool.{Bool, false, true, So, not, _&&_, _||_, cond}
-use mathlib.Core.Option.{Option, none, some, Option·getD}
+use mathlib.Core.Bool.{Bool, false, not, _&&_, _||_}
+use mathlib.Core.Option.{none, some, Option·getD}
 use native.Mathlib.Nat.{add-sub-of-le}
 use native.Mathlib.Omega.{arith}
 use borrow.Author.Tests.{ltb-true, lt-ltb, le-ltb, eqb-true, eq-eqb, ne-eqb}
@@ -129,7 +129,9 @@ lowest-free-none m h k e f = rw (lowest-below-none-intro mark-limit (λ q. not (
     all : (q : ℕ) → q < mark-limit → not (marked m q) ≡ false
     all q l =
         ⊎-elim (λ a. sym (free-low m h a) ∙ rw e (bit-of-zero q))
-        (λ a. rw (marked-high m {p = q} a) (sym (bit-not word-bits (m .high) k {p = q - word-bits} (omega arith)) ∙ rw f (bit-of-zero (q - word-bits))))
+        (λ a.
+        rw (marked-high m {p = q} a)
+        (sym (bit-not word-bits (m .high) k {p = q - word-bits} (omega arith)) ∙ rw f (bit-of-zero (q - word-bits))))
         (below-or-from q word-bits)
 
 -- ---- a law of some marked number, word by word

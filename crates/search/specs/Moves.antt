@@ -1,10 +1,10 @@
--- Where a position leads in one step: with a class found the next grant is placed, and with all placed the placement is the best one; with none found the
--- latest grant is taken back, or the search is closed. In each case the view moves as the machine does, and the position still stands.
+-- Where a position leads in one step: with a class found the next grant is placed, and with all placed the placement is the best one; with none found
+-- the latest grant is taken back, or the search is closed. In each case the view moves as the machine does, and the position still stands.
 use Prim.Native.Nat.{ℕ, zero, suc, _+_, _-_, _≤_, _<_, max}
 use mathlib.Core.Path.{_≡_, refl, sym, ap, _∙_}
-use mathlib.Core.Bool.{Bool, true, cond}
-use mathlib.Core.List.{List, [], _∷_}
-use mathlib.Core.Option.{Option, none, some, Option·getD}
+use mathlib.Core.Bool.{Bool, true}
+use mathlib.Core.List.{List, _∷_}
+use mathlib.Core.Option.{Option·getD}
 use native.Mathlib.Numerals.{add-one}
 use native.Mathlib.Omega.{arith}
 use borrow.Author.Tests.{eq-eqb, ne-eqb}
@@ -14,13 +14,13 @@ use Rattle.bits.specs.Below.{lowest-below}
 use Rattle.lists.specs.Placement.{used}
 use Rattle.search.specs.declared.machine.Cursor.{Cursor}
 use Rattle.search.specs.declared.machine.Position.{Position}
-use Rattle.search.specs.Machine.{Kernel, State, search-limit, choice, place, take-back, move, step}
+use Rattle.search.specs.Machine.{State, search-limit, choice, place, take-back, move, step}
 use Rattle.search.specs.Marks.{mark-limit}
 use Rattle.search.specs.View.{placed-of, kernel-given, view, Trail, Stands, class-end, joinable, Placed, taken-back}
-use Rattle.search.specs.PlacedLaws.{length-placed-of, placed-of-set, placed-of-next, grown-class-le}
-use Rattle.search.specs.TrailLaws.{trail-used-le, trail-placed, trail-taken-back, trail-used-pos}
-use Rattle.search.specs.ClassEnd.{Tried, below-class-end, class-end-le, choice-below-end}
-use Rattle.search.specs.BelowCut.{getD-found, getD-missing}
+use Rattle.search.specs.PlacedLaws.{length-placed-of, placed-of-next, grown-class-le}
+use Rattle.search.specs.TrailLaws.{trail-used-le, trail-placed, trail-taken-back}
+use Rattle.search.specs.ClassEnd.{Tried, below-class-end, choice-below-end}
+use Rattle.bits.specs.CutLaws.{getD-found, getD-missing}
 
 -- the view of a position moves as the machine does in one step, and the position stands
 abbrev pub Follows : List ℕ → ℕ → ℕ → ℕ → Position → Position → Type 0
@@ -33,6 +33,7 @@ pub record Looked (table : List ℕ) (size : ℕ) (position : Position) (end cla
   pub finds :
       class ≡ Option·getD (lowest-below end (joinable table (position .classes) (position .cursor .depth) (position .cursor .next))) end
 
+-- a state is its four parts
 same-state : {a b : List ℕ} {m n : ℕ} {c d : List ℕ} {f g : Bool} → a ≡ b → m ≡ n → c ≡ d → f ≡ g
     → _≡_ {A = State} (record { placed = a; next = m; best = c; finished = f }) (record { placed = b; next = n; best = d; finished = g })
 same-state p q r s i = record { placed = p i; next = q i; best = r i; finished = s i }
@@ -68,6 +69,7 @@ module _ {size : ℕ} {p : Position} (s : Stands size p) where
 -- ---- what the machine chooses
 
 module _ (table : List ℕ) (size singles witness : ℕ) (p : Position) (s : Stands size p) {end class : ℕ} (w : Looked table size p end class) where
+  -- the machine's choice is what was looked for
   choice-looked : choice (kernel-given table size singles witness) (view p size)
       ≡ lowest-below end (joinable table (p .classes) (p .cursor .depth) (p .cursor .next))
   choice-looked =

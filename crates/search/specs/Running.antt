@@ -1,13 +1,13 @@
 -- Where a run stands after some of its steps: the whole run is those steps and the run of the budget left. It begins so with no step made, one step
 -- more keeps it, and with no budget left, or once finished, nothing is left to run.
 use Prim.Native.Nat.{ℕ, suc, _+_, _-_, _≤_, _<_}
-use mathlib.Core.Path.{_≡_, refl, sym, ap, _∙_}
+use mathlib.Core.Path.{_≡_, sym, _∙_}
 use mathlib.Core.Bool.{false, So}
 use native.Mathlib.Nat.{zero-add, add-zero, sub-zero, suc-add, add-suc}
 use native.Mathlib.Numerals.{add-one}
 use native.Mathlib.Omega.{arith}
 use Rattle.search.specs.declared.machine.Position.{Position}
-use Rattle.search.specs.Machine.{Kernel, State, step, Ran, run}
+use Rattle.search.specs.Machine.{Kernel, State, step, run}
 use Rattle.search.specs.Runs.{run-none, run-step, run-finished, followed-by}
 use Rattle.search.specs.View.{view, Stands}
 

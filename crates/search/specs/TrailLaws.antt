@@ -1,10 +1,10 @@
 -- The grants placed, once one more is placed or the latest is taken back: a grant that opens a class is one class more and is marked, so that
 -- taking it back is one class fewer; any other leaves the classes in use.
 use Prim.Native.Nat.{ℕ, suc, _-_, _≤_, _<_, max}
-use mathlib.Core.Path.{_≡_, refl, sym, ap, _∙_}
+use mathlib.Core.Path.{_≡_, refl, _∙_}
 use mathlib.Core.Logic.{⊎-elim}
-use mathlib.Core.Bool.{true, false, cond}
-use mathlib.Core.List.{List, _∷_}
+use mathlib.Core.Bool.{cond}
+use mathlib.Core.List.{List}
 use native.Mathlib.Nat.{le-refl, le-step}
 use native.Mathlib.Omega.{arith}
 use borrow.Author.Tests.{eqb-true, eqb-false, eq-eqb, ne-eqb}
@@ -15,12 +15,11 @@ use Rattle.bits.specs.Truth.{passes-or-fails}
 use Rattle.bits.specs.Below.{one-if}
 use Rattle.bits.specs.BelowLaws.{last-or-below}
 use Rattle.lists.specs.Placement.{used}
-use Rattle.lists.specs.Classing.{Grown}
 use Rattle.lists.specs.GrownLaws.{grown-used-le}
 use Rattle.search.specs.declared.marks.Marks.{Marks}
 use Rattle.search.specs.Marks.{marked}
 use Rattle.search.specs.View.{placed-of, Trail}
-use Rattle.search.specs.PlacedLaws.{length-placed-of, placed-of-set, placed-of-next, grown-class-le}
+use Rattle.search.specs.PlacedLaws.{length-placed-of, placed-of-set}
 
 -- no grant is placed
 pub trail-none : (size : ℕ) (opened : Marks) (classes : List ℕ) → Trail size 0 0 opened classes

@@ -1,4 +1,4 @@
-// The class in which the next grant is placed.
+// The class in which the next grant is placed: the lowest that is neither tried already nor blocked by an earlier grant that does not fit.
 use crate::KERNEL_LIMIT;
 use crate::KERNEL_WORDS;
 use crate::Marks;
@@ -15,7 +15,7 @@ ghost use Rattle.search.specs.Gathered.{class-among};
 ghost use Rattle.search.specs.Marks.{mark-limit, marked};
 ghost use Rattle.search.specs.View.{class-end, joinable};
 
-// One past the last class that grant d may be placed in, 0 where there is none.
+// One past the last class that the next grant may be placed in, 0 where there is none.
 pub fn class_end(depth: usize, size: usize, used: usize, count: usize) -> usize
     ensures { λ r. ⌜ r ≡ class-end depth size used count ⌝ }
 {
@@ -28,7 +28,7 @@ pub fn class_end(depth: usize, size: usize, used: usize, count: usize) -> usize
     if used + 1 < count { used + 1 } else { used }
 }
 
-// The marks, and the classes of the grants at a word's positions, the first of which is grant `from`.
+// The marks, and the classes of the grants at a word's positions, of which position 0 is grant `from`.
 fn with_classes(marks: Marks, word: u64, from: usize, classes: &[u8; KERNEL_LIMIT]) -> Marks
     requires { ⌜ from + word-bits ≤ mark-limit ⌝ }
     requires { ⌜ ((i : ℕ) → i < word-bits → So (bit word i) → getD (now classes) (from + i) 0 < mark-limit) ⌝ }
@@ -44,7 +44,7 @@ fn with_classes(marks: Marks, word: u64, from: usize, classes: &[u8; KERNEL_LIMI
     all
 }
 
-// The lowest class from `next` below `end` all of whose members fit the grant d, or `end`.
+// The lowest class from `next` below `end` all of whose members fit grant d, or `end`.
 pub fn class_for<'a>(
     classes: &'a [u8; KERNEL_LIMIT],
     fit: &'a [u64; TABLE_WORDS],

@@ -4,7 +4,7 @@ use crate::Marks;
 use crate::TABLE_WORDS;
 use crate::choice;
 ghost use mathlib.Core.Path.{_≡_};
-ghost use Prim.Native.Nat.{ℕ, _+_, _<_, _≤_};
+ghost use Prim.Native.Nat.{_+_, _<_, _≤_};
 ghost use lib.Dec.{eqb};
 ghost use Rattle.search.specs.Machine.{search-limit, step, run, search};
 ghost use Rattle.search.specs.Marks.{mark-limit};
@@ -20,7 +20,8 @@ pub struct Cursor {
     pub opened: Marks,
 }
 
-// The state of the machine: a cursor, the classes of the grants that it has placed, and the best placement.
+// The state of the machine: a cursor, the classes of the grants placed, and the best placement. Which positions stand for a state is said by `Stands`;
+// whoever makes one otherwise than by `start` and the steps from there has to show it.
 pub struct Position {
     pub cursor: Cursor,
     pub classes: [u8; KERNEL_LIMIT],
@@ -33,7 +34,7 @@ pub struct Ran {
     pub steps: u32,
 }
 
-// Whether a number of classes plus singles equals w.
+// Whether a number of classes plus singles equals w, with no sum that could wrap.
 fn reaches(count: usize, singles: usize, witness: usize) -> bool
     ensures { λ r. ⌜ r ≡ eqb (count + singles) witness ⌝ }
 {
@@ -65,7 +66,7 @@ impl Cursor {
         after
     }
 
-    // The latest grant taken back, which had a class.
+    // The latest grant taken back, which was in a class.
     fn taken_back(self, class: usize) -> Cursor
         requires { ⌜ 0 < self .depth ⌝ }
         requires { ⌜ self .depth ≤ mark-limit ⌝ }

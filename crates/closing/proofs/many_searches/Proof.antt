@@ -1,6 +1,6 @@
--- `many_searches`: each search keeps the position standing and makes at most its budget of steps, so that the steps made have room. The measure is the
--- searches left.
-use Prim.Native.Nat.{_+_, _*_, _-_, _≤_}
+-- `many_searches`: each search keeps the position standing and makes at most its budget of steps, so that their sum fits. The measure is the
+-- number of searches left.
+use Prim.Native.Nat.{_*_, _-_, _≤_}
 use native.Mathlib.Omega.{arith}
 use borrow.Author.Needs.{needs}
 use Rattle.search.specs.Machine.{search-limit}

@@ -1,5 +1,4 @@
 -- `start`: the first placement is counted, so that the position before the first step stands.
-use mathlib.Core.Path.{_≡_}
 use native.Mathlib.Omega.{arith}
 use borrow.Author.Needs.{needs}
 use Prim.Native.Nat.{_≤_}

@@ -1,6 +1,6 @@
--- `class_for`: with no class from the next try on there is none to find. Else the classes below the next try are marked, and those of the earlier grants that do
--- not fit, and the lowest class that is not marked is the one to find, unless it is past the end.
-use Prim.Native.Nat.{ℕ, _+_, _≤_, _<_}
+-- `class_for`: with no class from the next try on there is none to find. Else the classes below the next try are marked, and those of the earlier
+-- grants that do not fit, and the lowest class that is not marked is the one to find, unless it is past the end.
+use Prim.Native.Nat.{ℕ, _+_, _<_}
 use mathlib.Core.Path.{_≡_}
 use mathlib.Core.Bool.{not, _&&_}
 use native.Mathlib.Nat.{zero-add}
@@ -10,7 +10,7 @@ use lib.Dec.{ltb}
 use Rattle.bits.specs.Bit.{word-bits}
 use Rattle.search.specs.Marks.{mark-limit, marked}
 use Rattle.search.specs.View.{joinable}
-use Rattle.search.specs.BelowCut.{lowest-or-within, lowest-or-end}
+use Rattle.bits.specs.CutLaws.{lowest-or-within, lowest-or-end}
 use Rattle.search.specs.ChoiceLaws.{row, apart-low-below, apart-high-below, free-joinable, none-joinable}
 use Rattle.search.proofs.choice.class_for.Statement.{statement}
 use Rattle.search.proofs.choice.class_for.Tie as tie
@@ -79,7 +79,8 @@ with-classes-requires-2 c κs =
       omega arith,
       λ i l e.
           c .before .before .before .before .before .before .before .pre .1 .1 (word-bits + i)
-          (apart-high-below (a .fit .now) (a .classes .now) (a .d) (c .before .before .outside .result) (omega arith) (apart-marked (c .before .before)) i e),
+          (apart-high-below (a .fit .now) (a .classes .now) (a .d) (c .before .before .outside .result) (omega arith)
+          (apart-marked (c .before .before)) i e),
     )
 
 lowest-free-requires : tie.Need-lowest-free-requires
@@ -102,13 +103,15 @@ returns-2 : tie.Need-returns-2
 returns-2 c =
     let a = c .before .before .before .before .before .before .before .before .before .before .args in
     lowest-or-within mark-limit (a .end) (λ q. not (marked (c .before .before .with-classes2 .result) q))
-    (joinable (a .fit .now) (a .classes .now) (a .d) (a .next)) (omega arith) (λ q l. free (c .before) q) (c .before .lowest-free .ensures) (c .if2 .taken)
+    (joinable (a .fit .now) (a .classes .now) (a .d) (a .next)) (omega arith) (λ q l. free (c .before) q)
+    (c .before .lowest-free .ensures) (c .if2 .taken)
 
 returns-3 : tie.Need-returns-3
 returns-3 c =
     let a = c .before .before .before .before .before .before .before .before .before .before .args in
     lowest-or-end mark-limit (a .end) (λ q. not (marked (c .before .before .with-classes2 .result) q))
-    (joinable (a .fit .now) (a .classes .now) (a .d) (a .next)) (omega arith) (λ q l. free (c .before) q) (c .before .lowest-free .ensures) (c .if2 .left)
+    (joinable (a .fit .now) (a .classes .now) (a .d) (a .next)) (omega arith) (λ q l. free (c .before) q)
+    (c .before .lowest-free .ensures) (c .if2 .left)
 
 pub class-for-spec : {M : Type 1} → statement M
 class-for-spec =

@@ -29,10 +29,12 @@ element-copy-out-class : tie.Need-element-copy-out-class Inv-loop μ-loop
 element-copy-out-class c = omega arith
 
 class-within : (c : tie.After-class Inv-loop μ-loop)
-    → getD (c .before .before .before .before .args .classes .now) (c .before .before .before .before .args .from + c .before .lowest .result) 0 < mark-limit
+    → (let a = c .before .before .before .before .args in
+    getD (a .classes .now) (a .from + c .before .lowest .result) 0 < mark-limit)
 class-within c =
     let low = c .before .lowest in
-    c .before .before .before .before .pre .1 (low .result) (low .ensures .within) (c .before .before .before .loop .inv .part (low .result) (low .ensures .holds))
+    let inside = c .before .before .before .loop .inv .part (low .result) (low .ensures .holds) in
+    c .before .before .before .before .pre .1 (low .result) (low .ensures .within) inside
 
 cast-class : tie.Need-cast-class Inv-loop μ-loop
 cast-class c = omega (arith, class-within c)

@@ -1,4 +1,5 @@
--- `Cursor::placed`: a class that is the next one is one more in use, and the grant is marked; any other is in use already, and the grant is not marked.
+-- `Cursor::placed`: the next class is one more in use, and the grant that opens it is marked; any other class is in use already, and the grant is not
+-- marked.
 use mathlib.Core.Path.{_≡_, refl, _∙_}
 use mathlib.Core.Bool.{Bool, true, false, not, _&&_, _||_, cond}
 use native.Mathlib.Numerals.{add-one}

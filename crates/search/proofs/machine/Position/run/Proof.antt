@@ -1,7 +1,6 @@
--- `Position::run`: at each turn the run is the steps made and the run of the budget left (`Running`), which one step more keeps. The measure is the budget
--- left. The loop is left when none is, or when the position is finished.
+-- `Position::run`: at each turn the run is the steps made and the run of the budget left (`Running`), which one step more keeps. The measure is the
+-- budget left. The loop ends when there is none, or when the position is finished.
 use Prim.Native.Nat.{_-_}
-use mathlib.Core.Bool.{So}
 use native.Mathlib.Omega.{arith}
 use borrow.Author.Tests.{not-true, not-false}
 use Rattle.search.specs.View.{kernel-given, view}

@@ -1,5 +1,5 @@
 -- `Position::step`: the class looked for is the machine's choice, and each return is one of the four ways that a step goes (`Moves`).
-use Prim.Native.Nat.{suc, _+_, _-_, _≤_, _<_}
+use Prim.Native.Nat.{suc, _-_, _<_}
 use mathlib.Core.Path.{_≡_, sym, _∙_}
 use native.Mathlib.Numerals.{add-one}
 use native.Mathlib.Omega.{arith}
@@ -20,6 +20,7 @@ class-for-requires c κs =
     let end = c .before .class-end in
     (end-within-limit s (end .result) (end .ensures), (room-below-limit s (end .result) (end .ensures), class-below-limit s))
 
+-- what was looked for, and found
 looked : (c : tie.After-class-for)
     → (let a = c .before .before .before .before .before .before .args in
     Looked (a .fit .now) (a .size) (a .self) (c .before .before .class-end .result) (c .class-for .result))
@@ -50,6 +51,7 @@ add-if2 c = search needs
 reaches-requires : tie.Need-reaches-requires
 reaches-requires c κs = search needs
 
+-- the array has room for every grant's class
 whole-array : (c : tie.Start) → length (c .args .self .classes) ≡ mark-limit
 whole-array c = search needs
 
@@ -87,8 +89,8 @@ returns-3 c =
     let start = c .before .before .before .before .before .before .before .before .before in
     let a = start .args in
     rw (c .of3 .ensures)
-    (closes (a .fit .now) (a .size) (a .singles) (a .witness) (a .self) (start .pre) (looked (c .before .before .before)) (c .before .before .if1 .left)
-    (c .before .if3 .taken))
+    (closes (a .fit .now) (a .size) (a .singles) (a .witness) (a .self) (start .pre) (looked (c .before .before .before))
+    (c .before .before .if1 .left) (c .before .if3 .taken))
 
 sub-last : tie.Need-sub-last
 sub-last c = search needs
@@ -116,8 +118,8 @@ returns-4 c =
     let a = start .args in
     let else = c .before .before in
     rw (c .of4 .ensures)
-    (takes-back (a .fit .now) (a .size) (a .singles) (a .witness) (a .self) (start .pre) (looked (else .before .before)) (else .before .if1 .left) (omega arith)
-    (c .before .taken-back .result) (c .before .taken-back .ensures))
+    (takes-back (a .fit .now) (a .size) (a .singles) (a .witness) (a .self) (start .pre) (looked (else .before .before))
+    (else .before .if1 .left) (omega arith) (c .before .taken-back .result) (c .before .taken-back .ensures))
 
 pub step-spec : {M : Type 1} → statement M
 step-spec =

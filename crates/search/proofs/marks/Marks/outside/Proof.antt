@@ -1,6 +1,5 @@
 -- `Marks::outside`: word by word, an `and` with the other's complement.
 use native.Mathlib.Omega.{arith}
-use Prim.Native.Nat.{_<_, _^_}
 use Rattle.bits.specs.Bit.{word-bits}
 use Rattle.bits.specs.BitLaws.{bit-and-not}
 use Rattle.search.specs.MarkLaws.{outside-words}

@@ -1,15 +1,18 @@
--- What is looked for below a bound, when everything from a lesser bound on fails: the lesser bound gives the same.
+-- What is looked for below a bound, when everything from a lesser bound on fails, is what is looked for below that one; and what some number below a
+-- bound passes, one number apart from the others.
 use Prim.Native.Nat.{ℕ, _≤_, _<_}
-use mathlib.Core.Path.{_≡_, refl, sym, _∙_}
+use mathlib.Core.Path.{_≡_, sym, _∙_}
 use mathlib.Core.Logic.{_⊎_, inl, inr, ⊎-elim}
-use mathlib.Core.Bool.{Bool, false, So}
+use mathlib.Core.Bool.{Bool, false, So, not, _&&_, _||_}
 use mathlib.Core.Option.{Option, none, some, Option·getD}
-use native.Mathlib.Nat.{lt-of-lt-of-le, lt-trans, le-refl}
+use native.Mathlib.Nat.{lt-of-lt-of-le, lt-trans}
 use native.Mathlib.Omega.{arith}
-use Rattle.bits.specs.Truth.{not-both, same-truth}
+use borrow.Author.Tests.{eqb-true}
+use lib.Dec.{eqb}
+use Rattle.bits.specs.Truth.{passes-or-fails, not-both, same-truth, and-intro, and-left, and-right, or-left, or-right, or-cases, not-passes}
 use Rattle.bits.specs.Below.{some-below, lowest-below, Lowest}
 use Rattle.bits.specs.BelowLaws.{below-or-from, some-below-intro, some-below-elim}
 use Rattle.bits.specs.LowestLaws.{lowest-below-intro, lowest-below-none-intro, lowest-below-cases}
 
 module _ (m n : ℕ) (f g : ℕ → Bool) (less : n ≤ m) (same : (i : ℕ) → i < n → f i ≡ g i) where
   lowest-widened : {i : ℕ} → Lowest n g i → Lowest m f i
@@ -37,7 +40,9 @@ module _ (m n : ℕ) (f g : ℕ → Bool) (less : n ≤ m) (same : (i : ℕ) →
   pub lowest-below-cut : ((i : ℕ) → n ≤ i → i < m → f i ≡ false) → lowest-below m f ≡ lowest-below n g
   lowest-below-cut later =
       ⊎-elim (λ w. lowest-below-intro m f (lowest-widened (w .1)) ∙ sym (lowest-below-intro n g (w .1)))
-      (λ h. lowest-below-none-intro m f (λ i l. ⊎-elim (λ k. same i k ∙ h i k) (λ k. later i k l) (below-or-from i n)) ∙ sym (lowest-below-none-intro n g h))
+      (λ h.
+      lowest-below-none-intro m f (λ i l. ⊎-elim (λ k. same i k ∙ h i k) (λ k. later i k l) (below-or-from i n))
+      ∙ sym (lowest-below-none-intro n g h))
       (lowest-below-cases n g)
 
   -- the number found below the greater bound, or that bound, is the one found below the lesser one if it is below it
@@ -79,3 +84,32 @@ getD-missing n f {r} e l =
     let within : w .0 < n = w .1 .within in
     absurd (omega arith))
     (λ h. lowest-below-none-intro n f h) (lowest-below-cases n f)
+
+-- one number that passes g, and the others
+pub some-below-apart : (n : ℕ) (g h : ℕ → Bool) {i : ℕ} → i < n → So (g i)
+    → some-below n (λ q. g q && h q) ≡ (h i || some-below n (λ q. g q && not (eqb q i) && h q))
+some-below-apart n g h {i} l p =
+    same-truth (some-below n (λ q. g q && h q)) (h i || some-below n (λ q. g q && not (eqb q i) && h q)) forth back
+  where
+    forth : So (some-below n (λ q. g q && h q)) → So (h i || some-below n (λ q. g q && not (eqb q i) && h q))
+    forth e =
+        let r = some-below-elim n (λ q. g q && h q) e in
+        let q = r .place in
+        let gq = and-left (g q) (h q) (r .holds) in
+        let hq = and-right (g q) (h q) (r .holds) in
+        ⊎-elim (λ s. or-left (h i) (some-below n (λ q. g q && not (eqb q i) && h q)) (rw (eqb-true q i s) at hq))
+        (λ s. or-right (h i) (some-below n (λ q. g q && not (eqb q i) && h q))
+        (some-below-intro n (λ q. g q && not (eqb q i) && h q) (r .within)
+        (and-intro (g q && not (eqb q i)) (h q) (and-intro (g q) (not (eqb q i)) gq (not-passes (eqb q i) s)) hq)))
+        (passes-or-fails (eqb q i))
+
+    back : So (h i || some-below n (λ q. g q && not (eqb q i) && h q)) → So (some-below n (λ q. g q && h q))
+    back e =
+        ⊎-elim (λ s. some-below-intro n (λ q. g q && h q) l (and-intro (g i) (h i) p s))
+        (λ s.
+        let r = some-below-elim n (λ q. g q && not (eqb q i) && h q) s in
+        let q = r .place in
+        some-below-intro n (λ q. g q && h q) (r .within)
+        (and-intro (g q) (h q) (and-left (g q) (not (eqb q i)) (and-left (g q && not (eqb q i)) (h q) (r .holds)))
+        (and-right (g q && not (eqb q i)) (h q) (r .holds))))
+        (or-cases (h i) (some-below n (λ q. g q && not (eqb q i) && h q)) e)
