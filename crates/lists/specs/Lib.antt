@@ -17,3 +17,6 @@ pub mod KeyLaws
 pub mod Beginning
 pub mod Lexicographic
 pub mod Ascii
+pub mod AppendLaws
+pub mod PassingBelow
+pub mod OrderedSame
