@@ -7,6 +7,7 @@ pub mod CutLaws
 pub mod JoinLaws
 pub mod ListOfLaws
 pub mod SameLaws
+pub mod SameDropLaws
 pub mod TailLaws
 pub mod Placement
 pub mod Classing
