@@ -1,9 +1,9 @@
 -- The list of a set's grants, from the numbers of its cells: the cells in rising number give the grants in order. Both lists are in order, and a grant
 -- stands in either exactly where its cell is set. So what a test finds in the list is found, and counted, by the cells' numbers.
-use Prim.Native.Nat.{ℕ, _+_, _*_, _/_, _%_, _≤_, _<_}
+use Prim.Native.Nat.{ℕ, _+_, _*_, _/_, _%_, _<_}
 use native.Mathlib.Nat.{mod-lt, div-add-mod', le-div-iff-mul-le, div-mul-le-self, eq-or-lt-of-le}
 use native.Mathlib.Omega.{arith}
-use mathlib.Core.Path.{_≡_, refl, sym, ap, _∙_}
+use mathlib.Core.Path.{_≡_, sym, ap, _∙_}
 use mathlib.Core.Logic.{_⊎_, inl, inr, ⊎-elim}
 use mathlib.Core.Bool.{Bool, So, _&&_}
 use mathlib.Core.List.{List, map, List·Memᴰ, Memᴰ·map, Memᴰ·of-map, Memᴰ·cast}
@@ -11,7 +11,6 @@ use lib.Arith.{digits-div, digits-mod, digits-lt}
 use lib.ListN.{length, length-map}
 use Rattle.bits.specs.Truth.{same-truth, and-right, and-intro}
 use Rattle.bits.specs.Below.{count-below}
-use Rattle.bits.specs.CountLaws.{count-below-ext}
 use Rattle.lists.specs.Lists.{filter}
 use Rattle.lists.specs.AppendLaws.{filter-map}
 use Rattle.lists.specs.OrderedSame.{same-elements, ordered-map}

@@ -1,19 +1,17 @@
 -- Where a cell stands among the words: its user, its word within the row and its position are the quotients and remainders of its number, first by the
 -- bits of a word, then by the words of a row. So the bit of a cell is the cell of its user and permission.
-use Prim.Native.Nat.{ℕ, _+_, _*_, _/_, _%_, _<_, _≤_}
-use native.Mathlib.Nat.{mul-comm, mul-assoc, mod-lt, div-add-mod', div-div-eq-div-mul, div-lt-iff-lt-mul}
-use native.Mathlib.Omega.{arith}
-use mathlib.Core.Path.{_≡_, refl, sym, ap, _∙_}
+use Prim.Native.Nat.{ℕ, _+_, _*_, _/_, _%_, _<_}
+use native.Mathlib.Nat.{mul-comm, mod-lt, div-add-mod', div-div-eq-div-mul, div-lt-iff-lt-mul}
+use mathlib.Core.Path.{_≡_, sym}
 use mathlib.Core.Bool.{_&&_}
 use mathlib.Core.List.{List}
 use lib.Dec.{lit<}
 use lib.Arith.{digits-div, digits-mod, mod-mul}
 use lib.ListN.{getD}
 use Rattle.bits.specs.Bit.{bit, word-bits}
-use Rattle.sheet.specs.Limits.{user-limit}
 use Rattle.sheet.specs.Rows.{row-words, row-bits, cell}
 use Rattle.grants.specs.CellSets.{in-cells}
-use Rattle.grants.specs.CellPlaces.{cell-words, cell-limit, grant-of, marked, fit-in}
+use Rattle.grants.specs.CellPlaces.{grant-of, marked, fit-in}
 
 pub row-words-pos : 0 < row-words
 unfolding row-words

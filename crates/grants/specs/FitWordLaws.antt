@@ -1,20 +1,20 @@
 -- Fit by the words. The rows say of any two cells what the sheet says of their grants. The word i of the cells near a grant is that of left and that of the
 -- fitting cells together, so the cells near it are counted word by word; and as many grants of the set fit it.
 use Prim.Native.Nat.{ℕ, _+_, _*_, _/_, _%_, _<_}
-use native.Mathlib.Nat.{mod-lt, mul-assoc, add-mul}
+use native.Mathlib.Nat.{mod-lt, mul-assoc}
 use native.Mathlib.Omega.{arith}
-use mathlib.Core.Path.{_≡_, refl, sym, ap, _∙_}
+use mathlib.Core.Path.{_≡_, sym, ap, _∙_}
 use mathlib.Core.Bool.{Bool, _&&_}
 use mathlib.Core.List.{List}
 use lib.Arith.{digits-div, digits-mod}
 use lib.Bits.{bitAnd}
 use lib.ListN.{length, getD}
 use Rattle.bits.specs.Below.{count-below}
-use Rattle.bits.specs.CountLaws.{count-below-ext, count-below-add, count-below-le}
+use Rattle.bits.specs.CountLaws.{count-below-ext, count-below-add}
 use Rattle.bits.specs.Bit.{bit, word-bits}
 use Rattle.bits.specs.BitLaws.{bit-and}
 use Rattle.lists.specs.Lists.{filter}
-use Rattle.sheet.specs.Sheet.{Sheet, holds}
+use Rattle.sheet.specs.Sheet.{Sheet}
 use Rattle.sheet.specs.Rows.{row-words, row-bits}
 use Rattle.grants.specs.Fit.{fits}
 use Rattle.grants.specs.CellSets.{cell-grants}

@@ -1,8 +1,8 @@
 // Which grants fit one, word by word.
 use crate::cell::CellNo;
+use crate::cell::ROW_BITS;
 use bits::WORD_BITS;
 use sheet::CELL_WORDS;
-use sheet::ROW_BITS;
 use sheet::ROW_WORDS;
 ghost use mathlib.Core.Path.{_≡_};
 ghost use Prim.Native.Nat.{_<_, _≤_};

@@ -3,17 +3,16 @@
 use Prim.Native.Nat.{ℕ, zero, suc, _≤_, _<_}
 use native.Mathlib.Nat.{le-refl, le-step, not-suc-le-zero, eq-or-lt-of-le}
 use native.Mathlib.Omega.{arith}
-use mathlib.Core.Path.{_≡_, refl, sym, ap, _∙_}
+use mathlib.Core.Path.{_≡_, refl, ap, _∙_}
 use mathlib.Core.Logic.{_⊎_, inl, inr, ⊎-elim}
 use mathlib.Core.Bool.{Bool, true, false, So, _&&_, false≢true, and-true, and-comm}
 use mathlib.Core.List.{List, [], _∷_, _++_, append-nil, List·Memᴰ, List·Memᴰ·head, List·Memᴰ·not-nil, List·Memᴰ·append-cases, List·Memᴰ·cases-cons, Memᴰ·append-left, Memᴰ·append-right}
-use mathlib.Core.Option.{none, some}
 use lib.ListN.{length, length-append}
-use Rattle.bits.specs.Truth.{implies, passes-or-fails, fails-unless}
-use Rattle.bits.specs.Below.{one-if, count-below, every-below, Lowest}
+use Rattle.bits.specs.Truth.{implies}
+use Rattle.bits.specs.Below.{one-if, count-below, every-below}
 use Rattle.bits.specs.BelowLaws.{last-or-below}
-use Rattle.lists.specs.Lists.{all, keep, filter, or-later, first}
-use Rattle.lists.specs.AppendLaws.{filter-append, all-append, or-else, first-append}
+use Rattle.lists.specs.Lists.{all, keep, filter}
+use Rattle.lists.specs.AppendLaws.{filter-append, all-append}
 use Rattle.lists.specs.Ordered.{Ordered, ordered-append}
 
 -- the numbers below n that pass f
