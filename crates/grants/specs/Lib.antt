@@ -14,3 +14,6 @@ pub mod CellPlaces
 pub mod CellPlaceLaws
 pub mod CellListLaws
 pub mod FitWordLaws
+pub mod Log
+pub mod NearCells
+pub mod NearLaws
