@@ -17,3 +17,6 @@ pub mod FitWordLaws
 pub mod Log
 pub mod NearCells
 pub mod NearLaws
+pub mod NearWordLaws
+pub mod ReducVerdict
+pub mod NearTieLaws

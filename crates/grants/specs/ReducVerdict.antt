@@ -1,0 +1,33 @@
+-- What the code's answers say: the lowest cell of a range to which a grant is tied, and the verdict that the definition names. Assumes nothing.
+use Prim.Native.Nat.{ℕ, _≤_, _<_}
+use mathlib.Core.Path.{_≡_}
+use mathlib.Core.Bool.{Bool, So, false}
+use Rattle.grants.specs.Reduction.{stays, is-single, is-tied}
+use Rattle.grants.specs.Reduction as Reduction
+use Rattle.grants.specs.CellPlaces.{grant-of}
+use Rattle.grants.specs.declared.judgement.Found.{Found}
+use Rattle.grants.specs.declared.judgement.Found.the-variants.{At, Nothing}
+use Rattle.grants.specs.declared.judgement.Verdict.{Verdict}
+use Rattle.grants.specs.declared.judgement.Verdict.the-variants.{Stays, Single, Tied}
+
+-- n is the lowest cell from here to there that passes
+pub record LowestIn (test : ℕ → Bool) (from to n : ℕ) : Type 0 where
+  pub begun : from ≤ n
+  pub within : n < to
+  pub holds : So (test n)
+  pub first : (m : ℕ) → from ≤ m → m < n → test m ≡ false
+
+-- none does
+pub record NoneIn (test : ℕ → Bool) (from to : ℕ) : Type 0 where
+  pub fails : (m : ℕ) → from ≤ m → m < to → test m ≡ false
+
+-- the lowest cell that passes, if there is one
+abbrev pub FoundIn : (ℕ → Bool) → ℕ → ℕ → Found → Type 0
+FoundIn test from to (At n) = LowestIn test from to (n .0)
+FoundIn test from to Nothing = NoneIn test from to
+
+-- the definition's verdict
+abbrev pub verdict-of : Verdict → Reduction.Verdict
+verdict-of Stays = stays
+verdict-of Single = is-single
+verdict-of (Tied n) = is-tied (grant-of (n .0))
