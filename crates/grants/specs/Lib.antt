@@ -20,3 +20,4 @@ pub mod NearLaws
 pub mod NearWordLaws
 pub mod ReducVerdict
 pub mod NearTieLaws
+pub mod ReducVerdictLaws

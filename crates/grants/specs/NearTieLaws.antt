@@ -33,6 +33,11 @@ pub record Untried (left : List ℕ) (test : ℕ → Bool) (i w : ℕ) : Type 0 
 pub each-cell : (P : ℕ → Type 0) (i m : ℕ) → ((q : ℕ) → q < word-bits → P (i * word-bits + q)) → i * word-bits ≤ m → m < (i + 1) * word-bits → P m
 each-cell P i m h from to = rw (add-sub-of-le from) at (h (m - i * word-bits) (omega arith))
 
+-- none of a word's positions passes
+pub none-in-word : (i : ℕ) (passes : ℕ → Bool) → ((q : ℕ) → q < word-bits → passes (i * word-bits + q) ≡ false)
+    → NoneIn passes (i * word-bits) ((i + 1) * word-bits)
+none-in-word i passes h = record { fails = λ m from to. each-cell (λ n. passes n ≡ false) i m h from to }
+
 module _ (left : List ℕ) (test : ℕ → Bool) (i : ℕ) where
   pub all-untried : Untried left test i (getD left i 0)
   all-untried =
@@ -65,5 +70,24 @@ module _ (left : List ℕ) (test : ℕ → Bool) (i : ℕ) where
       without r other e = sym (and-true (bit w r)) ∙ (rw other at (sym (dropped .others low r) ∙ e))
 
   pub none-untried : Untried left test i 0 → NoneIn (passing-cell left test) (i * word-bits) ((i + 1) * word-bits)
-  none-untried u =
-      record { fails = λ m from to. each-cell (λ n. passing-cell left test n ≡ false) i m (λ q l. u .tried q l (bit-of-zero q)) from to }
+  none-untried u = none-in-word i (passing-cell left test) (λ q l. u .tried q l (bit-of-zero q))
+
+-- ---- from word to word
+
+pub none-then-none : {test : ℕ → Bool} {from middle to : ℕ} → NoneIn test from middle → NoneIn test middle to → NoneIn test from to
+none-then-none {middle} earlier later =
+    record { fails = λ m begun within. ⊎-elim (λ l. earlier .fails m begun l) (λ l. later .fails m l within) (below-or-from m middle) }
+
+pub none-then-lowest : {test : ℕ → Bool} {from middle to n : ℕ} → from ≤ middle → NoneIn test from middle → LowestIn test middle to n
+    → LowestIn test from to n
+none-then-lowest {middle} order earlier low =
+    record {
+      begun = omega (arith, low .begun);
+      within = low .within;
+      holds = low .holds;
+      first = λ m begun before. ⊎-elim (λ l. earlier .fails m begun l) (λ l. low .first m l before) (below-or-from m middle);
+    }
+
+-- the lowest of a range from the first cell on, in all cells
+pub lowest-of-all : {test : ℕ → Bool} {to all n : ℕ} → to ≤ all → LowestIn test 0 to n → LowestIn test 0 all n
+lowest-of-all more low = record { begun = low .begun; within = omega (arith, low .within); holds = low .holds; first = low .first }

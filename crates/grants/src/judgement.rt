@@ -50,7 +50,7 @@ fn ties<'a>(
     dominates(rows, left, users, it, CellNo(other))
 }
 
-// The lowest cell of word i to which the grant at a cell is tied.
+// The lowest cell of word i to which the grant at a cell is tied. There is none unless all grants of the word fit it.
 fn tie_in<'a>(
     rows: &'a [u64; CELL_WORDS],
     left: &'a [u64; CELL_WORDS],
@@ -59,9 +59,13 @@ fn tie_in<'a>(
     i: usize,
 ) -> Found
     requires { ⌜ (users ≤ user-limit) × (it .0 < cell-limit) × (i < users * row-words) ⌝ }
-    ensures { λ r. ⌜ FoundIn (tie-at (now (rows .entry)) (now (left .entry)) users (it .0)) (i * word-bits) ((i + 1) * word-bits) r ⌝ }
+    ensures { λ r. ⌜ (Part (now (left .entry)) (now (rows .entry))
+        → FoundIn (tie-at (now (rows .entry)) (now (left .entry)) users (it .0)) (i * word-bits) ((i + 1) * word-bits) r) ⌝ }
 {
     let mut w = left[i];
+    if !bits::within(w, fitting(rows, it, i)) {
+        return Found::Nothing;
+    }
     while w != 0 {
         let other = i * WORD_BITS + bits::lowest(w);
         if ties(rows, left, users, it, other) {
@@ -72,7 +76,7 @@ fn tie_in<'a>(
     Found::Nothing
 }
 
-// The lowest cell of left to which the grant at a cell is tied. Only a word whose grants all fit it can have one.
+// The lowest cell of left to which the grant at a cell is tied.
 fn tie<'a>(
     rows: &'a [u64; CELL_WORDS],
     left: &'a [u64; CELL_WORDS],
@@ -85,11 +89,9 @@ fn tie<'a>(
 {
     let mut i = 0;
     while i < users * ROW_WORDS {
-        if bits::within(left[i], fitting(rows, it, i)) {
-            let found = tie_in(rows, left, users, it, i);
-            if let Found::At(other) = found {
-                return Found::At(other);
-            }
+        let found = tie_in(rows, left, users, it, i);
+        if let Found::At(other) = found {
+            return Found::At(other);
         }
         i += 1;
     }

@@ -76,8 +76,7 @@ loop-again : tie.Need-loop-again Inv-loop μ-loop
 unfolding row-words
 loop-again c =
     let a = c .before .before .before .before .before .before .before .args in
-    let at = c .before .before .before .before .before .before .loop in
-    (
+    let at = c .before .before .before .before .before .before .loop in (
       omega arith,
       every-next-word (covered-at (a .rows .now) (a .left .now) (a .it .0) (a .other .0)) (at .i) (at .inv .1) (sym (word-test (c .before)) ∙ not-false (c .before .within .result) (c .if1 .left)),
     )
