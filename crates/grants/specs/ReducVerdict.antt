@@ -2,9 +2,14 @@
 use Prim.Native.Nat.{ℕ, _≤_, _<_}
 use mathlib.Core.Path.{_≡_}
 use mathlib.Core.Bool.{Bool, So, false}
-use Rattle.grants.specs.Reduction.{stays, is-single, is-tied}
+use mathlib.Core.List.{List}
+use Rattle.sheet.specs.Limits.{user-limit}
+use Rattle.sheet.specs.Sheet.{Sheet}
+use Rattle.grants.specs.Reduction.{stays, is-single, is-tied, verdict}
 use Rattle.grants.specs.Reduction as Reduction
-use Rattle.grants.specs.CellPlaces.{grant-of}
+use Rattle.grants.specs.CellSets.{cell-grants}
+use Rattle.grants.specs.CellPlaces.{grant-of, marked, Shown, Part}
+use Rattle.grants.specs.NearCells.{cells-of}
 use Rattle.grants.specs.declared.judgement.Found.{Found}
 use Rattle.grants.specs.declared.judgement.Found.the-variants.{At, Nothing}
 use Rattle.grants.specs.declared.judgement.Verdict.{Verdict}
@@ -31,3 +36,21 @@ abbrev pub verdict-of : Verdict → Reduction.Verdict
 verdict-of Stays = stays
 verdict-of Single = is-single
 verdict-of (Tied n) = is-tied (grant-of (n .0))
+
+-- a grant that can be judged: its cell is one of left, all of whose cells are grants
+pub record Judgeable (rows left : List ℕ) (users it : ℕ) : Type 0 where
+  pub few-users : users ≤ user-limit
+  pub part : Part left rows
+  pub within : it < cells-of users
+  pub set : So (marked left it)
+
+-- the cell that a verdict names is one of these users'
+abbrev pub TiedBelow : ℕ → Verdict → Type 0
+TiedBelow users Stays = Unit {0}
+TiedBelow users Single = Unit {0}
+TiedBelow users (Tied n) = n .0 < cells-of users
+
+-- what is judged of it: the definition's verdict, in every sheet that the rows show
+pub record Judged (rows left : List ℕ) (users it : ℕ) (judged : Verdict) : Type 0 where
+  pub named : TiedBelow users judged
+  pub right : (sheet : Sheet) → Shown rows users sheet → verdict-of judged ≡ verdict sheet (cell-grants sheet left) (grant-of it)

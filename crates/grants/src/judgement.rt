@@ -18,7 +18,7 @@ ghost use Rattle.grants.specs.Reduction.{verdict};
 ghost use Rattle.grants.specs.CellSets.{cell-grants};
 ghost use Rattle.grants.specs.CellPlaces.{cell-limit, grant-of, marked, Shown, Part};
 ghost use Rattle.grants.specs.NearCells.{cells-of, dominates-in, tie-at};
-ghost use Rattle.grants.specs.ReducVerdict.{FoundIn, verdict-of};
+ghost use Rattle.grants.specs.ReducVerdict.{FoundIn, Judgeable, Judged};
 
 // The cell that a grant is tied to, if there is one.
 pub enum Found {
@@ -58,9 +58,8 @@ fn tie_in<'a>(
     it: CellNo,
     i: usize,
 ) -> Found
-    requires { ⌜ (users ≤ user-limit) × (it .0 < cell-limit) × (i < users * row-words) ⌝ }
-    ensures { λ r. ⌜ (Part (now (left .entry)) (now (rows .entry))
-        → FoundIn (tie-at (now (rows .entry)) (now (left .entry)) users (it .0)) (i * word-bits) ((i + 1) * word-bits) r) ⌝ }
+    requires { ⌜ (users ≤ user-limit) × (it .0 < cell-limit) × (i < users * row-words) × Part (now left) (now rows) ⌝ }
+    ensures { λ r. ⌜ FoundIn (tie-at (now (rows .entry)) (now (left .entry)) users (it .0)) (i * word-bits) ((i + 1) * word-bits) r ⌝ }
 {
     let mut w = left[i];
     if !bits::within(w, fitting(rows, it, i)) {
@@ -83,9 +82,8 @@ fn tie<'a>(
     users: usize,
     it: CellNo,
 ) -> Found
-    requires { ⌜ (users ≤ user-limit) × (it .0 < cell-limit) ⌝ }
-    ensures { λ r. ⌜ (Part (now (left .entry)) (now (rows .entry))
-        → FoundIn (tie-at (now (rows .entry)) (now (left .entry)) users (it .0)) 0 (cells-of users) r) ⌝ }
+    requires { ⌜ (users ≤ user-limit) × (it .0 < cell-limit) × Part (now left) (now rows) ⌝ }
+    ensures { λ r. ⌜ FoundIn (tie-at (now (rows .entry)) (now (left .entry)) users (it .0)) 0 (cells-of users) r ⌝ }
 {
     let mut i = 0;
     while i < users * ROW_WORDS {
@@ -105,9 +103,8 @@ pub fn judge<'a>(
     users: usize,
     it: CellNo,
 ) -> Verdict
-    requires { ⌜ (users ≤ user-limit) × (it .0 < cells-of users) ⌝ }
-    ensures { λ r. ⌜ ((sheet : Sheet) → Shown (now (rows .entry)) users sheet → Part (now (left .entry)) (now (rows .entry))
-        → So (marked (now (left .entry)) (it .0)) → verdict-of r ≡ verdict sheet (cell-grants sheet (now (left .entry))) (grant-of (it .0))) ⌝ }
+    requires { ⌜ Judgeable (now rows) (now left) users (it .0) ⌝ }
+    ensures { λ r. ⌜ Judged (now (rows .entry)) (now (left .entry)) users (it .0) r ⌝ }
 {
     if partners(rows, left, users, it) == 1 {
         return Verdict::Single;

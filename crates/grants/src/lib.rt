@@ -2,11 +2,11 @@
 mod cell;
 mod fit;
 mod judgement;
+mod reduction;
 
 pub use cell::CellNo;
 pub use fit::dominates;
 pub use fit::fitting;
 pub use fit::partners;
-pub use judgement::Found;
-pub use judgement::Verdict;
-pub use judgement::judge;
+pub use reduction::Reduced;
+pub use reduction::reduce;

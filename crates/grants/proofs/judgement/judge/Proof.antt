@@ -3,6 +3,7 @@ use borrow.Author.Needs.{needs}
 use native.Mathlib.Omega.{arith}
 use Rattle.sheet.specs.Limits.{user-limit}
 use Rattle.sheet.specs.Rows.{row-words}
+use Rattle.grants.specs.ReducVerdict.{LowestIn}
 use Rattle.grants.specs.ReducVerdictLaws.{single-found, tie-found, no-tie-found}
 use Rattle.grants.proofs.judgement.judge.Statement.{statement}
 use Rattle.grants.proofs.judgement.judge.Tie as tie
@@ -12,12 +13,17 @@ unfolding user-limit row-words
 partners-requires c κs = omega arith
 
 returns : tie.Need-returns
-returns c sheet shown part set =
-    single-found shown part (c .before .before .pre .1) set (c .before .partners .ensures sheet shown part) (c .if1 .taken)
+returns c =
+    let given = c .before .before .pre in
+    record {
+      named = tt;
+      right = λ sheet shown.
+          single-found shown (given .part) (given .within) (given .set) (c .before .partners .ensures sheet shown (given .part)) (c .if1 .taken);
+    }
 
 tie-requires : tie.Need-tie-requires
 unfolding user-limit row-words
-tie-requires c κs = omega arith
+tie-requires c κs = search needs
 
 enum-known-other : tie.Need-enum-known-other
 enum-known-other c = search needs
@@ -26,16 +32,26 @@ enum-told : tie.Need-enum-told
 enum-told c = search needs
 
 returns-2 : tie.Need-returns-2
-returns-2 c sheet shown part set =
+returns-2 c =
     let judged = c .before .before .before .before in
-    tie-found shown part (judged .before .before .pre .1) set (judged .before .partners .ensures sheet shown part) (judged .if1 .left)
-    (rw (c .before .other .given .1) at (c .before .before .before .tie .ensures part))
+    let given = judged .before .before .pre in
+    let low : LowestIn _ 0 _ _ = rw (c .before .other .given .1) at (c .before .before .before .tie .ensures) in
+    record {
+      named = low .within;
+      right = λ sheet shown.
+          tie-found shown (given .part) (given .within) (given .set) (judged .before .partners .ensures sheet shown (given .part)) (judged .if1 .left) low;
+    }
 
 returns-3 : tie.Need-returns-3
-returns-3 c sheet shown part set =
+returns-3 c =
     let judged = c .before .before .before in
-    no-tie-found shown part (judged .before .before .pre .1) set (judged .before .partners .ensures sheet shown part) (judged .if1 .left)
-    (rw (c .enum-told .given .1) at (c .before .before .tie .ensures part))
+    let given = judged .before .before .pre in
+    record {
+      named = tt;
+      right = λ sheet shown.
+          no-tie-found shown (given .part) (given .within) (given .set) (judged .before .partners .ensures sheet shown (given .part)) (judged .if1 .left)
+          (rw (c .enum-told .given .1) at (c .before .before .tie .ensures));
+    }
 
 pub judge-spec : {M : Type 1} → statement M
 judge-spec =

@@ -6,7 +6,6 @@ use mathlib.Core.Path.{_≡_}
 use Rattle.bits.specs.Bit.{word-bits}
 use Rattle.sheet.specs.Limits.{user-limit}
 use Rattle.sheet.specs.Rows.{row-words}
-use Rattle.grants.specs.CellPlaces.{Part}
 use Rattle.grants.specs.NearCells.{tie-at}
 use Rattle.grants.specs.ReducVerdict.{NoneIn}
 use Rattle.grants.specs.NearTieLaws.{none-then-none, none-then-lowest, lowest-of-all}
@@ -14,13 +13,13 @@ use Rattle.grants.proofs.judgement.tie.Statement.{statement}
 use Rattle.grants.proofs.judgement.tie.Tie as tie
 
 abbrev Inv-loop : tie.InvT-loop
-Inv-loop rows left users it i₀ i = (i ≤ users * row-words) × (Part left rows → NoneIn (tie-at rows left users (it .0)) 0 (i * word-bits))
+Inv-loop rows left users it i₀ i = (i ≤ users * row-words) × NoneIn (tie-at rows left users (it .0)) 0 (i * word-bits)
 
 abbrev μ-loop : tie.MeasureT-loop
 μ-loop rows left users it i₀ i = users * row-words - i
 
 loop-holds : tie.Need-loop-holds Inv-loop μ-loop
-loop-holds c = (omega arith, λ part. record { fails = λ m from to. absurd (omega arith) })
+loop-holds c = (omega arith, record { fails = λ m from to. absurd (omega arith) })
 
 mul-loop : tie.Need-mul-loop Inv-loop μ-loop
 unfolding user-limit
@@ -35,10 +34,10 @@ enum-known-found c = search needs
 
 returns : tie.Need-returns Inv-loop μ-loop
 unfolding row-words
-returns c part =
+returns c =
     lowest-of-all (omega arith)
-    (none-then-lowest (omega arith) (c .before .before .before .before .before .loop .inv .1 part)
-    (rw (c .before .found .given .1) at (c .before .before .before .tie-in .ensures part)))
+    (none-then-lowest (omega arith) (c .before .before .before .before .before .loop .inv .1)
+    (rw (c .before .found .given .1) at (c .before .before .before .tie-in .ensures)))
 
 enum-told : tie.Need-enum-told Inv-loop μ-loop
 enum-told c = search needs
@@ -53,14 +52,14 @@ loop-less c = omega arith
 
 loop-again : tie.Need-loop-again Inv-loop μ-loop
 unfolding row-words
-loop-again c = (omega arith, λ part. none-then-none (c .before .before .before .before .loop .inv .1 part) (rw (c .enum-told .given .1) at (c .before .before .tie-in .ensures part)))
+loop-again c = (omega arith, none-then-none (c .before .before .before .before .loop .inv .1) (rw (c .enum-told .given .1) at (c .before .before .tie-in .ensures)))
 
 returns-2 : tie.Need-returns-2 Inv-loop μ-loop
 unfolding row-words
-returns-2 c part =
+returns-2 c =
     let at = c .before .loop in
     let end : at .i ≡ c .before .before .args .users * row-words = omega arith in
-    rw end at (at .inv .1 part)
+    rw end at (at .inv .1)
 
 pub tie-spec : {M : Type 1} → statement M
 tie-spec =

@@ -41,10 +41,10 @@ within-requires : tie.Need-within-requires Inv-loop μ-loop
 within-requires c κs = search needs
 
 returns : tie.Need-returns Inv-loop μ-loop
-returns c part =
+returns c =
     let a = c .before .before .before .before .args in
     none-in-word (a .i) (tie-at (a .rows .now) (a .left .now) (a .users) (a .it .0))
-    (unless-whole-word-fits (a .rows .now) (a .left .now) (a .users) (a .it .0) (a .i) part (omega arith) (c .before .before .fitting .ensures)
+    (unless-whole-word-fits (a .rows .now) (a .left .now) (a .users) (a .it .0) (a .i) (c .before .before .before .before .pre .3) (omega arith) (c .before .before .fitting .ensures)
     (sym (c .before .within .ensures) ∙ not-true (c .before .within .result) (c .if1 .taken)))
 
 loop-holds : tie.Need-loop-holds Inv-loop μ-loop
@@ -67,7 +67,7 @@ unfolding user-limit row-words
 ties-requires c κs = omega (arith, c .lowest .ensures .within)
 
 returns-2 : tie.Need-returns-2 Inv-loop μ-loop
-returns-2 c part =
+returns-2 c =
     let a = c .before .before .before .before .before .before .before .before .before .args in
     lowest-untried (a .left .now) (tied (a .rows .now) (a .left .now) (a .users) (a .it .0)) (a .i) (c .before .before .before .before .loop .inv)
     (c .before .before .lowest .ensures) (sym (c .before .ties .ensures) ∙ c .if2 .taken)
@@ -85,7 +85,7 @@ loop-again c =
     (c .before .before .before .lowest .ensures) (sym (c .before .before .ties .ensures) ∙ c .before .if2 .left) (c .without-lowest .ensures)
 
 returns-3 : tie.Need-returns-3 Inv-loop μ-loop
-returns-3 c part =
+returns-3 c =
     let a = c .before .before .before .before .before .before .args in
     none-untried (a .left .now) (tied (a .rows .now) (a .left .now) (a .users) (a .it .0)) (a .i)
     (rw (c .loop-test .left) at (c .before .loop .inv))
