@@ -21,3 +21,7 @@ pub mod NearWordLaws
 pub mod ReducVerdict
 pub mod NearTieLaws
 pub mod ReducVerdictLaws
+pub mod ReducWork
+pub mod ReducWorkLaws
+pub mod ReducRemoveLaws
+pub mod ReducVisitLaws

@@ -1,6 +1,7 @@
 -- What the code's answers say: the lowest cell of a range to which a grant is tied, and the verdict that the definition names. Assumes nothing.
 use Prim.Native.Nat.{ℕ, _≤_, _<_}
 use mathlib.Core.Path.{_≡_}
+use mathlib.Core.Logic.{_≢_}
 use mathlib.Core.Bool.{Bool, So, false}
 use mathlib.Core.List.{List}
 use Rattle.sheet.specs.Limits.{user-limit}
@@ -44,13 +45,13 @@ pub record Judgeable (rows left : List ℕ) (users it : ℕ) : Type 0 where
   pub within : it < cells-of users
   pub set : So (marked left it)
 
--- the cell that a verdict names is one of these users'
-abbrev pub TiedBelow : ℕ → Verdict → Type 0
-TiedBelow users Stays = Unit {0}
-TiedBelow users Single = Unit {0}
-TiedBelow users (Tied n) = n .0 < cells-of users
+-- the cell that a verdict names is another of these users'
+abbrev pub NamesOther : ℕ → ℕ → Verdict → Type 0
+NamesOther users it Stays = Unit {0}
+NamesOther users it Single = Unit {0}
+NamesOther users it (Tied n) = (n .0 < cells-of users) × (it ≢ n .0)
 
 -- what is judged of it: the definition's verdict, in every sheet that the rows show
 pub record Judged (rows left : List ℕ) (users it : ℕ) (judged : Verdict) : Type 0 where
-  pub named : TiedBelow users judged
+  pub named : NamesOther users it judged
   pub right : (sheet : Sheet) → Shown rows users sheet → verdict-of judged ≡ verdict sheet (cell-grants sheet left) (grant-of it)

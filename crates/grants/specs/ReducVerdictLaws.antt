@@ -3,16 +3,20 @@
 use Prim.Native.Nat.{ℕ, suc, _+_, _<_}
 use native.Mathlib.Omega.{arith}
 use mathlib.Core.Path.{_≡_, refl, sym, ap, _∙_}
-use mathlib.Core.Bool.{Bool, true, false, So}
+use mathlib.Core.Logic.{_≢_}
+use mathlib.Core.Bool.{Bool, true, false, So, not, _&&_}
 use mathlib.Core.List.{List, [], _∷_}
+use borrow.Author.Tests.{eq-eqb}
+use lib.Dec.{eqb}
 use lib.ListN.{length}
+use Rattle.bits.specs.Truth.{not-both, not-fails, and-left, and-right}
 use Rattle.lists.specs.Lists.{empty, filter}
 use Rattle.sheet.specs.Sheet.{Sheet, Grant}
 use Rattle.grants.specs.Fit.{fits, partners}
 use Rattle.grants.specs.Reduction.{stays, is-single, is-tied, verdict}
 use Rattle.grants.specs.CellSets.{cell-grants}
 use Rattle.grants.specs.CellPlaces.{grant-of, marked, Shown, Part}
-use Rattle.grants.specs.NearCells.{cells-of, tie-at}
+use Rattle.grants.specs.NearCells.{cells-of, dominates-in, tie-at}
 use Rattle.grants.specs.NearLaws.{row-cells, partners-one-fewer, tied-by-cell, untied-by-cell}
 use Rattle.grants.specs.ReducVerdict.{LowestIn, NoneIn}
 
@@ -48,3 +52,10 @@ module _ {rows : List ℕ} {users : ℕ} {sheet : Sheet} (shown : Shown rows use
         not-empty-if-some (partners sheet (cell-grants sheet left) (grant-of it)) (λ e. more (omega (arith, others))),
         untied-by-cell shown part it set (λ n l. none-tied .fails n (omega arith) l),
       )
+
+-- the cell that a grant is tied to is another one
+pub tie-is-other : (rows left : List ℕ) (users it : ℕ) {from to n : ℕ} → LowestIn (tie-at rows left users it) from to n → it ≢ n
+tie-is-other rows left users it {n = n} low e =
+    not-both (eq-eqb n it (sym e))
+    (not-fails (eqb n it) (and-left (not (eqb n it)) (dominates-in rows left users it n)
+    (and-right (marked left n) (not (eqb n it) && dominates-in rows left users it n) (low .holds))))

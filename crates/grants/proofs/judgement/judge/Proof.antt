@@ -4,7 +4,7 @@ use native.Mathlib.Omega.{arith}
 use Rattle.sheet.specs.Limits.{user-limit}
 use Rattle.sheet.specs.Rows.{row-words}
 use Rattle.grants.specs.ReducVerdict.{LowestIn}
-use Rattle.grants.specs.ReducVerdictLaws.{single-found, tie-found, no-tie-found}
+use Rattle.grants.specs.ReducVerdictLaws.{single-found, tie-found, no-tie-found, tie-is-other}
 use Rattle.grants.proofs.judgement.judge.Statement.{statement}
 use Rattle.grants.proofs.judgement.judge.Tie as tie
 
@@ -35,9 +35,10 @@ returns-2 : tie.Need-returns-2
 returns-2 c =
     let judged = c .before .before .before .before in
     let given = judged .before .before .pre in
+    let a = judged .before .before .args in
     let low : LowestIn _ 0 _ _ = rw (c .before .other .given .1) at (c .before .before .before .tie .ensures) in
     record {
-      named = low .within;
+      named = (low .within, tie-is-other (a .rows .now) (a .left .now) (a .users) (a .it .0) low);
       right = λ sheet shown.
           tie-found shown (given .part) (given .within) (given .set) (judged .before .partners .ensures sheet shown (given .part)) (judged .if1 .left) low;
     }
