@@ -10,13 +10,14 @@ use mathlib.Core.Bool.{Bool, true, false, So, not, cond, _&&_, and-true}
 use mathlib.Core.List.{List, [], _∷_, map, List·Memᴰ·head}
 use borrow.Author.Tests.{eq-eqb, ne-eqb, eqb-true, eqb-false}
 use lib.Dec.{eqb}
-use lib.ListN.{length, getD, set}
+use lib.ListN.{length, getD, set, List·getD-eq-default}
 use lib.Seq.{getD-set-same, getD-set-other}
 use Rattle.bits.specs.Bit.{bit, word-bits}
-use Rattle.bits.specs.Truth.{passes-or-fails, same-truth, and-left}
+use Rattle.bits.specs.BitLaws.{bit-of-zero}
+use Rattle.bits.specs.Truth.{passes-or-fails, not-both, same-truth}
 use Rattle.bits.specs.CountLaws.{count-below-ext}
 use Rattle.bits.specs.CountJoinLaws.{count-below-without}
-use Rattle.bits.specs.BelowLaws.{last-or-below}
+use Rattle.bits.specs.BelowLaws.{below-or-from, last-or-below}
 use Rattle.lists.specs.Lists.{filter}
 use Rattle.lists.specs.AppendLaws.{filter-map}
 use Rattle.lists.specs.PassingBelow.{passing-below, passing-filter, passing-ext}
@@ -40,16 +41,22 @@ same-position m n e =
     (λ p. let q = eqb-true (m % word-bits) (n % word-bits) p in eq-eqb m n (omega arith))
     (λ p. let q = eqb-true m n p in eq-eqb (m % word-bits) (n % word-bits) (omega arith))
 
-pub bit-cleared : (left : List ℕ) (it word : ℕ) → it / word-bits < length left
+-- a cell that is set lies in the words
+marked-within : (left : List ℕ) (it : ℕ) → So (marked left it) → it / word-bits < length left
+marked-within left it p =
+    ⊎-elim (λ l. l) (λ (l : length left ≤ it / word-bits). absurd (not-both p (rw (List·getD-eq-default left 0 l) (bit-of-zero (it % word-bits)))))
+    (below-or-from (it / word-bits) (length left))
+
+pub bit-cleared : (left : List ℕ) (it word : ℕ) → So (marked left it)
     → ((q : ℕ) → bit word q ≡ (bit (getD left (it / word-bits) 0) q && not (eqb q (it % word-bits))))
     → (n : ℕ) → marked (set left (it / word-bits) word) n ≡ (marked left n && not (eqb n it))
-bit-cleared left it word inside says n =
+bit-cleared left it word set-at says n =
     ⊎-elim (λ e. here (eqb-true (n / word-bits) (it / word-bits) e)) (λ e. elsewhere (eqb-false (n / word-bits) (it / word-bits) e))
     (passes-or-fails (eqb (n / word-bits) (it / word-bits)))
   where
     here : n / word-bits ≡ it / word-bits → marked (set left (it / word-bits) word) n ≡ (marked left n && not (eqb n it))
     here e =
-        rw (e, getD-set-same left (it / word-bits) word 0 inside, says (n % word-bits), same-position n it e)
+        rw (e, getD-set-same left (it / word-bits) word 0 (marked-within left it set-at), says (n % word-bits), same-position n it e)
 
     elsewhere : n / word-bits ≢ it / word-bits → marked (set left (it / word-bits) word) n ≡ (marked left n && not (eqb n it))
     elsewhere e =
@@ -89,6 +96,8 @@ log-grown {it} {other} {before} {after} r =
 pub logged-grown : {it other : ℕ} {before after : Work} → Removed it other before after → it < cell-limit → other < cell-limit → Logged before → Logged after
 logged-grown {it} {other} {before} {after} r l m logged =
     record {
+      removed-length = r .removed-length ∙ logged .removed-length;
+      partner-length = r .partner-length ∙ logged .partner-length;
       removed-cell = λ i k.
           ⊎-elim (λ (e : i ≡ before .count). rw (ap (λ j. getD (after .removed) j 0) e ∙ r .removed-last) l) (λ j. rw (r .removed-kept i j) (logged .removed-cell i j)) (last-or-below (within i k));
       partner-cell = λ i k.

@@ -10,6 +10,7 @@ use borrow.Author.Tests.{eq-eqb, ne-eqb}
 use lib.Dec.{eqb}
 use Rattle.bits.specs.Bit.{word-bits}
 use Rattle.bits.specs.Truth.{and-left}
+use Rattle.bits.specs.CountLaws.{count-below-pos}
 use Rattle.sheet.specs.Limits.{user-limit}
 use Rattle.sheet.specs.Rows.{row-words}
 use Rattle.sheet.specs.Sheet.{Sheet}
@@ -20,7 +21,7 @@ use Rattle.grants.specs.CellPlaces.{cell-limit, grant-of, marked, Shown,
 use Rattle.grants.specs.NearCells.{cells-of}
 use Rattle.grants.specs.Log.{log-of}
 use Rattle.grants.specs.ReducVerdict.{Judged}
-use Rattle.grants.specs.ReducWork.{Work, state-of, remaining-cells, Ready, Visited, Removed}
+use Rattle.grants.specs.ReducWork.{Work, state-of, remaining-cells, Ready, Visited, Removable, Removed}
 use Rattle.grants.specs.ReducWorkLaws.{part-all, part-of-part}
 use Rattle.grants.specs.ReducRemoveLaws.{removal-of, without-cell, log-grown, logged-grown, one-fewer}
 use Rattle.grants.specs.declared.judgement.Verdict.the-variants.{Stays, Single, Tied}
@@ -29,6 +30,21 @@ use Rattle.grants.specs.declared.cell.CellNo.{CellNo}
 -- the cells of these users are cells
 pub cells-within : {users : ℕ} → users ≤ user-limit → cells-of users ≤ cell-limit
 cells-within {users} h = mul-le-mul-right word-bits (mul-le-mul-right row-words h)
+
+-- a cell that remains can be removed: the log has room for it
+pub removable : {rows : List ℕ} {users it other : ℕ} {work : Work} → Ready rows users work → it < cells-of users → So (marked (work .left) it)
+    → other < cells-of users → Removable it other work
+removable {it} {work} ready inside set below =
+    record {
+      set = set;
+      it-cell = at-it;
+      other-cell = lt-of-lt-of-le below (cells-within (ready .few-users));
+      room = omega (arith, ready .room, count-below-pos cell-limit (marked (work .left)) at-it set);
+      logged = ready .logged;
+    }
+  where
+    at-it : it < cell-limit
+    at-it = lt-of-lt-of-le inside (cells-within (ready .few-users))
 
 -- the state with the grant of a cell removed
 abbrev without-it : Sheet → Work → ℕ → ℕ → Reduction

@@ -2,10 +2,10 @@
 -- definition, and visiting some cells takes it to the state that the visits of their grants lead to.
 use Prim.Native.Nat.{ℕ, _+_, _≤_, _<_}
 use mathlib.Core.Path.{_≡_}
-use mathlib.Core.Bool.{not, _&&_}
+use mathlib.Core.Bool.{So, not, _&&_}
 use mathlib.Core.List.{List, map, List·Memᴰ}
 use lib.Dec.{eqb}
-use lib.ListN.{getD}
+use lib.ListN.{length, getD}
 use Rattle.bits.specs.Below.{count-below}
 use Rattle.sheet.specs.Limits.{user-limit, grant-limit}
 use Rattle.sheet.specs.Sheet.{Sheet}
@@ -33,8 +33,10 @@ state-of sheet work =
 abbrev pub remaining-cells : List ℕ → ℕ
 remaining-cells left = count-below cell-limit (marked left)
 
--- the removals are of cells
+-- the lists have a place for every removal that there can be, and the removals are of cells
 pub record Logged (work : Work) : Type 0 where
+  pub removed-length : length (work .removed) ≡ grant-limit
+  pub partner-length : length (work .partner) ≡ grant-limit
   pub removed-cell : (i : ℕ) → i < work .count → getD (work .removed) i 0 < cell-limit
   pub partner-cell : (i : ℕ) → i < work .count → getD (work .partner) i 0 < cell-limit
 
@@ -53,10 +55,20 @@ pub record Visited (rows : List ℕ) (users : ℕ) (cells : List ℕ) (before af
   pub logged : Logged after
   pub state : (sheet : Sheet) → Shown rows users sheet → state-of sheet after ≡ visits sheet (map grant-of cells) (state-of sheet before)
 
--- one cell was removed, with the partner that it is tied to, or itself
+-- a cell that remains can be removed, with the partner that it is tied to, or itself
+pub record Removable (it other : ℕ) (work : Work) : Type 0 where
+  pub set : So (marked (work .left) it)
+  pub it-cell : it < cell-limit
+  pub other-cell : other < cell-limit
+  pub room : work .count < grant-limit
+  pub logged : Logged work
+
+-- it was removed
 pub record Removed (it other : ℕ) (before after : Work) : Type 0 where
   pub left : (n : ℕ) → marked (after .left) n ≡ (marked (before .left) n && not (eqb n it))
   pub one-more : after .count ≡ before .count + 1
+  pub removed-length : length (after .removed) ≡ length (before .removed)
+  pub partner-length : length (after .partner) ≡ length (before .partner)
   pub removed-last : getD (after .removed) (before .count) 0 ≡ it
   pub partner-last : getD (after .partner) (before .count) 0 ≡ other
   pub removed-kept : (i : ℕ) → i < before .count → getD (after .removed) i 0 ≡ getD (before .removed) i 0

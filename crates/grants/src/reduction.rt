@@ -6,6 +6,17 @@ use bits::WORD_BITS;
 use sheet::CELL_WORDS;
 use sheet::GRANT_LIMIT;
 use sheet::ROW_WORDS;
+ghost use mathlib.Core.Path.{_≡_};
+ghost use mathlib.Core.Bool.{So};
+ghost use mathlib.Core.List.{[], _∷_};
+ghost use Prim.Native.Nat.{_*_, _<_, _≤_};
+ghost use lib.ListN.{length, getD};
+ghost use Rattle.lists.specs.PassingBelow.{passing-below};
+ghost use Rattle.sheet.specs.Limits.{grant-limit};
+ghost use Rattle.sheet.specs.Rows.{row-words};
+ghost use Rattle.grants.specs.CellPlaces.{cell-limit, marked};
+ghost use Rattle.grants.specs.NearCells.{cells-of};
+ghost use Rattle.grants.specs.ReducWork.{work-of, Ready, Visited, Removable, Removed};
 
 // The cells of the kernel, and the removals in order: the cell of each, and its partner's, which is its own where it was removed as single.
 pub struct Reduced {
@@ -24,7 +35,11 @@ fn remove<'a>(
     count: usize,
     it: CellNo,
     other: CellNo,
-) -> usize {
+) -> usize
+    requires { ⌜ Removable (it .0) (other .0) (work-of (now left) (now removed) (now partner) count) ⌝ }
+    ensures { λ r. ⌜ Removed (it .0) (other .0) (work-of (now (left .entry)) (now (removed .entry)) (now (partner .entry)) count)
+        (work-of (now (left .exit)) (now (removed .exit)) (now (partner .exit)) r) ⌝ }
+{
     let at = it.0;
     let i = at / WORD_BITS;
     left[i] = bits::without(left[i], at % WORD_BITS);
@@ -42,7 +57,12 @@ fn visit<'a>(
     users: usize,
     count: usize,
     it: CellNo,
-) -> usize {
+) -> usize
+    requires { ⌜ Ready (now rows) users (work-of (now left) (now removed) (now partner) count)
+        × (it .0 < cells-of users) × So (marked (now left) (it .0)) ⌝ }
+    ensures { λ r. ⌜ Visited (now (rows .entry)) users (it .0 ∷ []) (work-of (now (left .entry)) (now (removed .entry)) (now (partner .entry)) count)
+        (work-of (now (left .exit)) (now (removed .exit)) (now (partner .exit)) r) ⌝ }
+{
     match judge(rows, left, users, it) {
         Verdict::Stays => count,
         Verdict::Single => remove(left, removed, partner, count, it, it),
