@@ -25,3 +25,4 @@ pub mod ReducWork
 pub mod ReducWorkLaws
 pub mod ReducRemoveLaws
 pub mod ReducVisitLaws
+pub mod ReducSweepLaws

@@ -5,6 +5,7 @@ use native.Mathlib.Omega.{arith}
 use mathlib.Core.Path.{_≡_, refl, sym, ap, _∙_}
 use mathlib.Core.List.{List, [], _∷_, _++_, map, Memᴰ·append-left, Memᴰ·append-right}
 use Rattle.bits.specs.CountLaws.{count-below-mono}
+use Rattle.lists.specs.AppendLaws.{map-append}
 use Rattle.sheet.specs.Sheet.{Sheet, Grant}
 use Rattle.grants.specs.Reduction.{Reduction, visit, visits}
 use Rattle.grants.specs.CellPlaces.{cell-limit, grant-of, marked, Part}
@@ -19,10 +20,6 @@ part-of-part p q = record { held = λ n m. q .held n (p .held n m) }
 pub visits-append : (sheet : Sheet) (l m : List Grant) (r : Reduction) → visits sheet (l ++ m) r ≡ visits sheet m (visits sheet l r)
 visits-append sheet [] m r = refl
 visits-append sheet (it ∷ l) m r = visits-append sheet l m (visit sheet it r)
-
-map-append : {A B : Type 0} (f : A → B) (l m : List A) → map f (l ++ m) ≡ map f l ++ map f m
-map-append f [] m = refl
-map-append f (a ∷ l) m = ap (λ k. f a ∷ k) (map-append f l m)
 
 module _ {rows : List ℕ} {users : ℕ} where
   pub none-visited : {work : Work} → Ready rows users work → Visited rows users [] work work

@@ -16,6 +16,7 @@ ghost use Rattle.sheet.specs.Limits.{grant-limit};
 ghost use Rattle.sheet.specs.Rows.{row-words};
 ghost use Rattle.grants.specs.CellPlaces.{cell-limit, marked};
 ghost use Rattle.grants.specs.NearCells.{cells-of};
+ghost use Rattle.grants.specs.ReducSweepLaws.{word-cells};
 ghost use Rattle.grants.specs.ReducWork.{work-of, Ready, Visited, Removable, Removed};
 
 // The cells of the kernel, and the removals in order: the cell of each, and its partner's, which is its own where it was removed as single.
@@ -79,7 +80,12 @@ fn sweep_word<'a>(
     users: usize,
     count: usize,
     i: usize,
-) -> usize {
+) -> usize
+    requires { ⌜ Ready (now rows) users (work-of (now left) (now removed) (now partner) count) × (i < users * row-words) ⌝ }
+    ensures { λ r. ⌜ Visited (now (rows .entry)) users (word-cells i (getD (now (left .entry)) i 0))
+        (work-of (now (left .entry)) (now (removed .entry)) (now (partner .entry)) count)
+        (work-of (now (left .exit)) (now (removed .exit)) (now (partner .exit)) r) ⌝ }
+{
     let mut count = count;
     let mut w = left[i];
     while w != 0 {
@@ -98,7 +104,12 @@ fn sweep<'a>(
     partner: &'a mut [u16; GRANT_LIMIT],
     users: usize,
     count: usize,
-) -> usize {
+) -> usize
+    requires { ⌜ Ready (now rows) users (work-of (now left) (now removed) (now partner) count) ⌝ }
+    ensures { λ r. ⌜ Visited (now (rows .entry)) users (passing-below (cells-of users) (marked (now (left .entry))))
+        (work-of (now (left .entry)) (now (removed .entry)) (now (partner .entry)) count)
+        (work-of (now (left .exit)) (now (removed .exit)) (now (partner .exit)) r) ⌝ }
+{
     let mut count = count;
     let mut i = 0;
     while i < users * ROW_WORDS {
