@@ -26,3 +26,4 @@ pub mod ReducWorkLaws
 pub mod ReducRemoveLaws
 pub mod ReducVisitLaws
 pub mod ReducSweepLaws
+pub mod ReducSettleLaws
