@@ -24,8 +24,8 @@ use Rattle.grants.specs.CellListLaws.{marked-holds, grants-by-cell, cell
 use Rattle.grants.specs.NearCells.{cells-of}
 use Rattle.grants.specs.NearLaws.{row-cells}
 use Rattle.grants.specs.ReducVisitLaws.{cells-within}
-use Rattle.grants.specs.ReducWork.{Work, state-of, remaining-cells, Visited}
-use Rattle.grants.specs.ReducWorkLaws.{part-all}
+use Rattle.grants.specs.ReducWork.{Work, state-of, remaining-cells, Ready, Visited, Settled}
+use Rattle.grants.specs.ReducWorkLaws.{part-all, visited-ready, visited-grows}
 
 -- ---- the definition's sweeps
 
@@ -100,4 +100,44 @@ module _ {rows : List ℕ} {users : ℕ} {sheet : Sheet} (shown : Shown rows use
         allowed = suc (length (grants sheet));
         enough = rw all-remain (le-refl (suc (length (grants sheet))));
         rest = rw all-remain;
+      }
+
+-- ---- the code's sweeps
+
+-- sweeps go on
+pub record Settling (rows : List ℕ) (users : ℕ) (now : Work) : Type 0 where
+  pub ready : Ready rows users now
+  pub pending : (sheet : Sheet) → Shown rows users sheet → Pending sheet (state-of sheet now)
+
+module _ {rows : List ℕ} {users : ℕ} {before after : Work} (settling : Settling rows users before)
+    (visited : Visited rows users (passing-below (cells-of users) (marked (before .left))) before after) where
+  after-ready : Ready rows users after
+  after-ready = visited-ready (settling .ready) visited
+
+  -- as many removals more as grants fewer
+  balance : (sheet : Sheet) → Shown rows users sheet
+      → after .count + length (cell-grants sheet (after .left)) ≡ before .count + length (cell-grants sheet (before .left))
+  balance sheet shown =
+      rw (remaining-count shown (settling .ready .few-users) (after-ready .part), remaining-count shown (settling .ready .few-users) (settling .ready .part))
+      (visited .total)
+
+  pub settling-done : after .count ≡ before .count → Settled rows users after
+  settling-done same =
+      record {
+        ready = after-ready;
+        whole = λ sheet shown.
+            let swept = visited-sweep shown (settling .ready .part) visited in
+            swept
+            ∙ settled sheet (state-of sheet before) (settling .pending sheet shown)
+            (ap (λ r. length (r .remaining)) (sym swept) ∙ omega (arith, balance sheet shown));
+      }
+
+  pub settling-next : (after .count ≡ before .count → ⊥) → Settling rows users after
+  settling-next more =
+      record {
+        ready = after-ready;
+        pending = λ sheet shown.
+            let swept = visited-sweep shown (settling .ready .part) visited in
+            rw swept (pending-next sheet (state-of sheet before) (settling .pending sheet shown)
+            (rw (ap (λ r. length (r .remaining)) (sym swept)) (omega (arith, balance sheet shown, visited-grows visited))));
       }

@@ -9,7 +9,7 @@ use lib.ListN.{length, getD}
 use Rattle.bits.specs.Below.{count-below}
 use Rattle.sheet.specs.Limits.{user-limit, grant-limit}
 use Rattle.sheet.specs.Sheet.{Sheet}
-use Rattle.grants.specs.Reduction.{Reduction, visits}
+use Rattle.grants.specs.Reduction.{Reduction, visits, reduction}
 use Rattle.grants.specs.CellSets.{cell-grants}
 use Rattle.grants.specs.CellPlaces.{cell-limit, grant-of, marked, Shown, Part}
 use Rattle.grants.specs.Log.{log-of}
@@ -54,6 +54,11 @@ pub record Visited (rows : List ℕ) (users : ℕ) (cells : List ℕ) (before af
   pub total : after .count + remaining-cells (after .left) ≡ before .count + remaining-cells (before .left)
   pub logged : Logged after
   pub state : (sheet : Sheet) → Shown rows users sheet → state-of sheet after ≡ visits sheet (map grant-of cells) (state-of sheet before)
+
+-- the work is done: what it says of every sheet that the rows show is the whole reduction
+pub record Settled (rows : List ℕ) (users : ℕ) (work : Work) : Type 0 where
+  pub ready : Ready rows users work
+  pub whole : (sheet : Sheet) → Shown rows users sheet → state-of sheet work ≡ reduction sheet
 
 -- a cell that remains can be removed, with the partner that it is tied to, or itself
 pub record Removable (it other : ℕ) (work : Work) : Type 0 where

@@ -14,10 +14,12 @@ ghost use lib.ListN.{length, getD};
 ghost use Rattle.lists.specs.PassingBelow.{passing-below};
 ghost use Rattle.sheet.specs.Limits.{grant-limit};
 ghost use Rattle.sheet.specs.Rows.{row-words};
+ghost use Rattle.grants.specs.Reduction.{singles-of};
+ghost use Rattle.grants.specs.Log.{log-of};
 ghost use Rattle.grants.specs.CellPlaces.{cell-limit, marked};
 ghost use Rattle.grants.specs.NearCells.{cells-of};
 ghost use Rattle.grants.specs.ReducSweepLaws.{word-cells};
-ghost use Rattle.grants.specs.ReducWork.{work-of, Ready, Visited, Removable, Removed};
+ghost use Rattle.grants.specs.ReducWork.{work-of, Ready, Visited, Settled, Removable, Removed};
 
 // The cells of the kernel, and the removals in order: the cell of each, and its partner's, which is its own where it was removed as single.
 pub struct Reduced {
@@ -126,12 +128,15 @@ fn sweeps<'a>(
     removed: &'a mut [u16; GRANT_LIMIT],
     partner: &'a mut [u16; GRANT_LIMIT],
     users: usize,
-) -> usize {
+) -> usize
+    requires { ⌜ Ready (now rows) users (work-of (now left) (now removed) (now partner) 0) × (now left ≡ now rows) ⌝ }
+    ensures { λ r. ⌜ Settled (now (rows .entry)) users (work-of (now (left .exit)) (now (removed .exit)) (now (partner .exit)) r) ⌝ }
+{
     let mut count = 0;
     loop {
         let after = sweep(rows, left, removed, partner, users, count);
         if after == count {
-            return count;
+            return after;
         }
         count = after;
     }
@@ -142,7 +147,10 @@ fn count_singles<'a>(
     removed: &'a [u16; GRANT_LIMIT],
     partner: &'a [u16; GRANT_LIMIT],
     count: usize,
-) -> usize {
+) -> usize
+    requires { ⌜ count ≤ grant-limit ⌝ }
+    ensures { λ r. ⌜ r ≡ length (singles-of (log-of (now (removed .entry)) (now (partner .entry)) count)) ⌝ }
+{
     let mut singles = 0;
     let mut i = 0;
     while i < count {
