@@ -27,3 +27,5 @@ pub mod ReducRemoveLaws
 pub mod ReducVisitLaws
 pub mod ReducSweepLaws
 pub mod ReducSettleLaws
+pub mod ReducLogLaws
+pub mod ReducResult

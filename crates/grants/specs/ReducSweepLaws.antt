@@ -30,8 +30,10 @@ no-cells i = rw (passing-none word-bits (bit 0) (λ q l. bit-of-zero q))
 lowest-cell-first : (i : ℕ) {w q rest : ℕ} → Lowest word-bits (bit w) q → LowestDropped w rest
     → word-cells i w ≡ (i * word-bits + q) ∷ word-cells i rest
 lowest-cell-first i {w} {q} {rest} low dropped =
-    rw (passing-lowest word-bits (bit w) low,
-    passing-ext word-bits (λ r. bit w r && not (eqb r q)) (bit rest) (λ r l. sym (dropped .others low r)))
+    rw (
+      passing-lowest word-bits (bit w) low,
+      passing-ext word-bits (λ r. bit w r && not (eqb r q)) (bit rest) (λ r l. sym (dropped .others low r)),
+    )
 
 -- ---- within a word
 

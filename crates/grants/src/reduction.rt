@@ -19,6 +19,7 @@ ghost use Rattle.grants.specs.Log.{log-of};
 ghost use Rattle.grants.specs.CellPlaces.{cell-limit, marked};
 ghost use Rattle.grants.specs.NearCells.{cells-of};
 ghost use Rattle.grants.specs.ReducSweepLaws.{word-cells};
+ghost use Rattle.grants.specs.ReducResult.{Reducible, ReducedFrom};
 ghost use Rattle.grants.specs.ReducWork.{work-of, Ready, Visited, Settled, Removable, Removed};
 
 // The cells of the kernel, and the removals in order: the cell of each, and its partner's, which is its own where it was removed as single.
@@ -163,7 +164,10 @@ fn count_singles<'a>(
 }
 
 // The reduction of the grants whose cells the rows have set.
-pub fn reduce(rows: &[u64; CELL_WORDS], users: usize) -> Reduced {
+pub fn reduce(rows: &[u64; CELL_WORDS], users: usize) -> Reduced
+    requires { ⌜ Reducible (now rows) users ⌝ }
+    ensures { λ r. ⌜ ReducedFrom (now (rows .entry)) users r ⌝ }
+{
     let mut left = *rows;
     let mut removed = [0; GRANT_LIMIT];
     let mut partner = [0; GRANT_LIMIT];

@@ -1,45 +1,72 @@
+-- `grants::reduction::count_singles`: after i entries the sum is the singles among them.
 use borrow.Author.Needs.{needs}
+use Prim.Native.Nat.{_-_, _≤_}
 use native.Mathlib.Omega.{arith}
+use mathlib.Core.Path.{_≡_, refl, sym, _∙_}
+use mathlib.Core.Logic.{⊎-elim}
+use Rattle.sheet.specs.Limits.{grant-limit}
+use Rattle.grants.specs.ReducLogLaws.{single-count, one-single-more, no-single-more}
 use Rattle.grants.proofs.reduction.count_singles.Statement.{statement}
 use Rattle.grants.proofs.reduction.count_singles.Tie as tie
-use Rattle.grants.proofs.reduction.count_singles.Reads as reads
-use Rattle.grants.proofs.reduction.count_singles.Lts as lts
 
 abbrev Inv-loop : tie.InvT-loop
-Inv-loop removed partner count singles₀ i₀ singles i = ?
+Inv-loop removed partner count singles₀ i₀ singles i = (i ≤ count) × (singles ≤ i) × (singles ≡ single-count removed partner i)
 
 abbrev μ-loop : tie.MeasureT-loop
-μ-loop removed partner count singles₀ i₀ singles i = ?
+μ-loop removed partner count singles₀ i₀ singles i = count - i
 
 loop-holds : tie.Need-loop-holds Inv-loop μ-loop
-loop-holds c = ?
+loop-holds c = (omega arith, omega arith, refl)
 
 mul-if1 : tie.Need-mul-if1 Inv-loop μ-loop
-mul-if1 c = search needs
+unfolding grant-limit
+mul-if1 c = omega arith
 
 element-copy-out-if1 : tie.Need-element-copy-out-if1 Inv-loop μ-loop
-element-copy-out-if1 c = search needs
+unfolding grant-limit
+element-copy-out-if1 c = omega arith
 
 mul-if1-2 : tie.Need-mul-if1-2 Inv-loop μ-loop
-mul-if1-2 c = search needs
+unfolding grant-limit
+mul-if1-2 c = omega arith
 
 element-copy-out-if1-2 : tie.Need-element-copy-out-if1-2 Inv-loop μ-loop
-element-copy-out-if1-2 c = search needs
+unfolding grant-limit
+element-copy-out-if1-2 c = omega arith
 
 add-singles : tie.Need-add-singles Inv-loop μ-loop
-add-singles c = search needs
+unfolding grant-limit
+add-singles c = omega arith
 
 add-i : tie.Need-add-i Inv-loop μ-loop
-add-i c = search needs
+unfolding grant-limit
+add-i c = omega arith
 
 loop-less : tie.Need-loop-less Inv-loop μ-loop
-loop-less c = search needs
+loop-less c = omega arith
 
 loop-again : tie.Need-loop-again Inv-loop μ-loop
-loop-again c = ?
+loop-again c =
+    let a = c .before .before .before .before .before .args in
+    let at = c .before .before .before .before .loop in
+    ⊎-elim
+    (λ w. (
+      omega arith,
+      omega (arith, w .1),
+      omega (arith, w .1, one-single-more (a .removed .now) (a .partner .now) (at .i) (w .0 .taken)),
+    ))
+    (λ w. (
+      omega arith,
+      omega (arith, w .1),
+      omega (arith, w .1, no-single-more (a .removed .now) (a .partner .now) (at .i) (w .0 .left)),
+    ))
+    (c .if1 .came)
 
 returns : tie.Need-returns Inv-loop μ-loop
-returns c = ?
+returns c =
+    let at = c .before .loop in
+    let end : at .i ≡ c .before .before .args .count = omega arith in
+    rw end at (at .inv .2)
 
 pub count-singles-spec : {M : Type 1} → statement M
 count-singles-spec =

@@ -31,7 +31,7 @@ judged-tied c = rw (c .other .given .1) at (c .before .before .judge .ensures)
 remove-requires-2 : tie.Need-remove-requires-2
 remove-requires-2 c κs =
     let given = c .before .before .before .before .before .before .before .before .pre in
-    removable (given .0) (given .1) (given .2) (judged-tied (c .before .before .before .before ) .named .0)
+    removable (given .0) (given .1) (given .2) (judged-tied (c .before .before .before .before) .named .0)
 
 returns : tie.Need-returns
 returns c =
@@ -45,7 +45,7 @@ returns-2 c =
 returns-3 : tie.Need-returns-3
 returns-3 c =
     let given = c .before .before .before .before .before .before .before .before .before .pre in
-    visit-tied (given .0) (given .1) (given .2) (judged-tied (c .before .before .before .before .before )) (c .remove2 .ensures)
+    visit-tied (given .0) (given .1) (given .2) (judged-tied (c .before .before .before .before .before)) (c .remove2 .ensures)
 
 pub visit-spec : {M : Type 1} → statement M
 visit-spec =
