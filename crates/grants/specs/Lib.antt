@@ -29,3 +29,4 @@ pub mod ReducSweepLaws
 pub mod ReducSettleLaws
 pub mod ReducLogLaws
 pub mod ReducResult
+pub mod CellLawful

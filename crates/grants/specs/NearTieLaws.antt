@@ -3,7 +3,7 @@
 use Prim.Native.Nat.{ℕ, _+_, _-_, _*_, _≤_, _<_}
 use native.Mathlib.Nat.{add-sub-of-le}
 use native.Mathlib.Omega.{arith}
-use mathlib.Core.Path.{_≡_, refl, sym, _∙_}
+use mathlib.Core.Path.{_≡_, sym, _∙_}
 use mathlib.Core.Logic.{⊎-elim}
 use mathlib.Core.Bool.{Bool, false, So, not, _&&_, and-false, and-true}
 use mathlib.Core.List.{List}
@@ -12,7 +12,7 @@ use lib.Dec.{eqb}
 use lib.ListN.{getD}
 use Rattle.bits.specs.Bit.{bit, word-bits}
 use Rattle.bits.specs.BitLaws.{bit-of-zero}
-use Rattle.bits.specs.Truth.{passes-or-fails, not-both, and-intro, and-left, and-right}
+use Rattle.bits.specs.Truth.{passes-or-fails, and-intro, and-left}
 use Rattle.bits.specs.Below.{Lowest}
 use Rattle.bits.specs.BelowLaws.{below-or-from}
 use Rattle.bits.specs.Word.{LowestDropped}

@@ -1,13 +1,13 @@
 -- One removal. The word of a cell loses one bit, so the set loses that cell and its list that grant; the log has one entry more in front. So removing a judged
 -- cell is the definition's visit of its grant.
 use Prim.Native.Nat.{ℕ, zero, suc, _+_, _/_, _%_, _*_, _≤_, _<_}
-use native.Mathlib.Nat.{le-refl, le-step, div-add-mod'}
+use native.Mathlib.Nat.{le-refl, le-step}
 use native.Mathlib.Numerals.{add-one}
 use native.Mathlib.Omega.{arith}
 use mathlib.Core.Path.{_≡_, refl, sym, ap, _∙_}
 use mathlib.Core.Logic.{⊎-elim, _≢_}
-use mathlib.Core.Bool.{Bool, true, false, So, not, cond, _&&_, and-true}
-use mathlib.Core.List.{List, [], _∷_, map, List·Memᴰ·head}
+use mathlib.Core.Bool.{false, So, not, cond, _&&_, and-true}
+use mathlib.Core.List.{List, _∷_, map}
 use borrow.Author.Tests.{eq-eqb, ne-eqb, eqb-true, eqb-false}
 use lib.Dec.{eqb}
 use lib.ListN.{length, getD, set, List·getD-eq-default}
@@ -18,7 +18,6 @@ use Rattle.bits.specs.Truth.{passes-or-fails, not-both, same-truth}
 use Rattle.bits.specs.CountLaws.{count-below-ext}
 use Rattle.bits.specs.CountJoinLaws.{count-below-without}
 use Rattle.bits.specs.BelowLaws.{below-or-from, last-or-below}
-use Rattle.lists.specs.Lists.{filter}
 use Rattle.lists.specs.AppendLaws.{filter-map}
 use Rattle.lists.specs.PassingBelow.{passing-below, passing-filter, passing-ext}
 use Rattle.sheet.specs.Sheet.{Sheet, same-grant}
@@ -29,7 +28,7 @@ use Rattle.grants.specs.CellSets.{cell-grants}
 use Rattle.grants.specs.CellPlaces.{cell-limit, grant-of, marked, Shown, Part}
 use Rattle.grants.specs.CellListLaws.{cell-grants-by-cell}
 use Rattle.grants.specs.NearLaws.{same-cell}
-use Rattle.grants.specs.Log.{removal-at, log-of}
+use Rattle.grants.specs.Log.{log-of}
 use Rattle.grants.specs.ReducWork.{Work, remaining-cells, Logged, Removed}
 
 -- ---- a bit of a word

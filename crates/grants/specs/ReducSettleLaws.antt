@@ -1,10 +1,10 @@
 -- Sweeps until one removes nothing. As many cells remain as grants, so a sweep that logs no removal is one after which as many grants remain, and there the
 -- definition's sweeps end. Any other leaves fewer, so the sweeps still allowed stay more than the grants that remain.
 use Prim.Native.Nat.{ℕ, zero, suc, _+_, _*_, _/_, _%_, _≤_, _<_}
-use native.Mathlib.Nat.{le-refl, le-dest, not-suc-le-zero, div-lt-iff-lt-mul, mul-le-mul-right}
+use native.Mathlib.Nat.{le-refl, le-dest, not-suc-le-zero, div-lt-iff-lt-mul}
 use native.Mathlib.Omega.{arith}
 use mathlib.Core.Path.{_≡_, refl, sym, ap, _∙_}
-use mathlib.Core.Bool.{Bool, true, false, So, cond}
+use mathlib.Core.Bool.{Bool, false, cond}
 use mathlib.Core.List.{List, map}
 use borrow.Author.Tests.{eq-eqb, ne-eqb}
 use lib.Dec.{eqb}

@@ -1,17 +1,17 @@
 -- The verdict from what the code finds: a grant of left that only it itself fits is single; else it is tied to the grant at the lowest cell that it dominates, and
 -- stays where there is none.
-use Prim.Native.Nat.{ℕ, suc, _+_, _<_}
+use Prim.Native.Nat.{ℕ, _+_, _<_}
 use native.Mathlib.Omega.{arith}
-use mathlib.Core.Path.{_≡_, refl, sym, ap, _∙_}
+use mathlib.Core.Path.{_≡_, refl, sym, _∙_}
 use mathlib.Core.Logic.{_≢_}
-use mathlib.Core.Bool.{Bool, true, false, So, not, _&&_}
+use mathlib.Core.Bool.{true, false, So, not, _&&_}
 use mathlib.Core.List.{List, [], _∷_}
 use borrow.Author.Tests.{eq-eqb}
 use lib.Dec.{eqb}
 use lib.ListN.{length}
 use Rattle.bits.specs.Truth.{not-both, not-fails, and-left, and-right}
 use Rattle.lists.specs.Lists.{empty, filter}
-use Rattle.sheet.specs.Sheet.{Sheet, Grant}
+use Rattle.sheet.specs.Sheet.{Sheet}
 use Rattle.grants.specs.Fit.{fits, partners}
 use Rattle.grants.specs.Reduction.{stays, is-single, is-tied, verdict}
 use Rattle.grants.specs.CellSets.{cell-grants}

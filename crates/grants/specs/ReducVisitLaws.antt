@@ -1,11 +1,10 @@
 -- The visit of one cell: a grant that stays leaves the work as it is, and one that is removed, as single or tied, leaves what the definition's visit leaves.
-use Prim.Native.Nat.{ℕ, _+_, _≤_, _<_}
+use Prim.Native.Nat.{ℕ, _≤_, _<_}
 use native.Mathlib.Nat.{mul-le-mul-right, lt-of-lt-of-le}
 use native.Mathlib.Omega.{arith}
 use mathlib.Core.Path.{_≡_, refl, sym, ap, _∙_}
-use mathlib.Core.Logic.{_≢_}
 use mathlib.Core.Bool.{So, not, and-true}
-use mathlib.Core.List.{List, [], _∷_, List·Memᴰ, List·Memᴰ·head}
+use mathlib.Core.List.{List, [], _∷_, List·Memᴰ·head}
 use borrow.Author.Tests.{eq-eqb, ne-eqb}
 use lib.Dec.{eqb}
 use Rattle.bits.specs.Bit.{word-bits}
@@ -15,13 +14,13 @@ use Rattle.sheet.specs.Limits.{user-limit}
 use Rattle.sheet.specs.Rows.{row-words}
 use Rattle.sheet.specs.Sheet.{Sheet}
 use Rattle.grants.specs.Fit.{without}
-use Rattle.grants.specs.Reduction.{Reduction, stays, is-single, is-tied, verdict, carry-out, visit}
+use Rattle.grants.specs.Reduction.{Reduction, stays, carry-out, visit}
 use Rattle.grants.specs.CellSets.{cell-grants}
 use Rattle.grants.specs.CellPlaces.{cell-limit, grant-of, marked, Shown, Part}
 use Rattle.grants.specs.NearCells.{cells-of}
 use Rattle.grants.specs.Log.{log-of}
 use Rattle.grants.specs.ReducVerdict.{Judged}
-use Rattle.grants.specs.ReducWork.{Work, state-of, remaining-cells, Ready, Visited, Removable, Removed}
+use Rattle.grants.specs.ReducWork.{Work, state-of, Ready, Visited, Removable, Removed}
 use Rattle.grants.specs.ReducWorkLaws.{part-all, part-of-part}
 use Rattle.grants.specs.ReducRemoveLaws.{removal-of, without-cell, log-grown, logged-grown, one-fewer}
 use Rattle.grants.specs.declared.judgement.Verdict.the-variants.{Stays, Single, Tied}

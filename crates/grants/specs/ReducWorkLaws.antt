@@ -1,6 +1,6 @@
 -- Visits one after the other: what was visited first and what was visited then are visited together, nothing visited changes nothing, and after any visits the
 -- work can go on.
-use Prim.Native.Nat.{ℕ, _+_, _≤_}
+use Prim.Native.Nat.{ℕ, _≤_}
 use native.Mathlib.Omega.{arith}
 use mathlib.Core.Path.{_≡_, refl, sym, ap, _∙_}
 use mathlib.Core.List.{List, [], _∷_, _++_, map, Memᴰ·append-left, Memᴰ·append-right}
@@ -9,7 +9,7 @@ use Rattle.lists.specs.AppendLaws.{map-append}
 use Rattle.sheet.specs.Sheet.{Sheet, Grant}
 use Rattle.grants.specs.Reduction.{Reduction, visit, visits}
 use Rattle.grants.specs.CellPlaces.{cell-limit, grant-of, marked, Part}
-use Rattle.grants.specs.ReducWork.{Work, state-of, remaining-cells, Ready, Visited}
+use Rattle.grants.specs.ReducWork.{Work, state-of, Ready, Visited}
 
 pub part-all : (left : List ℕ) → Part left left
 part-all left = record { held = λ n p. p }

@@ -7,16 +7,13 @@ use bits::WORD_BITS;
 use sheet::CELL_WORDS;
 use sheet::ROW_WORDS;
 ghost use mathlib.Core.Path.{_≡_};
-ghost use mathlib.Core.Bool.{So, not, _&&_};
+ghost use mathlib.Core.Bool.{not, _&&_};
 ghost use Prim.Native.Nat.{_+_, _*_, _<_, _≤_};
 ghost use lib.Dec.{eqb};
 ghost use Rattle.bits.specs.Bit.{word-bits};
 ghost use Rattle.sheet.specs.Limits.{user-limit};
 ghost use Rattle.sheet.specs.Rows.{row-words};
-ghost use Rattle.sheet.specs.Sheet.{Sheet};
-ghost use Rattle.grants.specs.Reduction.{verdict};
-ghost use Rattle.grants.specs.CellSets.{cell-grants};
-ghost use Rattle.grants.specs.CellPlaces.{cell-limit, grant-of, marked, Shown, Part};
+ghost use Rattle.grants.specs.CellPlaces.{cell-limit, Part};
 ghost use Rattle.grants.specs.NearCells.{cells-of, dominates-in, tie-at};
 ghost use Rattle.grants.specs.ReducVerdict.{FoundIn, Judgeable, Judged};
 

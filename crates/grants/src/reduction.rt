@@ -16,7 +16,7 @@ ghost use Rattle.sheet.specs.Limits.{grant-limit};
 ghost use Rattle.sheet.specs.Rows.{row-words};
 ghost use Rattle.grants.specs.Reduction.{singles-of};
 ghost use Rattle.grants.specs.Log.{log-of};
-ghost use Rattle.grants.specs.CellPlaces.{cell-limit, marked};
+ghost use Rattle.grants.specs.CellPlaces.{marked};
 ghost use Rattle.grants.specs.NearCells.{cells-of};
 ghost use Rattle.grants.specs.ReducSweepLaws.{word-cells};
 ghost use Rattle.grants.specs.ReducResult.{Reducible, ReducedFrom};

@@ -1,8 +1,8 @@
 -- `grants::judgement::tie_in`: unless all cells of the word fit the judged one, none of them is dominated. Else the positions of w are the cells of the word still to be tried. The lowest is tried first, so the first that passes is the lowest.
 use borrow.Author.Needs.{needs}
-use Prim.Native.Nat.{ℕ, _<_}
+use Prim.Native.Nat.{ℕ}
 use native.Mathlib.Omega.{arith}
-use mathlib.Core.Path.{_≡_, sym, _∙_}
+use mathlib.Core.Path.{sym, _∙_}
 use mathlib.Core.Bool.{Bool, not, _&&_}
 use mathlib.Core.List.{List}
 use borrow.Author.Tests.{not-true}

@@ -1,8 +1,7 @@
 -- `grants::reduction::count_singles`: after i entries the sum is the singles among them.
-use borrow.Author.Needs.{needs}
 use Prim.Native.Nat.{_-_, _≤_}
 use native.Mathlib.Omega.{arith}
-use mathlib.Core.Path.{_≡_, refl, sym, _∙_}
+use mathlib.Core.Path.{_≡_, refl}
 use mathlib.Core.Logic.{⊎-elim}
 use Rattle.sheet.specs.Limits.{grant-limit}
 use Rattle.grants.specs.ReducLogLaws.{single-count, one-single-more, no-single-more}

@@ -1,7 +1,7 @@
 -- `grants::reduction::remove`: the cell's word loses its bit, and the log has one more entry at its end; nothing before it changes.
 use borrow.Author.Needs.{needs}
 use native.Mathlib.Omega.{arith}
-use mathlib.Core.Path.{_≡_, refl}
+use mathlib.Core.Path.{refl}
 use lib.ListN.{length-set}
 use lib.Seq.{getD-set-same, getD-set-other}
 use Rattle.sheet.specs.Limits.{user-limit, grant-limit}

@@ -1,5 +1,4 @@
 -- `grants::reduction::sweep`: after i words the cells below word i were visited, of those that remained at first.
-use borrow.Author.Needs.{needs}
 use Prim.Native.Nat.{_*_, _-_, _≤_}
 use native.Mathlib.Omega.{arith}
 use mathlib.Core.Path.{_≡_}

@@ -1,7 +1,5 @@
 -- `grants::reduction::sweep_word`: the cells of the word still to be visited are at the positions of w, and remain. The lowest is visited next, and dropped.
-use borrow.Author.Needs.{needs}
 use native.Mathlib.Omega.{arith}
-use mathlib.Core.Path.{_≡_}
 use lib.Arith.{digits-lt}
 use lib.ListN.{getD}
 use Rattle.sheet.specs.Limits.{user-limit}

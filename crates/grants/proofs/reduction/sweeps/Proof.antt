@@ -1,8 +1,6 @@
 -- `grants::reduction::sweeps`: each sweep but the last removes a grant, so the removals rise, and there is room for no more of them than grants.
-use borrow.Author.Needs.{needs}
 use Prim.Native.Nat.{_-_}
 use native.Mathlib.Omega.{arith}
-use mathlib.Core.Path.{_≡_, sym}
 use Rattle.sheet.specs.Limits.{grant-limit}
 use Rattle.grants.specs.ReducWork.{work-of}
 use Rattle.grants.specs.ReducWorkLaws.{visited-ready, visited-grows}
