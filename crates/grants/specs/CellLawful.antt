@@ -14,10 +14,10 @@ use Rattle.sheet.specs.GrantLaws.{yes-within, held-user-below}
 use Rattle.sheet.specs.Rows.{row-words, row-bits, RowsOf}
 use Rattle.sheet.specs.AcceptedFacts.{Lawful}
 use Rattle.grants.specs.CellPlaces.{Shown}
-use Rattle.grants.specs.ReducWork.{remaining-cells}
-use Rattle.grants.specs.ReducWorkLaws.{part-all}
-use Rattle.grants.specs.ReducSettleLaws.{all-remain, remaining-count}
-use Rattle.grants.specs.ReducResult.{Reducible}
+use Rattle.grants.specs.ReductionWork.{remaining-cells}
+use Rattle.grants.specs.ReductionWorkLaws.{part-all}
+use Rattle.grants.specs.ReductionSettleLaws.{all-remain, remaining-count}
+use Rattle.grants.specs.ReductionResult.{Reducible}
 
 -- a row has room for every permission
 room-for-permissions : permission-limit ≤ row-bits

@@ -18,7 +18,7 @@ use Rattle.bits.specs.BelowLaws.{below-or-from}
 use Rattle.bits.specs.Word.{LowestDropped}
 use Rattle.grants.specs.CellPlaces.{marked}
 use Rattle.grants.specs.FitWordLaws.{marked-in-word}
-use Rattle.grants.specs.ReducVerdict.{LowestIn, NoneIn}
+use Rattle.grants.specs.ReductionVerdict.{LowestIn, NoneIn}
 
 -- a cell of left that passes
 abbrev pub passing-cell : List ℕ → (ℕ → Bool) → ℕ → Bool

@@ -15,7 +15,7 @@ ghost use Rattle.sheet.specs.Limits.{user-limit};
 ghost use Rattle.sheet.specs.Rows.{row-words};
 ghost use Rattle.grants.specs.CellPlaces.{cell-limit, Part};
 ghost use Rattle.grants.specs.NearCells.{cells-of, dominates-in, tie-at};
-ghost use Rattle.grants.specs.ReducVerdict.{FoundIn, Judgeable, Judged};
+ghost use Rattle.grants.specs.ReductionVerdict.{FoundIn, Judgeable, Judged};
 
 // The cell that a grant is tied to, if there is one.
 pub enum Found {

@@ -18,9 +18,8 @@ ghost use Rattle.grants.specs.Reduction.{singles-of};
 ghost use Rattle.grants.specs.Log.{log-of};
 ghost use Rattle.grants.specs.CellPlaces.{marked};
 ghost use Rattle.grants.specs.NearCells.{cells-of};
-ghost use Rattle.grants.specs.ReducSweepLaws.{word-cells};
-ghost use Rattle.grants.specs.ReducResult.{Reducible, ReducedFrom};
-ghost use Rattle.grants.specs.ReducWork.{work-of, Ready, Visited, Settled, Removable, Removed};
+ghost use Rattle.grants.specs.ReductionResult.{Reducible, ReducedFrom};
+ghost use Rattle.grants.specs.ReductionWork.{work-of, word-cells, Ready, Visited, Settled, Removable, Removed};
 
 // The cells of the kernel, and the removals in order: the cell of each, and its partner's, which is its own where it was removed as single.
 pub struct Reduced {

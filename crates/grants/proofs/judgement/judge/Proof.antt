@@ -3,8 +3,8 @@ use borrow.Author.Needs.{needs}
 use native.Mathlib.Omega.{arith}
 use Rattle.sheet.specs.Limits.{user-limit}
 use Rattle.sheet.specs.Rows.{row-words}
-use Rattle.grants.specs.ReducVerdict.{LowestIn}
-use Rattle.grants.specs.ReducVerdictLaws.{single-found, tie-found, no-tie-found, tie-is-other}
+use Rattle.grants.specs.ReductionVerdict.{LowestIn}
+use Rattle.grants.specs.ReductionVerdictLaws.{single-found, tie-found, no-tie-found, tie-is-other}
 use Rattle.grants.proofs.judgement.judge.Statement.{statement}
 use Rattle.grants.proofs.judgement.judge.Tie as tie
 

@@ -7,7 +7,7 @@ use Rattle.bits.specs.Bit.{word-bits}
 use Rattle.sheet.specs.Limits.{user-limit}
 use Rattle.sheet.specs.Rows.{row-words}
 use Rattle.grants.specs.NearCells.{tie-at}
-use Rattle.grants.specs.ReducVerdict.{NoneIn}
+use Rattle.grants.specs.ReductionVerdict.{NoneIn}
 use Rattle.grants.specs.NearTieLaws.{none-then-none, none-then-lowest, lowest-of-all}
 use Rattle.grants.proofs.judgement.tie.Statement.{statement}
 use Rattle.grants.proofs.judgement.tie.Tie as tie

@@ -6,7 +6,7 @@ use lib.ListN.{length-set}
 use lib.Seq.{getD-set-same, getD-set-other}
 use Rattle.sheet.specs.Limits.{user-limit, grant-limit}
 use Rattle.sheet.specs.Rows.{row-words}
-use Rattle.grants.specs.ReducRemoveLaws.{bit-cleared}
+use Rattle.grants.specs.ReductionRemoveLaws.{bit-cleared}
 use Rattle.grants.proofs.reduction.remove.Statement.{statement}
 use Rattle.grants.proofs.reduction.remove.Tie as tie
 

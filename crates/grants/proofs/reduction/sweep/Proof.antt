@@ -4,9 +4,9 @@ use native.Mathlib.Omega.{arith}
 use mathlib.Core.Path.{_≡_}
 use Rattle.sheet.specs.Limits.{user-limit}
 use Rattle.sheet.specs.Rows.{row-words}
-use Rattle.grants.specs.ReducWork.{work-of}
-use Rattle.grants.specs.ReducWorkLaws.{visited-ready}
-use Rattle.grants.specs.ReducSweepLaws.{Swept, swept-none, swept-next}
+use Rattle.grants.specs.ReductionWork.{work-of}
+use Rattle.grants.specs.ReductionWorkLaws.{visited-ready}
+use Rattle.grants.specs.ReductionSweepLaws.{Swept, swept-none, swept-next}
 use Rattle.grants.proofs.reduction.sweep.Statement.{statement}
 use Rattle.grants.proofs.reduction.sweep.Tie as tie
 

@@ -4,8 +4,8 @@ use lib.Arith.{digits-lt}
 use lib.ListN.{getD}
 use Rattle.sheet.specs.Limits.{user-limit}
 use Rattle.sheet.specs.Rows.{row-words}
-use Rattle.grants.specs.ReducWork.{work-of}
-use Rattle.grants.specs.ReducSweepLaws.{word-cells, Sweeping, sweeping-at-first, sweeping-next, sweeping-done}
+use Rattle.grants.specs.ReductionWork.{work-of, word-cells}
+use Rattle.grants.specs.ReductionSweepLaws.{Sweeping, sweeping-at-first, sweeping-next, sweeping-done}
 use Rattle.grants.proofs.reduction.sweep_word.Statement.{statement}
 use Rattle.grants.proofs.reduction.sweep_word.Tie as tie
 

@@ -2,9 +2,9 @@
 use Prim.Native.Nat.{_-_}
 use native.Mathlib.Omega.{arith}
 use Rattle.sheet.specs.Limits.{grant-limit}
-use Rattle.grants.specs.ReducWork.{work-of}
-use Rattle.grants.specs.ReducWorkLaws.{visited-ready, visited-grows}
-use Rattle.grants.specs.ReducSettleLaws.{Settling, pending-at-first, settling-done, settling-next}
+use Rattle.grants.specs.ReductionWork.{work-of}
+use Rattle.grants.specs.ReductionWorkLaws.{visited-ready, visited-grows}
+use Rattle.grants.specs.ReductionSettleLaws.{Settling, pending-at-first, settling-done, settling-next}
 use Rattle.grants.proofs.reduction.sweeps.Statement.{statement}
 use Rattle.grants.proofs.reduction.sweeps.Tie as tie
 

@@ -1,7 +1,7 @@
 -- `grants::reduction::visit`: what is judged of the grant is carried out.
 use borrow.Author.Needs.{needs}
-use Rattle.grants.specs.ReducVerdict.{Judged}
-use Rattle.grants.specs.ReducVisitLaws.{removable, visit-stays, visit-single, visit-tied}
+use Rattle.grants.specs.ReductionVerdict.{Judged}
+use Rattle.grants.specs.ReductionVisitLaws.{removable, visit-stays, visit-single, visit-tied}
 use Rattle.grants.specs.declared.judgement.Verdict.the-variants.{Tied}
 use Rattle.grants.proofs.reduction.visit.Statement.{statement}
 use Rattle.grants.proofs.reduction.visit.Tie as tie

@@ -9,7 +9,7 @@ use Rattle.lists.specs.AppendLaws.{map-append}
 use Rattle.sheet.specs.Sheet.{Sheet, Grant}
 use Rattle.grants.specs.Reduction.{Reduction, visit, visits}
 use Rattle.grants.specs.CellPlaces.{cell-limit, grant-of, marked, Part}
-use Rattle.grants.specs.ReducWork.{Work, state-of, Ready, Visited}
+use Rattle.grants.specs.ReductionWork.{Work, state-of, Ready, Visited}
 
 pub part-all : (left : List ℕ) → Part left left
 part-all left = record { held = λ n p. p }

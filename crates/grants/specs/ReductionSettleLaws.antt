@@ -23,9 +23,9 @@ use Rattle.grants.specs.CellPlaceLaws.{row-bits-pos}
 use Rattle.grants.specs.CellListLaws.{marked-holds, grants-by-cell, cell-grants-by-cell}
 use Rattle.grants.specs.NearCells.{cells-of}
 use Rattle.grants.specs.NearLaws.{row-cells}
-use Rattle.grants.specs.ReducVisitLaws.{cells-within}
-use Rattle.grants.specs.ReducWork.{Work, state-of, remaining-cells, Ready, Visited, Settled}
-use Rattle.grants.specs.ReducWorkLaws.{part-all, visited-ready, visited-grows}
+use Rattle.grants.specs.ReductionVisitLaws.{cells-within}
+use Rattle.grants.specs.ReductionWork.{Work, state-of, remaining-cells, Ready, Visited, Settled}
+use Rattle.grants.specs.ReductionWorkLaws.{part-all, visited-ready, visited-grows}
 
 -- ---- the definition's sweeps
 

@@ -1,12 +1,14 @@
 -- The reduction at work: the cells that remain, and the removals so far as two lists of cells. What it says of every sheet that the rows show is a state of the
 -- definition, and visiting some cells takes it to the state that the visits of their grants lead to.
-use Prim.Native.Nat.{ℕ, _+_, _≤_, _<_}
+use Prim.Native.Nat.{ℕ, _+_, _*_, _≤_, _<_}
 use mathlib.Core.Path.{_≡_}
 use mathlib.Core.Bool.{So, not, _&&_}
 use mathlib.Core.List.{List, map, List·Memᴰ}
 use lib.Dec.{eqb}
 use lib.ListN.{length, getD}
+use Rattle.bits.specs.Bit.{bit, word-bits}
 use Rattle.bits.specs.Below.{count-below}
+use Rattle.lists.specs.PassingBelow.{passing-below}
 use Rattle.sheet.specs.Limits.{user-limit, grant-limit}
 use Rattle.sheet.specs.Sheet.{Sheet}
 use Rattle.grants.specs.Reduction.{Reduction, visits, reduction}
@@ -28,6 +30,10 @@ work-of left removed partner count = record { left = left; removed = removed; pa
 abbrev pub state-of : Sheet → Work → Reduction
 state-of sheet work =
     record { remaining = cell-grants sheet (work .left); removed = log-of (work .removed) (work .partner) (work .count) }
+
+-- the cells at the positions of a word, in rising number
+abbrev pub word-cells : ℕ → ℕ → List ℕ
+word-cells i w = map (λ q. i * word-bits + q) (passing-below word-bits (bit w))
 
 -- how many cells remain
 abbrev pub remaining-cells : List ℕ → ℕ

@@ -11,8 +11,8 @@ use Rattle.grants.specs.Reduction.{Removal, reduction, kernel, singles-o
 use Rattle.grants.specs.CellSets.{cell-grants}
 use Rattle.grants.specs.CellPlaces.{Shown, Part}
 use Rattle.grants.specs.Log.{log-of}
-use Rattle.grants.specs.ReducWork.{Work, work-of, remaining-cells, Logged, Ready, Settled}
-use Rattle.grants.specs.ReducWorkLaws.{part-all}
+use Rattle.grants.specs.ReductionWork.{Work, work-of, remaining-cells, Logged, Ready, Settled}
+use Rattle.grants.specs.ReductionWorkLaws.{part-all}
 use Rattle.grants.specs.declared.reduction.Reduced.{Reduced}
 
 -- rows that can be reduced: of no more users and grants than a sheet can have

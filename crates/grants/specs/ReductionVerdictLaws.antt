@@ -18,7 +18,7 @@ use Rattle.grants.specs.CellSets.{cell-grants}
 use Rattle.grants.specs.CellPlaces.{grant-of, marked, Shown, Part}
 use Rattle.grants.specs.NearCells.{cells-of, dominates-in, tie-at}
 use Rattle.grants.specs.NearLaws.{row-cells, partners-one-fewer, tied-by-cell, untied-by-cell}
-use Rattle.grants.specs.ReducVerdict.{LowestIn, NoneIn}
+use Rattle.grants.specs.ReductionVerdict.{LowestIn, NoneIn}
 
 empty-if-none : {A : Type 0} (l : List A) → length l ≡ 0 → empty l ≡ true
 empty-if-none [] e = refl

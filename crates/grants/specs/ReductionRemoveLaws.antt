@@ -29,7 +29,7 @@ use Rattle.grants.specs.CellPlaces.{cell-limit, grant-of, marked, Shown,
 use Rattle.grants.specs.CellListLaws.{cell-grants-by-cell}
 use Rattle.grants.specs.NearLaws.{same-cell}
 use Rattle.grants.specs.Log.{log-of}
-use Rattle.grants.specs.ReducWork.{Work, remaining-cells, Logged, Removed}
+use Rattle.grants.specs.ReductionWork.{Work, remaining-cells, Logged, Removed}
 
 -- ---- a bit of a word
 

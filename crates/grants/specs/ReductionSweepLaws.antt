@@ -16,12 +16,8 @@ use Rattle.bits.specs.Word.{LowestDropped}
 use Rattle.lists.specs.PassingBelow.{passing-below, passing-ext, passing-only, passing-none, passing-lowest, passing-add}
 use Rattle.grants.specs.CellPlaces.{marked}
 use Rattle.grants.specs.FitWordLaws.{marked-in-word}
-use Rattle.grants.specs.ReducWork.{Work, Ready, Visited}
-use Rattle.grants.specs.ReducWorkLaws.{none-visited, visited-then, visited-ready}
-
--- the cells at the positions of a word, in rising number
-abbrev pub word-cells : ℕ → ℕ → List ℕ
-word-cells i w = map (λ q. i * word-bits + q) (passing-below word-bits (bit w))
+use Rattle.grants.specs.ReductionWork.{Work, word-cells, Ready, Visited}
+use Rattle.grants.specs.ReductionWorkLaws.{none-visited, visited-then, visited-ready}
 
 no-cells : (i : ℕ) → word-cells i 0 ≡ []
 no-cells i = rw (passing-none word-bits (bit 0) (λ q l. bit-of-zero q))

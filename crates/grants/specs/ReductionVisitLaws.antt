@@ -19,10 +19,10 @@ use Rattle.grants.specs.CellSets.{cell-grants}
 use Rattle.grants.specs.CellPlaces.{cell-limit, grant-of, marked, Shown, Part}
 use Rattle.grants.specs.NearCells.{cells-of}
 use Rattle.grants.specs.Log.{log-of}
-use Rattle.grants.specs.ReducVerdict.{Judged}
-use Rattle.grants.specs.ReducWork.{Work, state-of, Ready, Visited, Removable, Removed}
-use Rattle.grants.specs.ReducWorkLaws.{part-all, part-of-part}
-use Rattle.grants.specs.ReducRemoveLaws.{removal-of, without-cell, log-grown, logged-grown, one-fewer}
+use Rattle.grants.specs.ReductionVerdict.{Judged}
+use Rattle.grants.specs.ReductionWork.{Work, state-of, Ready, Visited, Removable, Removed}
+use Rattle.grants.specs.ReductionWorkLaws.{part-all, part-of-part}
+use Rattle.grants.specs.ReductionRemoveLaws.{removal-of, without-cell, log-grown, logged-grown, one-fewer}
 use Rattle.grants.specs.declared.judgement.Verdict.the-variants.{Stays, Single, Tied}
 use Rattle.grants.specs.declared.cell.CellNo.{CellNo}
 
