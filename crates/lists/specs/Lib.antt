@@ -4,6 +4,7 @@ pub mod TestLaws
 pub mod AppendLaws
 pub mod Ordered
 pub mod OrderedUnique
+pub mod OrderedMap
 pub mod FilterLength
 pub mod Distinct
 pub mod LeastLaws
@@ -14,6 +15,7 @@ pub mod ListOfLaws
 pub mod EachLaws
 pub mod Total
 pub mod SameLaws
+pub mod SameDropLaws
 pub mod TailLaws
 pub mod Placement
 pub mod Classing
@@ -24,3 +26,4 @@ pub mod KeyLaws
 pub mod Beginning
 pub mod Lexicographic
 pub mod Ascii
+pub mod PassingBelow
