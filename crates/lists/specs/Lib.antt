@@ -3,6 +3,11 @@ pub mod Lists
 pub mod TestLaws
 pub mod Ordered
 pub mod ReverseLaws
+pub mod CutLaws
+pub mod JoinLaws
+pub mod ListOfLaws
+pub mod SameLaws
+pub mod TailLaws
 pub mod Placement
 pub mod Classing
 pub mod GrownLaws

@@ -4,3 +4,4 @@ pub mod Classes
 pub mod PairedLaws
 pub mod Roles
 pub mod RoleLaws
+pub mod RoleRows

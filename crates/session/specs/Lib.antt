@@ -5,5 +5,7 @@ pub mod Sequence
 pub mod Demands
 pub mod Edges
 pub mod Reached
+pub mod Answers
 pub mod Owed
 pub mod Settled
+pub mod Demand1

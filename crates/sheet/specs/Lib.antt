@@ -7,3 +7,16 @@ pub mod GrantOrderLaws
 pub mod Refusal
 pub mod Rules
 pub mod Rows
+pub mod TextLaws
+pub mod CauseLaws
+pub mod SheetLines
+pub mod ByteLaws
+pub mod ByteCauses
+pub mod LineCauses
+pub mod NameCauses
+pub mod Unrefused
+pub mod TextBytes
+pub mod KeepsLaws
+pub mod AcceptedKeeps
+pub mod Accepted
+pub mod AcceptedFacts
