@@ -17,6 +17,8 @@ pub mod Classing
 pub mod GrownLaws
 pub mod PlacementLaws
 pub mod GroupingLaws
+pub mod SameGrouping
+pub mod LatestFirst
 pub mod KeyLaws
 pub mod Beginning
 pub mod Lexicographic
