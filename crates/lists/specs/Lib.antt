@@ -11,6 +11,7 @@ pub mod CutLaws
 pub mod JoinLaws
 pub mod ListOfLaws
 pub mod SameLaws
+pub mod SameDropLaws
 pub mod TailLaws
 pub mod Placement
 pub mod Classing
@@ -23,3 +24,6 @@ pub mod KeyLaws
 pub mod Beginning
 pub mod Lexicographic
 pub mod Ascii
+pub mod AppendLaws
+pub mod PassingBelow
+pub mod OrderedSame
