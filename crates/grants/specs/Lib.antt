@@ -8,3 +8,7 @@ pub mod Cases
 pub mod NumberLaws
 pub mod CoverLaws
 pub mod CellSets
+pub mod CellPlaces
+pub mod CellPlaceLaws
+pub mod CellListLaws
+pub mod FitWordLaws

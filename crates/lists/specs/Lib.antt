@@ -7,6 +7,7 @@ pub mod CutLaws
 pub mod JoinLaws
 pub mod ListOfLaws
 pub mod SameLaws
+pub mod SameDropLaws
 pub mod TailLaws
 pub mod Placement
 pub mod Classing
@@ -19,3 +20,6 @@ pub mod KeyLaws
 pub mod Beginning
 pub mod Lexicographic
 pub mod Ascii
+pub mod AppendLaws
+pub mod PassingBelow
+pub mod OrderedSame
