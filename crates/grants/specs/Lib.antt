@@ -12,3 +12,9 @@ pub mod CellPlaces
 pub mod CellPlaceLaws
 pub mod CellListLaws
 pub mod FitWordLaws
+pub mod KernelArray
+pub mod CoverRelation
+pub mod CoverRelationLaws
+pub mod CoverMarks
+pub mod CoverPlaced
+pub mod CoverArray
