@@ -13,7 +13,8 @@ use Rattle.bits.specs.Truth.{same-truth, and-right, and-intro}
 use Rattle.bits.specs.Below.{count-below}
 use Rattle.lists.specs.Lists.{filter}
 use Rattle.lists.specs.AppendLaws.{filter-map}
-use Rattle.lists.specs.OrderedSame.{same-elements, ordered-map}
+use Rattle.lists.specs.OrderedMap.{ordered-map}
+use Rattle.lists.specs.OrderedUnique.{ordered-unique}
 use Rattle.lists.specs.PassingBelow.{passing-below, passing-only, passing-member, passing-rises, passing-filter, passing-length, passing-ext}
 use Rattle.sheet.specs.Sheet.{Sheet, Grant, holds, grants}
 use Rattle.sheet.specs.Rows.{row-bits}
@@ -66,7 +67,7 @@ module _ {rows : List ℕ} {users : ℕ} {sheet : Sheet} (shown : Shown rows use
 
   pub grants-by-cell : grants sheet ≡ map grant-of (passing-below (users * row-bits) (marked rows))
   grants-by-cell =
-      same-elements Before before-strict (grants sheet) (map grant-of (passing-below (users * row-bits) (marked rows)))
+      ordered-unique Before before-strict (grants sheet) (map grant-of (passing-below (users * row-bits) (marked rows)))
       (grants-ordered sheet) (ordered-map _<_ Before grant-of lower-cell (passing-below (users * row-bits) (marked rows)) (passing-rises (users * row-bits) (marked rows)))
       there back
     where

@@ -9,8 +9,17 @@ pub mod Cover
 pub mod Cases
 pub mod NumberLaws
 pub mod CoverLaws
+pub mod KernelArray
+pub mod CoverRelation
+pub mod CoverRelationLaws
+pub mod CoverMarks
+pub mod CoverPlaced
+pub mod CoverArray
 pub mod CellSets
 pub mod CellPlaces
 pub mod CellPlaceLaws
 pub mod CellListLaws
 pub mod FitWordLaws
+pub mod Log
+pub mod NearCells
+pub mod NearLaws

@@ -1,13 +1,9 @@
 -- Tests over two lists one after the other, and over a list that is mapped. Each law is an induction on the first list.
-use mathlib.Core.Path.{_≡_, refl, sym}
-use mathlib.Core.Bool.{Bool, true, false, _&&_}
+use mathlib.Core.Path.{_≡_, refl, sym, ap, _∙_}
+use mathlib.Core.Bool.{Bool, true, false, _&&_, and-assoc}
 use mathlib.Core.List.{List, [], _∷_, _++_, map}
 use mathlib.Core.Option.{Option, none, some}
 use Rattle.lists.specs.Lists.{all, keep, filter, or-later, first}
-
-and-over : (a b c : Bool) → (a && (b && c)) ≡ ((a && b) && c)
-and-over true b c = refl
-and-over false b c = refl
 
 module _ {A : Type 0} where
   keep-append : (b : Bool) (a : A) (s t : List A) → keep b a s ++ t ≡ keep b a (s ++ t)
@@ -18,9 +14,9 @@ module _ {A : Type 0} where
   filter-append test [] t = refl
   filter-append test (a ∷ s) t = rw (filter-append test s t) (sym (keep-append (test a) a (filter test s) (filter test t)))
 
-  pub all-append : (test : A → Bool) (s t : List A) → all test (s ++ t) ≡ (all test s && all test t)
-  all-append test [] t = refl
-  all-append test (a ∷ s) t = rw (all-append test s t) (and-over (test a) (all test s) (all test t))
+  pub all-append : (test : A → Bool) (l m : List A) → all test (l ++ m) ≡ (all test l && all test m)
+  all-append test [] m = refl
+  all-append test (a ∷ l) m = ap (λ b. test a && b) (all-append test l m) ∙ sym (and-assoc (test a) (all test l) (all test m))
 
   -- what the first list has, else what the second has
   abbrev pub or-else : Option A → Option A → Option A

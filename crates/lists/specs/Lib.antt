@@ -1,8 +1,10 @@
 -- What the definitions of all crates are written with: lists under a Boolean test, lists in order, placements in classes, and words as bytes.
 pub mod Lists
 pub mod TestLaws
+pub mod AppendLaws
 pub mod Ordered
 pub mod OrderedUnique
+pub mod OrderedMap
 pub mod FilterLength
 pub mod Distinct
 pub mod LeastLaws
@@ -10,6 +12,8 @@ pub mod ReverseLaws
 pub mod CutLaws
 pub mod JoinLaws
 pub mod ListOfLaws
+pub mod EachLaws
+pub mod Total
 pub mod SameLaws
 pub mod SameDropLaws
 pub mod TailLaws
@@ -24,6 +28,4 @@ pub mod KeyLaws
 pub mod Beginning
 pub mod Lexicographic
 pub mod Ascii
-pub mod AppendLaws
 pub mod PassingBelow
-pub mod OrderedSame

@@ -7,12 +7,13 @@ use mathlib.Core.Path.{_≡_, refl, ap, _∙_}
 use mathlib.Core.Logic.{_⊎_, inl, inr, ⊎-elim}
 use mathlib.Core.Bool.{Bool, true, false, So, _&&_, false≢true, and-true, and-comm}
 use mathlib.Core.List.{List, [], _∷_, _++_, append-nil, List·Memᴰ, List·Memᴰ·head, List·Memᴰ·not-nil, List·Memᴰ·append-cases, List·Memᴰ·cases-cons, Memᴰ·append-left, Memᴰ·append-right}
+use mathlib.Core.Option.{none, some}
 use lib.ListN.{length, length-append}
-use Rattle.bits.specs.Truth.{implies}
-use Rattle.bits.specs.Below.{one-if, count-below, every-below}
+use Rattle.bits.specs.Truth.{implies, not-both, and-left, and-right}
+use Rattle.bits.specs.Below.{one-if, count-below, every-below, Lowest}
 use Rattle.bits.specs.BelowLaws.{last-or-below}
-use Rattle.lists.specs.Lists.{all, keep, filter}
-use Rattle.lists.specs.AppendLaws.{filter-append, all-append}
+use Rattle.lists.specs.Lists.{all, keep, filter, first}
+use Rattle.lists.specs.AppendLaws.{filter-append, all-append, first-append}
 use Rattle.lists.specs.Ordered.{Ordered, ordered-append}
 
 -- the numbers below n that pass f
@@ -101,6 +102,31 @@ passing-all (suc n) f test =
     last : (b : Bool) → all test (keep b n []) ≡ implies b (test n)
     last true = and-true (test n)
     last false = refl
+
+-- ---- the first that passes another test
+
+pub passing-first-none : (n : ℕ) (f test : ℕ → Bool) → ((i : ℕ) → i < n → (f i && test i) ≡ false) → first test (passing-below n f) ≡ none
+unfolding passing-below
+passing-first-none zero f test h = refl
+passing-first-none (suc n) f test h =
+    rw (first-append test (passing-below n f) (keep (f n) n []), passing-first-none n f test (λ i l. h i (le-step l)))
+    (last (f n) (h n (le-refl (suc n))))
+  where
+    last : (b : Bool) → (b && test n) ≡ false → first test (keep b n []) ≡ none
+    last true e = rw e
+    last false e = refl
+
+pub passing-first : (n : ℕ) (f test : ℕ → Bool) {i : ℕ} → Lowest n (λ j. f j && test j) i → first test (passing-below n f) ≡ some i
+unfolding passing-below
+passing-first zero f test w = absurd (not-suc-le-zero (w .within))
+passing-first (suc n) f test {i} w =
+    rw (first-append test (passing-below n f) (keep (f n) n []))
+    (⊎-elim (λ e. rw (passing-first-none n f test (λ j l. w .first j (rw e l))) (last e (f n) refl (rw e at (w .holds))))
+    (λ l. rw (passing-first n f test (record { within = l; holds = w .holds; first = w .first }))) (last-or-below (w .within)))
+  where
+    last : i ≡ n → (b : Bool) → f n ≡ b → So (f n && test n) → first test (keep b n []) ≡ some i
+    last e true g p = rw (and-right (f n) (test n) p, e)
+    last e false g p = absurd (not-both (and-left (f n) (test n) p) g)
 
 -- ---- a greater bound
 

@@ -26,7 +26,7 @@ judged : (causes : List Cause) (number : ℕ) (Unchanged : Type 0) → So (risin
 judged causes number Unchanged r e h = record { lowest = rw e (first-is-lowest causes r); unchanged = λ n. h (λ z. n (e ∙ z)) }
 
 -- a load's number is its refusal's
-load-number-is-refusal : (text : Bytes) → load-answer text .number ≡ refusal text
+pub load-number-is-refusal : (text : Bytes) → load-answer text .number ≡ refusal text
 unfolding load-answer
 load-number-is-refusal text =
     ⊎-elim (λ (p : So (accepted text)). rw p (sym (eqb-true (refusal text) 0 p))) (λ (f : accepted text ≡ false). rw f)
