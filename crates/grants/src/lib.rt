@@ -5,6 +5,7 @@ mod fit;
 mod kernel;
 
 pub use cell::CellNo;
+pub use cell::ROW_BITS;
 pub use cover::Placement;
 pub use cover::first_best;
 pub use fit::fitting;

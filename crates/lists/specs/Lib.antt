@@ -25,6 +25,7 @@ pub mod GroupingLaws
 pub mod SameGrouping
 pub mod LatestFirst
 pub mod KeyLaws
+pub mod KeyStep
 pub mod Beginning
 pub mod Lexicographic
 pub mod Ascii
