@@ -7,3 +7,7 @@ pub mod RoleLaws
 pub mod RoleRows
 pub mod StandingCases
 pub mod Cases
+pub mod CellClasses
+pub mod CellClassLaws
+pub mod RoleNumbers
+pub mod RoleNumberLaws
