@@ -26,7 +26,7 @@ use Rattle.lists.specs.SameGrouping.{grouping-ext}
 use Rattle.sheet.specs.Limits.{grant-limit}
 use Rattle.grants.specs.CellPlaces.{cell-limit, grant-of}
 use Rattle.grants.specs.Cover.{grant-at}
-use Rattle.grants.specs.CoverPlaced.{Placed, none-placed, one-placed}
+use Rattle.grants.specs.CoverPlaced.{Placed, none-placed, few-classes, one-placed}
 use Rattle.roles.specs.Classes.{Classed, class-of}
 use Rattle.roles.specs.Roles.{class-at, role-numbers}
 use Rattle.roles.specs.CellClasses.{ClassAt, listed, CellsBelow}
@@ -51,9 +51,12 @@ nothing-numbered key n m room wide =
       unnamed = λ c l f. getD-replicate m c no-role 0 (omega arith);
     }
 
--- there are no more classes than numbers
-pub keyed-used-le : (key : ℕ → ℕ) (i : ℕ) → used (by-key key i) ≤ i
+-- there are no more roles than grants
+keyed-used-le : (key : ℕ → ℕ) (i : ℕ) → used (by-key key i) ≤ i
 keyed-used-le key i = rw (grouping-length (same-key key) i) at (grown-used-le (by-key key i) (grouping-grown (same-key key) i))
+
+pub numbering-count-le : {key : ℕ → ℕ} {i : ℕ} {table roles : List ℕ} {count : ℕ} → Numbering key i table roles count → count ≤ i
+numbering-count-le {key} {i} {roles} {count} so-far = few-classes (same-key key) roles i count (so-far .numbers)
 
 module _ {key : ℕ → ℕ} {i : ℕ} {table roles : List ℕ} {count : ℕ} (so-far : Numbering key i table roles count) (room : i < grant-limit)
     (fits : key i < class-limit) where
@@ -124,3 +127,7 @@ module _ {class cells : List ℕ} {members : List Classed} (at : ClassAt class m
       rw (length-list-of n (λ j. grant-of (getD cells j 0)))
       (grouping-ext (class-at (listed cells n) members) (same-key (class-key class cells)) n
       (λ i j k l. rw (class-of-listed i l, class-of-listed j (lt-trans k l))))
+
+  pub all-numbered : {table roles : List ℕ} {count i : ℕ} → i ≡ n → Numbering (class-key class cells) i table roles count
+      → Placed (role-numbers (listed cells n) members) roles n count
+  all-numbered e numbering = rw (role-numbers-by-class, ← e) (numbering .numbers)

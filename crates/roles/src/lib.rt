@@ -1,6 +1,7 @@
 // Roles from a placement of the kernel.
 mod classes;
 mod limits;
+mod numbers;
 mod standing;
 
 pub use classes::CellClasses;
@@ -8,6 +9,8 @@ pub use classes::all_classes;
 pub use limits::CELL_LIMIT;
 pub use limits::ROLE_LIMIT;
 pub use limits::ROLE_WORDS;
+pub use numbers::RoleNumbers;
+pub use numbers::number_roles;
 pub use standing::Standing;
 pub use standing::bound_of;
 pub use standing::standing_of;
