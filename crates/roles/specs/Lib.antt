@@ -11,3 +11,4 @@ pub mod CellClasses
 pub mod CellClassLaws
 pub mod RoleNumbers
 pub mod RoleNumberLaws
+pub mod RoleMatrices

@@ -2,6 +2,7 @@
 mod classes;
 mod limits;
 mod numbers;
+mod rows;
 mod standing;
 
 pub use classes::CellClasses;

@@ -7,6 +7,7 @@ pub mod GrantOrderLaws
 pub mod Refusal
 pub mod Rules
 pub mod Rows
+pub mod CellMarked
 pub mod Places
 pub mod LaidOut
 pub mod RowsRead

@@ -24,7 +24,7 @@ cell-below c = c .before .before .pre .1 .below (c .before .loop .i) (c .loop-te
 
 loop-holds : tie.Need-loop-holds Inv-loop μ-loop
 unfolding user-limit row-words
-loop-holds c = (omega arith, no-classes 16384 refl)
+loop-holds c = (omega arith, no-classes cell-limit refl)
 
 mul-cell : tie.Need-mul-cell Inv-loop μ-loop
 unfolding grant-limit

@@ -31,7 +31,7 @@ few-roles c = omega (arith, numbering-count-le (c .before .loop .inv .1))
 
 loop-holds : tie.Need-loop-holds Inv-loop μ-loop
 unfolding grant-limit
-loop-holds c = (omega arith, nothing-numbered (class-key (c .args .class .now) (c .args .cells .now)) 2048 4096 refl refl)
+loop-holds c = (omega arith, nothing-numbered (class-key (c .args .class .now) (c .args .cells .now)) grant-limit class-limit refl refl)
 
 mul-cell : tie.Need-mul-cell Inv-loop μ-loop
 unfolding grant-limit

@@ -1,0 +1,106 @@
+-- `roles::user_rows`: after i turns the words hold who has which role by the first i grants, since each turn sets the cell of the next grant's user and role.
+use Prim.Native.Nat.{ℕ, _≤_, _<_, _-_}
+use native.Mathlib.Omega.{arith}
+use mathlib.Core.Path.{_≡_, sym, _∙_}
+use lib.ListN.{length, getD, length-replicate}
+use Rattle.sheet.specs.Limits.{grant-limit, user-limit}
+use Rattle.sheet.specs.Rows.{row-words, row-bits}
+use Rattle.sheet.specs.CellMarked.{word-below}
+use Rattle.grants.specs.CellPlaces.{cell-words, cell-limit}
+use Rattle.roles.specs.CellClassLaws.{paired-in}
+use Rattle.roles.specs.RoleMatrices.{CellsShow, has-role, user-of-cell-below, no-cells, has-role-next}
+use Rattle.roles.proofs.rows.user_rows.Statement.{statement}
+use Rattle.roles.proofs.rows.user_rows.Tie as tie
+
+abbrev Inv-loop : tie.InvT-loop
+Inv-loop cells roles n has₀ i₀ has i = (i ≤ n) × (length has ≡ cell-words) × CellsShow has (has-role (paired-in cells roles i))
+
+abbrev μ-loop : tie.MeasureT-loop
+μ-loop cells roles n has₀ i₀ has i = n - i
+
+-- the next grant is a cell, and its role a column of a row
+cell-below : (c : tie.In-loop Inv-loop μ-loop) → getD (c .before .before .args .cells .now) (c .before .loop .i) 0 < cell-limit
+cell-below c = c .before .before .pre .1 .below (c .before .loop .i) (c .loop-test .taken)
+
+role-below : (c : tie.In-loop Inv-loop μ-loop) → getD (c .before .before .args .roles .now) (c .before .loop .i) 0 < row-bits
+role-below c = c .before .before .pre .2 .below (c .before .loop .i) (c .loop-test .taken)
+
+loop-holds : tie.Need-loop-holds Inv-loop μ-loop
+unfolding user-limit row-words row-bits
+loop-holds c = (omega arith, length-replicate {A = ℕ} cell-words 0, no-cells cell-words)
+
+slice-aggregate-mark : tie.Need-slice-aggregate-mark Inv-loop μ-loop
+unfolding user-limit row-bits row-words
+slice-aggregate-mark c = sym (c .before .before .loop .inv .1)
+
+mul-mark : tie.Need-mul-mark Inv-loop μ-loop
+unfolding grant-limit
+mul-mark c = omega arith
+
+element-copy-out-mark : tie.Need-element-copy-out-mark Inv-loop μ-loop
+unfolding grant-limit
+element-copy-out-mark c = omega arith
+
+cast-mark : tie.Need-cast-mark Inv-loop μ-loop
+unfolding user-limit row-bits row-words
+cast-mark c = omega (arith, cell-below (c .before .before))
+
+mul-mark-2 : tie.Need-mul-mark-2 Inv-loop μ-loop
+unfolding grant-limit
+mul-mark-2 c = omega arith
+
+element-copy-out-mark-2 : tie.Need-element-copy-out-mark-2 Inv-loop μ-loop
+unfolding grant-limit
+element-copy-out-mark-2 c = omega arith
+
+cast-mark-2 : tie.Need-cast-mark-2 Inv-loop μ-loop
+unfolding user-limit row-bits row-words
+cast-mark-2 c = omega (arith, role-below (c .before .before .before))
+
+mark-requires : tie.Need-mark-requires Inv-loop μ-loop
+unfolding row-bits row-words
+mark-requires c κs =
+    let in-loop = c .before .before .before in
+    (role-below in-loop, rw (in-loop .before .loop .inv .1) (word-below (user-of-cell-below (cell-below in-loop)) (role-below in-loop)))
+
+add-i : tie.Need-add-i Inv-loop μ-loop
+unfolding grant-limit
+add-i c = omega arith
+
+loop-less : tie.Need-loop-less Inv-loop μ-loop
+unfolding grant-limit
+loop-less c = omega arith
+
+loop-again : tie.Need-loop-again Inv-loop μ-loop
+unfolding row-bits row-words
+loop-again c =
+    let in-loop = c .before .before .before .before .before in
+    let a = in-loop .before .before .args in
+    let inv = in-loop .before .loop .inv in
+    let marked = c .before .mark .ensures in
+    (omega arith, marked .room ∙ inv .1, has-role-next (a .cells .now) (a .roles .now) (in-loop .before .loop .i) marked (inv .2))
+
+returns : tie.Need-returns Inv-loop μ-loop
+returns c =
+    let e : c .before .loop .i ≡ c .before .before .args .n = omega arith in
+    rw e at (c .before .loop .inv .2)
+
+pub user-rows-spec : {M : Type 1} → statement M
+user-rows-spec =
+    tie.close
+    (tie.spec
+    Inv-loop
+    μ-loop
+    loop-holds
+    slice-aggregate-mark
+    mul-mark
+    element-copy-out-mark
+    cast-mark
+    mul-mark-2
+    element-copy-out-mark-2
+    cast-mark-2
+    mark-requires
+    add-i
+    loop-less
+    loop-again
+    returns)
