@@ -10,6 +10,7 @@ pub mod Cases
 pub mod NumberLaws
 pub mod CoverLaws
 pub mod KernelArray
+pub mod KernelWalk
 pub mod CoverRelation
 pub mod CoverRelationLaws
 pub mod CoverMarks
