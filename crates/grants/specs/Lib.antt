@@ -11,8 +11,8 @@ pub mod NumberLaws
 pub mod CoverLaws
 pub mod KernelArray
 pub mod KernelWalk
+pub mod KernelFit
 pub mod CoverRelation
-pub mod CoverRelationLaws
 pub mod CoverMarks
 pub mod CoverPlaced
 pub mod CoverArray

@@ -3,11 +3,13 @@ use crate::cell::ROW_BITS;
 use bits::WORD_BITS;
 use sheet::CELL_WORDS;
 use sheet::GRANT_LIMIT;
+ghost use mathlib.Core.Path.{_≡_};
 ghost use Prim.Native.Nat.{_*_, _≤_, _<_};
 ghost use Rattle.bits.specs.Bit.{bit, word-bits};
 ghost use Rattle.sheet.specs.Limits.{user-limit};
 ghost use Rattle.sheet.specs.Rows.{row-bits};
-ghost use Rattle.grants.specs.CellPlaces.{marked};
+ghost use Rattle.grants.specs.CellPlaces.{marked, fit-in, grant-of};
+ghost use Rattle.grants.specs.KernelArray.{Listed};
 ghost use Rattle.grants.specs.KernelWalk.{NextFrom};
 
 // Grants in order: the cell of each by its number, and how many there are.
@@ -44,4 +46,45 @@ pub fn next_cell(words: &[u64; CELL_WORDS], users: usize, from: usize) -> usize
         n = (i + 1) * WORD_BITS;
     }
     n
+}
+
+// The grants of a set in order. A set of more than GRANT_LIMIT, which no sheet has, is cut there.
+pub fn listed(left: &[u64; CELL_WORDS], users: usize) -> Kernel
+    requires { ⌜ users ≤ user-limit ⌝ }
+    ensures { λ r. ⌜ Listed (now (left .entry)) users (r .cells) (r .size) ⌝ }
+{
+    let mut cells = [0; GRANT_LIMIT];
+    let mut size = 0;
+    let mut n = next_cell(left, users, 0);
+    while n < users * ROW_BITS && size < GRANT_LIMIT {
+        cells[size] = n as u16;
+        size += 1;
+        n = next_cell(left, users, n + 1);
+    }
+    Kernel { cells, size }
+}
+
+// Whether cell n is set.
+fn is_set(words: &[u64], n: usize) -> bool
+    ensures { λ r. ⌜ r ≡ marked (now (words .entry)) n ⌝ }
+{
+    let i = n / WORD_BITS;
+    if i < words.len() {
+        bits::has(words[i], n % WORD_BITS)
+    } else {
+        false
+    }
+}
+
+// Whether the grants at two cells fit.
+pub fn cells_fit(rows: &[u64], a: u16, b: u16) -> bool
+    ensures { λ r. ⌜ r ≡ fit-in (now (rows .entry)) (grant-of a) (grant-of b) ⌝ }
+{
+    let m = a as usize;
+    let n = b as usize;
+    if is_set(rows, m / ROW_BITS * ROW_BITS + n % ROW_BITS) {
+        is_set(rows, n / ROW_BITS * ROW_BITS + m % ROW_BITS)
+    } else {
+        false
+    }
 }
