@@ -16,6 +16,8 @@ pub mod CoverRelation
 pub mod CoverMarks
 pub mod CoverPlaced
 pub mod CoverArray
+pub mod TableWords
+pub mod TableLaws
 pub mod CellSets
 pub mod CellPlaces
 pub mod CellPlaceLaws
