@@ -10,11 +10,14 @@ pub mod Cases
 pub mod NumberLaws
 pub mod CoverLaws
 pub mod KernelArray
+pub mod KernelWalk
+pub mod KernelFit
 pub mod CoverRelation
-pub mod CoverRelationLaws
 pub mod CoverMarks
 pub mod CoverPlaced
 pub mod CoverArray
+pub mod TableWords
+pub mod TableLaws
 pub mod CellSets
 pub mod CellPlaces
 pub mod CellPlaceLaws

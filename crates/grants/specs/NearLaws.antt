@@ -56,8 +56,10 @@ module _ {rows : List ℕ} {users : ℕ} {sheet : Sheet} (shown : Shown rows use
   pub partners-one-fewer : (it : ℕ) → it < users * row-bits → So (marked left it)
       → length (filter (fits sheet (grant-of it)) (cell-grants sheet left)) ≡ length (partners sheet (cell-grants sheet left) (grant-of it)) + 1
   partners-one-fewer it inside p =
-      rw (passing-grants-count shown part (fits sheet (grant-of it)),
-      passing-grants-count shown part (λ h. not (same-grant (grant-of it) h) && fits sheet (grant-of it) h))
+      rw (
+        passing-grants-count shown part (fits sheet (grant-of it)),
+        passing-grants-count shown part (λ h. not (same-grant (grant-of it) h) && fits sheet (grant-of it) h),
+      )
       (count-below-without (users * row-bits) (λ n. marked left n && fits sheet (grant-of it) (grant-of n)) inside
       (and-intro (marked left it) (fits sheet (grant-of it) (grant-of it)) p (left-fits-itself it p))
       ∙ ap (λ k. k + 1) (count-below-ext (users * row-bits) (λ n. (marked left n && fits sheet (grant-of it) (grant-of n)) && not (eqb n it))

@@ -1,6 +1,6 @@
 // The first cover: three groupings of the kernel in grant order, and the first best.
 use crate::cell::ROW_BITS;
-use bits::WORD_BITS;
+use crate::kernel::cells_fit;
 use sheet::GRANT_LIMIT;
 ghost use mathlib.Core.Path.{_≡_};
 ghost use mathlib.Core.Bool.{false, not};
@@ -15,7 +15,7 @@ ghost use Rattle.sheet.specs.Limits.{grant-limit};
 ghost use Rattle.sheet.specs.Sheet.{Sheet};
 ghost use Rattle.grants.specs.Reduction.{kernel};
 ghost use Rattle.grants.specs.Cover.{fewer, first-best};
-ghost use Rattle.grants.specs.CellPlaces.{marked, fit-in, grant-of, Shown};
+ghost use Rattle.grants.specs.CellPlaces.{grant-of, Shown};
 ghost use Rattle.grants.specs.CoverRelation.{related, related-at};
 ghost use Rattle.grants.specs.CoverMarks.{Marks};
 ghost use Rattle.grants.specs.CoverPlaced.{Placed};
@@ -31,31 +31,6 @@ enum Relation {
 pub struct Placement {
     pub classes: [u16; GRANT_LIMIT],
     pub used: usize,
-}
-
-// Whether cell n is set.
-fn is_set(words: &[u64], n: usize) -> bool
-    ensures { λ r. ⌜ r ≡ marked (now (words .entry)) n ⌝ }
-{
-    let i = n / WORD_BITS;
-    if i < words.len() {
-        bits::has(words[i], n % WORD_BITS)
-    } else {
-        false
-    }
-}
-
-// Whether the grants at two cells fit.
-fn cells_fit(rows: &[u64], a: u16, b: u16) -> bool
-    ensures { λ r. ⌜ r ≡ fit-in (now (rows .entry)) (grant-of a) (grant-of b) ⌝ }
-{
-    let m = a as usize;
-    let n = b as usize;
-    if is_set(rows, m / ROW_BITS * ROW_BITS + n % ROW_BITS) {
-        is_set(rows, n / ROW_BITS * ROW_BITS + m % ROW_BITS)
-    } else {
-        false
-    }
 }
 
 // Whether the grants at two cells go together.

@@ -1,9 +1,9 @@
--- `grants::cover::is_set`: the bit is read where the words have the cell; past them no cell is set.
+-- `grants::kernel::is_set`: the bit is read where the words have the cell; past them no cell is set.
 use mathlib.Core.Path.{sym}
 use borrow.Author.Needs.{needs}
-use Rattle.grants.specs.CoverRelationLaws.{unset-past}
-use Rattle.grants.proofs.cover.is_set.Statement.{statement}
-use Rattle.grants.proofs.cover.is_set.Tie as tie
+use Rattle.grants.specs.KernelFit.{unset-past}
+use Rattle.grants.proofs.kernel.is_set.Statement.{statement}
+use Rattle.grants.proofs.kernel.is_set.Tie as tie
 
 mul-has : tie.Need-mul-has
 mul-has c = search needs

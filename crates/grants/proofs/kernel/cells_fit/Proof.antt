@@ -1,10 +1,10 @@
--- `grants::cover::cells_fit`: two grants fit where two cells are set, and the second is read only if the first is.
+-- `grants::kernel::cells_fit`: two grants fit where two cells are set, and the second is read only if the first is.
 use mathlib.Core.Path.{sym, _∙_}
 use borrow.Author.Needs.{needs}
 use Rattle.sheet.specs.Rows.{row-words, row-bits}
-use Rattle.grants.specs.CoverRelationLaws.{fit-by-cells}
-use Rattle.grants.proofs.cover.cells_fit.Statement.{statement}
-use Rattle.grants.proofs.cover.cells_fit.Tie as tie
+use Rattle.grants.specs.KernelFit.{fit-by-cells}
+use Rattle.grants.proofs.kernel.cells_fit.Statement.{statement}
+use Rattle.grants.proofs.kernel.cells_fit.Tie as tie
 
 mul-is-set : tie.Need-mul-is-set
 mul-is-set c = search needs
