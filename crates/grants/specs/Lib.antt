@@ -24,5 +24,6 @@ pub mod CellPlaceLaws
 pub mod CellListLaws
 pub mod FitWordLaws
 pub mod Log
+pub mod RemovedGranted
 pub mod NearCells
 pub mod NearLaws

@@ -12,3 +12,6 @@ pub mod CellClassLaws
 pub mod RoleNumbers
 pub mod RoleNumberLaws
 pub mod RoleMatrices
+pub mod RolesShown
+pub mod RolesInput
+pub mod RolesInputLaws

@@ -127,7 +127,3 @@ module _ {class cells : List ℕ} {members : List Classed} (at : ClassAt class m
       rw (length-list-of n (λ j. grant-of (getD cells j 0)))
       (grouping-ext (class-at (listed cells n) members) (same-key (class-key class cells)) n
       (λ i j k l. rw (class-of-listed i l, class-of-listed j (lt-trans k l))))
-
-  pub all-numbered : {table roles : List ℕ} {count i : ℕ} → i ≡ n → Numbering (class-key class cells) i table roles count
-      → Placed (role-numbers (listed cells n) members) roles n count
-  all-numbered e numbering = rw (role-numbers-by-class, ← e) (numbering .numbers)

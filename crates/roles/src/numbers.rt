@@ -3,14 +3,12 @@ use crate::limits::CELL_LIMIT;
 use crate::limits::CLASS_LIMIT;
 use sheet::GRANT_LIMIT;
 ghost use mathlib.Core.Path.{_≡_};
-ghost use mathlib.Core.List.{List};
 ghost use Prim.Native.Nat.{suc, _<_, _≤_, _^_, max};
+ghost use Rattle.lists.specs.KeyLaws.{by-key};
 ghost use Rattle.sheet.specs.Limits.{grant-limit};
 ghost use Rattle.grants.specs.CoverPlaced.{Placed};
-ghost use Rattle.roles.specs.Classes.{Classed};
-ghost use Rattle.roles.specs.Roles.{role-numbers};
-ghost use Rattle.roles.specs.CellClasses.{ClassAt, CellsBelow, listed};
-ghost use Rattle.roles.specs.RoleNumbers.{class-limit, role-from, KeysBelow};
+ghost use Rattle.roles.specs.CellClasses.{CellsBelow};
+ghost use Rattle.roles.specs.RoleNumbers.{class-limit, class-key, role-from, KeysBelow};
 
 // What the table has for a class with no role yet: no role has this number.
 const NO_ROLE: u16 = GRANT_LIMIT as u16;
@@ -45,8 +43,7 @@ pub fn number_roles<'a>(
     class: &'a [u16; CELL_LIMIT],
 ) -> RoleNumbers
     requires { ⌜ (n ≤ grant-limit) × CellsBelow n (now cells) × KeysBelow n (now class) (now cells) ⌝ }
-    ensures { λ r. ⌜ ((members : List Classed) → ClassAt (now (class .entry)) members
-        → Placed (role-numbers (listed (now (cells .entry)) n) members) (r .roles) n (r .count)) ⌝ }
+    ensures { λ r. ⌜ Placed (by-key (class-key (now (class .entry)) (now (cells .entry))) n) (r .roles) n (r .count) ⌝ }
 {
     let mut table = [NO_ROLE; CLASS_LIMIT];
     let mut roles = [0; GRANT_LIMIT];

@@ -24,7 +24,7 @@ fn mark(words: &mut [u64], row: usize, column: usize)
 }
 
 // Who has which role: each grant's user has its role.
-fn user_rows<'a>(
+pub fn user_rows<'a>(
     cells: &'a [u16; GRANT_LIMIT],
     roles: &'a [u16; GRANT_LIMIT],
     n: usize,
@@ -42,7 +42,7 @@ fn user_rows<'a>(
 }
 
 // What each role gives: each grant's role gives its permission.
-fn role_rows<'a>(
+pub fn role_rows<'a>(
     cells: &'a [u16; GRANT_LIMIT],
     roles: &'a [u16; GRANT_LIMIT],
     n: usize,

@@ -7,7 +7,7 @@ use Rattle.sheet.specs.Limits.{grant-limit, user-limit}
 use Rattle.sheet.specs.Rows.{row-words}
 use Rattle.grants.specs.CellPlaces.{cell-limit}
 use Rattle.roles.specs.RoleNumbers.{class-limit, class-key}
-use Rattle.roles.specs.RoleNumberLaws.{Numbering, nothing-numbered, numbering-count-le, role-from-is-next, numbering-step, all-numbered}
+use Rattle.roles.specs.RoleNumberLaws.{Numbering, nothing-numbered, numbering-count-le, role-from-is-next, numbering-step}
 use native.Mathlib.Omega.{arith}
 use Rattle.roles.proofs.numbers.number_roles.Statement.{statement}
 use Rattle.roles.proofs.numbers.number_roles.Tie as tie
@@ -97,8 +97,9 @@ loop-again c =
     (omega arith, rw (c .counted .ensures) (numbering-step numbering room (key-below in-loop) (c .before .role-for .result) next))
 
 returns : tie.Need-returns Inv-loop μ-loop
-returns c members at =
-    all-numbered at (c .before .before .args .n) (c .before .before .pre .1) (omega arith) (c .before .loop .inv .1)
+returns c =
+    let e : c .before .loop .i ≡ c .before .before .args .n = omega arith in
+    rw e at (c .before .loop .inv .1 .numbers)
 
 pub number-roles-spec : {M : Type 1} → statement M
 number-roles-spec =
