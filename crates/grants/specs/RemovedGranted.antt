@@ -13,9 +13,9 @@ use Rattle.bits.specs.BelowLaws.{last-or-below}
 use Rattle.lists.specs.Lists.{empty}
 use Rattle.lists.specs.TestLaws.{first-passes}
 use Rattle.sheet.specs.Sheet.{Sheet, Grant, same-grant, grants}
-use Rattle.grants.specs.Fit.{without, partners}
+use Rattle.grants.specs.Fit.{partners}
 use Rattle.grants.specs.WithoutLaws.{without-member}
-use Rattle.grants.specs.Reduction.{Removal, single, tied, Reduction, dominates, dominated, Verdict, is-single, tied-if, verdict, carry-out, visit, visits, sweep, sweeps, unreduced, reduction, kernel}
+use Rattle.grants.specs.Reduction.{Removal, single, tied, Reduction, dominates, dominated, is-single, tied-if, carry-out, visit, visits, sweep, sweeps, unreduced, reduction, kernel}
 use Rattle.grants.specs.Log.{removal-at, log-of}
 
 -- a removal of grants of a list

@@ -1,13 +1,11 @@
 -- What the next number takes in a grouping by key: the class of an earlier number of its key, and where there is none, the next class. The first is read off
 -- the longer grouping, whose classes are exactly its keys. For the second, every class in use has a member, and none has the number's key.
-use Prim.Native.Nat.{ℕ, suc, _≤_, _<_}
+use Prim.Native.Nat.{ℕ, suc, _<_}
 use mathlib.Core.Path.{_≡_, sym, _∙_}
 use mathlib.Core.Bool.{false, So}
-use mathlib.Core.List.{List}
 use native.Mathlib.Nat.{le-step, lt-suc-self}
 use borrow.Author.Tests.{eqb-true, eq-eqb}
 use lib.Dec.{eqb}
-use lib.ListN.{length}
 use Rattle.bits.specs.Truth.{not-both, fails-unless}
 use Rattle.bits.specs.BelowLaws.{some-below-intro}
 use Rattle.bits.specs.LowestLaws.{lowest-below-none-intro}
@@ -21,9 +19,6 @@ module _ (key : ℕ → ℕ) (n : ℕ) where
   -- the class that number n takes
   abbrev pub next-class : ℕ
   next-class = class-taken (same-key key) n (by-key key n)
-
-  pub next-class-le : next-class ≤ used (by-key key n)
-  next-class-le = grouping-grown (same-key key) (suc n) .0
 
   -- in the longer grouping the earlier numbers keep their classes, and number n has the one it takes
   pub keyed-next : class-in (by-key key (suc n)) n ≡ next-class

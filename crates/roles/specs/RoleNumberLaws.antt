@@ -1,12 +1,12 @@
 -- Roles are numbered by their lowest grant: the table has the role of every class that an earlier grant has, and of no other. So a grant takes the role of its
 -- class where an earlier grant has that class, and else the next one, as a grouping by class does.
-use Prim.Native.Nat.{ℕ, zero, suc, _+_, _≤_, _<_, max}
+use Prim.Native.Nat.{ℕ, suc, _+_, _≤_, _<_, max}
 use native.Mathlib.Nat.{le-refl, le-step, lt-suc-self, lt-trans, not-suc-le-zero}
 use native.Mathlib.Numerals.{add-one}
 use native.Mathlib.Omega.{arith}
-use mathlib.Core.Path.{_≡_, refl, sym, ap, _∙_}
+use mathlib.Core.Path.{_≡_, sym, ap, _∙_}
 use mathlib.Core.Logic.{⊎-elim, _≢_}
-use mathlib.Core.Bool.{Bool, false, So}
+use mathlib.Core.Bool.{false, So}
 use mathlib.Core.List.{List}
 use borrow.Author.Tests.{eqb-true, eqb-false, eq-eqb, ne-eqb}
 use lib.Dec.{eqb}
@@ -15,16 +15,16 @@ use lib.Seq.{getD-set-same, getD-set-other}
 use Rattle.bits.specs.Truth.{passes-or-fails, not-both, fails-unless}
 use Rattle.bits.specs.BelowLaws.{last-or-below, some-below-intro, some-below-elim, some-below-more}
 use Rattle.lists.specs.ListOfLaws.{length-list-of, getD-list-of}
-use Rattle.lists.specs.Placement.{used, grouping}
+use Rattle.lists.specs.Placement.{used}
 use Rattle.lists.specs.Classing.{class-in}
 use Rattle.lists.specs.GrownLaws.{grown-used-le}
 use Rattle.lists.specs.PlacementLaws.{class-below-used}
 use Rattle.lists.specs.GroupingLaws.{grouping-length, grouping-grown}
 use Rattle.lists.specs.KeyLaws.{same-key, has-key, by-key}
-use Rattle.lists.specs.KeyStep.{next-class, next-class-le, keyed-next, keyed-before, next-class-known, next-class-new}
+use Rattle.lists.specs.KeyStep.{next-class, keyed-next, keyed-before, next-class-known, next-class-new}
 use Rattle.lists.specs.SameGrouping.{grouping-ext}
 use Rattle.sheet.specs.Limits.{grant-limit}
-use Rattle.grants.specs.CellPlaces.{cell-limit, grant-of}
+use Rattle.grants.specs.CellPlaces.{grant-of}
 use Rattle.grants.specs.Cover.{grant-at}
 use Rattle.grants.specs.CoverPlaced.{Placed, none-placed, few-classes, one-placed}
 use Rattle.roles.specs.Classes.{Classed, class-of}

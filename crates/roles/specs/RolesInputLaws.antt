@@ -1,17 +1,17 @@
 -- What follows for arrays that belong to a sheet: every cell in them is that of a grant, so it lies below the limit; the classes by cell are the classes of
 -- all grants; and the roles of the listed grants in these classes are the roles of the sheet.
-use Prim.Native.Nat.{ℕ, _+_, _*_, _/_, _%_, _≤_, _<_}
+use Prim.Native.Nat.{ℕ, _+_, _/_, _%_, _≤_, _<_}
 use native.Mathlib.Nat.{mul-assoc, div-lt-iff-lt-mul, lt-of-lt-of-le}
 use native.Mathlib.Omega.{arith}
 use mathlib.Core.Path.{_≡_, refl, sym, ap, _∙_}
-use mathlib.Core.Bool.{Bool, true, false, So, cond}
+use mathlib.Core.Bool.{Bool, true, false, cond}
 use mathlib.Core.List.{List, map, List·Memᴰ, Memᴰ·cast}
 use borrow.Author.Tests.{eqb-true}
 use lib.Dec.{eqb, lit<}
 use lib.ListN.{length, getD, take}
 use lib.Seq.{getD-take, length-take-le}
 use Rattle.bits.specs.Bit.{word-bits}
-use Rattle.lists.specs.ListOfLaws.{list-of-same, list-of-places, list-of-member, map-list-of, length-list-of}
+use Rattle.lists.specs.ListOfLaws.{list-of-same, list-of-places, list-of-member, map-list-of}
 use Rattle.lists.specs.Lists.{list-of}
 use Rattle.lists.specs.Placement.{used}
 use Rattle.lists.specs.LatestFirst.{latest-first}
@@ -20,17 +20,15 @@ use Rattle.sheet.specs.Limits.{user-limit, grant-limit}
 use Rattle.sheet.specs.Sheet.{Sheet, Grant, grants}
 use Rattle.sheet.specs.GrantLaws.{grant-held}
 use Rattle.sheet.specs.Rows.{row-words, row-bits}
-use Rattle.grants.specs.Reduction.{Removal, single, tied, Reduction, reduction, kernel}
-use Rattle.grants.specs.CellSets.{cell-grants}
+use Rattle.grants.specs.Reduction.{single, tied, reduction, kernel}
 use Rattle.grants.specs.CellPlaces.{cell-limit, grant-of, Shown}
 use Rattle.grants.specs.CellPlaceLaws.{row-bits-pos}
 use Rattle.grants.specs.CellListLaws.{grants-by-cell, cell-grants-by-cell}
 use Rattle.grants.specs.KernelArray.{Listed}
-use Rattle.grants.specs.Log.{removal-at, log-of}
+use Rattle.grants.specs.Log.{removal-at}
 use Rattle.grants.specs.RemovedGranted.{RemovalOf, reduction-granted, kernel-granted, logged-removal}
-use Rattle.roles.specs.Classes.{Classes, class-of, classes-of}
-use Rattle.roles.specs.Roles.{role-numbers, roles-of-classes, roles-of}
-use Rattle.roles.specs.RoleSet.{RoleSet}
+use Rattle.roles.specs.Classes.{class-of, classes-of}
+use Rattle.roles.specs.Roles.{roles-of-classes, roles-of}
 use Rattle.roles.specs.CellClasses.{ClassAt, ClassesAt, CellsBelow, listed, reduction-in, classes-in}
 use Rattle.roles.specs.CellClassLaws.{class-below}
 use Rattle.roles.specs.RoleNumbers.{class-limit, class-key, KeysBelow}

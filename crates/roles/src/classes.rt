@@ -2,7 +2,6 @@
 use crate::limits::CELL_LIMIT;
 use sheet::GRANT_LIMIT;
 ghost use mathlib.Core.Path.{_≡_};
-ghost use mathlib.Core.List.{reverse};
 ghost use Prim.Native.Nat.{_+_, _<_, _≤_, _^_};
 ghost use Rattle.lists.specs.Placement.{used};
 ghost use Rattle.lists.specs.LatestFirst.{latest-first};

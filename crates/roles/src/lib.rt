@@ -1,4 +1,4 @@
-// Roles from a placement of the kernel.
+// Roles from a placement of the kernel: the classes of all grants, the roles by their lowest grant, the two matrices, and the state and the bound of a book.
 mod classes;
 mod limits;
 mod matrices;
@@ -6,15 +6,10 @@ mod numbers;
 mod rows;
 mod standing;
 
-pub use classes::CellClasses;
-pub use classes::all_classes;
-pub use limits::CELL_LIMIT;
 pub use limits::ROLE_LIMIT;
 pub use limits::ROLE_WORDS;
 pub use matrices::RoleMatrices;
 pub use matrices::roles_of;
-pub use numbers::RoleNumbers;
-pub use numbers::number_roles;
 pub use standing::Standing;
 pub use standing::bound_of;
 pub use standing::standing_of;

@@ -4,12 +4,17 @@ use bits::WORD_BITS;
 use grants::ROW_BITS;
 use sheet::CELL_WORDS;
 use sheet::GRANT_LIMIT;
+use sheet::PermissionNo;
 use sheet::ROW_WORDS;
+use sheet::RoleNo;
+use sheet::UserNo;
+ghost use mathlib.Core.Path.{_≡_};
 ghost use Prim.Native.Nat.{_<_, _≤_};
 ghost use lib.ListN.{length};
 ghost use Rattle.sheet.specs.Limits.{grant-limit};
 ghost use Rattle.sheet.specs.Rows.{row-bits};
 ghost use Rattle.sheet.specs.CellMarked.{CellMarked, word-at};
+ghost use Rattle.grants.specs.CellPlaces.{grant-of};
 ghost use Rattle.roles.specs.CellClasses.{CellsBelow};
 ghost use Rattle.roles.specs.CellClassLaws.{paired-in};
 ghost use Rattle.roles.specs.RoleMatrices.{CellsShow, RolesBelow, has-role, gives-permission};
@@ -21,6 +26,43 @@ fn mark(words: &mut [u64], row: usize, column: usize)
 {
     let i = row * ROW_WORDS + column / WORD_BITS;
     words[i] = bits::with(words[i], column % WORD_BITS);
+}
+
+// The user has the role.
+fn give_role(has: &mut [u64], u: UserNo, r: RoleNo)
+    requires { ⌜ (r .0 < row-bits) × (word-at (u .0) (r .0) < length (now has)) ⌝ }
+    ensures { λ _. ⌜ CellMarked (now (has .entry)) (now (has .exit)) (u .0) (r .0) ⌝ }
+{
+    mark(has, u.0, r.0);
+}
+
+// The role gives the permission.
+fn give_permission(gives: &mut [u64], r: RoleNo, p: PermissionNo)
+    requires { ⌜ (p .0 < row-bits) × (word-at (r .0) (p .0) < length (now gives)) ⌝ }
+    ensures { λ _. ⌜ CellMarked (now (gives .entry)) (now (gives .exit)) (r .0) (p .0) ⌝ }
+{
+    mark(gives, r.0, p.0);
+}
+
+// The user of the grant at a cell.
+fn user_of(cell: u16) -> UserNo
+    ensures { λ r. ⌜ r .0 ≡ grant-of cell .user ⌝ }
+{
+    UserNo(cell as usize / ROW_BITS)
+}
+
+// The permission of the grant at a cell.
+fn permission_of(cell: u16) -> PermissionNo
+    ensures { λ r. ⌜ r .0 ≡ grant-of cell .permission ⌝ }
+{
+    PermissionNo(cell as usize % ROW_BITS)
+}
+
+// A role by its number.
+fn role_of(number: u16) -> RoleNo
+    ensures { λ r. ⌜ r .0 ≡ number ⌝ }
+{
+    RoleNo(number as usize)
 }
 
 // Who has which role: each grant's user has its role.
@@ -35,7 +77,7 @@ pub fn user_rows<'a>(
     let mut has = [0; CELL_WORDS];
     let mut i = 0;
     while i < n {
-        mark(&mut has, cells[i] as usize / ROW_BITS, roles[i] as usize);
+        give_role(&mut has, user_of(cells[i]), role_of(roles[i]));
         i += 1;
     }
     has
@@ -53,7 +95,7 @@ pub fn role_rows<'a>(
     let mut gives = [0; ROLE_WORDS];
     let mut i = 0;
     while i < n {
-        mark(&mut gives, roles[i] as usize, cells[i] as usize % ROW_BITS);
+        give_permission(&mut gives, role_of(roles[i]), permission_of(cells[i]));
         i += 1;
     }
     gives

@@ -1,11 +1,11 @@
 -- Rows of words after a cell is set: one position is put into one word. Another cell of that word stands at another position, and a cell of another row or
 -- another word of the row stands in another word, so no other cell changes.
 use Prim.Native.Nat.{ℕ, _+_, _*_, _/_, _%_, _<_}
-use native.Mathlib.Nat.{div-lt-iff-lt-mul, div-add-mod'}
+use native.Mathlib.Nat.{div-lt-iff-lt-mul}
 use native.Mathlib.Omega.{arith}
 use mathlib.Core.Path.{_≡_, sym, ap, _∙_}
 use mathlib.Core.Logic.{⊎-elim, _≢_}
-use mathlib.Core.Bool.{Bool, false, So, _&&_, _||_, or-false}
+use mathlib.Core.Bool.{false, So, _&&_, _||_, or-false}
 use mathlib.Core.List.{List}
 use borrow.Author.Tests.{eqb-true, eqb-false, eq-eqb}
 use lib.Arith.{digits-div, digits-mod, digits-lt}

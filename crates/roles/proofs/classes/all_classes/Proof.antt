@@ -1,6 +1,6 @@
 -- `roles::all_classes`: while i removals are left, going back over them from the classes so far leads to the classes of all grants. Each turn goes back over
 -- the latest that is left, and opens at most one class.
-use Prim.Native.Nat.{_+_, _≤_, _<_, _-_}
+use Prim.Native.Nat.{_+_, _≤_, _-_}
 use native.Mathlib.Omega.{arith}
 use Rattle.sheet.specs.Limits.{grant-limit}
 use Rattle.grants.specs.Log.{log-of}

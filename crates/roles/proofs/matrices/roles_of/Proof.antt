@@ -10,11 +10,6 @@ use Rattle.roles.specs.RolesInputLaws.{kernel-below, removed-below, part
 use borrow.Author.Needs.{needs}
 use Rattle.roles.proofs.matrices.roles_of.Statement.{statement}
 use Rattle.roles.proofs.matrices.roles_of.Tie as tie
-use Rattle.roles.proofs.matrices.roles_of.Reads as reads
-use Rattle.roles.proofs.matrices.roles_of.Lts as lts
-use Rattle.grants.proofs.listed.Reads as listed-reads
-use Rattle.roles.proofs.classes.all_classes.Reads as all-classes-reads
-use Rattle.roles.proofs.matrices.roles_of_classes.Reads as roles-of-classes-reads
 
 room : (c : tie.After-listed) → length (c .listed .result .cells) ≡ grant-limit
 unfolding grant-limit
@@ -25,8 +20,7 @@ listed-requires c κs = search needs
 
 all-classes-requires : tie.Need-all-classes-requires
 all-classes-requires c κs =
-    let b = c .before .pre .belongs in
-    (
+    let b = c .before .pre .belongs in (
       (b .few-cells, kernel-below b),
       ((b .placement-held .in-use ∙ ap used (sym (b .placement-held .so-far)), b .few-classes), (b .few-removals, removed-below b, partner-below b)),
     )
@@ -37,8 +31,7 @@ roles-of-classes-requires c κs =
     let b = at-listed .before .pre .belongs in
     let all = at-listed .listed .result in
     let whole = all-listed (all .cells) (all .size) (b .shown) (b .few-grants) (room at-listed) (at-listed .listed .ensures) in
-    let at = c .before .before .before .before .all-classes .ensures in
-    (
+    let at = c .before .before .before .before .all-classes .ensures in (
       (at-listed .listed .ensures .few, all-below b (all .cells) (all .size) whole at, classes-below b (all .cells) (all .size) whole at),
       roles-few b (all .cells) (all .size) whole at,
     )

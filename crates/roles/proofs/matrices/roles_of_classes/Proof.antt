@@ -3,11 +3,6 @@ use Rattle.roles.specs.RolesShown.{roles-below, matrices-show}
 use borrow.Author.Needs.{needs}
 use Rattle.roles.proofs.matrices.roles_of_classes.Statement.{statement}
 use Rattle.roles.proofs.matrices.roles_of_classes.Tie as tie
-use Rattle.roles.proofs.matrices.roles_of_classes.Reads as reads
-use Rattle.roles.proofs.matrices.roles_of_classes.Lts as lts
-use Rattle.roles.proofs.numbers.number_roles.Reads as number-roles-reads
-use Rattle.roles.proofs.rows.role_rows.Reads as role-rows-reads
-use Rattle.roles.proofs.rows.user_rows.Reads as user-rows-reads
 
 number-roles-requires : tie.Need-number-roles-requires
 number-roles-requires c κs = search needs

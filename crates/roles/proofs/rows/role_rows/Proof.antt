@@ -30,40 +30,38 @@ loop-holds : tie.Need-loop-holds Inv-loop μ-loop
 unfolding user-limit row-words row-bits
 loop-holds c = (omega arith, length-replicate {A = ℕ} role-words 0, no-cells role-words)
 
-slice-aggregate-mark : tie.Need-slice-aggregate-mark Inv-loop μ-loop
+slice-aggregate-give-permission : tie.Need-slice-aggregate-give-permission Inv-loop μ-loop
 unfolding user-limit row-bits row-words
-slice-aggregate-mark c = sym (c .before .before .loop .inv .1)
+slice-aggregate-give-permission c = sym (c .before .before .loop .inv .1)
 
-mul-mark : tie.Need-mul-mark Inv-loop μ-loop
+mul-role-of : tie.Need-mul-role-of Inv-loop μ-loop
 unfolding grant-limit
-mul-mark c = omega arith
+mul-role-of c = omega arith
 
-element-copy-out-mark : tie.Need-element-copy-out-mark Inv-loop μ-loop
+element-copy-out-role-of : tie.Need-element-copy-out-role-of Inv-loop μ-loop
 unfolding grant-limit
-element-copy-out-mark c = omega arith
+element-copy-out-role-of c = omega arith
 
-cast-mark : tie.Need-cast-mark Inv-loop μ-loop
-unfolding user-limit row-bits row-words
-cast-mark c = omega (arith, role-below (c .before .before))
+role-of-requires : tie.Need-role-of-requires Inv-loop μ-loop
+role-of-requires c κs = tt
 
-mul-mark-2 : tie.Need-mul-mark-2 Inv-loop μ-loop
+mul-permission-of : tie.Need-mul-permission-of Inv-loop μ-loop
 unfolding grant-limit
-mul-mark-2 c = omega arith
+mul-permission-of c = omega arith
 
-element-copy-out-mark-2 : tie.Need-element-copy-out-mark-2 Inv-loop μ-loop
+element-copy-out-permission-of : tie.Need-element-copy-out-permission-of Inv-loop μ-loop
 unfolding grant-limit
-element-copy-out-mark-2 c = omega arith
+element-copy-out-permission-of c = omega arith
 
-cast-mark-2 : tie.Need-cast-mark-2 Inv-loop μ-loop
-unfolding user-limit row-bits row-words
-cast-mark-2 c = omega (arith, cell-below (c .before .before .before))
+permission-of-requires : tie.Need-permission-of-requires Inv-loop μ-loop
+permission-of-requires c κs = tt
 
-mark-requires : tie.Need-mark-requires Inv-loop μ-loop
-unfolding row-bits row-words
-mark-requires c κs =
-    let in-loop = c .before .before .before in
+give-permission-requires : tie.Need-give-permission-requires Inv-loop μ-loop
+give-permission-requires c κs =
+    let in-loop = c .before .before .before .before .before in
     let it = getD (in-loop .before .before .args .cells .now) (in-loop .before .loop .i) 0 in
-    (permission-of-cell-below it, rw (in-loop .before .loop .inv .1) (word-below (role-below in-loop) (permission-of-cell-below it)))
+    rw (c .permission-of .ensures, c .before .before .role-of .ensures, in-loop .before .loop .inv .1)
+    (permission-of-cell-below it, word-below (role-below in-loop) (permission-of-cell-below it))
 
 add-i : tie.Need-add-i Inv-loop μ-loop
 unfolding grant-limit
@@ -74,12 +72,12 @@ unfolding grant-limit
 loop-less c = omega arith
 
 loop-again : tie.Need-loop-again Inv-loop μ-loop
-unfolding row-bits row-words
 loop-again c =
-    let in-loop = c .before .before .before .before .before in
+    let in-loop = c .before .before .before .before .before .before .before in
     let a = in-loop .before .before .args in
     let inv = in-loop .before .loop .inv in
-    let marked = c .before .mark .ensures in
+    let marked =
+    rw (c .before .before .permission-of .ensures, c .before .before .before .before .role-of .ensures) at (c .before .give-permission .ensures) in
     (omega arith, marked .room ∙ inv .1, gives-permission-next (a .cells .now) (a .roles .now) (in-loop .before .loop .i) marked (inv .2))
 
 returns : tie.Need-returns Inv-loop μ-loop
@@ -94,14 +92,14 @@ role-rows-spec =
     Inv-loop
     μ-loop
     loop-holds
-    slice-aggregate-mark
-    mul-mark
-    element-copy-out-mark
-    cast-mark
-    mul-mark-2
-    element-copy-out-mark-2
-    cast-mark-2
-    mark-requires
+    slice-aggregate-give-permission
+    mul-role-of
+    element-copy-out-role-of
+    role-of-requires
+    mul-permission-of
+    element-copy-out-permission-of
+    permission-of-requires
+    give-permission-requires
     add-i
     loop-less
     loop-again

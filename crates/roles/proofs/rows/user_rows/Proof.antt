@@ -29,39 +29,37 @@ loop-holds : tie.Need-loop-holds Inv-loop μ-loop
 unfolding user-limit row-words row-bits
 loop-holds c = (omega arith, length-replicate {A = ℕ} cell-words 0, no-cells cell-words)
 
-slice-aggregate-mark : tie.Need-slice-aggregate-mark Inv-loop μ-loop
+slice-aggregate-give-role : tie.Need-slice-aggregate-give-role Inv-loop μ-loop
 unfolding user-limit row-bits row-words
-slice-aggregate-mark c = sym (c .before .before .loop .inv .1)
+slice-aggregate-give-role c = sym (c .before .before .loop .inv .1)
 
-mul-mark : tie.Need-mul-mark Inv-loop μ-loop
+mul-user-of : tie.Need-mul-user-of Inv-loop μ-loop
 unfolding grant-limit
-mul-mark c = omega arith
+mul-user-of c = omega arith
 
-element-copy-out-mark : tie.Need-element-copy-out-mark Inv-loop μ-loop
+element-copy-out-user-of : tie.Need-element-copy-out-user-of Inv-loop μ-loop
 unfolding grant-limit
-element-copy-out-mark c = omega arith
+element-copy-out-user-of c = omega arith
 
-cast-mark : tie.Need-cast-mark Inv-loop μ-loop
-unfolding user-limit row-bits row-words
-cast-mark c = omega (arith, cell-below (c .before .before))
+user-of-requires : tie.Need-user-of-requires Inv-loop μ-loop
+user-of-requires c κs = tt
 
-mul-mark-2 : tie.Need-mul-mark-2 Inv-loop μ-loop
+mul-role-of : tie.Need-mul-role-of Inv-loop μ-loop
 unfolding grant-limit
-mul-mark-2 c = omega arith
+mul-role-of c = omega arith
 
-element-copy-out-mark-2 : tie.Need-element-copy-out-mark-2 Inv-loop μ-loop
+element-copy-out-role-of : tie.Need-element-copy-out-role-of Inv-loop μ-loop
 unfolding grant-limit
-element-copy-out-mark-2 c = omega arith
+element-copy-out-role-of c = omega arith
 
-cast-mark-2 : tie.Need-cast-mark-2 Inv-loop μ-loop
-unfolding user-limit row-bits row-words
-cast-mark-2 c = omega (arith, role-below (c .before .before .before))
+role-of-requires : tie.Need-role-of-requires Inv-loop μ-loop
+role-of-requires c κs = tt
 
-mark-requires : tie.Need-mark-requires Inv-loop μ-loop
-unfolding row-bits row-words
-mark-requires c κs =
-    let in-loop = c .before .before .before in
-    (role-below in-loop, rw (in-loop .before .loop .inv .1) (word-below (user-of-cell-below (cell-below in-loop)) (role-below in-loop)))
+give-role-requires : tie.Need-give-role-requires Inv-loop μ-loop
+give-role-requires c κs =
+    let in-loop = c .before .before .before .before .before in
+    rw (c .role-of .ensures, c .before .before .user-of .ensures, in-loop .before .loop .inv .1)
+    (role-below in-loop, word-below (user-of-cell-below (cell-below in-loop)) (role-below in-loop))
 
 add-i : tie.Need-add-i Inv-loop μ-loop
 unfolding grant-limit
@@ -72,12 +70,11 @@ unfolding grant-limit
 loop-less c = omega arith
 
 loop-again : tie.Need-loop-again Inv-loop μ-loop
-unfolding row-bits row-words
 loop-again c =
-    let in-loop = c .before .before .before .before .before in
+    let in-loop = c .before .before .before .before .before .before .before in
     let a = in-loop .before .before .args in
     let inv = in-loop .before .loop .inv in
-    let marked = c .before .mark .ensures in
+    let marked = rw (c .before .before .role-of .ensures, c .before .before .before .before .user-of .ensures) at (c .before .give-role .ensures) in
     (omega arith, marked .room ∙ inv .1, has-role-next (a .cells .now) (a .roles .now) (in-loop .before .loop .i) marked (inv .2))
 
 returns : tie.Need-returns Inv-loop μ-loop
@@ -92,14 +89,14 @@ user-rows-spec =
     Inv-loop
     μ-loop
     loop-holds
-    slice-aggregate-mark
-    mul-mark
-    element-copy-out-mark
-    cast-mark
-    mul-mark-2
-    element-copy-out-mark-2
-    cast-mark-2
-    mark-requires
+    slice-aggregate-give-role
+    mul-user-of
+    element-copy-out-user-of
+    user-of-requires
+    mul-role-of
+    element-copy-out-role-of
+    role-of-requires
+    give-role-requires
     add-i
     loop-less
     loop-again
