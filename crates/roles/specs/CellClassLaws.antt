@@ -45,7 +45,11 @@ no-classes n wide = record { wide = length-replicate n 0 ∙ wide; shown = λ i 
 
 pub class-written : {class : List ℕ} {members : List Classed} (it c : ℕ) → it < cell-limit → ClassAt class members
     → ClassAt (set class it c) (record { grant = grant-of it; class = c } ∷ members)
-class-written {class} {members} it c within at = record { wide = length-set class it c ∙ at .wide; shown = λ n l. rw (same-cell n it) (⊎-elim (here n) (other n l) (passes-or-fails (eqb n it))) }
+class-written {class} {members} it c within at =
+    record {
+      wide = length-set class it c ∙ at .wide;
+      shown = λ n l. rw (same-cell n it) (⊎-elim (here n) (other n l) (passes-or-fails (eqb n it)));
+    }
   where
     here : (n : ℕ) → So (eqb n it) → getD (set class it c) n 0 ≡ cond (eqb n it) c (class-of members (grant-of n))
     here n e = rw (e, eqb-true n it e) (getD-set-same class it c 0 (rw (at .wide) within))
@@ -80,7 +84,10 @@ module _ {class : List ℕ} {count : ℕ} {classes : Classes} (it partner : ℕ)
       → ClassesAt (set class it (getD class partner 0)) count (put-back (removal-of it partner) classes)
   tied-written e l =
       rw (ne-eqb it partner e)
-      (record { each = rw (at .each .shown partner l) (class-written it (class-of (classes .members) (grant-of partner)) within (at .each)); total = at .total })
+      (record {
+        each = rw (at .each .shown partner l) (class-written it (class-of (classes .members) (grant-of partner)) within (at .each));
+        total = at .total;
+      })
 
 -- ---- how great class numbers are
 

@@ -62,7 +62,8 @@ no-cells n = record { shown = λ u p l. rw (zeros n (word-at u p)) (bit-of-zero 
 module _ {before after : List ℕ} (cells roles : List ℕ) (i : ℕ) where
   pub has-role-next : CellMarked before after (grant-of (getD cells i 0) .user) (getD roles i 0)
       → CellsShow before (has-role (paired-in cells roles i)) → CellsShow after (has-role (paired-in cells roles (i + 1)))
-  has-role-next marked so-far = record { shown = λ u r l. rw (add-one i, paired-next cells roles i) (marked .cells u r l ∙ rw (so-far .shown u r l) (last u r)) }
+  has-role-next marked so-far =
+      record { shown = λ u r l. rw (add-one i, paired-next cells roles i) (marked .cells u r l ∙ rw (so-far .shown u r l) (last u r)) }
     where
       last : (u r : ℕ) → (has-role (paired-in cells roles i) u r || (eqb (grant-of (getD cells i 0) .user) u && eqb (getD roles i 0) r))
           ≡ ((eqb (grant-of (getD cells i 0) .user) u && eqb (getD roles i 0) r) || has-role (paired-in cells roles i) u r)
@@ -70,7 +71,8 @@ module _ {before after : List ℕ} (cells roles : List ℕ) (i : ℕ) where
 
   pub gives-permission-next : CellMarked before after (getD roles i 0) (grant-of (getD cells i 0) .permission)
       → CellsShow before (gives-permission (paired-in cells roles i)) → CellsShow after (gives-permission (paired-in cells roles (i + 1)))
-  gives-permission-next marked so-far = record { shown = λ r p l. rw (add-one i, paired-next cells roles i) (marked .cells r p l ∙ rw (so-far .shown r p l) (last r p)) }
+  gives-permission-next marked so-far =
+      record { shown = λ r p l. rw (add-one i, paired-next cells roles i) (marked .cells r p l ∙ rw (so-far .shown r p l) (last r p)) }
     where
       last : (r p : ℕ) → (gives-permission (paired-in cells roles i) r p || (eqb (getD roles i 0) r && eqb (grant-of (getD cells i 0) .permission) p))
           ≡ ((eqb (grant-of (getD cells i 0) .permission) p && eqb (getD roles i 0) r) || gives-permission (paired-in cells roles i) r p)

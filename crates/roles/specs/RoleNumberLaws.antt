@@ -119,7 +119,8 @@ module _ {class cells : List ℕ} {members : List Classed} (at : ClassAt class m
   -- the class of a grant, by its number
   pub class-of-listed : (i : ℕ) → i < n → class-of members (grant-at (listed cells n) i) ≡ class-key class cells i
   class-of-listed i l =
-      rw (getD-list-of n (λ j. grant-of (getD cells j 0)) i (record { user = 0; permission = 0 }) l) (sym (at .shown (getD cells i 0) (below .below i l)))
+      rw (getD-list-of n (λ j. grant-of (getD cells j 0)) i (record { user = 0; permission = 0 }) l)
+      (sym (at .shown (getD cells i 0) (below .below i l)))
 
   -- role numbers are a grouping by class
   pub role-numbers-by-class : role-numbers (listed cells n) members ≡ by-key (class-key class cells) n

@@ -91,7 +91,12 @@ module _ {rows : List ℕ} {users : ℕ} {cells : List ℕ} {size : ℕ} {placed
       logged-removal (grants sheet) removed partner count (rw (belongs .log-held) (reduction-granted sheet .removals))
 
   pub removed-below : CellsBelow count removed
-  removed-below = record { below = λ i l. granted-cell-below (belongs .shown) (belongs .few-users) (getD removed i 0) (it i (eqb (getD removed i 0) (getD partner i 0)) (removal-granted i l)) }
+  removed-below =
+      record {
+        below = λ i l.
+            granted-cell-below (belongs .shown) (belongs .few-users) (getD removed i 0)
+            (it i (eqb (getD removed i 0) (getD partner i 0)) (removal-granted i l));
+      }
     where
       it : (i : ℕ) (b : Bool)
           → RemovalOf (grants sheet) (cond b (single (grant-of (getD removed i 0))) (tied (grant-of (getD removed i 0)) (grant-of (getD partner i 0))))
@@ -100,7 +105,12 @@ module _ {rows : List ℕ} {users : ℕ} {cells : List ℕ} {size : ℕ} {placed
       it i false m = m .0
 
   pub partner-below : CellsBelow count partner
-  partner-below = record { below = λ i l. granted-cell-below (belongs .shown) (belongs .few-users) (getD partner i 0) (it i (eqb (getD removed i 0) (getD partner i 0)) refl (removal-granted i l)) }
+  partner-below =
+      record {
+        below = λ i l.
+            granted-cell-below (belongs .shown) (belongs .few-users) (getD partner i 0)
+            (it i (eqb (getD removed i 0) (getD partner i 0)) refl (removal-granted i l));
+      }
     where
       it : (i : ℕ) (b : Bool) → eqb (getD removed i 0) (getD partner i 0) ≡ b
           → RemovalOf (grants sheet) (cond b (single (grant-of (getD removed i 0))) (tied (grant-of (getD removed i 0)) (grant-of (getD partner i 0))))

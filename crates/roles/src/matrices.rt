@@ -63,7 +63,8 @@ pub fn roles_of<'a>(
 ) -> RoleMatrices
     requires { ⌜ OfSheet (now rows) users (now kernel) size (now placed) total (now removed) (now partner) count ⌝ }
     ensures { λ r. ⌜ ((sheet : Sheet) (placement : List ℕ)
-        → Belongs (now (rows .entry)) users (now (kernel .entry)) size (now (placed .entry)) total (now (removed .entry)) (now (partner .entry)) count sheet placement
+        → Belongs (now (rows .entry)) users (now (kernel .entry)) size (now (placed .entry)) total
+        (now (removed .entry)) (now (partner .entry)) count sheet placement
         → RolesAt (r .has) (r .gives) (r .count) users (roles-of sheet placement)) ⌝ }
 {
     let all = grants::listed(rows, users);

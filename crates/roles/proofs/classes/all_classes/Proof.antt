@@ -25,7 +25,8 @@ loop-holds c =
     let a = c .before .args in (
       omega arith,
       omega arith,
-      going-back-starts (a .kernel .now) (a .size) (a .placed .now) (a .removed .now) (a .partner .now) (a .count) (c .place-kernel .ensures) (c .before .pre .1 .0 .0),
+      going-back-starts (a .kernel .now) (a .size) (a .placed .now) (a .removed .now) (a .partner .now) (a .count)
+          (c .place-kernel .ensures) (c .before .pre .1 .0 .0),
     )
 
 sub-i : tie.Need-sub-i Inv-loop μ-loop

@@ -43,7 +43,8 @@ returns c sheet placement b =
     let whole = all-listed (all .cells) (all .size) (b .shown) (b .few-grants) (room at-listed) (at-listed .listed .ensures) in
     let at = c .before .before .before .before .before .all-classes .ensures in
     rw (roles-belong b (all .cells) (all .size) whole at) at
-    (c .roles-of-classes .ensures (classes-of (reduction sheet) placement .members) (at-listed .before .args .users) (all-class-at b (all .cells) (all .size) whole at))
+    (c .roles-of-classes .ensures (classes-of (reduction sheet) placement .members) (at-listed .before .args .users)
+    (all-class-at b (all .cells) (all .size) whole at))
 
 pub roles-of-spec : {M : Type 1} → statement M
 roles-of-spec =

@@ -39,7 +39,8 @@ returns : tie.Need-returns
 unfolding row-words
 returns c =
     let a = c .before .before .before .args in
-    cell-marked-by-word (a .words .now) (a .row) (a .column) (c .with .result) (c .before .before .before .pre .0) (c .before .before .before .pre .1) (c .with .ensures)
+    let pre = c .before .before .before .pre in
+    cell-marked-by-word (a .words .now) (a .row) (a .column) (c .with .result) (pre .0) (pre .1) (c .with .ensures)
 
 pub mark-spec : {M : Type 1} → statement M
 mark-spec =
