@@ -7,7 +7,8 @@ use Rattle.roles.proofs.rows.mark.Statement.{statement}
 use Rattle.roles.proofs.rows.mark.Tie as tie
 
 mul-i : tie.Need-mul-i
-mul-i c = search needs
+unfolding row-words
+mul-i c = omega arith
 
 add-i : tie.Need-add-i
 unfolding row-words
