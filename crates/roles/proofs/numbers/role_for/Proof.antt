@@ -1,9 +1,9 @@
 -- `roles::role_for`: the table's mark for no role yet is the one that the definition tests.
+use native.Mathlib.Omega.{arith}
 use borrow.Author.Tests.{eq-eqb, ne-eqb}
 use lib.ListN.{getD}
 use Rattle.sheet.specs.Limits.{grant-limit}
 use Rattle.roles.specs.RoleNumbers.{no-role}
-use native.Mathlib.Omega.{arith}
 use Rattle.roles.proofs.numbers.role_for.Statement.{statement}
 use Rattle.roles.proofs.numbers.role_for.Tie as tie
 
