@@ -18,6 +18,8 @@ pub mod CoverPlaced
 pub mod CoverArray
 pub mod TableWords
 pub mod TableLaws
+pub mod WitnessChoice
+pub mod WitnessWalk
 pub mod CellSets
 pub mod CellPlaces
 pub mod CellPlaceLaws

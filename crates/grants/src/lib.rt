@@ -4,6 +4,7 @@ mod cover;
 mod fit;
 mod kernel;
 mod table;
+mod witness;
 
 pub use cell::CellNo;
 pub use cover::Placement;

@@ -24,6 +24,7 @@ pub mod PlacementLaws
 pub mod GroupingLaws
 pub mod SameGrouping
 pub mod LatestFirst
+pub mod LeastLast
 pub mod KeyLaws
 pub mod Beginning
 pub mod Lexicographic
