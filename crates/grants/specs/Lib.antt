@@ -20,6 +20,8 @@ pub mod TableWords
 pub mod TableLaws
 pub mod WitnessChoice
 pub mod WitnessWalk
+pub mod WitnessWords
+pub mod WitnessCells
 pub mod CellSets
 pub mod CellPlaces
 pub mod CellPlaceLaws

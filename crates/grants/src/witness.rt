@@ -12,12 +12,16 @@ ghost use mathlib.Core.Path.{_≡_};
 ghost use mathlib.Core.Bool.{not, _&&_, _||_};
 ghost use Prim.Native.Nat.{ℕ, _*_, _≤_, _<_};
 ghost use lib.Dec.{eqb};
+ghost use Rattle.bits.specs.Below.{count-below};
 ghost use Rattle.bits.specs.Bit.{bit};
 ghost use Rattle.sheet.specs.Limits.{user-limit};
 ghost use Rattle.sheet.specs.Rows.{row-bits};
 ghost use Rattle.sheet.specs.Sheet.{Sheet};
 ghost use Rattle.grants.specs.CellPlaces.{cell-limit, marked, Shown, Part};
+ghost use Rattle.grants.specs.NearCells.{cells-of};
 ghost use Rattle.grants.specs.WitnessChoice.{better-of, Fewest};
+ghost use Rattle.grants.specs.WitnessWords.{MadeCells};
+ghost use Rattle.grants.specs.WitnessCells.{left-over, either};
 
 // A grant by its cell, and how many remaining grants fit it, itself among them: none at all where there is no grant.
 pub struct Choice {
@@ -54,4 +58,73 @@ fn fewest<'a>(rows: &'a [u64; CELL_WORDS], left: &'a [u64; CELL_WORDS], users: u
         n = next_cell(left, users, n + 1);
     }
     best
+}
+
+// The positions of a word that another has not.
+fn less(word: u64, other: u64) -> u64
+    ensures { λ r. ⌜ ((q : ℕ) → bit r q ≡ (bit word q && not (bit other q))) ⌝ }
+{
+    word & !other
+}
+
+// What is left for further choice once the grant at a cell is taken: the grants that do not fit it.
+fn dropped<'a>(
+    rows: &'a [u64; CELL_WORDS],
+    left: &'a [u64; CELL_WORDS],
+    users: usize,
+    it: CellNo,
+) -> [u64; CELL_WORDS]
+    requires { ⌜ (users ≤ user-limit) × (it .0 < cell-limit) ⌝ }
+    ensures { λ r. ⌜ MadeCells (left-over (now (rows .entry)) (now (left .entry)) (it .0)) (cells-of users) r ⌝ }
+{
+    let mut words = [0; CELL_WORDS];
+    let mut i = 0;
+    while i < users * ROW_WORDS {
+        words[i] = less(left[i], fitting(rows, it, i));
+        i += 1;
+    }
+    words
+}
+
+// The cells of two sets.
+fn joined<'a>(
+    some: &'a [u64; CELL_WORDS],
+    others: &'a [u64; CELL_WORDS],
+    users: usize,
+) -> [u64; CELL_WORDS]
+    requires { ⌜ users ≤ user-limit ⌝ }
+    ensures { λ r. ⌜ MadeCells (either (now (some .entry)) (now (others .entry))) (cells-of users) r ⌝ }
+{
+    let mut words = [0; CELL_WORDS];
+    let mut i = 0;
+    while i < users * ROW_WORDS {
+        words[i] = some[i] | others[i];
+        i += 1;
+    }
+    words
+}
+
+// The cells of a set, and cell n.
+fn with_cell(words: [u64; CELL_WORDS], n: usize) -> [u64; CELL_WORDS]
+    requires { ⌜ n < cell-limit ⌝ }
+    ensures { λ r. ⌜ ((m : ℕ) → marked r m ≡ (marked words m || eqb m n)) ⌝ }
+{
+    let mut more = words;
+    let i = n / WORD_BITS;
+    more[i] = bits::with(more[i], n % WORD_BITS);
+    more
+}
+
+// How many cells of the users a set has.
+fn counted(words: &[u64; CELL_WORDS], users: usize) -> usize
+    requires { ⌜ users ≤ user-limit ⌝ }
+    ensures { λ r. ⌜ r ≡ count-below (cells-of users) (marked (now (words .entry))) ⌝ }
+{
+    let mut n = 0;
+    let mut i = 0;
+    while i < users * ROW_WORDS {
+        n += bits::count(words[i]);
+        i += 1;
+    }
+    n
 }
