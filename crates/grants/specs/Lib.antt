@@ -22,6 +22,9 @@ pub mod WitnessChoice
 pub mod WitnessWalk
 pub mod WitnessWords
 pub mod WitnessCells
+pub mod WitnessTaken
+pub mod WitnessGreedy
+pub mod WitnessRows
 pub mod CellSets
 pub mod CellPlaces
 pub mod CellPlaceLaws

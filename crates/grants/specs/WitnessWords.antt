@@ -31,6 +31,10 @@ getD-zeros : (count s : ℕ) → getD {A = ℕ} (replicate count 0) s 0 ≡ 0
 getD-zeros count s =
     ⊎-elim (λ l. getD-replicate count s 0 0 l) (λ l. List·getD-eq-default (replicate count 0) 0 (rw (length-replicate {A = ℕ} count 0) l)) (below-or-from s count)
 
+-- words of 0 have no cell
+pub no-cells : (count n : ℕ) → marked (replicate count 0) n ≡ false
+no-cells count n = rw (getD-zeros count (n / word-bits)) (bit-of-zero (n % word-bits))
+
 -- at first all words are 0
 pub none-made : (test : ℕ → Bool) (count : ℕ) → MadeWords test 0 (replicate count 0)
 none-made test count = record { made = λ s q l k. absurd (omega arith); rest = λ s l. getD-zeros count s }

@@ -17,3 +17,5 @@ pub use table::TABLE_LIMIT;
 pub use table::TABLE_ROW;
 pub use table::TABLE_WORDS;
 pub use table::fit_table;
+pub use witness::Witness;
+pub use witness::witness_of;

@@ -22,11 +22,13 @@ ghost use Rattle.grants.specs.NearCells.{cells-of};
 ghost use Rattle.grants.specs.WitnessChoice.{better-of, Fewest};
 ghost use Rattle.grants.specs.WitnessWords.{MadeCells};
 ghost use Rattle.grants.specs.WitnessCells.{left-over, either};
+ghost use Rattle.grants.specs.WitnessGreedy.{Chosen};
+ghost use Rattle.grants.specs.WitnessRows.{ReducedTo, Witnessed};
 
 // A grant by its cell, and how many remaining grants fit it, itself among them: none at all where there is no grant.
-pub struct Choice {
-    pub cell: usize,
-    pub partners: usize,
+struct Choice {
+    cell: usize,
+    partners: usize,
 }
 
 // The choice so far, unless the grant at a cell has fewer partners.
@@ -127,4 +129,56 @@ fn counted(words: &[u64; CELL_WORDS], users: usize) -> usize
         i += 1;
     }
     n
+}
+
+// The grants taken from a set one after the other, each with the fewest partners among those left, and dropped with them.
+fn chosen<'a>(
+    rows: &'a [u64; CELL_WORDS],
+    kernel: &'a [u64; CELL_WORDS],
+    users: usize,
+) -> [u64; CELL_WORDS]
+    requires { ⌜ users ≤ user-limit ⌝ }
+    ensures { λ r. ⌜ ((sheet : Sheet) → Shown (now (rows .entry)) users sheet → Part (now (kernel .entry)) (now (rows .entry))
+        → Chosen sheet (now (rows .entry)) (now (kernel .entry)) r) ⌝ }
+{
+    let mut left = *kernel;
+    let mut taken = [0; CELL_WORDS];
+    let mut count = 0;
+    while count < GRANT_LIMIT {
+        let best = fewest(rows, &left, users);
+        let cell = best.cell;
+        if best.partners == 0 {
+            return taken;
+        }
+        let more = with_cell(taken, cell);
+        let rest = dropped(rows, &left, users, CellNo(cell));
+        taken = more;
+        left = rest;
+        count += 1;
+    }
+    taken
+}
+
+// The witness: its grants by their cells, and w.
+pub struct Witness {
+    pub cells: [u64; CELL_WORDS],
+    pub count: usize,
+}
+
+// The grants taken from the kernel and all singles.
+pub fn witness_of<'a>(
+    rows: &'a [u64; CELL_WORDS],
+    kernel: &'a [u64; CELL_WORDS],
+    singles: &'a [u64; CELL_WORDS],
+    users: usize,
+) -> Witness
+    requires { ⌜ users ≤ user-limit ⌝ }
+    ensures { λ r. ⌜ ((sheet : Sheet) → Shown (now (rows .entry)) users sheet
+        → ReducedTo sheet (now (rows .entry)) (now (kernel .entry)) (now (singles .entry))
+        → Witnessed sheet (now (rows .entry)) (r .cells) (r .count)) ⌝ }
+{
+    let taken = chosen(rows, kernel, users);
+    let cells = joined(&taken, singles, users);
+    let count = counted(&cells, users);
+    Witness { cells, count }
 }

@@ -6,6 +6,7 @@ pub mod Ordered
 pub mod OrderedUnique
 pub mod OrderedMap
 pub mod FilterLength
+pub mod FilterSame
 pub mod Distinct
 pub mod LeastLaws
 pub mod ReverseLaws
