@@ -24,6 +24,7 @@ pub mod WitnessWords
 pub mod WitnessCells
 pub mod WitnessTaken
 pub mod WitnessGreedy
+pub mod WitnessSingles
 pub mod WitnessRows
 pub mod CellSets
 pub mod CellPlaces

@@ -29,13 +29,14 @@ use Rattle.grants.specs.WitnessTaken.{taken-enough}
 use Rattle.grants.specs.WitnessWords.{MadeCells, made-part}
 use Rattle.grants.specs.WitnessCells.{either}
 use Rattle.grants.specs.WitnessGreedy.{Chosen}
+use Rattle.grants.specs.WitnessSingles.{CellsOf}
 
 -- the cells of the kernel and of the singles of a sheet
 pub record ReducedTo (sheet : Sheet) (rows kernel singles : List ℕ) : Type 0 where
   pub kernel-part : Part kernel rows
   pub kernel-grants : cell-grants sheet kernel ≡ reduction.kernel sheet
   pub singles-part : Part singles rows
-  pub singles-grants : (g : Grant) → List·Memᴰ g (grants sheet) → in-cells singles g ≡ among (reduction.singles sheet) g
+  pub singles-cells : CellsOf singles (reduction.singles sheet)
   pub few-grants : length (grants sheet) ≤ grant-limit
 
 -- the cells of the witness, and w
@@ -75,10 +76,9 @@ module _ {rows : List ℕ} {users : ℕ} {sheet : Sheet} (shown : Shown rows use
       by-cell g m =
           let held = grant-held sheet m in
           let e : grant-of (cell-of g) ≡ g = grant-of-cell g (shown .short (g .user) (g .permission) held) in
-          subst (λ h. in-cells cells h ≡ (among (chosen sheet) h || in-cells singles h)) e
+          subst (λ h. in-cells cells h ≡ (among (chosen sheet) h || among (reduction.singles sheet) h)) e
           (cell-marked cells (cell-of g) ∙ made .inside (cell-of g) (rw (row-cells users) (cell-below shown g held))
-          ∙ rw (chosen-by-cell (cell-of g), cell-marked singles (cell-of g)))
-          ∙ ap (λ b. among (chosen sheet) g || b) (reduced .singles-grants g m)
+          ∙ rw (chosen-by-cell (cell-of g), reduced .singles-cells .cell (cell-of g)))
 
       pub witness-grants : cell-grants sheet cells ≡ witness sheet
       unfolding witness

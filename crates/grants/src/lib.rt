@@ -18,4 +18,5 @@ pub use table::TABLE_ROW;
 pub use table::TABLE_WORDS;
 pub use table::fit_table;
 pub use witness::Witness;
+pub use witness::single_cells;
 pub use witness::witness_of;

@@ -12,17 +12,21 @@ ghost use mathlib.Core.Path.{_≡_};
 ghost use mathlib.Core.Bool.{not, _&&_, _||_};
 ghost use Prim.Native.Nat.{ℕ, _*_, _≤_, _<_};
 ghost use lib.Dec.{eqb};
+ghost use lib.ListN.{getD};
 ghost use Rattle.bits.specs.Below.{count-below};
 ghost use Rattle.bits.specs.Bit.{bit};
-ghost use Rattle.sheet.specs.Limits.{user-limit};
+ghost use Rattle.sheet.specs.Limits.{grant-limit, user-limit};
 ghost use Rattle.sheet.specs.Rows.{row-bits};
 ghost use Rattle.sheet.specs.Sheet.{Sheet};
 ghost use Rattle.grants.specs.CellPlaces.{cell-limit, marked, Shown, Part};
+ghost use Rattle.grants.specs.Reduction.{singles-of};
+ghost use Rattle.grants.specs.Log.{log-of};
 ghost use Rattle.grants.specs.NearCells.{cells-of};
 ghost use Rattle.grants.specs.WitnessChoice.{better-of, Fewest};
 ghost use Rattle.grants.specs.WitnessWords.{MadeCells};
 ghost use Rattle.grants.specs.WitnessCells.{left-over, either};
 ghost use Rattle.grants.specs.WitnessGreedy.{Chosen};
+ghost use Rattle.grants.specs.WitnessSingles.{CellsOf};
 ghost use Rattle.grants.specs.WitnessRows.{ReducedTo, Witnessed};
 
 // A grant by its cell, and how many remaining grants fit it, itself among them: none at all where there is no grant.
@@ -157,6 +161,28 @@ fn chosen<'a>(
         count += 1;
     }
     taken
+}
+
+// The cells of the grants that a log of removals has as single.
+pub fn single_cells<'a>(
+    removed: &'a [u16; GRANT_LIMIT],
+    partner: &'a [u16; GRANT_LIMIT],
+    count: usize,
+) -> [u64; CELL_WORDS]
+    requires { ⌜ (count ≤ grant-limit) × ((i : ℕ) → i < count → getD (now removed) i 0 < cell-limit) ⌝ }
+    ensures { λ r. ⌜ CellsOf r (singles-of (log-of (now (removed .entry)) (now (partner .entry)) count)) ⌝ }
+{
+    let mut cells = [0; CELL_WORDS];
+    let mut i = 0;
+    while i < count {
+        let at = removed[i];
+        if at == partner[i] {
+            let more = with_cell(cells, at as usize);
+            cells = more;
+        }
+        i += 1;
+    }
+    cells
 }
 
 // The witness: its grants by their cells, and w.
