@@ -2,7 +2,7 @@
 -- the cells is that of the grants, and the groupings are one.
 use Prim.Native.Nat.{ℕ, _<_}
 use native.Mathlib.Nat.{lt-trans}
-use mathlib.Core.Path.{_≡_, refl}
+use mathlib.Core.Path.{_≡_}
 use mathlib.Core.Bool.{Bool}
 use mathlib.Core.List.{List, map}
 use lib.ListN.{length, length-map}
@@ -12,7 +12,7 @@ use Rattle.sheet.specs.Sheet.{Sheet, Grant}
 use Rattle.grants.specs.declared.cover.Relation.{Relation}
 use Rattle.grants.specs.declared.cover.Relation.the-variants.{Fit, Permission, User}
 use Rattle.grants.specs.Reduction.{kernel}
-use Rattle.grants.specs.Cover.{grant-at, fit-at, permission-at, user-at, fewer, best-grouping, first-best}
+use Rattle.grants.specs.Cover.{fit-at, permission-at, user-at, fewer, first-best}
 use Rattle.grants.specs.CellPlaces.{grant-of, Shown}
 use Rattle.grants.specs.FitWordLaws.{fits-in-rows}
 use Rattle.grants.specs.KernelArray.{grant-at-cell}

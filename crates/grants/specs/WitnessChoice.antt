@@ -2,14 +2,13 @@
 -- grant itself among those that fit it, so every count is 1 more than the partners, and 0 says that no grant was found.
 use Prim.Native.Nat.{ℕ, _+_, _*_, _<_}
 use native.Mathlib.Omega.{arith}
-use mathlib.Core.Path.{_≡_, refl, sym, ap, _∙_}
+use mathlib.Core.Path.{_≡_, refl, _∙_}
 use mathlib.Core.Logic.{_⊎_, inl, inr}
 use mathlib.Core.Bool.{Bool, true, false, So, _||_, cond}
-use mathlib.Core.List.{List, [], _∷_, _++_, map}
+use mathlib.Core.List.{List, [], _∷_, _++_}
 use mathlib.Core.Option.{Option, none, some}
-use borrow.Author.Tests.{ltb-true, ltb-false, eqb-true, eqb-false, ne-eqb, le-leb, lt-leb}
-use lib.Dec.{eqb, ltb, leb}
-use lib.ListN.{length}
+use borrow.Author.Tests.{ltb-true, ltb-false, eqb-false, ne-eqb, le-leb, lt-leb}
+use lib.Dec.{eqb, ltb}
 use Rattle.bits.specs.Truth.{passes-or-fails}
 use Rattle.lists.specs.Lists.{least}
 use Rattle.lists.specs.LeastLast.{or-lesser, least-last}

@@ -1,6 +1,6 @@
 -- The greedy choice by cells. The grants that are left once one is taken are those whose cells the words leave; a grant is taken in the end exactly if it is
 -- taken so far or is taken from those left.
-use Prim.Native.Nat.{ℕ, suc, _*_, _<_}
+use Prim.Native.Nat.{ℕ, suc, _*_}
 use mathlib.Core.Path.{_≡_, refl, sym, ap, subst, _∙_}
 use mathlib.Core.Bool.{Bool, true, false, So, not, _&&_, _||_, or-false, or-assoc}
 use mathlib.Core.Logic.{⊎-elim}
@@ -10,7 +10,6 @@ use borrow.Author.Tests.{eqb-true, eq-eqb}
 use lib.Dec.{eqb}
 use lib.ListN.{replicate}
 use Rattle.bits.specs.Truth.{not-both, same-truth, and-left, or-cases}
-use Rattle.lists.specs.Lists.{filter}
 use Rattle.lists.specs.AppendLaws.{filter-map}
 use Rattle.lists.specs.PassingBelow.{passing-below, passing-filter, passing-ext}
 use Rattle.sheet.specs.Limits.{grant-limit}

@@ -3,12 +3,11 @@ use Prim.Native.Nat.{ℕ, _*_, _≤_}
 use native.Mathlib.Nat.{le-refl, le-trans}
 use mathlib.Core.Path.{_≡_, sym, ap, subst, _∙_}
 use mathlib.Core.Logic.{⊎-elim}
-use mathlib.Core.Bool.{So, _||_}
-use mathlib.Core.List.{List, map, List·Memᴰ}
+use mathlib.Core.Bool.{_||_}
+use mathlib.Core.List.{List, List·Memᴰ}
 use lib.ListN.{length, length-map}
 use Rattle.bits.specs.Truth.{or-cases}
 use Rattle.bits.specs.Below.{count-below}
-use Rattle.lists.specs.Lists.{filter}
 use Rattle.lists.specs.FilterLength.{filter-length}
 use Rattle.lists.specs.FilterSame.{filter-same}
 use Rattle.lists.specs.PassingBelow.{passing-below, passing-length}

@@ -2,7 +2,7 @@
 -- sheet, their cells are cells of its rows.
 use Prim.Native.Nat.{ℕ, suc}
 use mathlib.Core.Path.{_≡_, sym, _∙_}
-use mathlib.Core.Bool.{So, false, _||_, or-comm}
+use mathlib.Core.Bool.{false, _||_, or-comm}
 use mathlib.Core.List.{List, List·Memᴰ}
 use borrow.Author.Tests.{eqb-true, eq-eqb}
 use lib.Dec.{eqb}

@@ -4,10 +4,10 @@ use native.Mathlib.Omega.{arith}
 use mathlib.Core.Path.{_≡_, refl, ap}
 use mathlib.Core.Bool.{not, _||_}
 use mathlib.Core.List.{List, [], _∷_}
-use mathlib.Core.Option.{Option, none}
+use mathlib.Core.Option.{none}
 use lib.ListN.{length}
 use Rattle.bits.specs.Truth.{or-left}
-use Rattle.lists.specs.Lists.{lesser, least, if-found}
+use Rattle.lists.specs.Lists.{lesser, least}
 use Rattle.lists.specs.FilterLength.{filter-shorter}
 use Rattle.lists.specs.LeastLaws.{least-member}
 use Rattle.sheet.specs.Sheet.{Sheet, Grant, same-grant}

@@ -16,7 +16,6 @@ ghost use lib.ListN.{getD};
 ghost use Rattle.bits.specs.Below.{count-below};
 ghost use Rattle.bits.specs.Bit.{bit};
 ghost use Rattle.sheet.specs.Limits.{grant-limit, user-limit};
-ghost use Rattle.sheet.specs.Rows.{row-bits};
 ghost use Rattle.sheet.specs.Sheet.{Sheet};
 ghost use Rattle.grants.specs.CellPlaces.{cell-limit, marked, Shown, Part};
 ghost use Rattle.grants.specs.Reduction.{singles-of};

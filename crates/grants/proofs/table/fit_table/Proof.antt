@@ -4,13 +4,8 @@ use mathlib.Core.Path.{_≡_, refl}
 use lib.ListN.{length, length-set}
 use Rattle.grants.specs.TableWords.{table-row, table-limit}
 use Rattle.grants.specs.TableLaws.{FirstWords, no-words, word-put-in, table-of}
-use Rattle.sheet.specs.Limits.{grant-limit, user-limit}
-use Rattle.sheet.specs.Rows.{row-words, row-bits}
 use Rattle.grants.proofs.table.fit_table.Statement.{statement}
 use Rattle.grants.proofs.table.fit_table.Tie as tie
-use Rattle.grants.proofs.table.fit_table.Reads as reads
-use Rattle.grants.proofs.table.fit_table.Lts as lts
-use Rattle.grants.proofs.table.table_word.Reads as table-word-reads
 
 abbrev Inv-loop : tie.InvT-loop
 Inv-loop rows cells words₀ t₀ words t =
@@ -28,15 +23,12 @@ unfolding table-row
 table-word-requires c κs = omega arith
 
 mul-words : tie.Need-mul-words Inv-loop μ-loop
-unfolding table-row
 mul-words c = omega arith
 
 array-write-words : tie.Need-array-write-words Inv-loop μ-loop
-unfolding table-row
 array-write-words c = omega arith
 
 add-t : tie.Need-add-t Inv-loop μ-loop
-unfolding table-row
 add-t c = omega arith
 
 loop-less : tie.Need-loop-less Inv-loop μ-loop

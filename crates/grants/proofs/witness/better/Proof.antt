@@ -1,5 +1,4 @@
 -- `grants::witness::better`: the tests in turn.
-use mathlib.Core.Bool.{or-true}
 use borrow.Author.Tests.{eq-eqb, ne-eqb, lt-ltb, le-ltb}
 use Rattle.grants.proofs.witness.better.Statement.{statement}
 use Rattle.grants.proofs.witness.better.Tie as tie

@@ -43,7 +43,7 @@ found : (c : tie.Else1 Inv-loop μ-loop) → 0 < c .before .before .fewest .resu
 found c = omega arith
 
 inside : (c : tie.Else1 Inv-loop μ-loop) → c .before .before .fewest .result .cell < cell-limit
-unfolding user-limit row-bits row-words
+unfolding row-bits row-words
 inside c = omega (arith, c .before .before .fewest .ensures .standing .within (found c))
 
 with-cell-requires : tie.Need-with-cell-requires Inv-loop μ-loop
@@ -53,7 +53,6 @@ dropped-requires : tie.Need-dropped-requires Inv-loop μ-loop
 dropped-requires c κs = (search needs, inside (c .before .before))
 
 add-count : tie.Need-add-count Inv-loop μ-loop
-unfolding grant-limit
 add-count c = omega arith
 
 loop-less : tie.Need-loop-less Inv-loop μ-loop

@@ -24,29 +24,27 @@ unfolding count-below
 loop-holds c = search needs
 
 mul-loop : tie.Need-mul-loop Inv-loop μ-loop
-unfolding user-limit row-words
 mul-loop c = omega arith
 
 mul-count : tie.Need-mul-count Inv-loop μ-loop
-unfolding user-limit row-words
+unfolding user-limit
 mul-count c = omega arith
 
 element-copy-out-count : tie.Need-element-copy-out-count Inv-loop μ-loop
-unfolding user-limit row-words
+unfolding user-limit
 element-copy-out-count c = omega arith
 
 count-requires : tie.Need-count-requires Inv-loop μ-loop
 count-requires c κs = search needs
 
 add-n : tie.Need-add-n Inv-loop μ-loop
-unfolding user-limit row-words
+unfolding user-limit
 add-n c =
     let at = c .before .before .before .loop in
     let few : c .count .result ≤ word-bits = rw (c .count .ensures) (count-below-le word-bits _) in
     omega (arith, count-below-le (at .i * word-bits) (marked (c .before .before .before .before .args .words .now)))
 
 add-i : tie.Need-add-i Inv-loop μ-loop
-unfolding user-limit row-words
 add-i c = omega arith
 
 loop-less : tie.Need-loop-less Inv-loop μ-loop

@@ -23,34 +23,32 @@ unfolding user-limit row-words
 loop-holds c = (omega arith, refl, none-made _ cell-words)
 
 mul-loop : tie.Need-mul-loop Inv-loop μ-loop
-unfolding user-limit row-words
 mul-loop c = omega arith
 
 mul-less : tie.Need-mul-less Inv-loop μ-loop
-unfolding user-limit row-words
+unfolding user-limit
 mul-less c = omega arith
 
 element-copy-out-less : tie.Need-element-copy-out-less Inv-loop μ-loop
-unfolding user-limit row-words
+unfolding user-limit
 element-copy-out-less c = omega arith
 
 fitting-requires : tie.Need-fitting-requires Inv-loop μ-loop
-unfolding user-limit row-words
+unfolding user-limit
 fitting-requires c κs = search needs
 
 less-requires : tie.Need-less-requires Inv-loop μ-loop
 less-requires c κs = tt
 
 mul-words : tie.Need-mul-words Inv-loop μ-loop
-unfolding user-limit row-words
+unfolding user-limit
 mul-words c = omega arith
 
 array-write-words : tie.Need-array-write-words Inv-loop μ-loop
-unfolding user-limit row-words
+unfolding user-limit
 array-write-words c = omega arith
 
 add-i : tie.Need-add-i Inv-loop μ-loop
-unfolding user-limit row-words
 add-i c = omega arith
 
 loop-less : tie.Need-loop-less Inv-loop μ-loop
@@ -58,7 +56,7 @@ unfolding row-words
 loop-less c = omega arith
 
 loop-again : tie.Need-loop-again Inv-loop μ-loop
-unfolding user-limit row-words
+unfolding row-words
 loop-again c =
     let a = c .before .before .before .before .before .args in
     let at = c .before .before .before .before .loop in (

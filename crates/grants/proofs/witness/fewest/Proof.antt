@@ -21,26 +21,25 @@ loop-holds : tie.Need-loop-holds Inv-loop μ-loop
 loop-holds c = walk-starts _ _ _ _ (c .next-cell .ensures)
 
 mul-loop : tie.Need-mul-loop Inv-loop μ-loop
-unfolding user-limit row-bits row-words
+unfolding user-limit
 mul-loop c = omega arith
 
 partners-requires : tie.Need-partners-requires Inv-loop μ-loop
-unfolding user-limit row-bits row-words
+unfolding row-words
 partners-requires c κs = omega arith
 
 better-requires : tie.Need-better-requires Inv-loop μ-loop
 better-requires c κs = search needs
 
 add-next-cell : tie.Need-add-next-cell Inv-loop μ-loop
-unfolding user-limit row-bits row-words
+unfolding user-limit
 add-next-cell c = omega arith
 
 next-cell-requires-2 : tie.Need-next-cell-requires-2 Inv-loop μ-loop
-unfolding user-limit row-bits row-words
+unfolding row-bits row-words
 next-cell-requires-2 c κs = omega arith
 
 loop-less : tie.Need-loop-less Inv-loop μ-loop
-unfolding row-bits row-words
 loop-less c = omega (arith, c .next-cell2 .ensures .not-before)
 
 loop-again : tie.Need-loop-again Inv-loop μ-loop

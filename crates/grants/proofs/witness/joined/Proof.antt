@@ -1,5 +1,4 @@
 -- `grants::witness::joined`: `or` of two words has the cells of both.
-use borrow.Author.Needs.{needs}
 use Prim.Native.Nat.{_*_, _-_, _≤_}
 use native.Mathlib.Omega.{arith}
 use mathlib.Core.Path.{_≡_, refl}
@@ -23,35 +22,33 @@ unfolding user-limit row-words
 loop-holds c = (omega arith, refl, none-made _ cell-words)
 
 mul-loop : tie.Need-mul-loop Inv-loop μ-loop
-unfolding user-limit row-words
 mul-loop c = omega arith
 
 mul-words : tie.Need-mul-words Inv-loop μ-loop
-unfolding user-limit row-words
+unfolding user-limit
 mul-words c = omega arith
 
 element-copy-out-words : tie.Need-element-copy-out-words Inv-loop μ-loop
-unfolding user-limit row-words
+unfolding user-limit
 element-copy-out-words c = omega arith
 
 mul-words-2 : tie.Need-mul-words-2 Inv-loop μ-loop
-unfolding user-limit row-words
+unfolding user-limit
 mul-words-2 c = omega arith
 
 element-copy-out-words-2 : tie.Need-element-copy-out-words-2 Inv-loop μ-loop
-unfolding user-limit row-words
+unfolding user-limit
 element-copy-out-words-2 c = omega arith
 
 mul-words-3 : tie.Need-mul-words-3 Inv-loop μ-loop
-unfolding user-limit row-words
+unfolding user-limit
 mul-words-3 c = omega arith
 
 array-write-words : tie.Need-array-write-words Inv-loop μ-loop
-unfolding user-limit row-words
+unfolding user-limit
 array-write-words c = omega arith
 
 add-i : tie.Need-add-i Inv-loop μ-loop
-unfolding user-limit row-words
 add-i c = omega arith
 
 loop-less : tie.Need-loop-less Inv-loop μ-loop
@@ -59,7 +56,7 @@ unfolding row-words
 loop-less c = omega arith
 
 loop-again : tie.Need-loop-again Inv-loop μ-loop
-unfolding user-limit row-words
+unfolding row-words
 loop-again c =
     let a = c .before .before .before .before .args in
     let at = c .before .before .before .loop in (

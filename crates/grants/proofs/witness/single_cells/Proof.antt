@@ -26,19 +26,19 @@ unfolding user-limit row-words
 loop-holds c = (omega arith, no-singles (c .args .removed .now) (c .args .partner .now) cell-words)
 
 mul-at : tie.Need-mul-at Inv-loop μ-loop
-unfolding grant-limit user-limit row-words
+unfolding grant-limit
 mul-at c = omega arith
 
 element-copy-out-at : tie.Need-element-copy-out-at Inv-loop μ-loop
-unfolding grant-limit user-limit row-words
+unfolding grant-limit
 element-copy-out-at c = omega arith
 
 mul-if1 : tie.Need-mul-if1 Inv-loop μ-loop
-unfolding grant-limit user-limit row-words
+unfolding grant-limit
 mul-if1 c = omega arith
 
 element-copy-out-if1 : tie.Need-element-copy-out-if1 Inv-loop μ-loop
-unfolding grant-limit user-limit row-words
+unfolding grant-limit
 element-copy-out-if1 c = omega arith
 
 -- the cell is one of the sheet's words
@@ -47,14 +47,13 @@ inside : (c : tie.Then1 Inv-loop μ-loop)
 inside c = c .before .before .before .before .before .pre .1 (c .before .before .before .before .loop .i) (c .before .before .before .loop-test .taken)
 
 cast-with-cell : tie.Need-cast-with-cell Inv-loop μ-loop
-unfolding grant-limit user-limit row-words
+unfolding user-limit row-words
 cast-with-cell c = omega (arith, inside c)
 
 with-cell-requires : tie.Need-with-cell-requires Inv-loop μ-loop
 with-cell-requires c κs = inside c
 
 add-i : tie.Need-add-i Inv-loop μ-loop
-unfolding grant-limit user-limit row-words
 add-i c = omega arith
 
 loop-less : tie.Need-loop-less Inv-loop μ-loop
