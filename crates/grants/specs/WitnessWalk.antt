@@ -8,14 +8,14 @@ use Rattle.lists.specs.Lists.{filter, least}
 use Rattle.lists.specs.PassingBelow.{passing-below}
 use Rattle.sheet.specs.Sheet.{Sheet, Grant}
 use Rattle.sheet.specs.Rows.{row-bits}
-use Rattle.grants.specs.declared.witness.Choice.{Choice}
+use Rattle.grants.specs.declared.choice.Choice.{Choice}
 use Rattle.grants.specs.Fit.{fits, partners}
 use Rattle.grants.specs.CellSets.{cell-grants}
 use Rattle.grants.specs.CellPlaces.{grant-of, marked, Shown, Part}
 use Rattle.grants.specs.CellListLaws.{cell-grants-by-cell}
 use Rattle.grants.specs.NearLaws.{partners-one-fewer}
 use Rattle.grants.specs.KernelWalk.{NextFrom, none-passed, one-passed}
-use Rattle.grants.specs.WitnessChoice.{better-of, Standing, Fewest, Least, none-seen, one-more-seen, none-standing, better-standing}
+use Rattle.grants.specs.WitnessChoice.{no-choice, better-of, Standing, Fewest, Least, none-seen, one-more-seen, none-standing, better-standing}
 
 -- how many partners a grant has among those of left
 abbrev pub partner-count : Sheet → List ℕ → Grant → ℕ
@@ -31,7 +31,7 @@ pub record Walking (rows left : List ℕ) (users : ℕ) (best : Choice) (n : ℕ
       → Least (partner-count sheet left) (map grant-of (passing-below n (marked left))) best
 
 pub walk-starts : (rows left : List ℕ) (users n : ℕ) → NextFrom (marked left) 0 (users * row-bits) n
-    → Walking rows left users (record { cell = 0; partners = 0 }) n
+    → Walking rows left users no-choice n
 walk-starts rows left users n step = record {
   within = step .not-past;
   next = step .passes;

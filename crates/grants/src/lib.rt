@@ -1,8 +1,10 @@
 // Fit, reduction, witness and first cover.
 mod cell;
+mod choice;
 mod cover;
 mod fit;
 mod kernel;
+mod sets;
 mod table;
 mod witness;
 

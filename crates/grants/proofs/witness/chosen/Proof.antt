@@ -33,18 +33,18 @@ fewest-requires c κs = search needs
 
 returns : tie.Need-returns Inv-loop μ-loop
 returns c sheet shown part =
-    let at = c .before .before .before .before .before .loop in
+    let at = c .before .before .before .before .before .before .loop in
     let greedy = at .inv .1 sheet shown part in
     greedy-ends sheet _ _ (at .left) (at .taken) _ greedy
-    (none-taken sheet (grant-limit - at .count) (cell-grants sheet (at .left)) (c .before .before .fewest .ensures .is-fewest sheet shown (greedy .left-part) ∙ rw (eq-eqb _ _ (c .if1 .taken))))
+    (none-taken sheet (grant-limit - at .count) (cell-grants sheet (at .left)) (c .before .before .before .fewest .ensures .is-fewest sheet shown (greedy .left-part) ∙ rw (eq-eqb _ _ (c .if1 .taken))))
 
 -- there is a grant to take
-found : (c : tie.Else1 Inv-loop μ-loop) → 0 < c .before .before .fewest .result .partners
+found : (c : tie.Else1 Inv-loop μ-loop) → 0 < c .before .before .before .fewest .result .partners
 found c = omega arith
 
-inside : (c : tie.Else1 Inv-loop μ-loop) → c .before .before .fewest .result .cell < cell-limit
+inside : (c : tie.Else1 Inv-loop μ-loop) → c .before .before .before .fewest .result .cell .0 < cell-limit
 unfolding row-bits row-words
-inside c = omega (arith, c .before .before .fewest .ensures .standing .within (found c))
+inside c = omega (arith, c .before .before .before .fewest .ensures .standing .within (found c))
 
 with-cell-requires : tie.Need-with-cell-requires Inv-loop μ-loop
 with-cell-requires c κs = inside c
@@ -68,13 +68,13 @@ loop-again : tie.Need-loop-again Inv-loop μ-loop
 unfolding grant-limit
 loop-again c =
     let turn = c .before .before .before in
-    let at = turn .before .before .before .before .before .loop in
-    let fewest = turn .before .before .fewest in
-    let more = one-fewer (turn .before .before .before .before) in (
+    let at = turn .before .before .before .before .before .before .loop in
+    let fewest = turn .before .before .before .fewest in
+    let more = one-fewer (turn .before .before .before .before .before) in (
       omega (arith, more),
       λ sheet shown part.
           let greedy = rw more at (at .inv .1 sheet shown part) in
-          greedy-goes-on shown _ (at .left) (at .taken) _ greedy (fewest .result .cell) (fewest .ensures .standing .is-set (found turn))
+          greedy-goes-on shown _ (at .left) (at .taken) _ greedy (fewest .result .cell .0) (fewest .ensures .standing .is-set (found turn))
           (fewest .ensures .is-fewest sheet shown (greedy .left-part) ∙ rw (ne-eqb _ _ (turn .if1 .left))) _ (c .dropped .ensures) _
           (c .before .before .with-cell .ensures),
     )

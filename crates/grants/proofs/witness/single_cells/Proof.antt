@@ -46,9 +46,9 @@ inside : (c : tie.Then1 Inv-loop μ-loop)
     → getD (c .before .before .before .before .before .args .removed .now) (c .before .before .before .before .loop .i) 0 < cell-limit
 inside c = c .before .before .before .before .before .pre .1 (c .before .before .before .before .loop .i) (c .before .before .before .loop-test .taken)
 
-cast-with-cell : tie.Need-cast-with-cell Inv-loop μ-loop
+cast-cell : tie.Need-cast-cell Inv-loop μ-loop
 unfolding user-limit row-words
-cast-with-cell c = omega (arith, inside c)
+cast-cell c = omega (arith, inside c)
 
 with-cell-requires : tie.Need-with-cell-requires Inv-loop μ-loop
 with-cell-requires c κs = inside c
@@ -88,7 +88,7 @@ single-cells-spec =
     element-copy-out-at
     mul-if1
     element-copy-out-if1
-    cast-with-cell
+    cast-cell
     with-cell-requires
     add-i
     loop-less

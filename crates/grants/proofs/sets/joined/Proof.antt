@@ -1,4 +1,4 @@
--- `grants::witness::joined`: `or` of two words has the cells of both.
+-- `grants::sets::joined`: `or` of two words has the cells of both.
 use Prim.Native.Nat.{_*_, _-_, _≤_}
 use native.Mathlib.Omega.{arith}
 use mathlib.Core.Path.{_≡_, refl}
@@ -8,8 +8,8 @@ use Rattle.sheet.specs.Rows.{row-words}
 use Rattle.grants.specs.CellPlaces.{cell-words}
 use Rattle.grants.specs.WitnessCells.{either, either-word}
 use Rattle.grants.specs.WitnessWords.{MadeWords, none-made, one-made, all-made}
-use Rattle.grants.proofs.witness.joined.Statement.{statement}
-use Rattle.grants.proofs.witness.joined.Tie as tie
+use Rattle.grants.proofs.sets.joined.Statement.{statement}
+use Rattle.grants.proofs.sets.joined.Tie as tie
 
 abbrev Inv-loop : tie.InvT-loop
 Inv-loop some others users words₀ i₀ words i = (i ≤ users * row-words) × (length words ≡ cell-words) × MadeWords (either some others) i words

@@ -1,4 +1,4 @@
--- `grants::witness::with_cell`: the word of the cell gets its position, and the other words stay.
+-- `grants::sets::with_cell`: the word of the cell gets its position, and the other words stay.
 use borrow.Author.Needs.{needs}
 use native.Mathlib.Omega.{arith}
 use mathlib.Core.Path.{_≡_}
@@ -7,8 +7,8 @@ use Rattle.sheet.specs.Limits.{user-limit}
 use Rattle.sheet.specs.Rows.{row-words}
 use Rattle.grants.specs.CellPlaces.{cell-words}
 use Rattle.grants.specs.WitnessWords.{cell-put-in}
-use Rattle.grants.proofs.witness.with_cell.Statement.{statement}
-use Rattle.grants.proofs.witness.with_cell.Tie as tie
+use Rattle.grants.proofs.sets.with_cell.Statement.{statement}
+use Rattle.grants.proofs.sets.with_cell.Tie as tie
 
 mul-with : tie.Need-mul-with
 mul-with c = search needs
@@ -32,7 +32,7 @@ unfolding user-limit row-words
 returns c =
     let a = c .before .args in
     let sized : length (a .words) ≡ cell-words = search needs in
-    cell-put-in (a .words) (a .n) _ (omega arith) (c .with .ensures)
+    cell-put-in (a .words) (a .cell .0) _ (omega arith) (c .with .ensures)
 
 pub with-cell-spec : {M : Type 1} → statement M
 with-cell-spec =

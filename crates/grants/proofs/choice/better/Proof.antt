@@ -1,7 +1,7 @@
--- `grants::witness::better`: the tests in turn.
+-- `grants::choice::better`: the tests in turn.
 use borrow.Author.Tests.{eq-eqb, ne-eqb, lt-ltb, le-ltb}
-use Rattle.grants.proofs.witness.better.Statement.{statement}
-use Rattle.grants.proofs.witness.better.Tie as tie
+use Rattle.grants.proofs.choice.better.Statement.{statement}
+use Rattle.grants.proofs.choice.better.Tie as tie
 
 returns : tie.Need-returns
 returns c = rw (eq-eqb _ _ (c .if1 .taken))

@@ -1,12 +1,12 @@
--- `grants::witness::fewest`: the walk passes the remaining grants in order and keeps the best so far.
+-- `grants::choice::fewest`: the walk passes the remaining grants in order and keeps the best so far.
 use borrow.Author.Needs.{needs}
 use Prim.Native.Nat.{_*_, _-_}
 use native.Mathlib.Omega.{arith}
 use Rattle.sheet.specs.Limits.{user-limit}
 use Rattle.sheet.specs.Rows.{row-words, row-bits}
 use Rattle.grants.specs.WitnessWalk.{Walking, walk-starts, walk-goes-on, walk-ends}
-use Rattle.grants.proofs.witness.fewest.Statement.{statement}
-use Rattle.grants.proofs.witness.fewest.Tie as tie
+use Rattle.grants.proofs.choice.fewest.Statement.{statement}
+use Rattle.grants.proofs.choice.fewest.Tie as tie
 
 abbrev Inv-loop : tie.InvT-loop
 Inv-loop rows left users best₀ n₀ best n = Walking rows left users best n

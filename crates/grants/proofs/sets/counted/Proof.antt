@@ -1,4 +1,4 @@
--- `grants::witness::counted`: after i words the sum is how many of the cells below i * word-bits are set.
+-- `grants::sets::counted`: after i words the sum is how many of the cells below i * word-bits are set.
 use borrow.Author.Needs.{needs}
 use Prim.Native.Nat.{_*_, _-_, _≤_}
 use native.Mathlib.Omega.{arith}
@@ -10,8 +10,8 @@ use Rattle.sheet.specs.Limits.{user-limit}
 use Rattle.sheet.specs.Rows.{row-words}
 use Rattle.grants.specs.CellPlaces.{marked}
 use Rattle.grants.specs.FitWordLaws.{marked-in-word, count-next-word}
-use Rattle.grants.proofs.witness.counted.Statement.{statement}
-use Rattle.grants.proofs.witness.counted.Tie as tie
+use Rattle.grants.proofs.sets.counted.Statement.{statement}
+use Rattle.grants.proofs.sets.counted.Tie as tie
 
 abbrev Inv-loop : tie.InvT-loop
 Inv-loop words users n₀ i₀ n i = (i ≤ users * row-words) × (n ≡ count-below (i * word-bits) (marked words))

@@ -1,4 +1,4 @@
--- `grants::witness::dropped`: a word of left without the fitting word of the grant has the cells of left that do not fit it.
+-- `grants::choice::dropped`: a word of left without the fitting word of the grant has the cells of left that do not fit it.
 use borrow.Author.Needs.{needs}
 use Prim.Native.Nat.{_*_, _-_, _≤_}
 use native.Mathlib.Omega.{arith}
@@ -9,8 +9,8 @@ use Rattle.sheet.specs.Rows.{row-words}
 use Rattle.grants.specs.CellPlaces.{cell-words}
 use Rattle.grants.specs.WitnessCells.{left-over, left-over-word}
 use Rattle.grants.specs.WitnessWords.{MadeWords, none-made, one-made, all-made}
-use Rattle.grants.proofs.witness.dropped.Statement.{statement}
-use Rattle.grants.proofs.witness.dropped.Tie as tie
+use Rattle.grants.proofs.choice.dropped.Statement.{statement}
+use Rattle.grants.proofs.choice.dropped.Tie as tie
 
 abbrev Inv-loop : tie.InvT-loop
 Inv-loop rows left users it words₀ i₀ words i = (i ≤ users * row-words) × (length words ≡ cell-words) × MadeWords (left-over rows left (it .0)) i words
