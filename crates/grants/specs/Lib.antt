@@ -18,6 +18,14 @@ pub mod CoverPlaced
 pub mod CoverArray
 pub mod TableWords
 pub mod TableLaws
+pub mod WitnessChoice
+pub mod WitnessWalk
+pub mod WitnessWords
+pub mod WitnessCells
+pub mod WitnessTaken
+pub mod WitnessGreedy
+pub mod WitnessSingles
+pub mod WitnessRows
 pub mod CellSets
 pub mod CellPlaces
 pub mod CellPlaceLaws

@@ -1,9 +1,12 @@
 // Fit, reduction, witness and first cover.
 mod cell;
+mod choice;
 mod cover;
 mod fit;
 mod kernel;
+mod sets;
 mod table;
+mod witness;
 
 pub use cell::CellNo;
 pub use cell::ROW_BITS;
@@ -17,3 +20,6 @@ pub use table::TABLE_LIMIT;
 pub use table::TABLE_ROW;
 pub use table::TABLE_WORDS;
 pub use table::fit_table;
+pub use witness::Witness;
+pub use witness::single_cells;
+pub use witness::witness_of;

@@ -6,6 +6,7 @@ pub mod Ordered
 pub mod OrderedUnique
 pub mod OrderedMap
 pub mod FilterLength
+pub mod FilterSame
 pub mod Distinct
 pub mod LeastLaws
 pub mod ReverseLaws
@@ -24,6 +25,7 @@ pub mod PlacementLaws
 pub mod GroupingLaws
 pub mod SameGrouping
 pub mod LatestFirst
+pub mod LeastLast
 pub mod KeyLaws
 pub mod KeyStep
 pub mod Beginning
