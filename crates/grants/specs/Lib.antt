@@ -35,3 +35,16 @@ pub mod Log
 pub mod RemovedGranted
 pub mod NearCells
 pub mod NearLaws
+pub mod NearWordLaws
+pub mod ReducVerdict
+pub mod NearTieLaws
+pub mod ReducVerdictLaws
+pub mod ReducWork
+pub mod ReducWorkLaws
+pub mod ReducRemoveLaws
+pub mod ReducVisitLaws
+pub mod ReducSweepLaws
+pub mod ReducSettleLaws
+pub mod ReducLogLaws
+pub mod ReducResult
+pub mod CellLawful
