@@ -7,7 +7,15 @@ pub mod GrantOrderLaws
 pub mod Refusal
 pub mod Rules
 pub mod Rows
+pub mod Fields
 pub mod Places
+pub mod FieldLaws
+pub mod Cells
+pub mod CellsLaws
+pub mod ReadLine
+pub mod ReadLineLaws
+pub mod Body
+pub mod BodyLaws
 pub mod LaidOut
 pub mod RowsRead
 pub mod TextLaws
