@@ -3,6 +3,7 @@ pub mod Lists
 pub mod TestLaws
 pub mod Ordered
 pub mod ReverseLaws
+pub mod DropLaws
 pub mod Span
 pub mod CutLaws
 pub mod JoinLaws

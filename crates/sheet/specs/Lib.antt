@@ -16,6 +16,10 @@ pub mod ReadLine
 pub mod ReadLineLaws
 pub mod Body
 pub mod BodyLaws
+pub mod PlacesLaws
+pub mod UserPlaces
+pub mod UserPlacesLaws
+pub mod PermissionPlacesLaws
 pub mod LaidOut
 pub mod RowsRead
 pub mod TextLaws
