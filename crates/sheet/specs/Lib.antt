@@ -20,6 +20,8 @@ pub mod PlacesLaws
 pub mod UserPlaces
 pub mod UserPlacesLaws
 pub mod PermissionPlacesLaws
+pub mod NamesAt
+pub mod NamesAtLaws
 pub mod LaidOut
 pub mod RowsRead
 pub mod TextLaws

@@ -6,6 +6,7 @@ mod cursor;
 mod layout;
 mod limits;
 mod line;
+mod lookup;
 mod names;
 mod numbers;
 mod places;
