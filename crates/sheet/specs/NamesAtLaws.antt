@@ -15,7 +15,7 @@ use Rattle.lists.specs.ListOfLaws.{length-list-of, getD-list-of, list-of-same, 
 use Rattle.sheet.specs.Limits.{user-limit}
 use Rattle.sheet.specs.Text.{Bytes}
 use Rattle.sheet.specs.Refusal.{same-name}
-use Rattle.sheet.specs.Places.{Placed}
+use Rattle.sheet.specs.Places.{PlacedBelow}
 use Rattle.sheet.specs.NamesAt.{Inside, name-there, names-at, name-number}
 use Rattle.sheet.specs.declared.places.Places.{Places}
 
@@ -27,14 +27,14 @@ pub name-of : (text : Bytes) (places : Places) (count i : ℕ) → i < count
 name-of text places count i h = getD-list-of count (name-there text places) i [] h
 
 -- names that stand at their places are the names at those places
-pub placed-names : (text : Bytes) (places : Places) (names : List Bytes) → Placed text places names
-    → names-at text places (length names) ≡ names
-placed-names text places names p =
-    list-of-same (length names) (name-there text places) (λ i. getD names i []) (λ i l. p .each i l .reads) ∙ list-of-places names []
+pub placed-names : (n : ℕ) (text : Bytes) (places : Places) (names : List Bytes) → PlacedBelow n text places names → n ≡ length names
+    → names-at text places n ≡ names
+placed-names n text places names p e =
+    list-of-same n (name-there text places) (λ i. getD names i []) (λ i l. p .each i l .reads) ∙ rw e (list-of-places names [])
 
-pub placed-inside : (text : Bytes) (places : Places) (names : List Bytes) → Placed text places names → length names ≤ user-limit
-    → Inside text places (length names)
-placed-inside text places names p few =
+pub placed-inside : (n : ℕ) (text : Bytes) (places : Places) (names : List Bytes) → PlacedBelow n text places names → n ≤ user-limit
+    → Inside text places n
+placed-inside n text places names p few =
     record { few = few; forward = λ i l. p .each i l .forward; within = λ i l. p .each i l .within }
 
 -- no name before i equals the name looked for

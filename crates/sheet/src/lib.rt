@@ -10,6 +10,7 @@ mod lookup;
 mod names;
 mod numbers;
 mod places;
+mod refusal;
 
 pub use cursor::Cursor;
 pub use cursor::FieldRead;
@@ -30,3 +31,4 @@ pub use numbers::PermissionNo;
 pub use numbers::RoleNo;
 pub use numbers::UserNo;
 pub use places::Places;
+pub use refusal::judge;
