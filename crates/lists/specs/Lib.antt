@@ -10,6 +10,8 @@ pub mod FilterSame
 pub mod Distinct
 pub mod LeastLaws
 pub mod ReverseLaws
+pub mod DropLaws
+pub mod Span
 pub mod CutLaws
 pub mod JoinLaws
 pub mod ListOfLaws
