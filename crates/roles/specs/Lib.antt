@@ -16,3 +16,4 @@ pub mod RoleMatrices
 pub mod RolesShown
 pub mod RolesInput
 pub mod RolesInputLaws
+pub mod ReducedBelongs

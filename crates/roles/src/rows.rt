@@ -1,7 +1,8 @@
 // The two matrices of roles as rows of words: for each user the roles, for each role the permissions.
 use crate::limits::ROLE_WORDS;
 use bits::WORD_BITS;
-use grants::ROW_BITS;
+use grants::permission_of;
+use grants::user_of;
 use sheet::CELL_WORDS;
 use sheet::GRANT_LIMIT;
 use sheet::PermissionNo;
@@ -9,19 +10,20 @@ use sheet::ROW_WORDS;
 use sheet::RoleNo;
 use sheet::UserNo;
 ghost use mathlib.Core.Path.{_≡_};
+ghost use mathlib.Core.Bool.{true};
 ghost use Prim.Native.Nat.{_<_, _≤_};
 ghost use lib.ListN.{length};
 ghost use Rattle.sheet.specs.Limits.{grant-limit};
 ghost use Rattle.sheet.specs.Rows.{row-bits};
-ghost use Rattle.sheet.specs.CellMarked.{CellMarked, word-at};
-ghost use Rattle.grants.specs.CellPlaces.{grant-of};
+ghost use Rattle.sheet.specs.CellAdded.{CellAdded};
+ghost use Rattle.sheet.specs.CellLaws.{word-of};
 ghost use Rattle.roles.specs.CellClasses.{CellsBelow, paired-in};
 ghost use Rattle.roles.specs.RoleMatrices.{CellsShow, RolesBelow, has-role, gives-permission};
 
 // Sets the cell of a row and a column.
 fn mark(words: &mut [u64], row: usize, column: usize)
-    requires { ⌜ (column < row-bits) × (word-at row column < length (now words)) ⌝ }
-    ensures { λ _. ⌜ CellMarked (now (words .entry)) (now (words .exit)) row column ⌝ }
+    requires { ⌜ (column < row-bits) × (word-of row column < length (now words)) ⌝ }
+    ensures { λ _. ⌜ CellAdded (now (words .entry)) (now (words .exit)) row column true ⌝ }
 {
     let i = row * ROW_WORDS + column / WORD_BITS;
     words[i] = bits::with(words[i], column % WORD_BITS);
@@ -29,32 +31,18 @@ fn mark(words: &mut [u64], row: usize, column: usize)
 
 // The user has the role.
 fn give_role(has: &mut [u64], u: UserNo, r: RoleNo)
-    requires { ⌜ (r .0 < row-bits) × (word-at (u .0) (r .0) < length (now has)) ⌝ }
-    ensures { λ _. ⌜ CellMarked (now (has .entry)) (now (has .exit)) (u .0) (r .0) ⌝ }
+    requires { ⌜ (r .0 < row-bits) × (word-of (u .0) (r .0) < length (now has)) ⌝ }
+    ensures { λ _. ⌜ CellAdded (now (has .entry)) (now (has .exit)) (u .0) (r .0) true ⌝ }
 {
     mark(has, u.0, r.0);
 }
 
 // The role gives the permission.
 fn give_permission(gives: &mut [u64], r: RoleNo, p: PermissionNo)
-    requires { ⌜ (p .0 < row-bits) × (word-at (r .0) (p .0) < length (now gives)) ⌝ }
-    ensures { λ _. ⌜ CellMarked (now (gives .entry)) (now (gives .exit)) (r .0) (p .0) ⌝ }
+    requires { ⌜ (p .0 < row-bits) × (word-of (r .0) (p .0) < length (now gives)) ⌝ }
+    ensures { λ _. ⌜ CellAdded (now (gives .entry)) (now (gives .exit)) (r .0) (p .0) true ⌝ }
 {
     mark(gives, r.0, p.0);
-}
-
-// The user of the grant at a cell.
-fn user_of(cell: u16) -> UserNo
-    ensures { λ r. ⌜ r .0 ≡ grant-of cell .user ⌝ }
-{
-    UserNo(cell as usize / ROW_BITS)
-}
-
-// The permission of the grant at a cell.
-fn permission_of(cell: u16) -> PermissionNo
-    ensures { λ r. ⌜ r .0 ≡ grant-of cell .permission ⌝ }
-{
-    PermissionNo(cell as usize % ROW_BITS)
 }
 
 // A role by its number.

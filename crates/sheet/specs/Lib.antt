@@ -7,7 +7,6 @@ pub mod GrantOrderLaws
 pub mod Refusal
 pub mod Rules
 pub mod Rows
-pub mod CellMarked
 pub mod LastByteLaws
 pub mod Fields
 pub mod Places

@@ -2,7 +2,7 @@
 use native.Mathlib.Omega.{arith}
 use borrow.Author.Needs.{needs}
 use Rattle.sheet.specs.Rows.{row-words}
-use Rattle.sheet.specs.CellMarked.{cell-marked-by-word}
+use Rattle.sheet.specs.CellLaws.{cell-set}
 use Rattle.roles.proofs.rows.mark.Statement.{statement}
 use Rattle.roles.proofs.rows.mark.Tie as tie
 
@@ -41,7 +41,7 @@ unfolding row-words
 returns c =
     let a = c .before .before .before .args in
     let pre = c .before .before .before .pre in
-    cell-marked-by-word (a .words .now) (a .row) (a .column) (c .with .result) (pre .0) (pre .1) (c .with .ensures)
+    cell-set (a .words .now) (a .row) (a .column) (c .with .result) (pre .0) (pre .1) (c .with .ensures)
 
 pub mark-spec : {M : Type 1} → statement M
 mark-spec =

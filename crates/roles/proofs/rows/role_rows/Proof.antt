@@ -6,10 +6,9 @@ use mathlib.Core.Path.{_≡_, sym, _∙_}
 use lib.ListN.{length, getD, length-replicate}
 use Rattle.sheet.specs.Limits.{grant-limit, user-limit}
 use Rattle.sheet.specs.Rows.{row-words, row-bits}
-use Rattle.sheet.specs.CellMarked.{word-below}
 use Rattle.grants.specs.CellPlaces.{cell-limit}
 use Rattle.roles.specs.CellClasses.{paired-in}
-use Rattle.roles.specs.RoleMatrices.{role-words, CellsShow, gives-permission, permission-of-cell-below, no-cells, gives-permission-next}
+use Rattle.roles.specs.RoleMatrices.{role-words, CellsShow, gives-permission, permission-of-cell-below, role-word-below, no-cells, gives-permission-next}
 use Rattle.roles.proofs.rows.role_rows.Statement.{statement}
 use Rattle.roles.proofs.rows.role_rows.Tie as tie
 
@@ -60,8 +59,9 @@ give-permission-requires : tie.Need-give-permission-requires Inv-loop μ-loop
 give-permission-requires c κs =
     let in-loop = c .before .before .before .before .before in
     let it = getD (in-loop .before .before .args .cells .now) (in-loop .before .loop .i) 0 in
+    let role = getD (in-loop .before .before .args .roles .now) (in-loop .before .loop .i) 0 in
     rw (c .permission-of .ensures, c .before .before .role-of .ensures, in-loop .before .loop .inv .1)
-    (permission-of-cell-below it, word-below (role-below in-loop) (permission-of-cell-below it))
+    (permission-of-cell-below it, role-word-below it role (role-below in-loop))
 
 add-i : tie.Need-add-i Inv-loop μ-loop
 unfolding grant-limit
@@ -76,9 +76,9 @@ loop-again c =
     let in-loop = c .before .before .before .before .before .before .before in
     let a = in-loop .before .before .args in
     let inv = in-loop .before .loop .inv in
-    let marked =
+    let added =
     rw (c .before .before .permission-of .ensures, c .before .before .before .before .role-of .ensures) at (c .before .give-permission .ensures) in
-    (omega arith, marked .room ∙ inv .1, gives-permission-next (a .cells .now) (a .roles .now) (in-loop .before .loop .i) marked (inv .2))
+    (omega arith, added .size ∙ inv .1, gives-permission-next (a .cells .now) (a .roles .now) (in-loop .before .loop .i) added (inv .2))
 
 returns : tie.Need-returns Inv-loop μ-loop
 returns c =

@@ -5,10 +5,9 @@ use mathlib.Core.Path.{_≡_, sym, _∙_}
 use lib.ListN.{length, getD, length-replicate}
 use Rattle.sheet.specs.Limits.{grant-limit, user-limit}
 use Rattle.sheet.specs.Rows.{row-words, row-bits}
-use Rattle.sheet.specs.CellMarked.{word-below}
 use Rattle.grants.specs.CellPlaces.{cell-words, cell-limit}
 use Rattle.roles.specs.CellClasses.{paired-in}
-use Rattle.roles.specs.RoleMatrices.{CellsShow, has-role, user-of-cell-below, no-cells, has-role-next}
+use Rattle.roles.specs.RoleMatrices.{CellsShow, has-role, user-word-below, no-cells, has-role-next}
 use Rattle.roles.proofs.rows.user_rows.Statement.{statement}
 use Rattle.roles.proofs.rows.user_rows.Tie as tie
 
@@ -58,8 +57,10 @@ role-of-requires c κs = tt
 give-role-requires : tie.Need-give-role-requires Inv-loop μ-loop
 give-role-requires c κs =
     let in-loop = c .before .before .before .before .before in
+    let it = getD (in-loop .before .before .args .cells .now) (in-loop .before .loop .i) 0 in
+    let role = getD (in-loop .before .before .args .roles .now) (in-loop .before .loop .i) 0 in
     rw (c .role-of .ensures, c .before .before .user-of .ensures, in-loop .before .loop .inv .1)
-    (role-below in-loop, word-below (user-of-cell-below (cell-below in-loop)) (role-below in-loop))
+    (role-below in-loop, user-word-below it role (cell-below in-loop) (role-below in-loop))
 
 add-i : tie.Need-add-i Inv-loop μ-loop
 unfolding grant-limit
@@ -74,8 +75,8 @@ loop-again c =
     let in-loop = c .before .before .before .before .before .before .before in
     let a = in-loop .before .before .args in
     let inv = in-loop .before .loop .inv in
-    let marked = rw (c .before .before .role-of .ensures, c .before .before .before .before .user-of .ensures) at (c .before .give-role .ensures) in
-    (omega arith, marked .room ∙ inv .1, has-role-next (a .cells .now) (a .roles .now) (in-loop .before .loop .i) marked (inv .2))
+    let added = rw (c .before .before .role-of .ensures, c .before .before .before .before .user-of .ensures) at (c .before .give-role .ensures) in
+    (omega arith, added .size ∙ inv .1, has-role-next (a .cells .now) (a .roles .now) (in-loop .before .loop .i) added (inv .2))
 
 returns : tie.Need-returns Inv-loop μ-loop
 returns c =
