@@ -6,9 +6,12 @@ pub mod Ordered
 pub mod OrderedUnique
 pub mod OrderedMap
 pub mod FilterLength
+pub mod FilterSame
 pub mod Distinct
 pub mod LeastLaws
 pub mod ReverseLaws
+pub mod DropLaws
+pub mod Span
 pub mod CutLaws
 pub mod JoinLaws
 pub mod ListOfLaws
@@ -22,7 +25,11 @@ pub mod Classing
 pub mod GrownLaws
 pub mod PlacementLaws
 pub mod GroupingLaws
+pub mod SameGrouping
+pub mod LatestFirst
+pub mod LeastLast
 pub mod KeyLaws
+pub mod KeyStep
 pub mod Beginning
 pub mod Lexicographic
 pub mod Ascii
