@@ -1,5 +1,9 @@
 -- The role book (role decomposition with its certificate) as bytes.
 pub mod Decimal
+pub mod DecimalLaws
 pub mod Words
+pub mod WordLaws
 pub mod Blocks
+pub mod BlockLaws
+pub mod LengthLaws
 pub mod Book

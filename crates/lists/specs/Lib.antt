@@ -3,9 +3,12 @@ pub mod Lists
 pub mod TestLaws
 pub mod Ordered
 pub mod ReverseLaws
+pub mod AppendLaws
 pub mod CutLaws
 pub mod JoinLaws
 pub mod ListOfLaws
+pub mod EachLaws
+pub mod Total
 pub mod SameLaws
 pub mod TailLaws
 pub mod Placement
