@@ -7,3 +7,6 @@ pub mod Blocks
 pub mod BlockLaws
 pub mod LengthLaws
 pub mod Book
+pub mod DigitLaws
+pub mod Written
+pub mod DigitsWritten

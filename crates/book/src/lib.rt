@@ -1,1 +1,7 @@
 // Writing a role book.
+mod decimal;
+mod put;
+
+pub use decimal::decimal_length;
+pub use decimal::put_decimal;
+pub use put::put_bytes;
