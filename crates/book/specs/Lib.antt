@@ -8,5 +8,6 @@ pub mod BlockLaws
 pub mod LengthLaws
 pub mod Book
 pub mod DigitLaws
+pub mod NameLaws
 pub mod Written
 pub mod DigitsWritten

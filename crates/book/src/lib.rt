@@ -1,5 +1,6 @@
 // Writing a role book.
 mod decimal;
+mod names;
 mod put;
 
 pub use decimal::decimal_length;
