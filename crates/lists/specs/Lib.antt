@@ -7,6 +7,7 @@ pub mod AppendLaws
 pub mod CutLaws
 pub mod JoinLaws
 pub mod ListOfLaws
+pub mod Listed
 pub mod EachLaws
 pub mod Total
 pub mod SameLaws
