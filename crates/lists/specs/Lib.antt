@@ -11,6 +11,7 @@ pub mod Listed
 pub mod EachLaws
 pub mod Total
 pub mod SameLaws
+pub mod SameDropLaws
 pub mod TailLaws
 pub mod Placement
 pub mod Classing
