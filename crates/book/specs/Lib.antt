@@ -11,3 +11,6 @@ pub mod DigitLaws
 pub mod NameLaws
 pub mod Written
 pub mod DigitsWritten
+pub mod CellsText
+pub mod CellsWritten
+pub mod ListedWritten

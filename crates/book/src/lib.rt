@@ -1,4 +1,5 @@
 // Writing a role book.
+mod cells;
 mod decimal;
 mod names;
 mod put;
