@@ -2,11 +2,10 @@
 -- stands between each two blocks.
 use Prim.Native.Nat.{ℕ, suc, _+_}
 use native.Mathlib.Omega.{arith}
-use mathlib.Core.Path.{_≡_, refl, ap, _∙_}
-use mathlib.Core.List.{List, [], _∷_, _++_, map}
+use mathlib.Core.Path.{_≡_, _∙_}
+use mathlib.Core.List.{List, [], _∷_, map}
 use lib.ListN.{length, length-append}
-use Rattle.lists.specs.Lists.{joined, concat}
-use Rattle.lists.specs.JoinLaws.{map-same}
+use Rattle.lists.specs.Lists.{joined}
 use Rattle.lists.specs.Total.{total, total-append, total-map, length-joined, length-concat-total}
 use Rattle.sheet.specs.Text.{Bytes, Line, comma, line-feed, line-text, text-of}
 use Rattle.book.specs.Blocks.{Block, empty-line, text-of-blocks}

@@ -15,9 +15,8 @@ use Rattle.book.specs.Decimal.{number-of}
 use Rattle.book.specs.Book.{Said}
 use Rattle.checker.specs.Form.{said}
 use Rattle.checker.specs.Check.{held, check}
-use Rattle.checker.specs.Right.{Right}
 use Rattle.checker.specs.CheckParts.{NoneFit, BoundAgrees, counts-agree-elim}
-use Rattle.checker.specs.Exact.{accepted-is-right}
+use Rattle.checker.specs.Exact.{reads-books}
 
 -- what an accepted book shows of a sheet by itself
 pub record Shown (sheet : Sheet) (book : Said) : Type 0 where
@@ -32,7 +31,7 @@ pub record Shown (sheet : Sheet) (book : Said) : Type 0 where
 
 pub checker-alone : (text book : Bytes) → check text book .number ≡ 0 → Shown (sheet-of text) (said (sheet-of text) book)
 checker-alone text book e =
-    let right = accepted-is-right text book e in
+    let right = reads-books text book e in
     let counts = counts-agree-elim (said (sheet-of text) book) (right .counts) in
     record {
       multiplies = right .product;

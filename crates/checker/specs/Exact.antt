@@ -1,27 +1,28 @@
 -- The checker accepts a book exactly when it is right. What it read from an accepted book makes the book right, since a text of the form is
 -- what is written for it; and a right book is read as what it says of every user, permission and role, so that every test passes.
-use Prim.Native.Nat.{ℕ, _≤_, _<_}
-use mathlib.Core.Path.{_≡_, refl, sym, ap, _∙_}
+use Prim.Native.Nat.{ℕ, _<_}
+use mathlib.Core.Path.{_≡_, ap, _∙_}
 use mathlib.Core.Logic.{_↔_}
-use mathlib.Core.Bool.{Bool, So, _&&_}
-use borrow.Author.Tests.{eqb-true}
-use Rattle.bits.specs.Below.{some-below}
+use mathlib.Core.Bool.{So, _&&_}
+use borrow.Author.Tests.{eqb-true, eq-eqb}
+use lib.ListN.{length}
 use Rattle.bits.specs.BelowLaws.{some-below-ext}
 use Rattle.sheet.specs.Text.{Bytes}
-use Rattle.sheet.specs.Sheet.{Sheet, sheet-of, user-count, permission-count, holds}
+use Rattle.sheet.specs.Sheet.{Sheet, sheet-of, user-count, permission-count}
 use Rattle.sheet.specs.Refusal.{refusal, accepted}
-use Rattle.sheet.specs.Accepted.{accepted-keeps}
-use Rattle.roles.specs.RoleSet.{RoleSet, product, Multiplies}
-use Rattle.book.specs.Book.{Said, book-text}
+use Rattle.sheet.specs.Rules.{Keeps}
+use Rattle.sheet.specs.Accepted.{accepted-keeps, accepts-sheets, reads-sheets}
+use Rattle.roles.specs.RoleSet.{product, Multiplies}
+use Rattle.book.specs.Book.{Said}
 use Rattle.checker.specs.Form.{said}
-use Rattle.checker.specs.Check.{counts-agree, check}
+use Rattle.checker.specs.Check.{counts-agree, confirmed, check}
 use Rattle.checker.specs.Right.{OfForm, Right}
 use Rattle.checker.specs.NameLaws.{GoodSheet, good-names}
 use Rattle.checker.specs.WrittenLines.{Sayable}
 use Rattle.checker.specs.ReadBack.{SaysSame, written-has-form, read-back}
 use Rattle.checker.specs.ReadForm.{form-is-written, form-is-sayable}
 use Rattle.checker.specs.CheckParts.{product-agrees-elim, product-agrees-intro, witness-stands-elim, witness-stands-intro}
-use Rattle.checker.specs.Verdict.{Passes, Unrefused, zero-unrefused, unrefused-zero}
+use Rattle.checker.specs.Verdict.{Passes, check-confirms, zero-unrefused, unrefused-zero}
 
 -- ---- what passes is right
 
@@ -91,27 +92,46 @@ right-passes sheet good text says r =
 
 -- ---- the checker's answer
 
--- the names of an accepted sheet are such as a book can hold
-pub accepted-good : (text : Bytes) → So (accepted text) → GoodSheet (sheet-of text)
-accepted-good text e =
-    let kept = accepted-keeps text e in
-    record { users = good-names (kept .user-names); permissions = good-names (kept .permission-names) }
+confirmed-same : (read written : Said) → read .roles .count ≡ written .roles .count → length (read .witness) ≡ length (written .witness)
+    → confirmed read ≡ confirmed written
+confirmed-same read written e f = rw (e, f)
 
--- what the checker read from a book that it accepts makes the book right, whatever the sheet
-pub accepted-is-right : (text book : Bytes) → check text book .number ≡ 0 → Right (sheet-of text) book (said (sheet-of text) book)
-accepted-is-right text book z = passes-right (sheet-of text) book (zero-unrefused text book z .book-passes)
+-- the names of a sheet that keeps the rules are such as a book can hold
+keeps-good : {text : Bytes} {sheet : Sheet} → Keeps text sheet → GoodSheet sheet
+keeps-good kept = record { users = good-names (kept .user-names); permissions = good-names (kept .permission-names) }
 
-pub right-is-accepted : (text book : Bytes) → So (accepted text) → (says : Said) → Right (sheet-of text) book says
-    → check text book .number ≡ 0
-right-is-accepted text book e says r =
-    unrefused-zero text book
-    (record {
-      sheet-stands = eqb-true (refusal text) 0 e;
-      book-passes = right-passes (sheet-of text) (accepted-good text e) book says r;
-    })
+-- where the checker accepts a book, its sheet is accepted
+pub sheet-accepted : (text book : Bytes) → check text book .number ≡ 0 → So (accepted text)
+sheet-accepted text book z = eq-eqb (refusal text) 0 (zero-unrefused text book z .sheet-stands)
 
--- for an accepted sheet the checker accepts a book exactly when form, counts, product and witness are right
-pub accepts-books : (text book : Bytes) → So (accepted text)
-    → (check text book .number ≡ 0) ↔ ((says : Said) × Right (sheet-of text) book says)
-accepts-books text book e =
-    (λ z. (said (sheet-of text) book, accepted-is-right text book z), λ right. right-is-accepted text book e (right .0) (right .1))
+-- what the checker read from a book that it accepts makes the book right
+pub reads-books : (text book : Bytes) → check text book .number ≡ 0 → Right (sheet-of text) book (said (sheet-of text) book)
+reads-books text book z = passes-right (sheet-of text) book (zero-unrefused text book z .book-passes)
+
+module _ (text book : Bytes) (sheet : Sheet) (says : Said) (kept : Keeps text sheet) (right : Right sheet book says) where
+  -- the checker reads from a right book what it says
+  pub says-as-read : SaysSame sheet (said (sheet-of text) book) says
+  says-as-read = rw (reads-sheets text sheet kept) (right-read sheet (keeps-good kept) book says right)
+
+  -- the checker accepts a right book
+  pub right-is-accepted : check text book .number ≡ 0
+  right-is-accepted =
+      unrefused-zero text book
+      (record {
+        sheet-stands = eqb-true (refusal text) 0 (accepts-sheets text .1 (sheet, kept));
+        book-passes = rw (reads-sheets text sheet kept) (right-passes sheet (keeps-good kept) book says right);
+      })
+
+  -- and answers its counts
+  pub answers-counts : check text book ≡ confirmed says
+  answers-counts =
+      check-confirms text book right-is-accepted
+      ∙ confirmed-same (said (sheet-of text) book) says (says-as-read .count) (ap length (says-as-read .witness))
+
+-- the checker accepts a book exactly when its sheet keeps the rules and its form, counts, product and witness are right
+pub accepts-books : (text book : Bytes)
+    → (check text book .number ≡ 0) ↔ ((sheet : Sheet) × (says : Said) × Keeps text sheet × Right sheet book says)
+accepts-books text book = (
+  λ z. (sheet-of text, said (sheet-of text) book, accepted-keeps text (sheet-accepted text book z), reads-books text book z),
+  λ found. right-is-accepted text book (found .0) (found .1) (found .2) (found .3),
+)

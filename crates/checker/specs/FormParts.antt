@@ -1,12 +1,12 @@
 -- The test of a book's form, taken apart: what it says of the text, of each block and of each line, as facts, and back from the facts to
 -- the test.
 use Prim.Native.Nat.{ℕ, suc, _≤_, _<_}
-use mathlib.Core.Path.{_≡_, refl, sym, ap, _∙_}
+use mathlib.Core.Path.{_≡_}
 use mathlib.Core.Bool.{Bool, So, _&&_}
-use mathlib.Core.List.{List, [], _∷_, tail, List·Memᴰ}
+use mathlib.Core.List.{List, _∷_, tail, List·Memᴰ}
 use borrow.Author.Tests.{eqb-true, eq-eqb, leb-true, le-leb}
-use lib.Dec.{eqb, leb}
-use lib.ListN.{length, getD}
+use lib.Dec.{eqb}
+use lib.ListN.{length}
 use Rattle.bits.specs.Truth.{and-intro, and-left, and-right}
 use Rattle.bits.specs.Below.{every-below}
 use Rattle.bits.specs.BelowLaws.{every-below-intro, every-below-elim}
@@ -21,9 +21,9 @@ use Rattle.book.specs.Decimal.{is-count}
 use Rattle.book.specs.Words.{role-name, counts-heading, witness-heading}
 use Rattle.book.specs.Blocks.{Block, blocks-of}
 use Rattle.book.specs.Book.{user-name}
-use Rattle.checker.specs.Form.{role-limit, same-line, block-at, line-at, field-at, is-standing, counts-form, cells-line, roles-form, users-form, known, witness-form, form}
+use Rattle.checker.specs.Form.{role-limit, block-at, line-at, field-at, is-standing, counts-form, cells-line, roles-form, users-form, known, witness-form, form}
 
--- ---- equal names and lines
+-- ---- equal lists of names
 
 pub same-names-equal : (a b : List Bytes) → So (same-by same-name a b) → a ≡ b
 same-names-equal = same-by-equal same-bytes same-bytes-equal
@@ -33,6 +33,7 @@ equal-same-names a b e = rw e (same-by-reflexive same-bytes same-bytes-refl b)
 
 -- ---- block 1
 
+-- its line of names, then roles, bound and state
 pub record CountsForm (block : Block) : Type 0 where
   pub two-lines : length block ≡ 2
   pub heading : line-at block 0 ≡ counts-heading
@@ -63,6 +64,7 @@ counts-form-intro block f =
 
 -- ---- a line of a name and cells
 
+-- the line of this name, with as many cells as asked
 pub record CellsLine (line : Line) (name : Bytes) (count : ℕ) : Type 0 where
   pub named : first-field line ≡ name
   pub fields : length line ≡ suc count
@@ -86,6 +88,7 @@ cells-line-intro line name count f =
 
 -- ---- block 2
 
+-- `role` and the sheet's permissions, then the lines of the roles in order
 pub record RolesForm (sheet : Sheet) (block : Block) : Type 0 where
   pub heading : first-field (first-line block) ≡ ascii "role"
   pub permissions : tail (first-line block) ≡ sheet .permissions
@@ -123,6 +126,7 @@ roles-form-intro sheet block f =
 
 -- ---- block 3
 
+-- `user` and the roles, then the lines of the sheet's users in order
 pub record UsersForm (sheet : Sheet) (roles : ℕ) (block : Block) : Type 0 where
   pub heading : first-line block ≡ ascii "user" ∷ list-of roles role-name
   pub a-line-each : length (tail block) ≡ user-count sheet
@@ -157,11 +161,13 @@ users-form-intro sheet roles block f =
 
 -- ---- block 4
 
+-- a user and a permission of the sheet
 pub record WitnessLine (sheet : Sheet) (line : Line) : Type 0 where
   pub two-fields : length line ≡ 2
   pub user : So (known (sheet .users) (field-at line 0))
   pub permission : So (known (sheet .permissions) (field-at line 1))
 
+-- its line of names, then such lines
 pub record WitnessForm (sheet : Sheet) (block : Block) : Type 0 where
   pub heading : first-line block ≡ witness-heading
   pub lines : (line : Line) → List·Memᴰ line (tail block) → WitnessLine sheet line

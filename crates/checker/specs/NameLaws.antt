@@ -8,14 +8,13 @@ use mathlib.Core.List.{List, [], List·Memᴰ}
 use mathlib.Core.Option.{Option·getD}
 use lib.ListN.{length, getD}
 use Rattle.bits.specs.Truth.{not-both, fails-unless}
-use Rattle.bits.specs.Below.{lowest-below, Lowest}
+use Rattle.bits.specs.Below.{Lowest}
 use Rattle.bits.specs.LowestLaws.{lowest-below-intro, lowest-below-cases}
-use Rattle.lists.specs.Lists.{any}
 use Rattle.lists.specs.TestLaws.{all-intro, any-intro, any-elim, member-at, place-of, same-bytes-equal, same-bytes-refl}
 use Rattle.sheet.specs.Text.{Bytes, name-byte}
 use Rattle.sheet.specs.Sheet.{Sheet}
 use Rattle.sheet.specs.Refusal.{same-name}
-use Rattle.sheet.specs.Rules.{Name, Names}
+use Rattle.sheet.specs.Rules.{Names}
 use Rattle.sheet.specs.TextLaws.{Field}
 use Rattle.book.specs.WordLaws.{name-bytes-field}
 use Rattle.checker.specs.Form.{known, number-among}

@@ -1,23 +1,21 @@
 -- A written book is read as what was written: its text parts into the very blocks that were written, each of the form, and each of them
 -- is read place by place.
-use Prim.Native.Nat.{ℕ, suc, _≤_, _<_}
+use Prim.Native.Nat.{ℕ, suc, _<_}
 use native.Mathlib.Omega.{arith}
-use mathlib.Core.Path.{_≡_, refl, sym, ap, _∙_}
+use mathlib.Core.Path.{_≡_, refl, _∙_}
 use mathlib.Core.Bool.{Bool, true, false, So}
-use mathlib.Core.List.{List, [], _∷_, map, map-map, tail, List·Memᴰ}
-use lib.ListN.{length, getD}
+use mathlib.Core.List.{[], _∷_, map-map}
 use Rattle.lists.specs.Lists.{list-of}
 use Rattle.lists.specs.JoinLaws.{map-fixed}
 use Rattle.lists.specs.ListOfLaws.{length-list-of, getD-list-of}
 use Rattle.sheet.specs.Text.{Bytes, Line, line-feed}
 use Rattle.sheet.specs.Sheet.{Sheet, Grant, is-one, cell-text, user-count, permission-count}
 use Rattle.sheet.specs.Refusal.{last-byte}
-use Rattle.roles.specs.RoleSet.{RoleSet}
 use Rattle.roles.specs.Roles.{Standing, witnessed, searched, unsettled}
 use Rattle.book.specs.Words.{standing-word, role-name}
-use Rattle.book.specs.Blocks.{Block, blocks-of}
+use Rattle.book.specs.Blocks.{blocks-of}
 use Rattle.book.specs.BlockLaws.{blocks-read-as-written, blocks-end-in-feed}
-use Rattle.book.specs.Book.{Said, user-name, permission-name, counts-block, roles-block, users-block, witness-line, witness-block, blocks-saying, book-text}
+use Rattle.book.specs.Book.{Said, user-name, counts-block, roles-block, users-block, witness-line, witness-block, blocks-saying, book-text}
 use Rattle.checker.specs.Form.{grant-of-line, line-at, field-at, standing-said, form, said-by-blocks, said}
 use Rattle.checker.specs.FormParts.{FormOf, form-intro}
 use Rattle.checker.specs.WrittenForm.{counts-block-form, roles-block-form, users-block-form, witness-block-form}

@@ -1,29 +1,29 @@
 -- A text of the form is the very text that is written for what was read from it: the form leaves no byte of a line open but the counts,
 -- the state word, the cells and the names of witness lines, and each of these is what is written for what it says.
-use Prim.Native.Nat.{ℕ, suc, _≤_, _<_}
+use Prim.Native.Nat.{ℕ, suc, _<_}
 use native.Mathlib.Omega.{arith}
 use mathlib.Core.Path.{_≡_, refl, sym, ap, _∙_}
-use mathlib.Core.Logic.{_⊎_, inl, inr, ⊎-elim}
-use mathlib.Core.Bool.{Bool, true, false, So, _||_}
-use mathlib.Core.List.{List, [], _∷_, map, map-map, tail, List·Memᴰ}
+use mathlib.Core.Logic.{⊎-elim}
+use mathlib.Core.Bool.{So, _||_}
+use mathlib.Core.List.{List, [], _∷_, map, map-map, tail}
 use lib.ListN.{length, getD}
 use Rattle.bits.specs.Truth.{or-cases}
 use Rattle.lists.specs.Ascii.{ascii}
-use Rattle.lists.specs.Lists.{all, same-bytes, list-of}
+use Rattle.lists.specs.Lists.{same-bytes, list-of}
 use Rattle.lists.specs.TestLaws.{all-elim, member-at, same-bytes-equal}
 use Rattle.lists.specs.JoinLaws.{map-fixed}
 use Rattle.lists.specs.ListOfLaws.{list-of-places, list-of-same}
-use Rattle.lists.specs.EachLaws.{Each, each-mapped}
+use Rattle.lists.specs.EachLaws.{each-mapped}
 use Rattle.sheet.specs.Text.{Bytes, Line}
-use Rattle.sheet.specs.Sheet.{Sheet, Grant, first-field, is-one, cell-text, user-count, permission-count}
+use Rattle.sheet.specs.Sheet.{Sheet, is-one, cell-text, user-count, permission-count}
 use Rattle.sheet.specs.Refusal.{is-bit}
 use Rattle.roles.specs.RoleSet.{RoleSet}
-use Rattle.roles.specs.Roles.{Standing, witnessed, searched, unsettled}
-use Rattle.book.specs.Words.{standing-word, role-name, witness-heading}
+use Rattle.roles.specs.Roles.{witnessed, searched, unsettled}
+use Rattle.book.specs.Words.{standing-word, role-name}
 use Rattle.book.specs.Blocks.{Block, text-of-blocks, blocks-of}
 use Rattle.book.specs.BlockLaws.{blocks-written-as-read}
-use Rattle.book.specs.Book.{Said, user-name, permission-name, counts-block, roles-block, users-block, witness-line, witness-block, blocks-saying, book-text}
-use Rattle.checker.specs.Form.{role-limit, block-at, line-at, field-at, is-standing, grant-of-line, standing-said, form, said-by-blocks, said}
+use Rattle.book.specs.Book.{user-name, counts-block, roles-block, users-block, witness-line, witness-block, blocks-saying, book-text}
+use Rattle.checker.specs.Form.{block-at, line-at, field-at, is-standing, grant-of-line, standing-said, form, said-by-blocks, said}
 use Rattle.checker.specs.FormParts.{CountsForm, counts-form-elim, CellsLine, RolesForm, roles-form-elim, UsersForm, users-form-elim, WitnessLine, WitnessForm, witness-form-elim, FormOf, form-elim}
 use Rattle.checker.specs.WrittenLines.{Sayable}
 use Rattle.checker.specs.NameLaws.{known-stands}
@@ -33,8 +33,8 @@ by-places : {A : Type 0} (l : List A) (d : A) (n : ℕ) → length l ≡ n → l
 by-places l d n e = sym (list-of-places l d) ∙ ap (λ k. list-of k (λ i. getD l i d)) e
 
 -- lists of one first element and one rest
-same-parts : {A : Type 0} {a b : A} {l m : List A} → a ≡ b → l ≡ m → a ∷ l ≡ b ∷ m
-same-parts p q = cc
+same-first-and-rest : {A : Type 0} {a b : A} {l m : List A} → a ≡ b → l ≡ m → a ∷ l ≡ b ∷ m
+same-first-and-rest p q = cc
 
 -- ---- block 1
 
@@ -70,7 +70,7 @@ cells-written (field ∷ rest) name count f =
     by-places rest [] count same
     ∙ list-of-same count (λ j. getD rest j []) (λ j. cell-text (is-one (getD rest j [])))
     (λ j h. bit-written (getD rest j []) (all-elim is-bit rest (f .cells) (member-at rest j [] (omega arith)))) in
-    same-parts (f .named) cells
+    same-first-and-rest (f .named) cells
 
 -- lines of names and cells
 lines-written : (lines : List Line) (count width : ℕ) (name : ℕ → Bytes) → length lines ≡ count
@@ -97,7 +97,7 @@ unfolding roles-said
 roles-written sheet [] users f = absurd (let z : _≡_ {A = ℕ} 0 1 = cc in omega arith)
 roles-written sheet ([] ∷ lines) users f = absurd (let z : _≡_ {A = ℕ} 0 1 = cc in omega arith)
 roles-written sheet ((word ∷ names) ∷ lines) users f =
-    same-parts (same-parts (f .heading) (f .permissions))
+    same-first-and-rest (same-first-and-rest (f .heading) (f .permissions))
     (lines-written lines (length lines) (permission-count sheet) role-name refl (f .lines))
 
 -- ---- block 3
@@ -107,7 +107,7 @@ users-written : (sheet : Sheet) (roles block : Block) → UsersForm sheet (lengt
 unfolding roles-said
 users-written sheet roles [] f = absurd (let z : _≡_ {A = ℕ} 0 1 = cc in omega arith)
 users-written sheet roles (heading ∷ lines) f =
-    same-parts (f .heading) (lines-written lines (user-count sheet) (length (tail roles)) (user-name sheet) (f .a-line-each) (f .lines))
+    same-first-and-rest (f .heading) (lines-written lines (user-count sheet) (length (tail roles)) (user-name sheet) (f .a-line-each) (f .lines))
 
 -- ---- block 4
 
@@ -123,7 +123,7 @@ witness-written : (sheet : Sheet) (block : Block) → WitnessForm sheet block
     → block ≡ witness-block sheet (map (grant-of-line sheet) (tail block))
 witness-written sheet [] f = absurd (let z : _≡_ {A = ℕ} 0 1 = cc in omega arith)
 witness-written sheet (heading ∷ lines) f =
-    same-parts (f .heading)
+    same-first-and-rest (f .heading)
     (sym
     (map-map (witness-line sheet) (grant-of-line sheet) lines
     ∙ map-fixed (λ line. witness-line sheet (grant-of-line sheet line)) lines (λ line m. witness-line-written sheet line (f .lines line m))))
@@ -135,12 +135,12 @@ blocks-written : (sheet : Sheet) (text : Bytes) (blocks : List Block) → FormOf
 unfolding blocks-saying roles-said
 blocks-written sheet text blocks f =
     by-places blocks [] 4 (f .four-blocks)
-    ∙ same-parts (counts-written (block-at blocks 0) (counts-form-elim (block-at blocks 0) (f .counts)))
-    (same-parts (roles-written sheet (block-at blocks 1) (block-at blocks 2) (roles-form-elim sheet (block-at blocks 1) (f .roles)))
-    (same-parts
+    ∙ same-first-and-rest (counts-written (block-at blocks 0) (counts-form-elim (block-at blocks 0) (f .counts)))
+    (same-first-and-rest (roles-written sheet (block-at blocks 1) (block-at blocks 2) (roles-form-elim sheet (block-at blocks 1) (f .roles)))
+    (same-first-and-rest
     (users-written sheet (block-at blocks 1) (block-at blocks 2)
     (users-form-elim sheet (length (tail (block-at blocks 1))) (block-at blocks 2) (f .users)))
-    (same-parts (witness-written sheet (block-at blocks 3) (witness-form-elim sheet (block-at blocks 3) (f .witness))) refl)))
+    (same-first-and-rest (witness-written sheet (block-at blocks 3) (witness-form-elim sheet (block-at blocks 3) (f .witness))) refl)))
 
 pub form-is-written : (sheet : Sheet) (text : Bytes) → So (form sheet text) → text ≡ book-text sheet (said sheet text)
 unfolding book-text said

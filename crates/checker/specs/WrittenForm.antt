@@ -1,24 +1,22 @@
 -- The four blocks that say a book of a sheet are of the form, block by block: each line has the fields that the form asks for, in its
 -- order, and a cell is spelled `0` or `1`.
 use Prim.Native.Nat.{ℕ, suc, _≤_, _<_}
-use mathlib.Core.Path.{_≡_, refl, sym, ap, _∙_}
+use mathlib.Core.Path.{refl, ap}
 use mathlib.Core.Bool.{Bool, true, false, So}
-use mathlib.Core.List.{List, [], _∷_, map, tail, List·Memᴰ, Memᴰ·of-map}
-use lib.ListN.{length, getD}
-use Rattle.lists.specs.Ascii.{ascii}
-use Rattle.lists.specs.Lists.{all, list-of}
+use mathlib.Core.List.{List, [], _∷_, map, List·Memᴰ, Memᴰ·of-map}
+use Rattle.lists.specs.Lists.{list-of}
 use Rattle.lists.specs.TestLaws.{all-intro}
 use Rattle.lists.specs.ListOfLaws.{length-list-of, getD-list-of, list-of-element}
 use Rattle.sheet.specs.Text.{Bytes, Line}
-use Rattle.sheet.specs.Sheet.{Sheet, Grant, first-field, cell-text, user-count, permission-count}
+use Rattle.sheet.specs.Sheet.{Sheet, Grant, cell-text, user-count, permission-count}
 use Rattle.sheet.specs.Refusal.{is-bit}
 use Rattle.roles.specs.RoleSet.{RoleSet}
 use Rattle.roles.specs.Roles.{Standing, witnessed, searched, unsettled}
 use Rattle.book.specs.Decimal.{is-count}
 use Rattle.book.specs.Words.{standing-word, role-name}
-use Rattle.book.specs.Book.{Said, user-name, permission-name, counts-block, roles-block, users-block, witness-line, witness-block}
-use Rattle.checker.specs.Form.{role-limit, line-at, is-standing, counts-form, roles-form, users-form, witness-form}
-use Rattle.checker.specs.FormParts.{CountsForm, counts-form-intro, CellsLine, RolesForm, roles-form-intro, UsersForm, users-form-intro, WitnessLine, WitnessForm, witness-form-intro}
+use Rattle.book.specs.Book.{user-name, counts-block, roles-block, users-block, witness-line, witness-block}
+use Rattle.checker.specs.Form.{role-limit, is-standing, counts-form, roles-form, users-form, witness-form}
+use Rattle.checker.specs.FormParts.{counts-form-intro, CellsLine, roles-form-intro, users-form-intro, WitnessLine, witness-form-intro}
 use Rattle.checker.specs.NameLaws.{known-at}
 
 standing-word-stands : (s : Standing) → So (is-standing (standing-word s))

@@ -17,10 +17,10 @@ use Rattle.sheet.specs.TextLaws.{Field}
 use Rattle.roles.specs.RoleSet.{RoleSet}
 use Rattle.roles.specs.Roles.{Standing}
 use Rattle.book.specs.Decimal.{is-count}
-use Rattle.book.specs.DecimalLaws.{count-has-digit}
+use Rattle.book.specs.CountLaws.{count-has-digit}
 use Rattle.book.specs.Words.{standing-word, role-name}
 use Rattle.book.specs.WordLaws.{name-bytes-field, count-field, standing-word-field, cell-text-field, role-name-field, role-name-some}
-use Rattle.book.specs.Blocks.{Block, is-empty-line}
+use Rattle.book.specs.Blocks.{is-empty-line}
 use Rattle.book.specs.BlockLaws.{BlockLine, GoodBlocks}
 use Rattle.book.specs.Book.{Said, user-name, permission-name, counts-block, roles-block, users-block, witness-line, witness-block, blocks-saying}
 use Rattle.checker.specs.Form.{role-limit}

@@ -1,6 +1,8 @@
 -- Grants: which fit, which the reduction leaves, which bear witness, and the first cover.
 pub mod Fit
 pub mod FitLaws
+pub mod WithoutLaws
+pub mod AmongLaws
 pub mod Reduction
 pub mod Witness
 pub mod Cover

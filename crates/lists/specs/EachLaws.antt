@@ -1,6 +1,5 @@
 -- What holds of every element of a list, shown by how the list is made: element by element, by number, or by a map.
 use Prim.Native.Nat.{ℕ, _<_}
-use mathlib.Core.Path.{_≡_}
 use mathlib.Core.Logic.{⊎-elim}
 use mathlib.Core.List.{List, [], _∷_, map, List·Memᴰ, List·Memᴰ·not-nil, List·Memᴰ·cases-cons, Memᴰ·of-map}
 use Rattle.lists.specs.Lists.{list-of}

@@ -4,6 +4,10 @@ pub mod TestLaws
 pub mod Ordered
 pub mod ReverseLaws
 pub mod AppendLaws
+pub mod OrderedUnique
+pub mod FilterLength
+pub mod Distinct
+pub mod LeastLaws
 pub mod CutLaws
 pub mod JoinLaws
 pub mod ListOfLaws
