@@ -6,3 +6,4 @@ pub mod Roles
 pub mod RoleLaws
 pub mod RoleRows
 pub mod Cases
+pub mod StandingCases
