@@ -10,6 +10,8 @@ pub mod BlockLaws
 pub mod LengthLaws
 pub mod Book
 pub mod DigitLaws
+pub mod CountsText
+pub mod CountsLaws
 pub mod RowsSaid
 pub mod LineLaws
 pub mod NameLaws

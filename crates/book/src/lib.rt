@@ -1,5 +1,6 @@
 // Writing a role book.
 mod cells;
+mod counts;
 mod decimal;
 mod names;
 mod put;
