@@ -1,10 +1,17 @@
 // Reading a grant sheet: its refusal, its names as parts of the sheet itself, and its cells as rows of words.
+mod body;
+mod bytes;
+mod cells;
+mod cursor;
 mod layout;
 mod limits;
+mod line;
 mod names;
 mod numbers;
 mod places;
 
+pub use cursor::Cursor;
+pub use cursor::FieldRead;
 pub use layout::FoundPermission;
 pub use layout::FoundUser;
 pub use layout::Layout;
