@@ -2,6 +2,7 @@
 mod cells;
 mod counts;
 mod decimal;
+mod lookup;
 mod names;
 mod put;
 mod role_block;
