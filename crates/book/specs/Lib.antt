@@ -12,6 +12,7 @@ pub mod Book
 pub mod DigitLaws
 pub mod CountsText
 pub mod CountsLaws
+pub mod LaidLaws
 pub mod RowsSaid
 pub mod LineLaws
 pub mod NameLaws

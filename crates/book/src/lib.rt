@@ -6,6 +6,7 @@ mod lookup;
 mod names;
 mod put;
 mod role_block;
+mod user_block;
 
 pub use decimal::decimal_length;
 pub use decimal::put_decimal;
