@@ -15,6 +15,7 @@ pub mod CountsLaws
 pub mod LaidLaws
 pub mod RowsSaid
 pub mod LineLaws
+pub mod WitnessText
 pub mod NameLaws
 pub mod ShownLaws
 pub mod Written
