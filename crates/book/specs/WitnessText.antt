@@ -78,7 +78,7 @@ module _ (sheet : Sheet) (words : List ℕ) where
         row-lines u 0 row (held u) (λ i l. shown 0 i (omega arith) ∙ rw (add-zero u, zero-add i)),
         even 0 (omega arith),
         rows-lines (suc u) permissions rows held (λ i l. even (suc i) (omega arith))
-        (λ i q l. shown (suc i) q (omega arith) ∙ ap (λ (v : ℕ). held v q) (omega arith)),
+            (λ i q l. shown (suc i) q (omega arith) ∙ ap (λ (v : ℕ). held v q) (omega arith)),
       )
 
   -- where every cell that is set is a grant, the cells alone say which lines stand

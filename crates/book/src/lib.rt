@@ -7,6 +7,7 @@ mod names;
 mod put;
 mod role_block;
 mod user_block;
+mod witness_block;
 
 pub use decimal::decimal_length;
 pub use decimal::put_decimal;
