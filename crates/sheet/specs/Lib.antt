@@ -7,6 +7,7 @@ pub mod GrantOrderLaws
 pub mod Refusal
 pub mod Rules
 pub mod Rows
+pub mod LastByteLaws
 pub mod Fields
 pub mod Places
 pub mod FieldLaws
@@ -16,10 +17,14 @@ pub mod ReadLine
 pub mod ReadLineLaws
 pub mod Body
 pub mod BodyLaws
+pub mod OnesLaws
+pub mod JudgeLaws
 pub mod PlacesLaws
 pub mod UserPlaces
 pub mod UserPlacesLaws
 pub mod PermissionPlacesLaws
+pub mod NamesAt
+pub mod NamesAtLaws
 pub mod LaidOut
 pub mod RowsRead
 pub mod TextLaws

@@ -6,9 +6,11 @@ mod cursor;
 mod layout;
 mod limits;
 mod line;
+mod lookup;
 mod names;
 mod numbers;
 mod places;
+mod refusal;
 
 pub use cursor::Cursor;
 pub use cursor::FieldRead;
@@ -29,3 +31,4 @@ pub use numbers::PermissionNo;
 pub use numbers::RoleNo;
 pub use numbers::UserNo;
 pub use places::Places;
+pub use refusal::judge;
