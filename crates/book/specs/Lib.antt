@@ -18,6 +18,7 @@ pub mod LineLaws
 pub mod WitnessText
 pub mod NameLaws
 pub mod ShownLaws
+pub mod Measured
 pub mod Written
 pub mod DigitsWritten
 pub mod CellsText
