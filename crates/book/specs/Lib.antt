@@ -19,7 +19,9 @@ pub mod WitnessText
 pub mod NameLaws
 pub mod ShownLaws
 pub mod Measured
+pub mod DigitsMeasured
 pub mod Written
+pub mod LengthsMeasured
 pub mod DigitsWritten
 pub mod CellsText
 pub mod CellsWritten

@@ -25,6 +25,14 @@ pub record Measured (text : Bytes) (most count : ℕ) : Type 0 where
   pub counted : count ≡ length text
   pub small : count ≤ most
 
+-- a higher bound holds too
+pub measured-within : {text : Bytes} {most more count : ℕ} → Measured text most count → most ≤ more → Measured text more count
+measured-within m h = record { counted = m .counted; small = omega (arith, m .small) }
+
+-- the same text under another name
+pub measured-as : {text same : Bytes} {most count : ℕ} → text ≡ same → Measured text most count → Measured same most count
+measured-as e m = rw e at m
+
 -- of n parts of at most so much each, the lengths of those below i are added
 pub record Adding (n : ℕ) (part : ℕ → Bytes) (most i total : ℕ) : Type 0 where
   pub below : i ≤ n

@@ -1,4 +1,5 @@
 // Block 1: roles, bound and state.
+use crate::decimal::decimal_length;
 use crate::decimal::put_counted;
 use crate::put::put_bytes;
 use roles::Standing;
@@ -9,6 +10,7 @@ ghost use Rattle.roles.specs.StandingCases.{standing-case};
 ghost use Rattle.book.specs.Decimal.{decimal};
 ghost use Rattle.book.specs.Book.{counts-block};
 ghost use Rattle.book.specs.CountsText.{standing-text, counts-text};
+ghost use Rattle.book.specs.Measured.{Measured, piece-most, line-most};
 ghost use Rattle.book.specs.Written.{Written};
 
 // What block 1 says.
@@ -39,4 +41,25 @@ pub fn put_counts(out: &mut [u8], counts: Counts) -> usize
     let bound = roles + put_counted(&mut out[roles..], b",", counts.bound);
     let standing = counts.standing;
     bound + put_standing(&mut out[bound..], standing)
+}
+
+// How long the state is as the last field of a line.
+fn standing_length(standing: Standing) -> usize
+    ensures { λ r. ⌜ Measured (standing-text (standing-case standing)) piece-most r ⌝ }
+{
+    match standing {
+        Standing::Witnessed => b",witnessed\n".len(),
+        Standing::Searched => b",searched\n".len(),
+        Standing::Open => b",open\n".len(),
+    }
+}
+
+// How long block 1 is.
+pub fn counts_length(counts: Counts) -> usize
+    ensures { λ r. ⌜ Measured (counts-text counts) line-most r ⌝ }
+{
+    let roles = b"roles,bound,state\n".len() + decimal_length(counts.roles);
+    let bound = b",".len() + decimal_length(counts.bound);
+    let standing = counts.standing;
+    roles + bound + standing_length(standing)
 }

@@ -2,10 +2,12 @@
 use crate::cells::put_cells;
 use crate::lookup::user_name;
 use crate::names::put_role_fields;
+use crate::names::role_fields_length;
 use crate::put::put_bytes;
 use sheet::Layout;
 use sheet::UserNo;
-ghost use Prim.Native.Nat.{_+_, _*_, _≤_, _<_};
+ghost use mathlib.Core.List.{List};
+ghost use Prim.Native.Nat.{ℕ, _+_, _*_, _≤_, _<_};
 ghost use lib.ListN.{length};
 ghost use Rattle.lists.specs.Listed.{listed};
 ghost use Rattle.sheet.specs.Text.{line-text, text-of};
@@ -14,6 +16,7 @@ ghost use Rattle.sheet.specs.Rows.{row-words, row-bits};
 ghost use Rattle.sheet.specs.LaidOut.{LaidOut};
 ghost use Rattle.book.specs.RowsSaid.{user-line, shown-users};
 ghost use Rattle.book.specs.ShownLaws.{users-heading};
+ghost use Rattle.book.specs.Measured.{Measured, block-most};
 ghost use Rattle.book.specs.Written.{Written};
 
 // Writes the line of names.
@@ -85,4 +88,29 @@ pub fn put_users<'a>(
 {
     let lines = put_users_heading(out, roles);
     lines + put_user_lines(&mut out[lines..], s, layout, has, roles)
+}
+
+// How long the lines of all users are, whatever they have.
+fn user_lines_length(s: &[u8], layout: Layout, roles: usize) -> usize
+    requires { ⌜ LaidOut (now s) layout × (roles ≤ row-bits) ⌝ }
+    ensures { λ r. ⌜ ((has : List ℕ) → Measured (listed (layout .users) (λ u. line-text (user-line (sheet-of (now (s .entry))) has roles u))) block-most r) ⌝ }
+{
+    let users = layout.users;
+    let mut total = 0;
+    let mut i = 0;
+    while i < users {
+        let name = user_name(s, layout, UserNo(i));
+        total += name.len() + 2 * roles + 1;
+        i += 1;
+    }
+    total
+}
+
+// How long block 3 is, whatever its users have.
+pub fn users_length(s: &[u8], layout: Layout, roles: usize) -> usize
+    requires { ⌜ LaidOut (now s) layout × (roles ≤ row-bits) ⌝ }
+    ensures { λ r. ⌜ ((has : List ℕ) → Measured (text-of (shown-users (sheet-of (now (s .entry))) has roles)) (2 * block-most) r) ⌝ }
+{
+    let heading = b"user".len() + role_fields_length(roles) + 1;
+    heading + user_lines_length(s, layout, roles)
 }

@@ -18,6 +18,7 @@ ghost use Rattle.grants.specs.CellSets.{cell-grants};
 ghost use Rattle.book.specs.Book.{witness-block};
 ghost use Rattle.book.specs.RowsSaid.{GrantCells};
 ghost use Rattle.book.specs.WitnessText.{cell-line, line-if, witness-row};
+ghost use Rattle.book.specs.Measured.{Measured, piece-most, line-most, block-most};
 ghost use Rattle.book.specs.Written.{Written};
 
 // Writes the line of a grant.
@@ -111,4 +112,72 @@ pub fn put_witness<'a>(out: &mut [u8], s: &'a [u8], layout: Layout, witness: &'a
 {
     let lines = put_bytes(out, b"user,permission\n");
     lines + put_witness_rows(&mut out[lines..], s, layout, witness)
+}
+
+// How long the line of a grant is.
+fn grant_line_length(s: &[u8], layout: Layout, user: UserNo, permission: PermissionNo) -> usize
+    requires { ⌜ LaidOut (now s) layout × (user .0 < layout .users) × (permission .0 < layout .permissions) ⌝ }
+    ensures { λ r. ⌜ Measured (cell-line (sheet-of (now (s .entry))) (user .0) (permission .0)) piece-most r ⌝ }
+{
+    let name = user_name(s, layout, user);
+    let held = permission_name(s, layout, permission);
+    name.len() + held.len() + 2
+}
+
+// How long the line of a cell is, where it is set.
+fn cell_line_length<'a>(
+    s: &'a [u8],
+    layout: Layout,
+    witness: &'a [u64],
+    user: UserNo,
+    permission: PermissionNo,
+) -> usize
+    requires { ⌜ LaidOut (now s) layout × (user .0 < layout .users) × (permission .0 < layout .permissions)
+        × (layout .users * row-words ≤ length (now witness)) ⌝ }
+    ensures { λ r. ⌜ Measured (line-if (cell (now (witness .entry)) (user .0) (permission .0))
+        (cell-line (sheet-of (now (s .entry))) (user .0) (permission .0))) piece-most r ⌝ }
+{
+    if cell_at(witness, user.0, permission.0) {
+        return grant_line_length(s, layout, user, permission);
+    }
+    0
+}
+
+// How long the lines of a user are.
+fn witness_row_length<'a>(s: &'a [u8], layout: Layout, witness: &'a [u64], user: UserNo) -> usize
+    requires { ⌜ LaidOut (now s) layout × (user .0 < layout .users) × (layout .users * row-words ≤ length (now witness)) ⌝ }
+    ensures { λ r. ⌜ Measured (witness-row (sheet-of (now (s .entry))) (now (witness .entry)) (layout .permissions) (user .0)) line-most r ⌝ }
+{
+    let permissions = layout.permissions;
+    let mut total = 0;
+    let mut i = 0;
+    while i < permissions {
+        total += cell_line_length(s, layout, witness, user, PermissionNo(i));
+        i += 1;
+    }
+    total
+}
+
+// How long the lines of all users are.
+fn witness_rows_length<'a>(s: &'a [u8], layout: Layout, witness: &'a [u64]) -> usize
+    requires { ⌜ LaidOut (now s) layout × (layout .users * row-words ≤ length (now witness)) ⌝ }
+    ensures { λ r. ⌜ Measured (listed (layout .users) (witness-row (sheet-of (now (s .entry))) (now (witness .entry)) (layout .permissions))) block-most r ⌝ }
+{
+    let users = layout.users;
+    let mut total = 0;
+    let mut i = 0;
+    while i < users {
+        total += witness_row_length(s, layout, witness, UserNo(i));
+        i += 1;
+    }
+    total
+}
+
+// How long block 4 is.
+pub fn witness_length<'a>(s: &'a [u8], layout: Layout, witness: &'a [u64]) -> usize
+    requires { ⌜ LaidOut (now s) layout × (layout .users * row-words ≤ length (now witness)) × GrantCells (now witness) (sheet-of (now s)) ⌝ }
+    ensures { λ r. ⌜ Measured (text-of (witness-block (sheet-of (now (s .entry))) (cell-grants (sheet-of (now (s .entry))) (now (witness .entry)))))
+        (2 * block-most) r ⌝ }
+{
+    b"user,permission\n".len() + witness_rows_length(s, layout, witness)
 }
