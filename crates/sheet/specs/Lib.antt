@@ -26,6 +26,8 @@ pub mod PermissionPlacesLaws
 pub mod NamesAt
 pub mod NamesAtLaws
 pub mod LaidOut
+pub mod LaidOutLaws
+pub mod FoundLaws
 pub mod RowsRead
 pub mod TextLaws
 pub mod CauseLaws
