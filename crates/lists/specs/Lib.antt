@@ -5,6 +5,7 @@ pub mod Ordered
 pub mod ReverseLaws
 pub mod AppendLaws
 pub mod OrderedUnique
+pub mod OrderedMap
 pub mod FilterLength
 pub mod Distinct
 pub mod LeastLaws
@@ -25,7 +26,11 @@ pub mod Classing
 pub mod GrownLaws
 pub mod PlacementLaws
 pub mod GroupingLaws
+pub mod SameGrouping
+pub mod LatestFirst
 pub mod KeyLaws
+pub mod KeyStep
 pub mod Beginning
 pub mod Lexicographic
 pub mod Ascii
+pub mod PassingBelow

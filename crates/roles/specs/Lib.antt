@@ -7,3 +7,11 @@ pub mod RoleLaws
 pub mod RoleRows
 pub mod Cases
 pub mod StandingCases
+pub mod CellClasses
+pub mod CellClassLaws
+pub mod RoleNumbers
+pub mod RoleNumberLaws
+pub mod RoleMatrices
+pub mod RolesShown
+pub mod RolesInput
+pub mod RolesInputLaws
