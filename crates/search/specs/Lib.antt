@@ -12,3 +12,4 @@ pub mod Complete
 pub mod Potential
 pub mod Progress
 pub mod Rising
+pub mod SameFit
