@@ -16,12 +16,14 @@ pub mod LaidLaws
 pub mod RowsSaid
 pub mod LineLaws
 pub mod WitnessText
+pub mod BookRows
 pub mod NameLaws
 pub mod ShownLaws
 pub mod Measured
 pub mod DigitsMeasured
 pub mod Written
 pub mod LengthsMeasured
+pub mod BookMeasured
 pub mod DigitsWritten
 pub mod CellsText
 pub mod CellsWritten

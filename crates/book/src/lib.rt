@@ -1,14 +1,17 @@
 // Writing a role book.
+mod book;
 mod cells;
 mod counts;
 mod decimal;
-mod lookup;
 mod names;
 mod put;
 mod role_block;
 mod user_block;
 mod witness_block;
 
+pub use book::book_length;
+pub use book::write_book;
+pub use counts::Counts;
 pub use decimal::decimal_length;
 pub use decimal::put_decimal;
 pub use put::put_bytes;

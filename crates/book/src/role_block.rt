@@ -1,6 +1,5 @@
 // Block 2: the permissions of each role.
 use crate::cells::put_cells;
-use crate::lookup::permission_name;
 use crate::names::put_role_name;
 use crate::names::role_name_length;
 use crate::put::put_bytes;
@@ -8,6 +7,7 @@ use crate::put::put_field;
 use sheet::Layout;
 use sheet::PermissionNo;
 use sheet::RoleNo;
+use sheet::permission_name;
 ghost use mathlib.Core.List.{List};
 ghost use Prim.Native.Nat.{ℕ, _+_, _*_, _≤_, _<_};
 ghost use lib.ListN.{length};

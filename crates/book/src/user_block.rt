@@ -1,11 +1,11 @@
 // Block 3: the roles of each user.
 use crate::cells::put_cells;
-use crate::lookup::user_name;
 use crate::names::put_role_fields;
 use crate::names::role_fields_length;
 use crate::put::put_bytes;
 use sheet::Layout;
 use sheet::UserNo;
+use sheet::user_name;
 ghost use mathlib.Core.List.{List};
 ghost use Prim.Native.Nat.{ℕ, _+_, _*_, _≤_, _<_};
 ghost use lib.ListN.{length};

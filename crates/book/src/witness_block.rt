@@ -1,12 +1,12 @@
 // Block 4: the witness, in grant order.
 use crate::cells::cell_at;
-use crate::lookup::permission_name;
-use crate::lookup::user_name;
 use crate::put::put_bytes;
 use crate::put::put_field;
 use sheet::Layout;
 use sheet::PermissionNo;
 use sheet::UserNo;
+use sheet::permission_name;
+use sheet::user_name;
 ghost use Prim.Native.Nat.{_+_, _*_, _≤_, _<_};
 ghost use lib.ListN.{length};
 ghost use Rattle.lists.specs.Listed.{listed};
