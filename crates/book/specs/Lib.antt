@@ -28,3 +28,4 @@ pub mod DigitsWritten
 pub mod CellsText
 pub mod CellsWritten
 pub mod ListedWritten
+pub mod Writing

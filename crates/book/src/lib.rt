@@ -8,6 +8,7 @@ mod put;
 mod role_block;
 mod user_block;
 mod witness_block;
+mod writing;
 
 pub use book::book_length;
 pub use book::write_book;
@@ -15,3 +16,5 @@ pub use counts::Counts;
 pub use decimal::decimal_length;
 pub use decimal::put_decimal;
 pub use put::put_bytes;
+pub use writing::Writing;
+pub use writing::write_if_room;
