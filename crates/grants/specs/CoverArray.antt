@@ -2,7 +2,7 @@
 -- the cells is that of the grants, and the groupings are one.
 use Prim.Native.Nat.{ℕ, _<_}
 use native.Mathlib.Nat.{lt-trans}
-use mathlib.Core.Path.{_≡_, refl}
+use mathlib.Core.Path.{_≡_, sym, ap, _∙_}
 use mathlib.Core.Bool.{Bool}
 use mathlib.Core.List.{List, map}
 use lib.ListN.{length, length-map}
@@ -12,11 +12,12 @@ use Rattle.sheet.specs.Sheet.{Sheet, Grant}
 use Rattle.grants.specs.declared.cover.Relation.{Relation}
 use Rattle.grants.specs.declared.cover.Relation.the-variants.{Fit, Permission, User}
 use Rattle.grants.specs.Reduction.{kernel}
-use Rattle.grants.specs.Cover.{grant-at, fit-at, permission-at, user-at, fewer, best-grouping, first-best}
+use Rattle.grants.specs.Cover.{fit-at, permission-at, user-at, fewer, best-grouping, first-best}
 use Rattle.grants.specs.CellPlaces.{grant-of, Shown}
 use Rattle.grants.specs.FitWordLaws.{fits-in-rows}
 use Rattle.grants.specs.KernelArray.{grant-at-cell}
 use Rattle.grants.specs.CoverRelation.{related-at}
+use Rattle.grants.specs.CoverPlaced.{Placed}
 
 -- the relation as the sheet has it
 abbrev pub together : Sheet → List Grant → Relation → ℕ → ℕ → Bool
@@ -37,9 +38,14 @@ module _ {rows : List ℕ} {users : ℕ} {sheet : Sheet} (shown : Shown rows use
       (λ i j k l. related-together by i j l (lt-trans k l))
 
   -- the first best of the three
-  pub best-of-cells : map grant-of cells ≡ kernel sheet
-      → fewer (fewer (grouping (related-at rows cells Fit) (length cells)) (grouping (related-at rows cells Permission) (length cells)))
-      (grouping (related-at rows cells User) (length cells)) ≡ first-best sheet
-  unfolding first-best kernel
-  best-of-cells e =
-      rw (grouping-of-cells Fit, grouping-of-cells Permission, grouping-of-cells User, ← length-map cells grant-of, e)
+  pub best-of-cells :
+      fewer (fewer (grouping (related-at rows cells Fit) (length cells)) (grouping (related-at rows cells Permission) (length cells)))
+      (grouping (related-at rows cells User) (length cells)) ≡ best-grouping sheet (map grant-of cells)
+  best-of-cells = rw (grouping-of-cells Fit, grouping-of-cells Permission, grouping-of-cells User, length-map cells grant-of)
+
+-- where the grants are the kernel's it is the first best placement
+pub first-best-of : (sheet : Sheet) (cells classes : List ℕ) (count : ℕ) → map grant-of cells ≡ kernel sheet
+    → Placed (best-grouping sheet (map grant-of cells)) classes (length cells) count
+    → Placed (first-best sheet) classes (length (kernel sheet)) count
+unfolding first-best
+first-best-of sheet cells classes count e p = rw (e, sym (length-map cells grant-of) ∙ ap length e) at p

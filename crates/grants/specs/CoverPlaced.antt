@@ -2,7 +2,7 @@
 -- gives it, so the array holds the grouping of one number more. There are never more classes than numbers, which bounds each class.
 use Prim.Native.Nat.{ℕ, suc, _≤_, _<_, max}
 use native.Mathlib.Nat.{lt-of-lt-of-le}
-use mathlib.Core.Path.{_≡_, refl, sym, ap, _∙_}
+use mathlib.Core.Path.{_≡_, refl, ap}
 use mathlib.Core.Bool.{Bool, false, not, Bool·not-not}
 use mathlib.Core.List.{List, []}
 use mathlib.Core.Option.{Option·getD}

@@ -4,7 +4,7 @@ use Prim.Native.Nat.{ℕ, zero, suc, _<_}
 use native.Mathlib.Nat.{not-suc-le-zero}
 use mathlib.Core.Path.{_≡_, refl}
 use mathlib.Core.Logic.{⊎-elim}
-use mathlib.Core.Bool.{Bool, true, false, _&&_, not, cond}
+use mathlib.Core.Bool.{Bool, true, false, cond}
 use mathlib.Core.List.{List, [], _∷_, List·Memᴰ, List·Memᴰ·head, List·Memᴰ·tail}
 use mathlib.Core.Option.{Option, none, some}
 use lib.Dec.{eqb}
@@ -12,10 +12,10 @@ use lib.ListN.{length}
 use Rattle.bits.specs.BelowLaws.{last-or-below}
 use Rattle.lists.specs.Lists.{empty}
 use Rattle.lists.specs.TestLaws.{first-passes}
-use Rattle.sheet.specs.Sheet.{Sheet, Grant, same-grant, grants}
+use Rattle.sheet.specs.Sheet.{Sheet, Grant, grants}
 use Rattle.grants.specs.Fit.{partners}
 use Rattle.grants.specs.WithoutLaws.{without-member}
-use Rattle.grants.specs.Reduction.{Removal, single, tied, Reduction, dominates, dominated, is-single, tied-if, carry-out, visit, visits, sweep, sweeps, unreduced, reduction, kernel}
+use Rattle.grants.specs.Reduction.{Removal, single, tied, Reduction, dominated, is-single, tied-if, carry-out, visit, visits, sweep, sweeps, unreduced, reduction, kernel}
 use Rattle.grants.specs.Log.{removal-at, log-of}
 
 -- a removal of grants of a list
@@ -47,7 +47,7 @@ module _ (sheet : Sheet) (l : List Grant) where
           record {
             remains = λ h n. state .remains h (without-member it (r .remaining) n);
             removals = (
-              (m, state .remains g (first-passes (λ h. not (same-grant it h) && dominates sheet (r .remaining) it h) (r .remaining) e .member)),
+              (m, state .remains g (first-passes _ (r .remaining) e .member)),
               state .removals,
             );
           }

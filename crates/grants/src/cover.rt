@@ -1,20 +1,23 @@
 // The first cover: three groupings of the kernel in grant order, and the first best.
-use crate::cell::ROW_BITS;
+use crate::kernel::Kernel;
 use crate::kernel::cells_fit;
+use crate::kernel::permission_of;
+use crate::kernel::user_of;
+use sheet::CELL_WORDS;
 use sheet::GRANT_LIMIT;
 ghost use mathlib.Core.Path.{_≡_};
 ghost use mathlib.Core.Bool.{false, not};
 ghost use mathlib.Core.List.{List, map};
 ghost use mathlib.Core.Option.{Option·getD};
 ghost use Prim.Native.Nat.{ℕ, _<_, _≤_};
-ghost use lib.ListN.{length, getD};
+ghost use lib.ListN.{length, getD, take};
 ghost use Rattle.bits.specs.Below.{lowest-below};
 ghost use Rattle.lists.specs.Placement.{grouping};
 ghost use Rattle.lists.specs.GroupingLaws.{class-taken};
 ghost use Rattle.sheet.specs.Limits.{grant-limit};
 ghost use Rattle.sheet.specs.Sheet.{Sheet};
 ghost use Rattle.grants.specs.Reduction.{kernel};
-ghost use Rattle.grants.specs.Cover.{fewer, first-best};
+ghost use Rattle.grants.specs.Cover.{fewer, best-grouping, first-best};
 ghost use Rattle.grants.specs.CellPlaces.{grant-of, Shown};
 ghost use Rattle.grants.specs.CoverRelation.{related, related-at};
 ghost use Rattle.grants.specs.CoverMarks.{Marks};
@@ -39,8 +42,8 @@ fn are_related(rows: &[u64], by: Relation, a: u16, b: u16) -> bool
 {
     match by {
         Relation::Fit => cells_fit(rows, a, b),
-        Relation::Permission => a as usize % ROW_BITS == b as usize % ROW_BITS,
-        Relation::User => a as usize / ROW_BITS == b as usize / ROW_BITS,
+        Relation::Permission => permission_of(a).0 == permission_of(b).0,
+        Relation::User => user_of(a).0 == user_of(b).0,
     }
 }
 
@@ -136,14 +139,26 @@ fn with_fewer(earlier: Placement, later: Placement) -> Placement
     }
 }
 
-// The first best of the three groupings of the kernel: by fit, by permission, by user.
-pub fn first_best<'a>(rows: &'a [u64], cells: &'a [u16]) -> Placement
+// The first best of the three groupings of the grants at some cells: by fit, by permission, by user.
+fn best_of<'a>(rows: &'a [u64], cells: &'a [u16]) -> Placement
     requires { ⌜ length (now cells) ≤ grant-limit ⌝ }
-    ensures { λ r. ⌜ ((users : ℕ) (sheet : Sheet) → Shown (now (rows .entry)) users sheet → map grant-of (now (cells .entry)) ≡ kernel sheet
-        → Placed (first-best sheet) (r .classes) (length (kernel sheet)) (r .used)) ⌝ }
+    ensures { λ r. ⌜ ((users : ℕ) (sheet : Sheet) → Shown (now (rows .entry)) users sheet
+        → Placed (best-grouping sheet (map grant-of (now (cells .entry)))) (r .classes) (length (now (cells .entry))) (r .used)) ⌝ }
 {
     let fit = grouped(rows, cells, Relation::Fit);
     let permission = grouped(rows, cells, Relation::Permission);
     let user = grouped(rows, cells, Relation::User);
     with_fewer(with_fewer(fit, permission), user)
+}
+
+// The first best grouping of the kernel.
+pub fn first_best(rows: &[u64; CELL_WORDS], grants: Kernel) -> Placement
+    requires { ⌜ grants .size ≤ grant-limit ⌝ }
+    ensures { λ r. ⌜ ((users : ℕ) (sheet : Sheet) → Shown (now (rows .entry)) users sheet
+        → map grant-of (take (grants .size) (grants .cells)) ≡ kernel sheet
+        → Placed (first-best sheet) (r .classes) (length (kernel sheet)) (r .used)) ⌝ }
+{
+    let cells = grants.cells;
+    let size = grants.size;
+    best_of(rows, &cells[..size])
 }

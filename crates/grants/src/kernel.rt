@@ -3,11 +3,14 @@ use crate::cell::ROW_BITS;
 use bits::WORD_BITS;
 use sheet::CELL_WORDS;
 use sheet::GRANT_LIMIT;
+use sheet::PermissionNo;
+use sheet::ROW_WORDS;
+use sheet::UserNo;
 ghost use mathlib.Core.Path.{_≡_};
-ghost use Prim.Native.Nat.{_*_, _≤_, _<_};
+ghost use Prim.Native.Nat.{_+_, _*_, _/_, _%_, _^_, _≤_, _<_};
 ghost use Rattle.bits.specs.Bit.{bit, word-bits};
 ghost use Rattle.sheet.specs.Limits.{user-limit};
-ghost use Rattle.sheet.specs.Rows.{row-bits};
+ghost use Rattle.sheet.specs.Rows.{row-words, row-bits, cell};
 ghost use Rattle.grants.specs.CellPlaces.{marked, fit-in, grant-of};
 ghost use Rattle.grants.specs.KernelArray.{Listed};
 ghost use Rattle.grants.specs.KernelWalk.{NextFrom};
@@ -64,13 +67,29 @@ pub fn listed(left: &[u64; CELL_WORDS], users: usize) -> Kernel
     Kernel { cells, size }
 }
 
-// Whether cell n is set.
-fn is_set(words: &[u64], n: usize) -> bool
-    ensures { λ r. ⌜ r ≡ marked (now (words .entry)) n ⌝ }
+// The user of a cell.
+pub fn user_of(cell: u16) -> UserNo
+    ensures { λ r. ⌜ r .0 ≡ cell / row-bits ⌝ }
 {
-    let i = n / WORD_BITS;
-    if i < words.len() {
-        bits::has(words[i], n % WORD_BITS)
+    UserNo(cell as usize / ROW_BITS)
+}
+
+// The permission of a cell.
+pub fn permission_of(cell: u16) -> PermissionNo
+    ensures { λ r. ⌜ r .0 ≡ cell % row-bits ⌝ }
+{
+    PermissionNo(cell as usize % ROW_BITS)
+}
+
+// Whether a user holds a permission, as the rows say.
+fn holds(rows: &[u64], u: UserNo, p: PermissionNo) -> bool
+    requires { ⌜ u .0 * row-words + p .0 / word-bits < 2 ^ word-bits ⌝ }
+    ensures { λ r. ⌜ r ≡ cell (now (rows .entry)) (u .0) (p .0) ⌝ }
+{
+    let p = p.0;
+    let i = u.0 * ROW_WORDS + p / WORD_BITS;
+    if i < rows.len() {
+        bits::has(rows[i], p % WORD_BITS)
     } else {
         false
     }
@@ -80,10 +99,8 @@ fn is_set(words: &[u64], n: usize) -> bool
 pub fn cells_fit(rows: &[u64], a: u16, b: u16) -> bool
     ensures { λ r. ⌜ r ≡ fit-in (now (rows .entry)) (grant-of a) (grant-of b) ⌝ }
 {
-    let m = a as usize;
-    let n = b as usize;
-    if is_set(rows, m / ROW_BITS * ROW_BITS + n % ROW_BITS) {
-        is_set(rows, n / ROW_BITS * ROW_BITS + m % ROW_BITS)
+    if holds(rows, user_of(a), permission_of(b)) {
+        holds(rows, user_of(b), permission_of(a))
     } else {
         false
     }

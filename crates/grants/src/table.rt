@@ -1,10 +1,14 @@
 // The fit table of a kernel that can be searched.
+use crate::kernel::Kernel;
 use crate::kernel::cells_fit;
 use bits::WORD_BITS;
+use sheet::CELL_WORDS;
 ghost use mathlib.Core.Path.{_≡_};
 ghost use mathlib.Core.List.{map};
-ghost use Prim.Native.Nat.{ℕ, _*_, _<_};
+ghost use Prim.Native.Nat.{ℕ, _*_, _≤_, _<_};
+ghost use lib.ListN.{take};
 ghost use Rattle.bits.specs.Bit.{word-bits};
+ghost use Rattle.sheet.specs.Limits.{grant-limit};
 ghost use Rattle.sheet.specs.Sheet.{Sheet};
 ghost use Rattle.grants.specs.Reduction.{kernel};
 ghost use Rattle.grants.specs.CellPlaces.{grant-of, Shown};
@@ -50,10 +54,9 @@ fn table_word<'a>(rows: &'a [u64], cells: &'a [u16], t: usize) -> u64
     word
 }
 
-// The fit table of the kernel, or of its first grants if it has more than TABLE_LIMIT.
-pub fn fit_table<'a>(rows: &'a [u64], cells: &'a [u16]) -> [u64; TABLE_WORDS]
-    ensures { λ r. ⌜ ((users : ℕ) (sheet : Sheet) → Shown (now (rows .entry)) users sheet → map grant-of (now (cells .entry)) ≡ kernel sheet
-        → Table sheet (kernel sheet) r) ⌝ }
+// The fit table of the grants at some cells, as far as it has room.
+fn table_of<'a>(rows: &'a [u64], cells: &'a [u16]) -> [u64; TABLE_WORDS]
+    ensures { λ r. ⌜ ((users : ℕ) (sheet : Sheet) → Shown (now (rows .entry)) users sheet → Table sheet (map grant-of (now (cells .entry))) r) ⌝ }
 {
     let mut words = [0; TABLE_WORDS];
     let mut t = 0;
@@ -62,4 +65,15 @@ pub fn fit_table<'a>(rows: &'a [u64], cells: &'a [u16]) -> [u64; TABLE_WORDS]
         t += 1;
     }
     words
+}
+
+// The fit table of the kernel, or of its first grants if it has more than TABLE_LIMIT.
+pub fn fit_table(rows: &[u64; CELL_WORDS], grants: Kernel) -> [u64; TABLE_WORDS]
+    requires { ⌜ grants .size ≤ grant-limit ⌝ }
+    ensures { λ r. ⌜ ((users : ℕ) (sheet : Sheet) → Shown (now (rows .entry)) users sheet
+        → map grant-of (take (grants .size) (grants .cells)) ≡ kernel sheet → Table sheet (kernel sheet) r) ⌝ }
+{
+    let cells = grants.cells;
+    let size = grants.size;
+    table_of(rows, &cells[..size])
 }

@@ -7,6 +7,7 @@ pub mod AppendLaws
 pub mod OrderedUnique
 pub mod OrderedMap
 pub mod FilterLength
+pub mod FilterSame
 pub mod Distinct
 pub mod LeastLaws
 pub mod DropLaws
@@ -28,6 +29,7 @@ pub mod PlacementLaws
 pub mod GroupingLaws
 pub mod SameGrouping
 pub mod LatestFirst
+pub mod LeastLast
 pub mod KeyLaws
 pub mod KeyStep
 pub mod Beginning

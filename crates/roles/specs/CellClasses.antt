@@ -2,7 +2,7 @@
 use Prim.Native.Nat.{ℕ, _<_}
 use mathlib.Core.Path.{_≡_}
 use mathlib.Core.Bool.{cond}
-use mathlib.Core.List.{List}
+use mathlib.Core.List.{List, reverse}
 use lib.Dec.{eqb}
 use lib.ListN.{length, getD}
 use Rattle.lists.specs.Lists.{list-of}
@@ -11,7 +11,7 @@ use Rattle.sheet.specs.Sheet.{Grant}
 use Rattle.grants.specs.Reduction.{Removal, single, tied, Reduction}
 use Rattle.grants.specs.CellPlaces.{cell-limit, grant-of}
 use Rattle.grants.specs.Log.{log-of}
-use Rattle.roles.specs.Classes.{Classed, Classes, class-of, classes-of}
+use Rattle.roles.specs.Classes.{Classed, Classes, paired, class-of, classes-of}
 
 -- the array has the class of each cell
 pub record ClassAt (class : List ℕ) (members : List Classed) : Type 0 where
@@ -26,6 +26,10 @@ pub record ClassesAt (class : List ℕ) (count : ℕ) (classes : Classes) : Type
 -- the grants at the first cells of an array
 abbrev pub listed : List ℕ → ℕ → List Grant
 listed cells size = list-of size (λ i. grant-of (getD cells i 0))
+
+-- these grants with classes from another array, the latest first
+abbrev pub paired-in : List ℕ → List ℕ → ℕ → List Classed
+paired-in cells placed size = paired (reverse (listed cells size)) (latest-first placed size)
 
 -- the first numbers of an array are cells
 pub record CellsBelow (size : ℕ) (cells : List ℕ) : Type 0 where

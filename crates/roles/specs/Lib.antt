@@ -9,6 +9,7 @@ pub mod Cases
 pub mod StandingCases
 pub mod CellClasses
 pub mod CellClassLaws
+pub mod GoingBack
 pub mod RoleNumbers
 pub mod RoleNumberLaws
 pub mod RoleMatrices

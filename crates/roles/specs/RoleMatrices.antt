@@ -17,7 +17,8 @@ use Rattle.sheet.specs.CellMarked.{CellMarked, word-at}
 use Rattle.grants.specs.CellPlaces.{cell-limit, grant-of}
 use Rattle.grants.specs.CellPlaceLaws.{row-bits-pos, user-below}
 use Rattle.roles.specs.Classes.{Classed}
-use Rattle.roles.specs.CellClassLaws.{paired-in, paired-next}
+use Rattle.roles.specs.CellClasses.{paired-in}
+use Rattle.roles.specs.CellClassLaws.{paired-next}
 
 -- user u has a grant of role r
 abbrev pub has-role : List Classed → ℕ → ℕ → Bool

@@ -30,7 +30,7 @@ use Rattle.grants.specs.RemovedGranted.{RemovalOf, reduction-granted, kernel-gr
 use Rattle.roles.specs.Classes.{class-of, classes-of}
 use Rattle.roles.specs.Roles.{roles-of-classes, roles-of}
 use Rattle.roles.specs.CellClasses.{ClassAt, ClassesAt, CellsBelow, listed, reduction-in, classes-in}
-use Rattle.roles.specs.CellClassLaws.{class-below}
+use Rattle.roles.specs.GoingBack.{class-below}
 use Rattle.roles.specs.RoleNumbers.{class-limit, class-key, KeysBelow}
 use Rattle.roles.specs.RoleNumberLaws.{role-numbers-by-class}
 use Rattle.roles.specs.RolesInput.{Belongs}

@@ -15,8 +15,7 @@ use Rattle.roles.specs.Classes.{Classed}
 use Rattle.roles.specs.Roles.{roles-of-classes}
 use Rattle.roles.specs.RoleSet.{RoleSet}
 use Rattle.roles.specs.RoleRows.{RoleRows}
-use Rattle.roles.specs.CellClasses.{ClassAt, CellsBelow, listed}
-use Rattle.roles.specs.CellClassLaws.{paired-in}
+use Rattle.roles.specs.CellClasses.{ClassAt, CellsBelow, listed, paired-in}
 use Rattle.roles.specs.RoleNumbers.{class-key}
 use Rattle.roles.specs.RoleNumberLaws.{role-numbers-by-class}
 use Rattle.roles.specs.RoleMatrices.{has-role, gives-permission, CellsShow, RolesBelow}

@@ -8,8 +8,7 @@ ghost use Rattle.lists.specs.LatestFirst.{latest-first};
 ghost use Rattle.sheet.specs.Limits.{grant-limit};
 ghost use Rattle.grants.specs.CellPlaces.{cell-limit};
 ghost use Rattle.roles.specs.Classes.{Classes, put-back};
-ghost use Rattle.roles.specs.CellClasses.{ClassAt, ClassesAt, CellsBelow, removal-of, classes-in};
-ghost use Rattle.roles.specs.CellClassLaws.{paired-in};
+ghost use Rattle.roles.specs.CellClasses.{ClassAt, ClassesAt, CellsBelow, removal-of, classes-in, paired-in};
 
 // The class of each cell, 0 where no grant has one, and how many classes there are.
 pub struct CellClasses {

@@ -10,7 +10,8 @@ pub const CELL_LIMIT: usize = CELL_WORDS * bits::WORD_BITS;
 // A class for each grant of the kernel, and one for each removal.
 pub const CLASS_LIMIT: usize = 2 * GRANT_LIMIT;
 
-// As many roles as a row has bits, and a row of words for each.
+// The roles: as many as a row has bits.
 pub const ROLE_LIMIT: usize = ROW_BITS;
 
+// The words of the rows of as many roles.
 pub const ROLE_WORDS: usize = ROLE_LIMIT * ROW_WORDS;

@@ -15,8 +15,7 @@ ghost use Rattle.sheet.specs.Limits.{grant-limit};
 ghost use Rattle.sheet.specs.Rows.{row-bits};
 ghost use Rattle.sheet.specs.CellMarked.{CellMarked, word-at};
 ghost use Rattle.grants.specs.CellPlaces.{grant-of};
-ghost use Rattle.roles.specs.CellClasses.{CellsBelow};
-ghost use Rattle.roles.specs.CellClassLaws.{paired-in};
+ghost use Rattle.roles.specs.CellClasses.{CellsBelow, paired-in};
 ghost use Rattle.roles.specs.RoleMatrices.{CellsShow, RolesBelow, has-role, gives-permission};
 
 // Sets the cell of a row and a column.

@@ -13,3 +13,15 @@ pub mod Potential
 pub mod Progress
 pub mod Rising
 pub mod SameFit
+pub mod Marks
+pub mod MarkLaws
+pub mod View
+pub mod Gathered
+pub mod BelowCut
+pub mod PlacedLaws
+pub mod TrailLaws
+pub mod ChoiceLaws
+pub mod ClassEnd
+pub mod Moves
+pub mod Running
+pub mod Carried

@@ -1,18 +1,15 @@
-use Prim.Native.Nat.{ℕ, _-_, _≤_, _<_}
+use Prim.Native.Nat.{_-_, _≤_}
 use native.Mathlib.Omega.{arith}
 use mathlib.Core.Path.{_≡_, refl, sym, _∙_}
 use mathlib.Core.Logic.{⊎-elim}
 use native.Mathlib.Numerals.{add-one}
 use borrow.Author.Tests.{not-true, not-false}
-use lib.ListN.{length, getD, length-set}
+use lib.ListN.{length, length-set}
 use Rattle.grants.specs.CoverRelation.{related-at}
 use Rattle.grants.specs.CoverMarks.{Marks, no-marks, marks-kept, class-marked}
 use Rattle.sheet.specs.Limits.{grant-limit}
 use Rattle.grants.proofs.cover.blocked.Statement.{statement}
 use Rattle.grants.proofs.cover.blocked.Tie as tie
-use Rattle.grants.proofs.cover.blocked.Reads as reads
-use Rattle.grants.proofs.cover.blocked.Lts as lts
-use Rattle.grants.proofs.cover.are_related.Reads as are-related-reads
 
 abbrev Inv-loop : tie.InvT-loop
 Inv-loop rows cells by classes d cell marks₀ i₀ marks i =
@@ -22,11 +19,9 @@ abbrev μ-loop : tie.MeasureT-loop
 μ-loop rows cells by classes d cell marks₀ i₀ marks i = d - i
 
 mul-cell : tie.Need-mul-cell Inv-loop μ-loop
-unfolding grant-limit
 mul-cell c = omega arith
 
 shared-slice-read-cell : tie.Need-shared-slice-read-cell Inv-loop μ-loop
-unfolding grant-limit
 shared-slice-read-cell c = omega arith
 
 loop-holds : tie.Need-loop-holds Inv-loop μ-loop
@@ -34,18 +29,15 @@ unfolding grant-limit
 loop-holds c = (omega arith, refl, no-marks _ _ _ _)
 
 mul-are-related : tie.Need-mul-are-related Inv-loop μ-loop
-unfolding grant-limit
 mul-are-related c = omega arith
 
 shared-slice-read-are-related : tie.Need-shared-slice-read-are-related Inv-loop μ-loop
-unfolding grant-limit
 shared-slice-read-are-related c = omega arith
 
 are-related-requires : tie.Need-are-related-requires Inv-loop μ-loop
 are-related-requires c κs = tt
 
 mul-c : tie.Need-mul-c Inv-loop μ-loop
-unfolding grant-limit
 mul-c c = omega arith
 
 element-copy-out-c : tie.Need-element-copy-out-c Inv-loop μ-loop
@@ -61,7 +53,6 @@ unfolding grant-limit
 array-write-marks c = c .before .before .before .before .before .before .before .before .before .pre .1 (c .before .before .before .before .before .loop .i) (c .before .before .before .before .loop-test .taken)
 
 add-i : tie.Need-add-i Inv-loop μ-loop
-unfolding grant-limit
 add-i c = omega arith
 
 loop-less : tie.Need-loop-less Inv-loop μ-loop

@@ -1,41 +1,35 @@
--- `grants::cover::first_best`: the three groupings of the cells are those of the kernel, and the one with fewest classes is the first best.
-use mathlib.Core.Path.{sym, ap, _∙_}
+-- `grants::cover::first_best`: the first cells of the array are the kernel's.
 use borrow.Author.Needs.{needs}
-use lib.ListN.{length, length-map}
-use Rattle.grants.specs.CellPlaces.{grant-of}
-use Rattle.grants.specs.CoverArray.{best-of-cells}
+use mathlib.Core.Path.{_≡_, sym}
+use lib.ListN.{length, take}
+use lib.Seq.{length-take-le}
+use Rattle.sheet.specs.Limits.{grant-limit}
+use Rattle.grants.specs.CoverArray.{first-best-of}
 use Rattle.grants.proofs.cover.first_best.Statement.{statement}
 use Rattle.grants.proofs.cover.first_best.Tie as tie
 
-grouped-requires : tie.Need-grouped-requires
-grouped-requires c κs = search needs
+-- as many cells as there are grants at most
+sized : (c : tie.Start) → length (c .args .grants .cells) ≡ grant-limit
+unfolding grant-limit
+sized c = search needs
 
-grouped-requires-2 : tie.Need-grouped-requires-2
-grouped-requires-2 c κs = search needs
+counted : (c : tie.Start) → length (take (c .args .grants .size) (c .args .grants .cells)) ≡ c .args .grants .size
+counted c = length-take-le _ _ (rw (sized c) (c .pre))
 
-grouped-requires-3 : tie.Need-grouped-requires-3
-grouped-requires-3 c κs = search needs
+array-share-prefix-cells : tie.Need-array-share-prefix-cells
+array-share-prefix-cells c = rw (sized (c .before .before)) (c .before .before .pre)
 
-with-fewer-requires : tie.Need-with-fewer-requires
-with-fewer-requires c κs = search needs
+slice-aggregate-best-of : tie.Need-slice-aggregate-best-of
+slice-aggregate-best-of c = sym (counted (c .before .before .before))
 
-with-fewer-requires-2 : tie.Need-with-fewer-requires-2
-with-fewer-requires-2 c κs = search needs
+best-of-requires : tie.Need-best-of-requires
+best-of-requires c κs = rw (counted (c .before .before .before)) (c .before .before .before .pre)
 
 returns : tie.Need-returns
 returns c users sheet shown e =
-    let a = c .before .before .before .before .before .before .before .args in
-    let two = c .before .with-fewer .ensures _ _ _ (c .before .before .before .before .grouped .ensures) (c .before .before .before .grouped2 .ensures) in
-    rw (sym (ap length e) ∙ length-map (a .cells .now) grant-of, ← best-of-cells shown (a .cells .now) e)
-    (c .with-fewer2 .ensures _ _ _ two (c .before .before .grouped3 .ensures))
+    let grants = c .before .before .before .before .args .grants in
+    first-best-of sheet (take (grants .size) (grants .cells)) _ _ e (c .best-of .ensures users sheet shown)
 
 pub first-best-spec : {M : Type 1} → statement M
 first-best-spec =
-    tie.close
-    (tie.spec
-    grouped-requires
-    grouped-requires-2
-    grouped-requires-3
-    with-fewer-requires
-    with-fewer-requires-2
-    returns)
+    tie.close (tie.spec array-share-prefix-cells slice-aggregate-best-of best-of-requires returns)

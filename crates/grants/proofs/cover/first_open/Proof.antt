@@ -5,13 +5,10 @@ use mathlib.Core.Path.{_≡_, _∙_}
 use mathlib.Core.Bool.{false, not}
 use borrow.Author.Count.{below-none, below-more}
 use lib.ListN.{getD}
-use Rattle.bits.specs.BelowLaws.{last-or-below}
 use Rattle.sheet.specs.Limits.{grant-limit}
 use Rattle.grants.specs.CoverMarks.{lowest-open, none-open}
 use Rattle.grants.proofs.cover.first_open.Statement.{statement}
 use Rattle.grants.proofs.cover.first_open.Tie as tie
-use Rattle.grants.proofs.cover.first_open.Reads as reads
-use Rattle.grants.proofs.cover.first_open.Lts as lts
 
 abbrev Inv-loop : tie.InvT-loop
 Inv-loop marks used c₀ c = (c ≤ used) × ((i : ℕ) → i < c → not (getD marks i false) ≡ false)
@@ -30,7 +27,6 @@ returns : tie.Need-returns Inv-loop μ-loop
 returns c = lowest-open _ _ (c .before .before .loop-test .taken) (c .if1 .taken) (c .before .before .before .loop .inv .1)
 
 add-c : tie.Need-add-c Inv-loop μ-loop
-unfolding grant-limit
 add-c c = omega arith
 
 loop-less : tie.Need-loop-less Inv-loop μ-loop

@@ -11,9 +11,6 @@ use Rattle.grants.specs.CoverPlaced.{Placed, none-placed, few-classes, t
 use Rattle.sheet.specs.Limits.{grant-limit}
 use Rattle.grants.proofs.cover.grouped.Statement.{statement}
 use Rattle.grants.proofs.cover.grouped.Tie as tie
-use Rattle.grants.proofs.cover.grouped.Reads as reads
-use Rattle.grants.proofs.cover.grouped.Lts as lts
-use Rattle.grants.proofs.cover.class_for.Reads as class-for-reads
 
 abbrev Inv-loop : tie.InvT-loop
 Inv-loop rows cells by classes₀ count₀ d₀ classes count d =
@@ -45,7 +42,6 @@ unfolding grant-limit
 cast-classes c = let h = small c in omega (arith, h)
 
 mul-classes : tie.Need-mul-classes Inv-loop μ-loop
-unfolding grant-limit
 mul-classes c = omega arith
 
 array-write-classes : tie.Need-array-write-classes Inv-loop μ-loop
@@ -53,11 +49,9 @@ unfolding grant-limit
 array-write-classes c = omega arith
 
 add-count : tie.Need-add-count Inv-loop μ-loop
-unfolding grant-limit
 add-count c = let h = small (c .before) in omega (arith, h)
 
 add-d : tie.Need-add-d Inv-loop μ-loop
-unfolding grant-limit
 add-d c = omega arith
 
 loop-less : tie.Need-loop-less Inv-loop μ-loop

@@ -7,9 +7,6 @@ use Rattle.sheet.specs.Limits.{grant-limit, user-limit}
 use Rattle.sheet.specs.Rows.{row-words, row-bits}
 use Rattle.grants.proofs.kernel.listed.Statement.{statement}
 use Rattle.grants.proofs.kernel.listed.Tie as tie
-use Rattle.grants.proofs.kernel.listed.Reads as reads
-use Rattle.grants.proofs.kernel.listed.Lts as lts
-use Rattle.grants.proofs.kernel.next_cell.Reads as next-cell-reads
 
 abbrev Inv-loop : tie.InvT-loop
 Inv-loop left users cells₀ size₀ n₀ cells size n = Listing left (users * row-bits) cells size n
@@ -25,27 +22,26 @@ unfolding grant-limit
 loop-holds c = listing-starts _ _ _ _ refl (c .next-cell .ensures)
 
 mul-loop : tie.Need-mul-loop Inv-loop μ-loop
-unfolding grant-limit user-limit row-bits row-words
+unfolding user-limit
 mul-loop c = omega arith
 
 cast-cells : tie.Need-cast-cells Inv-loop μ-loop
-unfolding grant-limit user-limit row-bits row-words
+unfolding user-limit
 cast-cells c = omega arith
 
 mul-cells : tie.Need-mul-cells Inv-loop μ-loop
-unfolding grant-limit user-limit row-bits row-words
+unfolding grant-limit
 mul-cells c = omega arith
 
 array-write-cells : tie.Need-array-write-cells Inv-loop μ-loop
-unfolding grant-limit user-limit row-bits row-words
 array-write-cells c = omega (arith, ltb-true)
 
 add-size : tie.Need-add-size Inv-loop μ-loop
-unfolding grant-limit user-limit row-bits row-words
+unfolding grant-limit
 add-size c = omega arith
 
 add-next-cell : tie.Need-add-next-cell Inv-loop μ-loop
-unfolding grant-limit user-limit row-bits row-words
+unfolding user-limit
 add-next-cell c = omega arith
 
 next-cell-requires-2 : tie.Need-next-cell-requires-2 Inv-loop μ-loop
@@ -57,7 +53,7 @@ unfolding grant-limit
 loop-less c = omega (arith, ltb-true)
 
 loop-again : tie.Need-loop-again Inv-loop μ-loop
-unfolding grant-limit row-bits row-words
+unfolding grant-limit
 loop-again c =
     let at = c .before .before .before .loop in
     listing-goes-on _ _ (at .cells) (at .size) (at .n) (at .inv) _ (omega arith) (omega (arith, ltb-true)) (c .next-cell2 .ensures)

@@ -4,13 +4,10 @@ use mathlib.Core.Path.{_≡_}
 use Rattle.bits.specs.Bit.{word-bits}
 use Rattle.grants.specs.CellPlaces.{marked}
 use Rattle.grants.specs.KernelWalk.{Skipped, passed-word, found-in-word}
-use Rattle.sheet.specs.Limits.{grant-limit, user-limit}
+use Rattle.sheet.specs.Limits.{user-limit}
 use Rattle.sheet.specs.Rows.{row-words, row-bits}
 use Rattle.grants.proofs.kernel.next_cell.Statement.{statement}
 use Rattle.grants.proofs.kernel.next_cell.Tie as tie
-use Rattle.grants.proofs.kernel.next_cell.Reads as reads
-use Rattle.grants.proofs.kernel.next_cell.Lts as lts
-use Rattle.grants.proofs.kernel.next_position.Reads as next-position-reads
 
 abbrev Inv-loop : tie.InvT-loop
 Inv-loop words users from n₀ n = (from ≤ n) × (n ≤ users * row-bits) × Skipped (marked words) from n
@@ -22,26 +19,26 @@ loop-holds : tie.Need-loop-holds Inv-loop μ-loop
 loop-holds c = (omega arith, omega arith, λ i k l. absurd (omega arith))
 
 mul-loop : tie.Need-mul-loop Inv-loop μ-loop
-unfolding grant-limit user-limit row-bits row-words
+unfolding user-limit
 mul-loop c = omega arith
 
 mul-next-position : tie.Need-mul-next-position Inv-loop μ-loop
-unfolding grant-limit user-limit row-bits row-words
+unfolding user-limit
 mul-next-position c = omega arith
 
 element-copy-out-next-position : tie.Need-element-copy-out-next-position Inv-loop μ-loop
-unfolding grant-limit user-limit row-bits row-words
+unfolding user-limit
 element-copy-out-next-position c = omega arith
 
 next-position-requires : tie.Need-next-position-requires Inv-loop μ-loop
 next-position-requires c κs = omega arith
 
 mul-result : tie.Need-mul-result Inv-loop μ-loop
-unfolding grant-limit user-limit row-bits row-words
+unfolding user-limit
 mul-result c = omega arith
 
 add-result : tie.Need-add-result Inv-loop μ-loop
-unfolding grant-limit user-limit row-bits row-words
+unfolding user-limit
 add-result c = omega arith
 
 returns : tie.Need-returns Inv-loop μ-loop
@@ -53,11 +50,10 @@ returns c =
     (at .inv .0) (omega arith) (c .if1 .taken) (at .inv .2)
 
 add-n : tie.Need-add-n Inv-loop μ-loop
-unfolding grant-limit user-limit row-bits row-words
 add-n c = omega arith
 
 mul-n : tie.Need-mul-n Inv-loop μ-loop
-unfolding grant-limit user-limit row-bits row-words
+unfolding user-limit
 mul-n c = omega arith
 
 loop-less : tie.Need-loop-less Inv-loop μ-loop

@@ -5,14 +5,8 @@ use mathlib.Core.Logic.{⊎-elim}
 use Rattle.bits.specs.Bit.{word-bits}
 use Rattle.grants.specs.TableWords.{table-row, table-word, FirstBits}
 use Rattle.grants.specs.TableLaws.{no-bits, bit-put-in, bit-left-out}
-use Rattle.sheet.specs.Limits.{grant-limit, user-limit}
-use Rattle.sheet.specs.Rows.{row-words, row-bits}
 use Rattle.grants.proofs.table.table_word.Statement.{statement}
 use Rattle.grants.proofs.table.table_word.Tie as tie
-use Rattle.grants.proofs.table.table_word.Reads as reads
-use Rattle.grants.proofs.table.table_word.Lts as lts
-use Rattle.bits.proofs.with.Reads as with-reads
-use Rattle.grants.proofs.table.fit_among.Reads as fit-among-reads
 
 abbrev Inv-loop : tie.InvT-loop
 Inv-loop rows cells t i from word₀ q₀ word q = (q ≤ word-bits) × FirstBits (table-word rows cells t) q word
@@ -21,14 +15,12 @@ abbrev μ-loop : tie.MeasureT-loop
 μ-loop rows cells t i from word₀ q₀ word q = word-bits - q
 
 mul-from : tie.Need-mul-from Inv-loop μ-loop
-unfolding table-row
 mul-from c = omega arith
 
 loop-holds : tie.Need-loop-holds Inv-loop μ-loop
 loop-holds c = (omega arith, no-bits _)
 
 add-fit-among : tie.Need-add-fit-among Inv-loop μ-loop
-unfolding table-row
 add-fit-among c = omega arith
 
 fit-among-requires : tie.Need-fit-among-requires Inv-loop μ-loop
@@ -38,7 +30,6 @@ with-requires : tie.Need-with-requires Inv-loop μ-loop
 with-requires c κs = omega arith
 
 add-q : tie.Need-add-q Inv-loop μ-loop
-unfolding table-row
 add-q c = omega arith
 
 loop-less : tie.Need-loop-less Inv-loop μ-loop

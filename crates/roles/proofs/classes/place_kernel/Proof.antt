@@ -7,8 +7,8 @@ use lib.ListN.{getD}
 use Rattle.sheet.specs.Limits.{grant-limit, user-limit}
 use Rattle.sheet.specs.Rows.{row-words}
 use Rattle.grants.specs.CellPlaces.{cell-limit}
-use Rattle.roles.specs.CellClasses.{ClassAt}
-use Rattle.roles.specs.CellClassLaws.{paired-in, no-classes, kernel-grant-written}
+use Rattle.roles.specs.CellClasses.{ClassAt, paired-in}
+use Rattle.roles.specs.CellClassLaws.{no-classes, kernel-grant-written}
 use Rattle.roles.proofs.classes.place_kernel.Statement.{statement}
 use Rattle.roles.proofs.classes.place_kernel.Tie as tie
 

@@ -1,13 +1,13 @@
 -- `roles::roles_of`: the grants of the sheet are listed, the classes of all grants stand at their cells, and the roles of the listed grants in these classes
 -- are those of the sheet.
 use mathlib.Core.Path.{_≡_, sym, ap, _∙_}
+use borrow.Author.Needs.{needs}
 use lib.ListN.{length}
 use Rattle.lists.specs.Placement.{used}
 use Rattle.sheet.specs.Limits.{grant-limit}
 use Rattle.grants.specs.Reduction.{reduction}
 use Rattle.roles.specs.Classes.{classes-of}
 use Rattle.roles.specs.RolesInputLaws.{kernel-below, removed-below, partner-below, all-listed, all-below, classes-below, roles-few, all-class-at, roles-belong}
-use borrow.Author.Needs.{needs}
 use Rattle.roles.proofs.matrices.roles_of.Statement.{statement}
 use Rattle.roles.proofs.matrices.roles_of.Tie as tie
 

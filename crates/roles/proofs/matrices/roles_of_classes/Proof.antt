@@ -1,6 +1,6 @@
 -- `roles::roles_of_classes`: the role numbers are below the count, so they are columns of a row; and the two matrices show the grants with these numbers.
-use Rattle.roles.specs.RolesShown.{roles-below, matrices-show}
 use borrow.Author.Needs.{needs}
+use Rattle.roles.specs.RolesShown.{roles-below, matrices-show}
 use Rattle.roles.proofs.matrices.roles_of_classes.Statement.{statement}
 use Rattle.roles.proofs.matrices.roles_of_classes.Tie as tie
 

@@ -1,6 +1,7 @@
 -- `roles::number_roles`: after i turns the first i grants have the roles that a grouping by class gives them, and the table has the roles of their classes.
 -- Each turn gives the next grant the role of its class.
 use Prim.Native.Nat.{_≤_, _<_, _-_}
+use native.Mathlib.Omega.{arith}
 use mathlib.Core.Path.{_≡_, refl, _∙_}
 use lib.ListN.{getD}
 use Rattle.sheet.specs.Limits.{grant-limit, user-limit}
@@ -8,7 +9,6 @@ use Rattle.sheet.specs.Rows.{row-words}
 use Rattle.grants.specs.CellPlaces.{cell-limit}
 use Rattle.roles.specs.RoleNumbers.{class-limit, class-key}
 use Rattle.roles.specs.RoleNumberLaws.{Numbering, nothing-numbered, numbering-count-le, role-from-is-next, numbering-step}
-use native.Mathlib.Omega.{arith}
 use Rattle.roles.proofs.numbers.number_roles.Statement.{statement}
 use Rattle.roles.proofs.numbers.number_roles.Tie as tie
 

@@ -1,10 +1,9 @@
 -- `roles::role_for`: the table's mark for no role yet is the one that the definition tests.
+use native.Mathlib.Omega.{arith}
 use borrow.Author.Tests.{eq-eqb, ne-eqb}
 use lib.ListN.{getD}
 use Rattle.sheet.specs.Limits.{grant-limit}
 use Rattle.roles.specs.RoleNumbers.{no-role}
-use native.Mathlib.Omega.{arith}
-use borrow.Author.Needs.{needs}
 use Rattle.roles.proofs.numbers.role_for.Statement.{statement}
 use Rattle.roles.proofs.numbers.role_for.Tie as tie
 
@@ -17,7 +16,8 @@ unfolding grant-limit
 element-copy-out-r c = omega arith
 
 cast-result : tie.Need-cast-result
-cast-result c = search needs
+unfolding grant-limit
+cast-result c = omega arith
 
 returns : tie.Need-returns
 unfolding grant-limit

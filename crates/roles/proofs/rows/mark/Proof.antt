@@ -1,13 +1,14 @@
 -- `roles::mark`: the position is put into the word where the cell stands, so that cell is set and no other changes.
 use native.Mathlib.Omega.{arith}
+use borrow.Author.Needs.{needs}
 use Rattle.sheet.specs.Rows.{row-words}
 use Rattle.sheet.specs.CellMarked.{cell-marked-by-word}
-use borrow.Author.Needs.{needs}
 use Rattle.roles.proofs.rows.mark.Statement.{statement}
 use Rattle.roles.proofs.rows.mark.Tie as tie
 
 mul-i : tie.Need-mul-i
-mul-i c = search needs
+unfolding row-words
+mul-i c = omega arith
 
 add-i : tie.Need-add-i
 unfolding row-words

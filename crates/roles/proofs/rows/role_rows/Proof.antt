@@ -8,7 +8,7 @@ use Rattle.sheet.specs.Limits.{grant-limit, user-limit}
 use Rattle.sheet.specs.Rows.{row-words, row-bits}
 use Rattle.sheet.specs.CellMarked.{word-below}
 use Rattle.grants.specs.CellPlaces.{cell-limit}
-use Rattle.roles.specs.CellClassLaws.{paired-in}
+use Rattle.roles.specs.CellClasses.{paired-in}
 use Rattle.roles.specs.RoleMatrices.{role-words, CellsShow, gives-permission, permission-of-cell-below, no-cells, gives-permission-next}
 use Rattle.roles.proofs.rows.role_rows.Statement.{statement}
 use Rattle.roles.proofs.rows.role_rows.Tie as tie

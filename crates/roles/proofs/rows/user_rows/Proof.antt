@@ -7,7 +7,7 @@ use Rattle.sheet.specs.Limits.{grant-limit, user-limit}
 use Rattle.sheet.specs.Rows.{row-words, row-bits}
 use Rattle.sheet.specs.CellMarked.{word-below}
 use Rattle.grants.specs.CellPlaces.{cell-words, cell-limit}
-use Rattle.roles.specs.CellClassLaws.{paired-in}
+use Rattle.roles.specs.CellClasses.{paired-in}
 use Rattle.roles.specs.RoleMatrices.{CellsShow, has-role, user-of-cell-below, no-cells, has-role-next}
 use Rattle.roles.proofs.rows.user_rows.Statement.{statement}
 use Rattle.roles.proofs.rows.user_rows.Tie as tie
