@@ -5,8 +5,8 @@ pub mod PairedLaws
 pub mod Roles
 pub mod RoleLaws
 pub mod RoleRows
-pub mod StandingCases
 pub mod Cases
+pub mod StandingCases
 pub mod CellClasses
 pub mod CellClassLaws
 pub mod GoingBack
