@@ -1,5 +1,6 @@
 -- The judgement of a book for a sheet: form, counts, product, witness, and the answer. Assumes nothing.
 use Prim.Native.Nat.{ℕ}
+use mathlib.Core.Path.{_≡_}
 use mathlib.Core.Bool.{Bool, false, _&&_, _||_, not, cond, Bool·beq}
 use mathlib.Core.List.{List, [], _∷_, _++_}
 use lib.Dec.{eqb, ltb}
@@ -81,3 +82,7 @@ unfolding check-causes said sheet-of
 check sheet book =
     let number : ℕ = first-number (check-causes sheet book) in
     cond (eqb number 0) (confirmed (said (sheet-of sheet) book)) (check-refused number)
+
+-- what a check promises: its answer; it has no session and writes nothing
+pub record Checks (sheet book : Bytes) (answer : CheckAnswer) : Type 0 where
+  pub answers : answer ≡ check sheet book

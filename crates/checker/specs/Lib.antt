@@ -1,4 +1,19 @@
--- The checker: whether a book is of the form, its counts agree, its product is the sheet and its witness stands.
+-- The checker: whether a book is of the form, its counts agree, its product is the sheet and its witness stands. `Form`, `Check` and `Right` have
+-- the definitions. `Exact` shows that the checker accepts exactly the right books, `Alone` what its answer shows by itself, and `Confirmed` that it
+-- confirms a book written from what is right; the modules before them have the laws that these rest on.
 pub mod Form
 pub mod Check
 pub mod Right
+pub mod NameLaws
+pub mod FormParts
+pub mod WrittenForm
+pub mod WrittenLines
+pub mod ReadBack
+pub mod ReadForm
+pub mod CheckParts
+pub mod Verdict
+pub mod Exact
+pub mod Alone
+pub mod BookLength
+pub mod Confirmed
+pub mod OwnBook

@@ -1,10 +1,10 @@
 -- The customer's three demands as statements. Assumes nothing.
 use Prim.Native.Nat.{ℕ, _+_, _≤_}
 use mathlib.Core.Path.{_≡_}
-use mathlib.Core.Bool.{Bool, So}
+use mathlib.Core.Bool.{So}
 use mathlib.Core.List.{List, [], _∷_, List·Memᴰ}
 use mathlib.Core.Logic.{_⊎_, _≢_, _↔_}
-use mathlib.Core.Option.{Option, none, some}
+use mathlib.Core.Option.{none, some}
 use lib.ListN.{length}
 use Rattle.sheet.specs.Text.{Bytes}
 use Rattle.sheet.specs.Sheet.{Sheet, sheet-of}
@@ -17,10 +17,10 @@ use Rattle.roles.specs.RoleSet.{RoleSet, Multiplies}
 use Rattle.roles.specs.Roles.{witnessed, searched, unsettled}
 use Rattle.book.specs.Book.{Said}
 use Rattle.book.specs.Decimal.{number-of}
-use Rattle.checker.specs.Form.{said}
-use Rattle.checker.specs.Check.{CheckAnswer, check, check-causes, check-refused, confirmed}
+use Rattle.checker.specs.Form.{book-limit, said}
+use Rattle.checker.specs.Check.{CheckAnswer, check, check-causes, check-refused, confirmed, Checks}
 use Rattle.checker.specs.Right.{Right}
-use Rattle.session.specs.Session.{Session, LoadAnswer, load-answer, load-refused, after-load, SearchAnswer, search-answer, search-causes, search-refused, after-search, WriteAnswer, write-answer, write-causes, write-refused, buffer-after}
+use Rattle.session.specs.Session.{Session, LoadAnswer, load-answer, load-refused, SearchAnswer, search-causes, search-refused, WriteAnswer, write-causes, write-refused, Loads, Searches, Writes}
 use Rattle.session.specs.Sequence.{Call, load, search, write, Written, Outcome, Event, Led, last-accepted, budgets-given, calls, brought-out}
 
 -- number is the lowest of the causes that apply, and 0 exactly where none applies
@@ -28,35 +28,40 @@ pub record LowestThatApplies (causes : List Cause) (number : ℕ) : Type 0 where
   pub none-lower : (cause : Cause) → List·Memᴰ cause causes → So (cause .applies) → (number ≢ 0) × (number ≤ cause .number)
   pub applies : number ≢ 0 → (cause : Cause) × List·Memᴰ cause causes × So (cause .applies) × (cause .number ≡ number)
 
--- what an answer of a number owes: it is the lowest that applies, and a refusal returns the number alone and changes nothing
+-- what a call owes whose answer has this number: it is the lowest that applies, and a refusal changes nothing
 pub record Judged (causes : List Cause) (number : ℕ) (Unchanged : Type 0) : Type 0 where
   pub lowest : LowestThatApplies causes number
   pub unchanged : number ≢ 0 → Unchanged
 
--- demand 1: every sheet, budget, book and lent buffer gets a result or the lowest refusal number that applies,
--- and a refusal leaves the session and every lent byte untouched
+-- demand 1: every sheet, budget, book and lent buffer, however wrong, gets a result or the lowest refusal number that applies,
+-- and a refusal returns that number and counts 0 and leaves the session and every lent byte untouched
 pub record Demand1 : Type 0 where
-  pub loads : (session : Session) (text : Bytes) → Judged (sheet-causes text) (load-answer text .number)
-      ((load-answer text ≡ load-refused (load-answer text .number)) × (after-load session text ≡ session))
-  pub searches : (session : Session) (budget : ℕ) → Judged (search-causes session) (search-answer session budget .number)
-      ((search-answer session budget ≡ search-refused (search-answer session budget .number))
-      × (after-search session budget ≡ session))
-  pub writes : (session : Session) (buffer : Bytes) → Judged (write-causes session buffer) (write-answer session buffer .number)
-      ((write-answer session buffer ≡ write-refused (write-answer session buffer .number)) × (buffer-after session buffer ≡ buffer))
-  pub checks : (sheet book : Bytes) → Judged (check-causes sheet book) (check sheet book .number)
-      (check sheet book ≡ check-refused (check sheet book .number))
+  pub loads : (before after : Session) (text : Bytes) (answer : LoadAnswer) → Loads before text answer after
+      → Judged (sheet-causes text) (answer .number) ((answer ≡ load-refused (answer .number)) × (after ≡ before))
+  pub searches : (before after : Session) (budget : ℕ) (answer : SearchAnswer) → Searches before budget answer after
+      → Judged (search-causes before) (answer .number) ((answer ≡ search-refused (answer .number)) × (after ≡ before))
+  pub writes : (before after : Session) (buffer lent : Bytes) (answer : WriteAnswer) → Writes before buffer answer lent after
+      → Judged (write-causes before buffer) (answer .number)
+      ((answer ≡ write-refused (answer .number)) × (lent ≡ buffer) × (after ≡ before))
+  pub checks : (sheet book : Bytes) (answer : CheckAnswer) → Checks sheet book answer
+      → Judged (check-causes sheet book) (answer .number) (answer ≡ check-refused (answer .number))
 
--- demand 2: a sheet is accepted exactly when it keeps the rules, and is then read as the sheet it says; the checker accepts a book,
--- whoever wrote it, exactly when form, counts, product and witness are right, and has then read what it says.
--- That the session's own books multiply to the sheet is part of demand 3
+-- demand 2: a sheet is accepted exactly when it keeps the rules, and is then read as the sheet it is; the checker accepts a book,
+-- whoever wrote it, exactly when form, counts, product and witness are right, reads what it says and answers its counts.
+-- The session's own books: they multiply to the sheet (see `Believed`, of demand 3)
 pub record Demand2 : Type 0 where
-  pub accepts-sheets : (text : Bytes) → So (accepted text) ↔ ((sheet : Sheet) × Keeps text sheet)
+  pub accepts-sheets : (text : Bytes) → (load-answer text .number ≡ 0) ↔ ((sheet : Sheet) × Keeps text sheet)
   pub reads-sheets : (text : Bytes) (sheet : Sheet) → Keeps text sheet → sheet-of text ≡ sheet
-  pub accepts-books : (text book : Bytes) → So (accepted text)
-      → (check text book .number ≡ 0) ↔ ((says : Said) × Right (sheet-of text) book says)
+  pub accepts-books : (text book : Bytes)
+      → (check text book .number ≡ 0) ↔ ((sheet : Sheet) × (says : Said) × Keeps text sheet × Right sheet book says)
+  pub reads-books : (text book : Bytes) → check text book .number ≡ 0 → Right (sheet-of text) book (said (sheet-of text) book)
+  pub answers-counts : (text book : Bytes) (sheet : Sheet) (says : Said) → Keeps text sheet → Right sheet book says
+      → check text book ≡ confirmed says
 
 -- what every book owes that was brought out for the sheet of the last accepted load
 pub record Believed (text book : Bytes) : Type 0 where
+  -- form, counts, product and witness are right for what the book is read to say
+  pub right : Right (sheet-of text) book (said (sheet-of text) book)
   -- it multiplies to the sheet
   pub multiplies : Multiplies (said (sheet-of text) book .roles) (sheet-of text)
   -- every role set with that product has at least as many roles as the book's bound
@@ -81,12 +86,31 @@ pub record BookOwed (book : Bytes) (earlier : List Call) : Type 0 where
   -- once the budgets since that load add up, no book says `open`
   pub settled : Ended text (budgets-given earlier) → said (sheet-of text) book .standing ≢ unsettled
 
--- what is owed of one outcome, after the earlier calls: once the budgets add up, the answering one included, no search answers `open`
+-- what is owed of a load: it answers 0 exactly where its sheet is accepted
+abbrev pub LoadOwed : Bytes → LoadAnswer → Type 0
+LoadOwed text answer = (answer .number ≡ 0) ↔ So (accepted text)
+
+-- what is owed of a search, after the earlier calls
+pub record SearchOwed (budget : ℕ) (answer : SearchAnswer) (earlier : List Call) : Type 0 where
+  -- 10 with no accepted sheet, and no refusal otherwise
+  pub sheetless : last-accepted earlier ≡ none → answer ≡ search-refused 10
+  pub answered : (text : Bytes) → last-accepted earlier ≡ some text → answer .number ≡ 0
+  -- once the budgets since that load add up, the answering one included, no search answers `open`
+  pub settled : (text : Bytes) → last-accepted earlier ≡ some text → Ended text (budget + budgets-given earlier)
+      → answer .standing ≢ some unsettled
+
+-- what is owed of a writing, after the earlier calls
+pub record WriteOwed (buffer : Bytes) (written : Written) (earlier : List Call) : Type 0 where
+  -- 10 with no accepted sheet, and no refusal otherwise of a buffer of as many bytes as the checker takes
+  pub sheetless : last-accepted earlier ≡ none → written .answer ≡ write-refused 10
+  pub answered : (text : Bytes) → last-accepted earlier ≡ some text → book-limit ≤ length buffer → written .answer .number ≡ 0
+  pub book : written .answer .number ≡ 0 → BookOwed (brought-out written) earlier
+
+-- what is owed of one outcome, after the earlier calls
 abbrev pub Owed : (call : Call) → Outcome call → List Call → Type 0
-Owed (load text) answer earlier = Unit {0}
-Owed (search budget) answer earlier =
-    (text : Bytes) → last-accepted earlier ≡ some text → Ended text (budget + budgets-given earlier) → answer .standing ≢ some unsettled
-Owed (write buffer) written earlier = written .answer .number ≡ 0 → BookOwed (brought-out written) earlier
+Owed (load text) answer earlier = LoadOwed text answer
+Owed (search budget) answer earlier = SearchOwed budget answer earlier
+Owed (write buffer) written earlier = WriteOwed buffer written earlier
 
 -- what is owed of all outcomes of a sequence
 abbrev pub OwedOfAll : List Event → Type 0

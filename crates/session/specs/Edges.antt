@@ -2,7 +2,7 @@
 use Prim.Native.Nat.{ℕ}
 use mathlib.Core.Path.{_≡_, refl}
 use mathlib.Core.List.{List, [], _∷_, map}
-use mathlib.Core.Option.{Option, none, some}
+use mathlib.Core.Option.{some}
 use Rattle.bits.specs.Below.{lowest-below}
 use Rattle.lists.specs.Ascii.{ascii}
 use Rattle.sheet.specs.Text.{Bytes}
@@ -14,17 +14,19 @@ use Rattle.search.specs.Machine.{depth, search}
 use Rattle.roles.specs.Roles.{Standing, witnessed, searched, unsettled, kernel-of, start-of, role-count, bound, standing}
 use Rattle.book.specs.Decimal.{decimal}
 use Rattle.book.specs.Book.{book}
-use Rattle.session.specs.Session.{Session, no-sheet, loaded, fresh, LoadAnswer, load-answer, load-refused, after-load, SearchAnswer, search-answer, search-refused, searched-on, after-search, session-book}
-use Rattle.session.specs.Program.{budget-limit, is-budget, budget-of, program-output}
+use Rattle.checker.specs.Form.{book-limit}
+use Rattle.session.specs.Session.{Session, no-sheet, loaded, fresh, LoadAnswer, load-answer, load-refused, after-load, SearchAnswer, search-answer, search-refused, searched-on, after-search, session-book, write-answer, write-causes, buffer-after}
+use Rattle.session.specs.Program.{budget-limit, is-budget, budget-of, program-buffer, printed, program-output}
 
 -- a sheet to load into a fresh session, and the budget of one search after it
 pub record Trial : Type 0 where
   pub sheet : Bytes
   pub budget : ℕ
 
--- what they answer, and how many grants are placed then
+-- what they answer, the witness of the sheet, and how many grants are placed then
 pub record Finding : Type 0 where
   pub load : LoadAnswer
+  pub witness : List Grant
   pub search : SearchAnswer
   pub placed : ℕ
 
@@ -32,12 +34,18 @@ placed-in-session : Session → ℕ
 placed-in-session no-sheet = 0
 placed-in-session (loaded text st) = depth st
 
+session-witness : Session → List Grant
+unfolding witness sheet-of
+session-witness no-sheet = []
+session-witness (loaded text st) = witness (sheet-of text)
+
 finding : Trial → Finding
-unfolding load-answer search-answer after-load after-search placed-in-session searched-on refusal sheet-of kernel witness start-of kernel-of search role-count bound standing
+unfolding load-answer search-answer after-load after-search placed-in-session session-witness searched-on refusal sheet-of kernel witness start-of kernel-of search role-count bound standing
 finding trial =
     let session : Session = after-load fresh (trial .sheet) in
     record {
       load = load-answer (trial .sheet);
+      witness = session-witness session;
       search = search-answer session (trial .budget);
       placed = placed-in-session (after-search session (trial .budget));
     }
@@ -53,7 +61,8 @@ crown-of-three = ascii "user,a,b,c\nx,0,1,1\ny,1,0,1\nz,1,1,0\n"
 crown-of-four : Bytes
 crown-of-four = ascii "user,a,b,c,d\nw,0,1,1,1\nx,1,0,1,1\ny,1,1,0,1\nz,1,1,1,0\n"
 
--- a sheet whose search finds a better placement in step 14; were used not held below the class count, step 17 would go another way
+-- a sheet whose search finds a better placement in step 14, and closes in step 45. Were the classes in use not held below the new
+-- class count, step 17 would go another way; were class number b - 1 opened, step 20
 improves : Bytes
 improves =
     ascii "user,a,b,c,d,e,f,g\nq,1,1,0,1,0,1,1\nr,1,1,0,1,1,1,1\ns,0,1,1,1,1,1,1\nt,1,1,0,1,0,1,0\nu,1,0,1,0,0,1,1\nv,1,1,1,0,1,1,1\nw,1,0,1,0,1,1,1\n"
@@ -85,35 +94,47 @@ trials =
     ∷ trial [] 0
     ∷ trial (ascii "user,a,b\nx,1,1\ny,1,1\n") 0
     ∷ trial improves 17
+    ∷ trial improves 20
+    ∷ trial improves 100
     ∷ []
 
-found : Finding → LoadAnswer
-found f = f .load
+-- the grant of a user and a permission
+at : ℕ → ℕ → Grant
+at u p = record { user = u; permission = p }
 
+found : LoadAnswer → List Grant → SearchAnswer → ℕ → Finding
+found load witness search placed = record { load = load; witness = witness; search = search; placed = placed }
+
+crown-witness : List Grant
+unfolding at
+crown-witness = at 0 1 ∷ at 1 2 ∷ at 2 0 ∷ []
+
+improves-witness : List Grant
+unfolding at
+improves-witness = at 0 6 ∷ at 1 4 ∷ at 2 2 ∷ at 3 3 ∷ []
+
+-- the starred cases of "Around the edges" in its order, then a sheet for each slip
 edges : map finding trials ≡
-    record { load = counts 3 3 7 0 2; search = figures 0 2 2 witnessed; placed = 0 }
-    ∷ record { load = counts 1 1 0 0 0; search = figures 0 0 0 witnessed; placed = 0 }
-    ∷ record { load = counts 1 2 2 0 1; search = figures 0 1 1 witnessed; placed = 0 }
-    ∷ record { load = counts 3 3 6 6 3; search = figures 0 3 3 witnessed; placed = 0 }
-    ∷ record { load = counts 4 4 12 12 3; search = figures 0 4 3 unsettled; placed = 0 }
-    ∷ record { load = counts 4 4 12 12 3; search = figures 1 4 3 unsettled; placed = 1 }
-    ∷ record { load = counts 1 1 1 0 1; search = figures 0 1 1 witnessed; placed = 0 }
-    ∷ record { load = load-refused 5; search = search-refused 10; placed = 0 }
-    ∷ record { load = counts 2 1 1 0 1; search = figures 0 1 1 witnessed; placed = 0 }
-    ∷ record { load = load-refused 2; search = search-refused 10; placed = 0 }
-    ∷ record { load = counts 2 2 4 0 1; search = figures 0 1 1 witnessed; placed = 0 }
-    ∷ record { load = counts 7 7 36 10 4; search = figures 17 5 4 unsettled; placed = 7 }
+    found (counts 3 3 7 0 2) (at 0 0 ∷ at 1 2 ∷ []) (figures 0 2 2 witnessed) 0
+    ∷ found (counts 1 1 0 0 0) [] (figures 0 0 0 witnessed) 0
+    ∷ found (counts 1 2 2 0 1) (at 0 1 ∷ []) (figures 0 1 1 witnessed) 0
+    ∷ found (counts 3 3 6 6 3) crown-witness (figures 0 3 3 witnessed) 0
+    ∷ found (counts 4 4 12 12 3) crown-witness (figures 0 4 3 unsettled) 0
+    ∷ found (counts 4 4 12 12 3) crown-witness (figures 1 4 3 unsettled) 1
+    ∷ found (counts 1 1 1 0 1) (at 0 0 ∷ []) (figures 0 1 1 witnessed) 0
+    ∷ found (load-refused 5) [] (search-refused 10) 0
+    ∷ found (counts 2 1 1 0 1) (at 0 0 ∷ []) (figures 0 1 1 witnessed) 0
+    ∷ found (load-refused 2) [] (search-refused 10) 0
+    ∷ found (counts 2 2 4 0 1) (at 1 1 ∷ []) (figures 0 1 1 witnessed) 0
+    ∷ found (counts 7 7 36 10 4) improves-witness (figures 17 5 4 unsettled) 7
+    ∷ found (counts 7 7 36 10 4) improves-witness (figures 20 5 4 unsettled) 4
+    ∷ found (counts 7 7 36 10 4) improves-witness (figures 45 5 5 searched) 0
     ∷ []
-unfolding finding trials counts figures lowest-below
+unfolding finding trials counts figures found at crown-witness improves-witness lowest-below
 edges = refl
-
--- one user with two ones: the witness is the second grant
-second-grant : witness (sheet-of (ascii "user,a,b\nx,1,1\n")) ≡ record { user = 0; permission = 1 } ∷ []
-unfolding witness sheet-of
-second-grant = refl
 
 -- the worked example's whole book from the sheet's bytes
 worked-book : program-output worked [] ≡
     ascii "roles,bound,state\n2,2,witnessed\n\nrole,rec,id,map\nR1,1,1,0\nR2,0,1,1\n\nuser,R1,R2\nann,1,0\nbo,0,1\ncy,1,1\n\nuser,permission\nann,rec\nbo,map\n"
-unfolding program-output worked lowest-below budget-of is-budget budget-limit after-load after-search searched-on session-book refusal sheet-of kernel-of start-of search book decimal
+unfolding program-output printed program-buffer book-limit write-answer write-causes buffer-after worked lowest-below budget-of is-budget budget-limit after-load after-search searched-on session-book refusal sheet-of kernel-of start-of search book decimal
 worked-book = refl

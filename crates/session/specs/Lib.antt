@@ -5,5 +5,12 @@ pub mod Sequence
 pub mod Demands
 pub mod Edges
 pub mod Reached
+pub mod Answers
+pub mod Believed
 pub mod Owed
 pub mod Settled
+pub mod Demand1
+pub mod Demand3
+pub mod CheckerAlone
+pub mod PlacedOnce
+pub mod Demand2

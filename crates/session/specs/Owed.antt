@@ -1,107 +1,105 @@
 -- From one book to the whole sequence: what is owed of each outcome follows from what is owed of the book of the sheet of the last accepted
 -- load, with the machine where the budgets given since have moved it. That is the session before the call, whatever the calls were.
-use Prim.Native.Nat.{ℕ, _+_}
+use Prim.Native.Nat.{ℕ, _+_, _≤_}
 use native.Mathlib.Omega.{arith}
 use mathlib.Core.Path.{_≡_, refl, sym, ap, _∙_}
-use mathlib.Core.Bool.{Bool, true, false, So, cond}
-use mathlib.Core.List.{List, [], _∷_, _++_}
+use mathlib.Core.Bool.{So}
+use mathlib.Core.List.{List, [], _∷_}
 use mathlib.Core.Option.{Option, none, some, Option·some-injective}
 use mathlib.Core.Logic.{_≢_}
-use borrow.Author.Tests.{eq-eqb}
-use Rattle.bits.specs.Truth.{not-both}
-use lib.Dec.{eqb}
-use lib.ListN.{length, take, drop}
-use lib.Seq.{take-append-seam}
+use lib.ListN.{length}
 use Rattle.sheet.specs.Text.{Bytes}
 use Rattle.sheet.specs.Sheet.{sheet-of}
-use Rattle.sheet.specs.Refusal.{Cause, first-number, accepted}
-use Rattle.search.specs.Machine.{State}
+use Rattle.sheet.specs.Refusal.{accepted}
 use Rattle.roles.specs.Roles.{standing, unsettled}
 use Rattle.book.specs.Book.{book}
-use Rattle.checker.specs.Form.{said}
-use Rattle.session.specs.Session.{Session, no-sheet, loaded, SearchAnswer, search-answer, searched-on, WriteAnswer, write-refused, session-book, write-answer, write-causes, buffer-after, Searches, Writes}
-use Rattle.session.specs.Sequence.{Call, load, search, write, Written, Event, Happens, Outcome, Led, last-accepted, budgets-given, calls, brought-out}
-use Rattle.session.specs.Demands.{Believed, Ended, BookOwed, Owed, OwedOfAll, Demand3}
+use Rattle.checker.specs.Form.{book-limit, said}
+use Rattle.session.specs.Session.{Session, no-sheet, loaded, SearchAnswer, search-answer, searched-on, WriteAnswer, session-book, write-answer, Searches, Writes}
+use Rattle.session.specs.Sequence.{Call, load, search, write, Written, Happens, Outcome, last-accepted, budgets-given, calls, brought-out}
+use Rattle.session.specs.Demands.{Believed, Ended, SearchOwed, WriteOwed, BookOwed, Owed, Demand3}
+use Rattle.session.specs.Answers.{load-owed, sheetless-search, sheetless-write, loaded-search, loaded-book, loaded-write, brings-the-book}
+use Rattle.session.specs.Settled.{ended-settles}
 use Rattle.session.specs.Reached.{reached, reached-further, session-of, session-after, led-session, last-is-accepted}
-
--- what a writing answers where no cause applies, and where one does
-abbrev answer-if : Bool → ℕ → Bytes → WriteAnswer
-answer-if fits number text = cond fits (record { number = 0; count = length text }) (write-refused number)
-
-abbrev lent-if : Bool → Bytes → Bytes → Bytes
-lent-if fits text buffer = cond fits (text ++ drop (length text) buffer) buffer
-
--- the front of the buffer, as many bytes as were answered, is the book
-front-is-the-book : (fits : Bool) (number : ℕ) (text buffer : Bytes) → fits ≡ eqb number 0 → answer-if fits number text .number ≡ 0
-    → take (answer-if fits number text .count) (lent-if fits text buffer) ≡ text
-front-is-the-book true number text buffer e z = take-append-seam text (drop (length text) buffer)
-front-is-the-book false number text buffer e z = absurd (not-both (eq-eqb number 0 z) (sym e))
-
--- an accepted writing brings out the session's book, whole
-pub brings-the-book : (before : Session) (buffer : Bytes) (written : Written) (after : Session)
-    → Writes before buffer (written .answer) (written .lent) after → written .answer .number ≡ 0 → brought-out written ≡ session-book before
-unfolding write-answer buffer-after
-brings-the-book before buffer written after h accepts =
-    let number : ℕ = first-number (write-causes before buffer) in
-    rw (h .answers, h .fills)
-    (front-is-the-book (eqb number 0) number (session-book before) buffer refl (sym (ap (λ (a : WriteAnswer). a .number) (h .answers)) ∙ accepts))
-
-loaded-book : (text : Bytes) (st : State) → session-book (loaded text st) ≡ book (sheet-of text) st
-unfolding session-book
-loaded-book text st = refl
-
--- no writing is accepted without a sheet
-sheetless-refused : (buffer : Bytes) → write-answer no-sheet buffer .number ≡ 10
-unfolding write-answer write-causes
-sheetless-refused buffer = refl
 
 module _
     (believed : (text : Bytes) → So (accepted text) → (given : ℕ) → Believed text (book (sheet-of text) (reached text given)))
     (says : (text : Bytes) → So (accepted text) → (given : ℕ)
-    → said (sheet-of text) (book (sheet-of text) (reached text given)) .standing ≡ standing (sheet-of text) (reached text given))
-    (settles : (text : Bytes) (given : ℕ) → Ended text given → standing (sheet-of text) (reached text given) ≢ unsettled) where
-  -- a search that was given enough does not answer `open`
-  search-owed : (budget : ℕ) (answer : SearchAnswer) (earlier : List Call) (before after : Session) → before ≡ session-after earlier
-      → Searches before budget answer after → Owed (search budget) answer earlier
-  unfolding search-answer
-  search-owed budget answer earlier before after e h text last ended stays-open =
-      let there : before ≡ loaded text (reached text (budgets-given earlier)) =
-      e ∙ ap (λ (o : Option Bytes). session-of o (budgets-given earlier)) last in
-      let answered : answer .standing ≡ some (standing (sheet-of text) (searched-on text budget (reached text (budgets-given earlier)) .state)) =
-      ap (λ (a : SearchAnswer). a .standing) (h .answers ∙ ap (λ (s : Session). search-answer s budget) there) in
-      let moved = reached-further text budget (budgets-given earlier) in
-      settles text (budget + budgets-given earlier) ended (Option·some-injective _ _ (rw (← moved) (sym answered ∙ stays-open)))
+    → said (sheet-of text) (book (sheet-of text) (reached text given)) .standing ≡ standing (sheet-of text) (reached text given)) where
+  module _ (earlier : List Call) (before : Session) (e : before ≡ session-after earlier) where
+    -- the session before a call, where no load was accepted and where one was
+    nothing-loaded : last-accepted earlier ≡ none → before ≡ no-sheet
+    nothing-loaded last = e ∙ ap (λ (o : Option Bytes). session-of o (budgets-given earlier)) last
 
-  -- a book brought out is the book of the last accepted load's sheet
-  write-owed : (buffer : Bytes) (written : Written) (earlier : List Call) (before after : Session) → before ≡ session-after earlier
-      → Writes before buffer (written .answer) (written .lent) after → Owed (write buffer) written earlier
-  write-owed buffer written earlier before after e h accepts = choose (last-accepted earlier) refl
-    where
-      choose : (last : Option Bytes) → last-accepted earlier ≡ last → BookOwed (brought-out written) earlier
-      choose none l =
-          let sheetless : before ≡ no-sheet = e ∙ ap (λ (o : Option Bytes). session-of o (budgets-given earlier)) l in
-          let refused : written .answer .number ≡ 10 =
-          ap (λ (a : WriteAnswer). a .number) (h .answers ∙ ap (λ (s : Session). write-answer s buffer) sheetless)
-          ∙ sheetless-refused buffer in
-          absurd (omega (arith, refused, accepts))
-      choose (some text) l =
-          let there : before ≡ loaded text (reached text (budgets-given earlier)) =
-          e ∙ ap (λ (o : Option Bytes). session-of o (budgets-given earlier)) l in
-          let brought : brought-out written ≡ book (sheet-of text) (reached text (budgets-given earlier)) =
-          brings-the-book before buffer written after h accepts ∙ (ap session-book there ∙ loaded-book text (reached text (budgets-given earlier))) in
-          let ok : So (accepted text) = last-is-accepted earlier text l in
-          record {
-            text = text;
-            last = l;
-            believed = rw brought (believed text ok (budgets-given earlier));
-            settled = λ ended. rw (brought, says text ok (budgets-given earlier)) (settles text (budgets-given earlier) ended);
-          }
+    sheet-loaded : (text : Bytes) → last-accepted earlier ≡ some text → before ≡ loaded text (reached text (budgets-given earlier))
+    sheet-loaded text last = e ∙ ap (λ (o : Option Bytes). session-of o (budgets-given earlier)) last
+
+    -- a search that was given enough does not answer `open`
+    search-settled : (budget : ℕ) (answer : SearchAnswer) (after : Session) → Searches before budget answer after
+        → (text : Bytes) → last-accepted earlier ≡ some text → Ended text (budget + budgets-given earlier) → answer .standing ≢ some unsettled
+    unfolding search-answer
+    search-settled budget answer after h text last ended stays-open =
+        let answered : answer .standing ≡ some (standing (sheet-of text) (searched-on text budget (reached text (budgets-given earlier)) .state)) =
+        ap (λ (a : SearchAnswer). a .standing) (h .answers ∙ ap (λ (s : Session). search-answer s budget) (sheet-loaded text last)) in
+        let moved = reached-further text budget (budgets-given earlier) in
+        ended-settles text (budget + budgets-given earlier) ended (Option·some-injective _ _ (rw (← moved) (sym answered ∙ stays-open)))
+
+    search-owed : (budget : ℕ) (answer : SearchAnswer) (after : Session) → Searches before budget answer after
+        → SearchOwed budget answer earlier
+    search-owed budget answer after h =
+        record {
+          sheetless = λ last. h .answers ∙ (ap (λ (s : Session). search-answer s budget) (nothing-loaded last) ∙ sheetless-search budget);
+          answered = λ text last.
+              ap (λ (a : SearchAnswer). a .number) (h .answers ∙ ap (λ (s : Session). search-answer s budget) (sheet-loaded text last))
+              ∙ loaded-search text (reached text (budgets-given earlier)) budget;
+          settled = search-settled budget answer after h;
+        }
+
+    -- a book brought out is the book of the last accepted load's sheet
+    book-owed : (buffer : Bytes) (written : Written) (after : Session) → Writes before buffer (written .answer) (written .lent) after
+        → written .answer .number ≡ 0 → BookOwed (brought-out written) earlier
+    book-owed buffer written after h accepts = choose (last-accepted earlier) refl
+      where
+        choose : (last : Option Bytes) → last-accepted earlier ≡ last → BookOwed (brought-out written) earlier
+        choose none l =
+            let refused : written .answer .number ≡ 10 =
+            ap (λ (a : WriteAnswer). a .number)
+            (h .answers ∙ (ap (λ (s : Session). write-answer s buffer) (nothing-loaded l) ∙ sheetless-write buffer)) in
+            absurd (omega (arith, refused, accepts))
+        choose (some text) l =
+            let brought : brought-out written ≡ book (sheet-of text) (reached text (budgets-given earlier)) =
+            brings-the-book before buffer written after h accepts
+            ∙ (ap session-book (sheet-loaded text l) ∙ loaded-book text (reached text (budgets-given earlier))) in
+            let ok : So (accepted text) = last-is-accepted earlier text l in
+            record {
+              text = text;
+              last = l;
+              believed = rw brought (believed text ok (budgets-given earlier));
+              settled = λ ended. rw (brought, says text ok (budgets-given earlier)) (ended-settles text (budgets-given earlier) ended);
+            }
+
+    -- a buffer of as many bytes as the checker takes is enough
+    room-enough : (buffer : Bytes) (written : Written) (after : Session) → Writes before buffer (written .answer) (written .lent) after
+        → (text : Bytes) → last-accepted earlier ≡ some text → book-limit ≤ length buffer → written .answer .number ≡ 0
+    room-enough buffer written after h text last room =
+        let short : length (book (sheet-of text) (reached text (budgets-given earlier))) ≤ book-limit =
+        believed text (last-is-accepted earlier text last) (budgets-given earlier) .right .of-form .short in
+        ap (λ (a : WriteAnswer). a .number) (h .answers ∙ ap (λ (s : Session). write-answer s buffer) (sheet-loaded text last))
+        ∙ loaded-write text (reached text (budgets-given earlier)) buffer (omega (arith, short, room))
+
+    write-owed : (buffer : Bytes) (written : Written) (after : Session) → Writes before buffer (written .answer) (written .lent) after
+        → WriteOwed buffer written earlier
+    write-owed buffer written after h =
+        record {
+          sheetless = λ last. h .answers ∙ (ap (λ (s : Session). write-answer s buffer) (nothing-loaded last) ∙ sheetless-write buffer);
+          answered = room-enough buffer written after h;
+          book = book-owed buffer written after h;
+        }
 
   owed : (call : Call) (outcome : Outcome call) (earlier : List Call) (before after : Session) → before ≡ session-after earlier
       → Happens call outcome before after → Owed call outcome earlier
-  owed (load text) answer earlier before after e h = tt
-  owed (search budget) answer earlier before after e h = search-owed budget answer earlier before after e h
-  owed (write buffer) written earlier before after e h = write-owed buffer written earlier before after e h
+  owed (load text) answer earlier before after e h = load-owed before text answer after h
+  owed (search budget) answer earlier before after e h = search-owed earlier before e budget answer after h
+  owed (write buffer) written earlier before after e h = write-owed earlier before e buffer written after h
 
   -- demand 3, from what is owed of every single book
   pub demand-3-from-books : Demand3

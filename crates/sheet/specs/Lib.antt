@@ -9,6 +9,7 @@ pub mod Rules
 pub mod Rows
 pub mod LastByteLaws
 pub mod Fields
+pub mod CellMarked
 pub mod Places
 pub mod FieldLaws
 pub mod Cells

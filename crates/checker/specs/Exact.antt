@@ -1,0 +1,137 @@
+-- The checker accepts a book exactly when it is right. What it read from an accepted book makes the book right, since a text of the form is
+-- what is written for it; and a right book is read as what it says of every user, permission and role, so that every test passes.
+use Prim.Native.Nat.{ℕ, _<_}
+use mathlib.Core.Path.{_≡_, ap, _∙_}
+use mathlib.Core.Logic.{_↔_}
+use mathlib.Core.Bool.{So, _&&_}
+use borrow.Author.Tests.{eqb-true, eq-eqb}
+use lib.ListN.{length}
+use Rattle.bits.specs.BelowLaws.{some-below-ext}
+use Rattle.sheet.specs.Text.{Bytes}
+use Rattle.sheet.specs.Sheet.{Sheet, sheet-of, user-count, permission-count}
+use Rattle.sheet.specs.Refusal.{refusal, accepted}
+use Rattle.sheet.specs.Rules.{Keeps}
+use Rattle.sheet.specs.Accepted.{accepted-keeps, accepts-sheets, reads-sheets}
+use Rattle.roles.specs.RoleSet.{product, Multiplies}
+use Rattle.book.specs.Book.{Said}
+use Rattle.checker.specs.Form.{said}
+use Rattle.checker.specs.Check.{counts-agree, confirmed, check}
+use Rattle.checker.specs.Right.{OfForm, Right}
+use Rattle.checker.specs.NameLaws.{GoodSheet, good-names}
+use Rattle.checker.specs.WrittenLines.{Sayable}
+use Rattle.checker.specs.ReadBack.{SaysSame, written-has-form, read-back}
+use Rattle.checker.specs.ReadForm.{form-is-written, form-is-sayable}
+use Rattle.checker.specs.CheckParts.{product-agrees-elim, product-agrees-intro, witness-stands-elim, witness-stands-intro}
+use Rattle.checker.specs.Verdict.{Passes, check-confirms, zero-unrefused, unrefused-zero}
+
+-- ---- what passes is right
+
+pub passes-right : (sheet : Sheet) (text : Bytes) → Passes sheet text → Right sheet text (said sheet text)
+passes-right sheet text p =
+    let s = form-is-sayable sheet text (p .has-form) in
+    record {
+      of-form = record {
+        written = form-is-written sheet text (p .has-form);
+        short = p .short;
+        role-count = s .role-count;
+        bound-count = s .bound-count;
+        few-roles = s .few-roles;
+        known-users = s .known-users;
+        known-permissions = s .known-permissions;
+      };
+      counts = p .counts;
+      product = product-agrees-elim sheet (said sheet text .roles) (p .product);
+      witness = witness-stands-elim sheet (said sheet text .witness) (p .witness);
+    }
+
+-- ---- what is right passes
+
+counts-agree-same : (sheet : Sheet) (read written : Said) → SaysSame sheet read written → counts-agree read ≡ counts-agree written
+unfolding counts-agree
+counts-agree-same sheet read written s =
+    rw (s .role-digits, s .bound-digits, s .standing, s .count, s .witness)
+
+product-same : (sheet : Sheet) (read written : Said) → SaysSame sheet read written → (u p : ℕ) → u < user-count sheet
+    → p < permission-count sheet → product (read .roles) u p ≡ product (written .roles) u p
+unfolding product
+product-same sheet read written s u p h k =
+    rw (s .count)
+    (some-below-ext (written .roles .count) (λ r. read .roles .has u r && read .roles .gives r p)
+    (λ r. written .roles .has u r && written .roles .gives r p) (λ r l. rw (s .has u r h l, s .gives r p l k)))
+
+multiplies-same : (sheet : Sheet) (read written : Said) → SaysSame sheet read written → Multiplies (written .roles) sheet
+    → Multiplies (read .roles) sheet
+multiplies-same sheet read written s m =
+    record { cell = λ u p h k. product-same sheet read written s u p h k ∙ m .cell u p h k }
+
+of-form-sayable : (sheet : Sheet) (text : Bytes) (says : Said) → OfForm sheet text says → Sayable sheet says
+of-form-sayable sheet text says f =
+    record {
+      role-count = f .role-count;
+      bound-count = f .bound-count;
+      few-roles = f .few-roles;
+      known-users = f .known-users;
+      known-permissions = f .known-permissions;
+    }
+
+-- a right book is read as what it says
+pub right-read : (sheet : Sheet) → GoodSheet sheet → (text : Bytes) (says : Said) → Right sheet text says → SaysSame sheet (said sheet text) says
+right-read sheet good text says r =
+    rw (r .of-form .written) (read-back sheet good says (of-form-sayable sheet text says (r .of-form)))
+
+pub right-passes : (sheet : Sheet) → GoodSheet sheet → (text : Bytes) (says : Said) → Right sheet text says → Passes sheet text
+right-passes sheet good text says r =
+    let same = right-read sheet good text says r in
+    record {
+      short = r .of-form .short;
+      has-form = rw (r .of-form .written) (written-has-form sheet good says (of-form-sayable sheet text says (r .of-form)));
+      counts = counts-agree-same sheet (said sheet text) says same ∙ r .counts;
+      product = product-agrees-intro sheet (said sheet text .roles) (multiplies-same sheet (said sheet text) says same (r .product));
+      witness = rw (same .witness) (witness-stands-intro sheet (says .witness) (r .witness));
+    }
+
+-- ---- the checker's answer
+
+confirmed-same : (read written : Said) → read .roles .count ≡ written .roles .count → length (read .witness) ≡ length (written .witness)
+    → confirmed read ≡ confirmed written
+confirmed-same read written e f = rw (e, f)
+
+-- the names of a sheet that keeps the rules are such as a book can hold
+keeps-good : {text : Bytes} {sheet : Sheet} → Keeps text sheet → GoodSheet sheet
+keeps-good kept = record { users = good-names (kept .user-names); permissions = good-names (kept .permission-names) }
+
+-- where the checker accepts a book, its sheet is accepted
+pub sheet-accepted : (text book : Bytes) → check text book .number ≡ 0 → So (accepted text)
+sheet-accepted text book z = eq-eqb (refusal text) 0 (zero-unrefused text book z .sheet-stands)
+
+-- what the checker read from a book that it accepts makes the book right
+pub reads-books : (text book : Bytes) → check text book .number ≡ 0 → Right (sheet-of text) book (said (sheet-of text) book)
+reads-books text book z = passes-right (sheet-of text) book (zero-unrefused text book z .book-passes)
+
+module _ (text book : Bytes) (sheet : Sheet) (says : Said) (kept : Keeps text sheet) (right : Right sheet book says) where
+  -- the checker reads from a right book what it says
+  pub says-as-read : SaysSame sheet (said (sheet-of text) book) says
+  says-as-read = rw (reads-sheets text sheet kept) (right-read sheet (keeps-good kept) book says right)
+
+  -- the checker accepts a right book
+  pub right-is-accepted : check text book .number ≡ 0
+  right-is-accepted =
+      unrefused-zero text book
+      (record {
+        sheet-stands = eqb-true (refusal text) 0 (accepts-sheets text .1 (sheet, kept));
+        book-passes = rw (reads-sheets text sheet kept) (right-passes sheet (keeps-good kept) book says right);
+      })
+
+  -- and answers its counts
+  pub answers-counts : check text book ≡ confirmed says
+  answers-counts =
+      check-confirms text book right-is-accepted
+      ∙ confirmed-same (said (sheet-of text) book) says (says-as-read .count) (ap length (says-as-read .witness))
+
+-- the checker accepts a book exactly when its sheet keeps the rules and its form, counts, product and witness are right
+pub accepts-books : (text book : Bytes)
+    → (check text book .number ≡ 0) ↔ ((sheet : Sheet) × (says : Said) × Keeps text sheet × Right sheet book says)
+accepts-books text book = (
+  λ z. (sheet-of text, said (sheet-of text) book, accepted-keeps text (sheet-accepted text book z), reads-books text book z),
+  λ found. right-is-accepted text book (found .0) (found .1) (found .2) (found .3),
+)

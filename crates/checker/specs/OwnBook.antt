@@ -1,0 +1,65 @@
+-- The book of a sheet in a state of its search is accepted and read as it was written, where its roles are few and multiply to the sheet and
+-- its witness stands: the state word and the bound are set from the roles and the witness just as the checker compares them.
+use Prim.Native.Nat.{ℕ, _≤_}
+use native.Mathlib.Omega.{arith}
+use mathlib.Core.Path.{_≡_, refl}
+use mathlib.Core.Bool.{Bool, true, false, So, cond}
+use borrow.Author.Tests.{eqb-true, eqb-false}
+use lib.Dec.{eqb}
+use lib.ListN.{length}
+use Rattle.sheet.specs.Text.{Bytes}
+use Rattle.sheet.specs.Sheet.{Sheet, sheet-of}
+use Rattle.sheet.specs.Refusal.{accepted}
+use Rattle.grants.specs.Witness.{witness}
+use Rattle.search.specs.Machine.{State}
+use Rattle.roles.specs.RoleSet.{Multiplies}
+use Rattle.roles.specs.Roles.{witnessed, searched, unsettled, standing-of, bound-of, roles-of, role-count, standing, bound}
+use Rattle.book.specs.Book.{said-in, book}
+use Rattle.checker.specs.Form.{role-limit, said}
+use Rattle.checker.specs.Check.{check}
+use Rattle.checker.specs.Right.{Stands}
+use Rattle.checker.specs.CheckParts.{BoundAgrees}
+use Rattle.checker.specs.ReadBack.{SaysSame}
+use Rattle.checker.specs.Confirmed.{Sound, sound-is-accepted, sound-is-read}
+
+-- state and bound agree, where there are no more witness lines than roles
+pub bound-agrees-of : (roles w : ℕ) (finished : Bool) → w ≤ roles
+    → BoundAgrees (standing-of roles w finished) (bound-of (standing-of roles w finished) roles w) roles w
+bound-agrees-of roles w finished h = choose (eqb roles w) refl finished
+  where
+    choose : (t : Bool) → eqb roles w ≡ t → (f : Bool)
+        → BoundAgrees (cond t witnessed (cond f searched unsettled)) (bound-of (cond t witnessed (cond f searched unsettled)) roles w) roles w
+    choose true e f = (refl, eqb-true roles w e)
+    choose false e true = (refl, let apart = eqb-false roles w e in omega arith)
+    choose false e false = (refl, let apart = eqb-false roles w e in omega arith)
+
+-- what must be known of the roles and the witness
+pub record OwnFacts (sheet : Sheet) (st : State) : Type 0 where
+  pub few-roles : role-count sheet st ≤ role-limit
+  pub enough-roles : length (witness sheet) ≤ role-count sheet st
+  pub product : Multiplies (roles-of sheet (st .best)) sheet
+  pub witness-stands : Stands sheet (witness sheet)
+
+pub own-book-sound : (sheet : Sheet) (st : State) → OwnFacts sheet st → Sound sheet (said-in sheet st) (bound sheet st)
+unfolding said-in role-count bound standing
+own-book-sound sheet st f =
+    record {
+      role-digits = refl;
+      bound-digits = refl;
+      few-roles = f .few-roles;
+      bound-agrees = bound-agrees-of (role-count sheet st) (length (witness sheet)) (st .finished) (f .enough-roles);
+      product = f .product;
+      witness = f .witness-stands;
+    }
+
+pub own-book-accepted : (text : Bytes) → So (accepted text) → (st : State) → OwnFacts (sheet-of text) st
+    → check text (book (sheet-of text) st) .number ≡ 0
+unfolding book
+own-book-accepted text takes st f =
+    sound-is-accepted text takes (said-in (sheet-of text) st) (bound (sheet-of text) st) (own-book-sound (sheet-of text) st f)
+
+pub own-book-read : (text : Bytes) → So (accepted text) → (st : State) → OwnFacts (sheet-of text) st
+    → SaysSame (sheet-of text) (said (sheet-of text) (book (sheet-of text) st)) (said-in (sheet-of text) st)
+unfolding book
+own-book-read text takes st f =
+    sound-is-read text takes (said-in (sheet-of text) st) (bound (sheet-of text) st) (own-book-sound (sheet-of text) st f)

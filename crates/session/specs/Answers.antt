@@ -1,0 +1,81 @@
+-- What the calls answer with and without a sheet, and what an accepted writing brings out. Each follows from the calls' definitions by
+-- cases: is there a sheet, is it accepted, does the buffer take the book.
+use Prim.Native.Nat.{ℕ, _≤_}
+use mathlib.Core.Path.{_≡_, refl, sym, ap, _∙_}
+use mathlib.Core.Bool.{Bool, true, false, So, cond}
+use mathlib.Core.List.{_++_}
+use mathlib.Core.Logic.{_↔_, ⊎-elim}
+use borrow.Author.Tests.{eq-eqb, le-ltb}
+use lib.Dec.{eqb}
+use lib.ListN.{length, take, drop}
+use lib.Seq.{take-append-seam}
+use Rattle.bits.specs.Truth.{not-both, passes-or-fails}
+use Rattle.sheet.specs.Text.{Bytes}
+use Rattle.sheet.specs.Sheet.{sheet-of}
+use Rattle.sheet.specs.Refusal.{first-number, refusal, accepted}
+use Rattle.search.specs.Machine.{State}
+use Rattle.book.specs.Book.{book}
+use Rattle.session.specs.Session.{Session, no-sheet, loaded, LoadAnswer, load-answer, search-answer, search-refused, WriteAnswer, write-refused, session-book, write-answer, write-causes, buffer-after, Loads, Writes}
+use Rattle.session.specs.Sequence.{Written, brought-out}
+use Rattle.session.specs.Demands.{LoadOwed}
+
+-- a load answers 0 exactly where its sheet is accepted
+pub load-number : (text : Bytes) → (load-answer text .number ≡ 0) ↔ So (accepted text)
+unfolding load-answer
+load-number text = (λ z. ⊎-elim (λ p. p) (refused z) (passes-or-fails (accepted text)), λ p. rw p)
+  where
+    refused : load-answer text .number ≡ 0 → accepted text ≡ false → So (accepted text)
+    refused z f = eq-eqb (refusal text) 0 (rw f at z)
+
+pub load-owed : (before : Session) (text : Bytes) (answer : LoadAnswer) (after : Session) → Loads before text answer after
+    → LoadOwed text answer
+load-owed before text answer after h =
+    let number : answer .number ≡ load-answer text .number = ap (λ (a : LoadAnswer). a .number) (h .answers) in
+    (λ z. load-number text .0 (sym number ∙ z), λ p. number ∙ load-number text .1 p)
+
+-- 10 with no accepted sheet
+pub sheetless-search : (budget : ℕ) → search-answer no-sheet budget ≡ search-refused 10
+unfolding search-answer
+sheetless-search budget = refl
+
+pub sheetless-write : (buffer : Bytes) → write-answer no-sheet buffer ≡ write-refused 10
+unfolding write-answer write-causes
+sheetless-write buffer = refl
+
+-- no refusal of a search on a sheet
+pub loaded-search : (text : Bytes) (st : State) (budget : ℕ) → search-answer (loaded text st) budget .number ≡ 0
+unfolding search-answer
+loaded-search text st budget = refl
+
+pub loaded-book : (text : Bytes) (st : State) → session-book (loaded text st) ≡ book (sheet-of text) st
+unfolding session-book
+loaded-book text st = refl
+
+-- no refusal of a writing on a sheet whose buffer takes the book
+pub loaded-write : (text : Bytes) (st : State) (buffer : Bytes) → length (book (sheet-of text) st) ≤ length buffer
+    → write-answer (loaded text st) buffer .number ≡ 0
+unfolding write-answer write-causes session-book
+loaded-write text st buffer takes = rw (le-ltb (length buffer) (length (book (sheet-of text) st)) takes)
+
+-- what a writing answers and leaves in the buffer, by whether no cause applies
+abbrev answer-if : Bool → ℕ → Bytes → WriteAnswer
+answer-if fits number text = cond fits (record { number = 0; count = length text }) (write-refused number)
+
+abbrev lent-if : Bool → Bytes → Bytes → Bytes
+lent-if fits text buffer = cond fits (text ++ drop (length text) buffer) buffer
+
+-- the front of the buffer, as many bytes as were answered, is the book
+front-is-the-book : (fits : Bool) (number : ℕ) (text buffer : Bytes) → fits ≡ eqb number 0 → answer-if fits number text .number ≡ 0
+    → take (answer-if fits number text .count) (lent-if fits text buffer) ≡ text
+front-is-the-book true number text buffer e z = take-append-seam text (drop (length text) buffer)
+front-is-the-book false number text buffer e z = absurd (not-both (eq-eqb number 0 z) (sym e))
+
+-- an accepted writing brings out the session's book, whole
+pub brings-the-book : (before : Session) (buffer : Bytes) (written : Written) (after : Session)
+    → Writes before buffer (written .answer) (written .lent) after → written .answer .number ≡ 0 → brought-out written ≡ session-book before
+unfolding write-answer buffer-after
+brings-the-book before buffer written after h accepts =
+    let number : ℕ = first-number (write-causes before buffer) in
+    rw (h .answers, h .fills)
+    (front-is-the-book (eqb number 0) number (session-book before) buffer refl
+    (sym (ap (λ (a : WriteAnswer). a .number) (h .answers)) ∙ accepts))

@@ -1,0 +1,22 @@
+-- Demand 2. A load answers 0 exactly where its sheet keeps the rules, and the checker answers 0 exactly where its sheet keeps the rules and its
+-- book is right for that sheet; both read what is said, and the checker answers its counts.
+use mathlib.Core.Path.{sym, _∙_}
+use borrow.Author.Tests.{eqb-true, eq-eqb}
+use Rattle.sheet.specs.Refusal.{refusal}
+use Rattle.sheet.specs.Accepted.{accepts-sheets, reads-sheets}
+use Rattle.checker.specs.Exact.{accepts-books, reads-books, answers-counts}
+use Rattle.session.specs.Demands.{Demand2}
+use Rattle.session.specs.Demand1.{load-number-is-refusal}
+
+pub demand-2 : Demand2
+demand-2 =
+    record {
+      accepts-sheets = λ text. (
+        λ e. accepts-sheets text .0 (eq-eqb (refusal text) 0 (sym (load-number-is-refusal text) ∙ e)),
+        λ kept. load-number-is-refusal text ∙ eqb-true (refusal text) 0 (accepts-sheets text .1 kept),
+      );
+      reads-sheets = reads-sheets;
+      accepts-books = accepts-books;
+      reads-books = reads-books;
+      answers-counts = answers-counts;
+    }
