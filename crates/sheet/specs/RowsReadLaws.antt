@@ -1,28 +1,26 @@
 -- Adding the lines of an accepted sheet to empty rows, user by user: the rows of the users before u are there, and the words from u's row on are 0. The line
 -- that starts at a user's place is the user's, and has at most as many cells as a row has bits. Assumes nothing.
 use Prim.Native.Nat.{ℕ, suc, _+_, _*_, _/_, _%_, _≤_, _<_}
-use native.Mathlib.Nat.{mul-le-mul-right}
 use native.Mathlib.Omega.{arith}
 use mathlib.Core.Path.{_≡_, refl, sym, ap, _∙_}
 use mathlib.Core.Logic.{_⊎_, ⊎-elim}
-use mathlib.Core.Bool.{Bool, true, false, So, _&&_, _||_}
+use mathlib.Core.Bool.{false, _&&_}
 use mathlib.Core.List.{List, [], _∷_, map, tail}
 use borrow.Author.Tests.{lt-ltb, le-ltb}
-use lib.Dec.{eqb, ltb}
+use lib.Dec.{ltb}
 use lib.ListN.{length, getD, drop, replicate, length-map, length-replicate, getD-replicate, length-drop, List·getD-map, List·getD-eq-default}
-use Rattle.bits.specs.Bit.{bit, word-bits}
+use Rattle.bits.specs.Bit.{word-bits}
 use Rattle.bits.specs.BitLaws.{bit-of-zero}
 use Rattle.bits.specs.BelowLaws.{below-or-from}
 use Rattle.lists.specs.DropLaws.{left-first}
 use Rattle.sheet.specs.Limits.{permission-limit, user-limit}
 use Rattle.sheet.specs.Text.{Bytes, Line, lines-of}
 use Rattle.sheet.specs.Sheet.{first-field, is-one, sheet-of, user-count, holds}
-use Rattle.sheet.specs.Refusal.{accepted}
 use Rattle.sheet.specs.AcceptedFacts.{accepted-lawful}
 use Rattle.sheet.specs.FieldLaws.{line-fields, after-line, first-line-read}
 use Rattle.sheet.specs.FieldsLeft.{fields-after}
 use Rattle.sheet.specs.LaidOut.{LaidOut}
-use Rattle.sheet.specs.Rows.{row-words, row-bits, cell, RowsOf}
+use Rattle.sheet.specs.Rows.{row-words, row-bits, cell}
 use Rattle.sheet.specs.RowsRead.{RowsRead}
 use Rattle.sheet.specs.CellAdded.{RowAdded}
 use Rattle.sheet.specs.RowLaws.{line-cells, one-more}

@@ -3,7 +3,7 @@
 use Prim.Native.Nat.{suc, _-_, _<_}
 use native.Mathlib.Omega.{arith}
 use native.Mathlib.Numerals.{add-one}
-use mathlib.Core.Bool.{true, false}
+use mathlib.Core.Bool.{false}
 use borrow.Author.Tests.{not-false}
 use lib.ListN.{length}
 use Rattle.bits.specs.Truth.{not-fails}

@@ -1,5 +1,5 @@
 -- `rows::add_row`: the loop adds the cells of the line one by one (`Adding`). While a field is left, there are fewer cells before it than a row has bits.
-use Prim.Native.Nat.{ℕ, suc, _-_, _<_}
+use Prim.Native.Nat.{suc, _-_, _<_}
 use native.Mathlib.Omega.{arith}
 use native.Mathlib.Numerals.{add-one}
 use mathlib.Core.Path.{_∙_}
@@ -7,7 +7,6 @@ use mathlib.Core.Bool.{false}
 use borrow.Author.Tests.{not-false}
 use lib.ListN.{length}
 use Rattle.bits.specs.Truth.{not-fails}
-use Rattle.sheet.specs.Text.{Bytes}
 use Rattle.sheet.specs.FieldLaws.{FieldStep}
 use Rattle.sheet.specs.FieldsLeft.{field-next, field-below}
 use Rattle.sheet.specs.Rows.{row-words, row-bits}

@@ -2,7 +2,7 @@
 use Prim.Native.Nat.{_-_, _≤_, _<_}
 use native.Mathlib.Omega.{arith}
 use native.Mathlib.Numerals.{add-one}
-use mathlib.Core.Path.{_≡_, _∙_}
+use mathlib.Core.Path.{_≡_}
 use Rattle.sheet.specs.Limits.{user-limit}
 use Rattle.sheet.specs.RowsReadLaws.{line-within, few-cells, user-below, RowsBelow, rows-start, rows-go-on, rows-end}
 use Rattle.sheet.proofs.rows.rows_of.Statement.{statement}
