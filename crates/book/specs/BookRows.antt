@@ -92,3 +92,29 @@ rows-book-says text {has} {gives} words counts {roles} {grants} at fit e =
     (roles-shown sheet (at .rows) fit)
     ∙ ap (λ (b : Block). text-of-blocks (first ∷ roles-block sheet roles ∷ b ∷ witness-block sheet grants ∷ []))
     (users-shown sheet (at .rows))
+
+-- and it is the book of the sheet in a state of its search, where the counts, the roles and the witness are those of that state
+pub rows-book-in : (text : Bytes) {has gives : List ℕ} (words : List ℕ) (counts : Counts) (st : State)
+    → RolesAt has gives (counts .roles) (user-count (sheet-of text)) (roles-of (sheet-of text) (st .best))
+    → permission-count (sheet-of text) ≤ row-bits → counts .bound ≡ bound (sheet-of text) st
+    → standing-case (counts .standing) ≡ standing (sheet-of text) st → cell-grants (sheet-of text) words ≡ witness (sheet-of text)
+    → rows-book text has gives words counts ≡ book (sheet-of text) st
+unfolding book said-in role-count
+rows-book-in text words counts st at fit same-bound same-standing same-witness =
+    let sheet : Sheet = sheet-of text in
+    let roles : RoleSet = roles-of sheet (st .best) in
+    rows-book-says text words counts at fit same-witness
+    ∙ ap (λ (n : ℕ). book-text sheet (record {
+      role-digits = decimal (roles .count);
+      bound-digits = decimal n;
+      standing = standing-case (counts .standing);
+      roles = roles;
+      witness = witness sheet;
+    })) same-bound
+    ∙ ap (λ (k : Standing). book-text sheet (record {
+      role-digits = decimal (roles .count);
+      bound-digits = decimal (bound sheet st);
+      standing = k;
+      roles = roles;
+      witness = witness sheet;
+    })) same-standing

@@ -22,6 +22,7 @@ pub mod ShownLaws
 pub mod Measured
 pub mod DigitsMeasured
 pub mod Written
+pub mod LineWritten
 pub mod LengthsMeasured
 pub mod BookMeasured
 pub mod DigitsWritten
