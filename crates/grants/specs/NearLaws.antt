@@ -1,27 +1,25 @@
 -- What the cells near a grant say of the sheet's grants: the partners of a grant are the others near it, so there is one fewer; domination among the cells is
 -- domination among the grants; and the grant that a judged one is tied to is at the lowest cell that it dominates.
-use Prim.Native.Nat.{ℕ, suc, _+_, _*_, _/_, _%_, _<_}
+use Prim.Native.Nat.{ℕ, _+_, _*_, _<_}
 use native.Mathlib.Nat.{mul-assoc}
-use native.Mathlib.Omega.{arith}
 use mathlib.Core.Path.{_≡_, refl, sym, ap, subst, _∙_}
-use mathlib.Core.Logic.{⊎-elim}
 use mathlib.Core.Bool.{Bool, true, false, So, not, _&&_, _||_, and-comm}
-use mathlib.Core.List.{List, map}
+use mathlib.Core.List.{List}
 use mathlib.Core.Option.{none, some}
 use borrow.Author.Tests.{eq-eqb, eqb-true}
 use lib.Dec.{eqb}
 use lib.ListN.{length}
 use Rattle.bits.specs.Bit.{word-bits}
-use Rattle.bits.specs.Truth.{implies, same-truth, not-both, and-intro, and-left, and-right}
-use Rattle.bits.specs.Below.{count-below, every-below, Lowest}
+use Rattle.bits.specs.Truth.{implies, same-truth, and-intro}
+use Rattle.bits.specs.Below.{Lowest}
 use Rattle.bits.specs.BelowLaws.{every-below-ext}
 use Rattle.bits.specs.LowestLaws.{lowest-ext}
 use Rattle.bits.specs.CountLaws.{count-below-ext}
 use Rattle.bits.specs.CountJoinLaws.{count-below-without}
-use Rattle.lists.specs.Lists.{all, filter, first}
+use Rattle.lists.specs.Lists.{filter, first}
 use Rattle.lists.specs.AppendLaws.{all-map, found-map, first-map}
 use Rattle.lists.specs.PassingBelow.{passing-below, passing-all, passing-first, passing-first-none}
-use Rattle.sheet.specs.Sheet.{Sheet, Grant, holds, same-grant}
+use Rattle.sheet.specs.Sheet.{Sheet, Grant, same-grant}
 use Rattle.sheet.specs.Rows.{row-words, row-bits}
 use Rattle.sheet.specs.GrantLaws.{same-grant-equal, equal-same-grant}
 use Rattle.grants.specs.Fit.{fits, partners}

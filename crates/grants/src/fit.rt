@@ -13,6 +13,7 @@ ghost use Rattle.sheet.specs.Sheet.{Sheet};
 ghost use Rattle.grants.specs.Fit.{fits};
 ghost use Rattle.grants.specs.CellSets.{cell-grants};
 ghost use Rattle.grants.specs.CellPlaces.{cell-words, cell-limit, grant-of, FittingWord, Shown, Part};
+ghost use Rattle.grants.specs.NearCells.{dominates-in};
 
 // Word i of the cells that fit the grant at a cell.
 pub fn fitting(rows: &[u64; CELL_WORDS], it: CellNo, i: usize) -> u64
@@ -47,4 +48,26 @@ pub fn partners<'a>(
         i += 1;
     }
     n
+}
+
+// Whether the grant at one cell dominates that at another: all grants of left that fit the other fit it.
+pub fn dominates<'a>(
+    rows: &'a [u64; CELL_WORDS],
+    left: &'a [u64; CELL_WORDS],
+    users: usize,
+    it: CellNo,
+    other: CellNo,
+) -> bool
+    requires { ⌜ (users ≤ user-limit) × (it .0 < cell-limit) × (other .0 < cell-limit) ⌝ }
+    ensures { λ r. ⌜ r ≡ dominates-in (now (rows .entry)) (now (left .entry)) users (it .0) (other .0) ⌝ }
+{
+    let mut i = 0;
+    while i < users * ROW_WORDS {
+        let near = left[i] & fitting(rows, other, i);
+        if !bits::within(near, fitting(rows, it, i)) {
+            return false;
+        }
+        i += 1;
+    }
+    true
 }

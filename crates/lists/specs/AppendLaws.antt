@@ -32,6 +32,10 @@ module _ {A : Type 0} where
       pick false = refl
 
 module _ {A B : Type 0} where
+  pub map-append : (f : A → B) (l m : List A) → map f (l ++ m) ≡ map f l ++ map f m
+  map-append f [] m = refl
+  map-append f (a ∷ l) m = ap (λ k. f a ∷ k) (map-append f l m)
+
   pub filter-map : (test : B → Bool) (f : A → B) (l : List A) → filter test (map f l) ≡ map f (filter (λ a. test (f a)) l)
   filter-map test f [] = refl
   filter-map test f (a ∷ l) = rw (filter-map test f l) (pick (test (f a)))

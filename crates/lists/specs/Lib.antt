@@ -1,18 +1,22 @@
 -- What the definitions of all crates are written with: lists under a Boolean test, lists in order, placements in classes, and words as bytes.
 pub mod Lists
 pub mod TestLaws
-pub mod AppendLaws
 pub mod Ordered
+pub mod ReverseLaws
+pub mod AppendLaws
 pub mod OrderedUnique
 pub mod OrderedMap
 pub mod FilterLength
 pub mod FilterSame
 pub mod Distinct
 pub mod LeastLaws
-pub mod ReverseLaws
+pub mod DropLaws
+pub mod Span
 pub mod CutLaws
 pub mod JoinLaws
 pub mod ListOfLaws
+pub mod FilterLaws
+pub mod Listed
 pub mod EachLaws
 pub mod Total
 pub mod SameLaws
@@ -27,6 +31,7 @@ pub mod SameGrouping
 pub mod LatestFirst
 pub mod LeastLast
 pub mod KeyLaws
+pub mod KeyStep
 pub mod Beginning
 pub mod Lexicographic
 pub mod Ascii

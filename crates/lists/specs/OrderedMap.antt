@@ -1,5 +1,5 @@
 -- A map that keeps an order takes a list in the one order to a list in the other.
-use mathlib.Core.List.{List, [], _∷_, map, List·Memᴰ, Memᴰ·of-map}
+use mathlib.Core.List.{List, [], _∷_, map, Memᴰ·of-map}
 use Rattle.lists.specs.Ordered.{Ordered}
 
 module _ {A B : Type 0} where

@@ -1,19 +1,21 @@
 -- The numbers below a bound that pass a test, as a list in rising order. It grows at its end, as the loop does that counts up, so each law is an induction
 -- on the bound: what a test says of the list is what the definitions of crate bits say of the numbers.
-use Prim.Native.Nat.{ℕ, zero, suc, _≤_, _<_}
-use native.Mathlib.Nat.{le-refl, le-step, not-suc-le-zero, eq-or-lt-of-le}
+use Prim.Native.Nat.{ℕ, zero, suc, _+_, _≤_, _<_}
+use native.Mathlib.Nat.{add-zero, add-suc, le-refl, le-step, not-suc-le-zero, eq-or-lt-of-le}
 use native.Mathlib.Omega.{arith}
-use mathlib.Core.Path.{_≡_, refl, ap, _∙_}
+use mathlib.Core.Path.{_≡_, refl, sym, ap, _∙_}
 use mathlib.Core.Logic.{_⊎_, inl, inr, ⊎-elim}
-use mathlib.Core.Bool.{Bool, true, false, So, _&&_, false≢true, and-true, and-comm}
-use mathlib.Core.List.{List, [], _∷_, _++_, append-nil, List·Memᴰ, List·Memᴰ·head, List·Memᴰ·not-nil, List·Memᴰ·append-cases, List·Memᴰ·cases-cons, Memᴰ·append-left, Memᴰ·append-right}
+use mathlib.Core.Bool.{Bool, true, false, So, _&&_, not, false≢true, and-true, and-comm}
+use mathlib.Core.List.{List, [], _∷_, _++_, map, append-nil, append-assoc, List·Memᴰ, List·Memᴰ·head, List·Memᴰ·not-nil, List·Memᴰ·append-cases, List·Memᴰ·cases-cons, Memᴰ·append-left, Memᴰ·append-right}
 use mathlib.Core.Option.{none, some}
+use borrow.Author.Tests.{eq-eqb, ne-eqb}
+use lib.Dec.{eqb}
 use lib.ListN.{length, length-append}
 use Rattle.bits.specs.Truth.{implies, not-both, and-left, and-right}
 use Rattle.bits.specs.Below.{one-if, count-below, every-below, Lowest}
 use Rattle.bits.specs.BelowLaws.{last-or-below}
 use Rattle.lists.specs.Lists.{all, keep, filter, first}
-use Rattle.lists.specs.AppendLaws.{filter-append, all-append, first-append}
+use Rattle.lists.specs.AppendLaws.{map-append, filter-append, all-append, first-append}
 use Rattle.lists.specs.Ordered.{Ordered, ordered-append}
 
 -- the numbers below n that pass f
@@ -128,6 +130,30 @@ passing-first (suc n) f test {i} w =
     last e true g p = rw (and-right (f n) (test n) p, e)
     last e false g p = absurd (not-both (and-left (f n) (test n) p) g)
 
+-- ---- the lowest, and the others
+
+pub passing-none : (n : ℕ) (f : ℕ → Bool) → ((i : ℕ) → i < n → f i ≡ false) → passing-below n f ≡ []
+unfolding passing-below
+passing-none zero f h = refl
+passing-none (suc n) f h = rw (passing-none n f (λ i l. h i (le-step l)), h n (le-refl (suc n)))
+
+pub passing-lowest : (n : ℕ) (f : ℕ → Bool) {i : ℕ} → Lowest n f i → passing-below n f ≡ i ∷ passing-below n (λ j. f j && not (eqb j i))
+unfolding passing-below
+passing-lowest zero f w = absurd (not-suc-le-zero (w .within))
+passing-lowest (suc n) f {i} w =
+    ⊎-elim last (λ l. earlier l (passing-lowest n f (record { within = l; holds = w .holds; first = w .first }))) (last-or-below (w .within))
+  where
+    others : ℕ → Bool
+    others j = f j && not (eqb j i)
+
+    last : i ≡ n → passing-below n f ++ keep (f n) n [] ≡ i ∷ passing-below n others ++ keep (others n) n []
+    last e =
+        let none-before : (j : ℕ) → j < n → f j ≡ false = λ j l. w .first j (rw e l) in
+        rw (passing-none n f none-before, passing-none n others (λ j l. rw (none-before j l)), rw e at (w .holds), eq-eqb n i (sym e), e)
+
+    earlier : i < n → passing-below n f ≡ i ∷ passing-below n others → passing-below n f ++ keep (f n) n [] ≡ i ∷ passing-below n others ++ keep (others n) n []
+    earlier l e = rw (e, ne-eqb n i (λ same. omega arith), and-true (f n))
+
 -- ---- a greater bound
 
 -- nothing more passes from m on
@@ -147,3 +173,15 @@ passing-until m (suc n) f l h = choose (eq-or-lt-of-le l) (λ k. passing-until m
 pub passing-next : (n : ℕ) (f : ℕ → Bool) → So (f n) → passing-below (suc n) f ≡ passing-below n f ++ n ∷ []
 unfolding passing-below
 passing-next n f p = rw p
+
+-- the numbers below a + b are those below a, and those that are a and more
+pub passing-add : (a b : ℕ) (f : ℕ → Bool) → passing-below (a + b) f ≡ passing-below a f ++ map (λ i. a + i) (passing-below b (λ i. f (a + i)))
+unfolding passing-below
+passing-add a zero f = rw (add-zero a) (sym (append-nil (passing-below a f)))
+passing-add a (suc b) f =
+    rw (add-suc a b, passing-add a b f, map-append (λ i. a + i) (passing-below b (λ i. f (a + i))) (keep (f (a + b)) b []), last (f (a + b)))
+    (append-assoc (passing-below a f) (map (λ i. a + i) (passing-below b (λ i. f (a + i)))) (keep (f (a + b)) (a + b) []))
+  where
+    last : (passes : Bool) → map (λ i. a + i) (keep passes b []) ≡ keep passes (a + b) []
+    last true = refl
+    last false = refl
