@@ -1,9 +1,8 @@
 -- The book that rows of words and counts say: block after block in the order in which it is written; and the book of a role set that the rows
 -- hold, since only cells of the sheet's users, the roles and the sheet's permissions are spelled. Assumes nothing.
-use Prim.Native.Nat.{ℕ, _≤_, _<_}
+use Prim.Native.Nat.{ℕ, _≤_}
 use native.Mathlib.Nat.{lt-of-lt-of-le}
-use mathlib.Core.Path.{_≡_, refl, sym, ap, ap₂, _∙_}
-use mathlib.Core.Bool.{Bool}
+use mathlib.Core.Path.{_≡_, ap, _∙_}
 use mathlib.Core.List.{List, [], _∷_, _++_}
 use Rattle.lists.specs.Ascii.{ascii}
 use Rattle.lists.specs.Lists.{list-of}
@@ -22,9 +21,9 @@ use Rattle.roles.specs.StandingCases.{standing-case}
 use Rattle.book.specs.Decimal.{decimal}
 use Rattle.book.specs.Words.{role-name}
 use Rattle.book.specs.Blocks.{Block, text-of-blocks}
-use Rattle.book.specs.Book.{Said, counts-block, roles-block, users-block, user-name, witness-block, blocks-saying, book-text, said-in, book}
+use Rattle.book.specs.Book.{counts-block, roles-block, users-block, user-name, witness-block, blocks-saying, book-text, said-in, book}
 use Rattle.book.specs.CountsText.{counts-text}
-use Rattle.book.specs.RowsSaid.{roles-in, said-by, shown-roles, shown-users}
+use Rattle.book.specs.RowsSaid.{said-by, shown-roles, shown-users}
 use Rattle.book.specs.LineLaws.{line-end, four-blocks}
 use Rattle.book.specs.declared.counts.Counts.{Counts}
 

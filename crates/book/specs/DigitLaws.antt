@@ -1,8 +1,8 @@
 -- How many digits a count has. A number below ten has one, any other one more than its tenth, and a number of the machine at most twenty.
 use Prim.Native.Nat.{ℕ, _+_, _/_, _%_, _^_, _≤_, _<_}
 use native.Mathlib.Omega.{arith}
-use mathlib.Core.Path.{_≡_, sym, ap, _∙_}
-use mathlib.Core.List.{[], _∷_, _++_}
+use mathlib.Core.Path.{_≡_, ap, _∙_}
+use mathlib.Core.List.{[], _∷_}
 use lib.ListN.{length, length-append}
 use Rattle.bits.specs.Bit.{word-bits}
 use Rattle.book.specs.Decimal.{digit, decimal}

@@ -1,6 +1,5 @@
 -- A count written digit by digit: its first digit, or a digit behind its tenth.
 use Prim.Native.Nat.{ℕ, _+_, _/_, _%_, _≤_, _<_}
-use native.Mathlib.Nat.{zero-add}
 use mathlib.Core.Path.{_≡_}
 use mathlib.Core.List.{[]}
 use lib.ListN.{length, set}

@@ -1,7 +1,6 @@
 -- What a layout says of the sheet's limits: a row has a bit for each permission, and a name is short.
 use Prim.Native.Nat.{ℕ, _≤_, _<_}
 use native.Mathlib.Omega.{arith}
-use mathlib.Core.List.{[]}
 use lib.ListN.{length}
 use Rattle.sheet.specs.Limits.{permission-limit, user-limit, name-limit}
 use Rattle.sheet.specs.Text.{Bytes}

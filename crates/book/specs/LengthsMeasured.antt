@@ -1,17 +1,14 @@
 -- The lengths of a book's pieces, lines and blocks, each from the lengths of its parts, and none above its bound.
-use Prim.Native.Nat.{ℕ, _+_, _*_, _^_, _≤_, _<_}
-use native.Mathlib.Numerals.{add-one}
+use Prim.Native.Nat.{ℕ, _+_, _*_, _≤_}
 use native.Mathlib.Omega.{arith}
 use mathlib.Core.Path.{_≡_, ap, _∙_}
-use mathlib.Core.Bool.{true, false}
-use mathlib.Core.List.{List, [], _∷_, _++_}
+use mathlib.Core.List.{List, _++_}
 use lib.ListN.{length, length-append}
-use Rattle.bits.specs.Bit.{word-bits}
 use Rattle.lists.specs.Ascii.{ascii}
-use Rattle.lists.specs.Listed.{listed, listed-even}
+use Rattle.lists.specs.Listed.{listed-even}
 use Rattle.sheet.specs.Limits.{name-limit}
-use Rattle.sheet.specs.Text.{Bytes, line-text, text-of}
-use Rattle.sheet.specs.Sheet.{Sheet, user-count, permission-count}
+use Rattle.sheet.specs.Text.{Bytes, line-text}
+use Rattle.sheet.specs.Sheet.{Sheet}
 use Rattle.sheet.specs.Rows.{row-words, row-bits, cell}
 use Rattle.roles.specs.StandingCases.{standing-case}
 use Rattle.book.specs.Decimal.{decimal}
@@ -21,12 +18,12 @@ use Rattle.book.specs.DigitLaws.{word-digits}
 use Rattle.book.specs.CountsText.{standing-text, counts-text}
 use Rattle.book.specs.CountsLaws.{counts-parts}
 use Rattle.book.specs.declared.counts.Counts.{Counts}
-use Rattle.book.specs.RowsSaid.{role-line, shown-roles, user-line, shown-users}
+use Rattle.book.specs.RowsSaid.{role-line, user-line}
 use Rattle.book.specs.LineLaws.{behind-comma, line-end}
 use Rattle.book.specs.NameLaws.{role-name-parts}
 use Rattle.book.specs.CellsText.{cells-text}
 use Rattle.book.specs.CellsWritten.{cell-field-length}
-use Rattle.book.specs.ShownLaws.{role-line-parts, user-line-parts, roles-heading, users-heading, roles-parts, users-parts}
+use Rattle.book.specs.ShownLaws.{role-line-parts, user-line-parts}
 use Rattle.book.specs.WitnessText.{cell-line}
 use Rattle.book.specs.Measured.{piece-most, line-most, block-most, Measured}
 
@@ -115,7 +112,8 @@ counts-measured counts roles bound state m k l =
     }
 
 -- a line of names, and lines
-pub block-measured : (word fields lines : Bytes) (n m k : ℕ) → n ≡ length word → Measured fields line-most m → Measured lines block-most k → n ≤ piece-most
+pub block-measured : (word fields lines : Bytes) (n m k : ℕ) → n ≡ length word → Measured fields line-most m
+    → Measured lines block-most k → n ≤ piece-most
     → Measured (((word ++ fields) ++ line-end) ++ lines) (2 * block-most) (n + m + 1 + k)
 block-measured word fields lines n m k e f l h =
     record {

@@ -7,7 +7,7 @@ use mathlib.Core.Path.{_≡_}
 use lib.ListN.{length}
 use Rattle.lists.specs.Listed.{listed, listed-more, listed-front}
 use Rattle.sheet.specs.Text.{Bytes}
-use Rattle.book.specs.Written.{Written, Ready, rest-from, with-rest, nothing-written, written-length, then-written, front-fits}
+use Rattle.book.specs.Written.{Written, Ready, rest-from, with-rest, nothing-written, written-length, then-written}
 
 -- of n parts, which the buffer has room for, those below i are written
 pub record Listing (n : ℕ) (part : ℕ → Bytes) (i : ℕ) (before mid : Bytes) (at : ℕ) : Type 0 where

@@ -1,11 +1,10 @@
 -- How long a text is, beside a bound on it that keeps sums of lengths from wrapping: a piece of a line, a line, a block. A loop that adds the lengths
 -- of parts has added those of the parts below i. Assumes nothing.
-use Prim.Native.Nat.{ℕ, suc, _+_, _*_, _^_, _≤_, _<_}
+use Prim.Native.Nat.{ℕ, _+_, _*_, _^_, _≤_, _<_}
 use native.Mathlib.Nat.{le-antisymm, suc-mul}
 use native.Mathlib.Numerals.{add-one}
 use native.Mathlib.Omega.{arith}
-use mathlib.Core.Path.{_≡_, ap, _∙_}
-use mathlib.Core.List.{_++_}
+use mathlib.Core.Path.{_≡_, ap}
 use lib.ListN.{length, length-append}
 use Rattle.lists.specs.Listed.{listed, listed-more}
 use Rattle.sheet.specs.Text.{Bytes}

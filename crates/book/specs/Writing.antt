@@ -1,11 +1,12 @@
 -- What writing a book into a lent buffer answers, and the buffer after it. Assumes nothing.
 use Prim.Native.Nat.{ℕ, _≤_, _<_}
-use mathlib.Core.Path.{_≡_, sym, ap, _∙_}
-use mathlib.Core.Bool.{cond}
+use native.Mathlib.Omega.{arith}
+use mathlib.Core.Path.{_≡_, refl, sym, ap, _∙_}
+use mathlib.Core.Bool.{Bool, true, false, cond}
 use mathlib.Core.List.{_++_}
 use borrow.Author.Tests.{lt-ltb, le-ltb}
 use lib.Dec.{ltb}
-use lib.ListN.{length, drop}
+use lib.ListN.{length, drop, length-append}
 use Rattle.sheet.specs.Text.{Bytes}
 use Rattle.book.specs.Written.{Written}
 use Rattle.book.specs.declared.writing.Writing.{Writing as WritingValue}
@@ -42,3 +43,20 @@ pub written-whole : (book : Bytes) {before after : Bytes} {count : ℕ} → leng
     → Writes book before (writing.Bytes count) after
 written-whole book h w =
     record { answers = rw (le-ltb _ _ h) (ap writing.Bytes (w .counted)); leaves = rw (le-ltb _ _ h) (w .buffer) }
+
+-- a byte count that is answered is within the buffer
+pub bytes-within : (book before : Bytes) {answer : WritingValue} {after : Bytes} {count : ℕ} → Writes book before answer after
+    → answer ≡ writing.Bytes count → count ≤ length after
+bytes-within book before {answer} {after} {count} w told = choose (ltb (length before) (length book)) refl
+  where
+    same-count : count ≡ writing-count (writing-of book before)
+    same-count = ap writing-count (sym told ∙ w .answers)
+
+    choose : (short : Bool) → ltb (length before) (length book) ≡ short → count ≤ length after
+    choose true e =
+        let none : count ≡ 0 = rw e at same-count in
+        omega arith
+    choose false e =
+        let whole : count ≡ length book = rw e at same-count in
+        let front : after ≡ book ++ drop (length book) before = rw e at (w .leaves) in
+        omega (arith, ap length front, length-append book (drop (length book) before))

@@ -5,7 +5,7 @@ use Prim.Native.Nat.{ℕ, suc, _+_, _-_, _≤_, _<_}
 use native.Mathlib.Numerals.{add-one}
 use native.Mathlib.Omega.{arith}
 use mathlib.Core.Path.{_≡_, refl, sym, ap, _∙_}
-use mathlib.Core.List.{List, [], _∷_, _++_, append-assoc, append-nil}
+use mathlib.Core.List.{[], _∷_, _++_, append-assoc, append-nil}
 use lib.ListN.{length, take, drop, set, getD, length-append, length-drop, drop-of-length-le}
 use lib.Seq.{drop-drop, drop-cons, take-at, take-all, drop-at, set-at, take-suc}
 use Rattle.sheet.specs.Text.{Bytes}

@@ -10,10 +10,7 @@ ghost use Rattle.sheet.specs.Sheet.{sheet-of};
 ghost use Rattle.sheet.specs.Rows.{row-bits};
 ghost use Rattle.book.specs.RowsSaid.{GrantCells};
 
-// As long a book as a checker takes.
-const BUFFER: usize = 65_536;
-
-// Prints the book of a sheet, or the number of its refusal.
+// Prints the book of a sheet, from its two matrices, its witness and its counts.
 fn print<'a>(
     s: &'a [u8],
     has: &'a [u64; CELL_WORDS],
@@ -24,16 +21,15 @@ fn print<'a>(
     requires { ⌜ (counts .roles ≤ row-bits) × GrantCells (now witness) (sheet-of (now s)) ⌝ }
 {
     if sheet::judge(s) != 0 {
-        io::write_all(STDOUT_FILENO, b"refused\n");
         return;
     }
     let layout = sheet::lay_out(s);
-    let mut out = [0u8; BUFFER];
+    let mut out = [0u8; 1024];
     let written = book::write_if_room(&mut out, s, layout, has, gives, witness, counts);
-    match written {
-        Writing::Bytes(n) => io::write_all(STDOUT_FILENO, &out[..n]),
-        Writing::TooShort => io::write_all(STDOUT_FILENO, b"too short\n"),
-    }
+    let Writing::Bytes(n) = written else {
+        return;
+    };
+    io::write_all(STDOUT_FILENO, &out[..n]);
 }
 
 // The paper's sheet: ann and cy share `rec` and `id`, bo and cy share `id` and `map`.

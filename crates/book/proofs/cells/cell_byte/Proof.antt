@@ -1,5 +1,4 @@
 -- `cells::cell_byte`: one byte for each of the two answers.
-use native.Mathlib.Omega.{arith}
 use Rattle.book.proofs.cells.cell_byte.Statement.{statement}
 use Rattle.book.proofs.cells.cell_byte.Tie as tie
 

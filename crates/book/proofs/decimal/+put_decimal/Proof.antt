@@ -2,7 +2,6 @@
 use borrow.Author.Needs.{needs}
 use Prim.Native.Nat.{ℕ, _<_}
 use native.Mathlib.Omega.{arith}
-use mathlib.Core.Path.{_∙_}
 use lib.ListN.{length}
 use Rattle.book.specs.DigitLaws.{one-digit, digit-more}
 use Rattle.book.specs.DigitsWritten.{first-digit-written, last-digit-written}

@@ -1,11 +1,10 @@
 -- `put::put_bytes`: where i bytes are copied, the first i bytes are written, and a turn writes one byte more.
-use borrow.Author.Needs.{needs}
 use Prim.Native.Nat.{_-_, _≤_}
 use native.Mathlib.Omega.{arith}
 use mathlib.Core.Path.{_≡_, refl}
 use lib.ListN.{length, take, length-set}
 use lib.Seq.{take-all}
-use Rattle.book.specs.Written.{Written, nothing-written, written-length, copied-byte}
+use Rattle.book.specs.Written.{Written, nothing-written, copied-byte}
 use Rattle.book.proofs.put.put_bytes.Statement.{statement}
 use Rattle.book.proofs.put.put_bytes.Tie as tie
 

@@ -1,0 +1,65 @@
+-- `worked_book::print`: the byte count that is answered is within the buffer.
+use borrow.Author.Needs.{needs}
+use Prim.Native.Nat.{_≤_}
+use mathlib.Core.Path.{sym}
+use lib.ListN.{length}
+use lib.Seq.{length-take-le}
+use Rattle.book.specs.Writing.{bytes-within}
+use Rattle.worked_book.proofs.print.Statement.{statement}
+use Rattle.worked_book.proofs.print.Tie as tie
+
+within : (c : tie.After-known-told) → c .before .written .given .0 .0 ≤ length (c .before .before .before .before .write-if-room .last .0)
+within c = bytes-within _ _ (c .before .before .before .before .write-if-room .ensures) (c .before .written .given .1)
+
+judge-requires : tie.Need-judge-requires
+judge-requires c κs = search needs
+
+returns : tie.Need-returns
+returns c = search needs
+
+lay-out-requires : tie.Need-lay-out-requires
+lay-out-requires c κs = search needs
+
+slice-aggregate-write-if-room : tie.Need-slice-aggregate-write-if-room
+slice-aggregate-write-if-room c = search needs
+
+write-if-room-requires : tie.Need-write-if-room-requires
+write-if-room-requires c κs = search needs
+
+enum-known-written : tie.Need-enum-known-written
+enum-known-written c = search needs
+
+enum-told : tie.Need-enum-told
+enum-told c = search needs
+
+returns-2 : tie.Need-returns-2
+returns-2 c = search needs
+
+array-share-prefix-out : tie.Need-array-share-prefix-out
+array-share-prefix-out c = within c
+
+slice-aggregate-write-all : tie.Need-slice-aggregate-write-all
+slice-aggregate-write-all c = sym (length-take-le _ _ (within (c .before)))
+
+write-all-requires : tie.Need-write-all-requires
+write-all-requires c κs = search needs
+
+returns-3 : tie.Need-returns-3
+returns-3 c = search needs
+
+pub print-spec : {M : Type 1} → statement M
+print-spec =
+    tie.close
+    (tie.spec
+    judge-requires
+    returns
+    lay-out-requires
+    slice-aggregate-write-if-room
+    write-if-room-requires
+    enum-known-written
+    enum-told
+    returns-2
+    array-share-prefix-out
+    slice-aggregate-write-all
+    write-all-requires
+    returns-3)

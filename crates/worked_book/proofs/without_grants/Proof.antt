@@ -1,0 +1,24 @@
+-- `worked_book::without_grants`: no cell of the witness is set, by computation.
+use borrow.Author.Needs.{needs}
+use native.Mathlib.Omega.{arith}
+use mathlib.Core.Path.{refl}
+use Rattle.bits.specs.Below.{every-below}
+use Rattle.bits.specs.Bit.{bit}
+use Rattle.sheet.specs.Rows.{row-bits, row-words}
+use Rattle.sheet.specs.Sheet.{sheet-of, sheet-of-lines}
+use Rattle.book.specs.RowsSaid.{grant-cells-elim}
+use Rattle.worked_book.proofs.without_grants.Statement.{statement}
+use Rattle.worked_book.proofs.without_grants.Tie as tie
+
+slice-aggregate-print : tie.Need-slice-aggregate-print
+slice-aggregate-print c = search needs
+
+print-requires : tie.Need-print-requires
+unfolding row-words row-bits every-below bit sheet-of sheet-of-lines
+print-requires c κs = (omega arith, grant-cells-elim _ _ refl)
+
+returns : tie.Need-returns
+returns c = search needs
+
+pub without-grants-spec : {M : Type 1} → statement M
+without-grants-spec = tie.close (tie.spec slice-aggregate-print print-requires returns)
