@@ -31,6 +31,5 @@ pub fn put_empty_line(out: &mut [u8]) -> usize
     requires { ⌜ length line-end ≤ length (now out) ⌝ }
     ensures { λ r. ⌜ Written line-end (now (out .entry)) (now (out .exit)) r ⌝ }
 {
-    out[0] = b'\n';
-    1
+    put_bytes(out, b"\n")
 }
