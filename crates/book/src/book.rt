@@ -2,6 +2,7 @@
 use crate::counts::Counts;
 use crate::counts::counts_length;
 use crate::counts::put_counts;
+use crate::put::put_empty_line;
 use crate::role_block::put_roles;
 use crate::role_block::roles_length;
 use crate::user_block::put_users;
@@ -56,13 +57,10 @@ pub fn write_book<'a>(
 {
     let roles = counts.roles;
     let first = put_counts(out, counts);
-    out[first] = b'\n';
-    let from = first + 1;
+    let from = first + put_empty_line(&mut out[first..]);
     let second = from + put_roles(&mut out[from..], s, layout, gives, roles);
-    out[second] = b'\n';
-    let from = second + 1;
+    let from = second + put_empty_line(&mut out[second..]);
     let third = from + put_users(&mut out[from..], s, layout, has, roles);
-    out[third] = b'\n';
-    let from = third + 1;
+    let from = third + put_empty_line(&mut out[third..]);
     from + put_witness(&mut out[from..], s, layout, witness)
 }

@@ -1,7 +1,7 @@
 // Bytes into a buffer.
 ghost use Prim.Native.Nat.{_≤_};
 ghost use lib.ListN.{length};
-ghost use Rattle.book.specs.LineLaws.{behind-comma};
+ghost use Rattle.book.specs.LineLaws.{behind-comma, line-end};
 ghost use Rattle.book.specs.Written.{Written};
 
 // Writes the bytes at the front of the buffer, and answers how many they are.
@@ -24,4 +24,12 @@ pub fn put_field(out: &mut [u8], field: &[u8]) -> usize
 {
     out[0] = b',';
     1 + put_bytes(&mut out[1..], field)
+}
+
+// Writes an empty line.
+pub fn put_empty_line(out: &mut [u8]) -> usize
+    requires { ⌜ length line-end ≤ length (now out) ⌝ }
+    ensures { λ r. ⌜ Written line-end (now (out .entry)) (now (out .exit)) r ⌝ }
+{
+    put_bytes(out, b"\n")
 }

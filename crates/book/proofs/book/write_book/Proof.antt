@@ -4,11 +4,11 @@ use Prim.Native.Nat.{_+_, _≤_, ℕ}
 use native.Mathlib.Omega.{arith}
 use mathlib.Core.List.{_++_}
 use mathlib.Core.Path.{_≡_, sym}
-use lib.ListN.{length, set}
+use lib.ListN.{length}
 use Rattle.sheet.specs.Limits.{user-limit}
 use Rattle.sheet.specs.Rows.{row-bits, row-words}
 use Rattle.sheet.specs.Sheet.{sheet-of}
-use Rattle.sheet.specs.Text.{Bytes, line-feed, text-of}
+use Rattle.sheet.specs.Text.{Bytes, text-of}
 use Rattle.grants.specs.CellSets.{cell-grants}
 use Rattle.book.specs.Book.{witness-block}
 use Rattle.book.specs.BookRows.{book-parts, rows-book}
@@ -16,7 +16,7 @@ use Rattle.book.specs.CountsText.{counts-text}
 use Rattle.book.specs.LaidLaws.{few-users}
 use Rattle.book.specs.LineLaws.{line-end}
 use Rattle.book.specs.RowsSaid.{shown-roles, shown-users}
-use Rattle.book.specs.Written.{Ready, byte-within, end-within, fits-as, front-fits, place-within, room-behind, then-byte, then-same-length, then-written, with-rest, within-buffer, written-as}
+use Rattle.book.specs.Written.{Ready, end-within, fits-as, front-fits, place-within, room-behind, then-same-length, then-written, with-rest, within-buffer, written-as}
 use Rattle.book.proofs.book.write_book.Statement.{statement}
 use Rattle.book.proofs.book.write_book.Tie as tie
 
@@ -59,65 +59,105 @@ second-room s = front-fits (up-to-second s ++ line-end) (third s) (front-fits (u
 first-room : (s : tie.Start) → length (first s ++ line-end) ≤ length (s .args .out .now)
 first-room s = front-fits (first s ++ line-end) (second s) (front-fits (up-to-second s) line-end (second-room s))
 
--- ---- the buffer and the place behind each block, and behind the empty line that follows
+-- ---- the places behind each block and behind each empty line: the function's entry, the buffer, and where the next writer starts
 
-abbrev start : tie.After-put-counts → tie.Start
-start c = c .before .before .before .before
-
-abbrev counted : tie.After-put-roles → tie.After-put-counts
-counted c = c .before .before .before .before .before
-
-abbrev listed-roles : tie.After-put-users → tie.After-put-roles
-listed-roles c = c .before .before .before .before .before
+abbrev first-entry : tie.After-put-counts → tie.Start
+first-entry c = c .before .before .before .before
 
 behind-first : (c : tie.After-put-counts)
-    → Ready (first (start c)) line-end (start c .args .out .now) (c .put-counts .last .0) (c .put-counts .result)
-behind-first c = record { written = c .put-counts .ensures; fits = first-room (start c) }
+    → let s = first-entry c in
+    Ready (first s) line-end (s .args .out .now) (c .put-counts .last .0) (c .put-counts .result)
+behind-first c = record { written = c .put-counts .ensures; fits = first-room (first-entry c) }
 
-abbrev first-mid : tie.After-put-counts → Bytes
-first-mid c = set (c .put-counts .last .0) (c .put-counts .result) line-feed
+abbrev behind-counts : tie.After-put-empty-line → tie.After-put-counts
+behind-counts c = c .before .before .before .before
 
-at-second : (c : tie.After-put-counts)
-    → Ready (first (start c) ++ line-end) (second (start c)) (start c .args .out .now) (first-mid c) (c .put-counts .result + 1)
-at-second c = record { written = then-byte (behind-first c); fits = front-fits (up-to-second (start c)) line-end (second-room (start c)) }
+abbrev second-start : tie.After-put-empty-line → ℕ
+second-start c = behind-counts c .put-counts .result + c .put-empty-line .result
+
+abbrev second-buffer : tie.After-put-empty-line → Bytes
+second-buffer c =
+    let a = behind-counts c in
+    with-rest (a .put-counts .result) (a .put-counts .last .0) (c .put-empty-line .last .0)
+
+at-second : (c : tie.After-put-empty-line)
+    → let s = first-entry (behind-counts c) in
+    Ready (first s ++ line-end) (second s) (s .args .out .now) (second-buffer c) (second-start c)
+at-second c =
+    let s = first-entry (behind-counts c) in
+    record {
+      written = then-written (behind-first (behind-counts c)) (c .put-empty-line .ensures);
+      fits = front-fits (up-to-second s) line-end (second-room s);
+    }
+
+abbrev before-roles : tie.After-put-roles → tie.After-put-empty-line
+before-roles c = c .before .before .before .before .before
+
+abbrev second-entry : tie.After-put-roles → tie.Start
+second-entry c = first-entry (behind-counts (before-roles c))
 
 abbrev second-end : tie.After-put-roles → ℕ
-second-end c = counted c .put-counts .result + 1 + c .put-roles .result
+second-end c = second-start (before-roles c) + c .put-roles .result
 
-abbrev second-mid : tie.After-put-roles → Bytes
-second-mid c = with-rest (counted c .put-counts .result + 1) (first-mid (counted c)) (c .put-roles .last .0)
+abbrev second-after : tie.After-put-roles → Bytes
+second-after c = with-rest (second-start (before-roles c)) (second-buffer (before-roles c)) (c .put-roles .last .0)
 
 behind-second : (c : tie.After-put-roles)
-    → let s = start (counted c) in
-    Ready (up-to-second s) line-end (s .args .out .now) (second-mid c) (second-end c)
-behind-second c = record { written = then-written (at-second (counted c)) (c .put-roles .ensures); fits = second-room (start (counted c)) }
+    → let s = second-entry c in
+    Ready (up-to-second s) line-end (s .args .out .now) (second-after c) (second-end c)
+behind-second c =
+    record { written = then-written (at-second (before-roles c)) (c .put-roles .ensures); fits = second-room (second-entry c) }
 
-at-third : (c : tie.After-put-roles)
-    → let s = start (counted c) in
-    Ready (up-to-second s ++ line-end) (third s) (s .args .out .now) (set (second-mid c) (second-end c) line-feed) (second-end c + 1)
+abbrev behind-roles : tie.After-put-empty-line2 → tie.After-put-roles
+behind-roles c = c .before .before .before .before
+
+abbrev third-start : tie.After-put-empty-line2 → ℕ
+third-start c = second-end (behind-roles c) + c .put-empty-line2 .result
+
+abbrev third-buffer : tie.After-put-empty-line2 → Bytes
+third-buffer c = with-rest (second-end (behind-roles c)) (second-after (behind-roles c)) (c .put-empty-line2 .last .0)
+
+at-third : (c : tie.After-put-empty-line2)
+    → let s = second-entry (behind-roles c) in
+    Ready (up-to-second s ++ line-end) (third s) (s .args .out .now) (third-buffer c) (third-start c)
 at-third c =
-    let s = start (counted c) in
-    record { written = then-byte (behind-second c); fits = front-fits (up-to-third s) line-end (third-room s) }
+    let s = second-entry (behind-roles c) in
+    record {
+      written = then-written (behind-second (behind-roles c)) (c .put-empty-line2 .ensures);
+      fits = front-fits (up-to-third s) line-end (third-room s);
+    }
+
+abbrev before-users : tie.After-put-users → tie.After-put-empty-line2
+before-users c = c .before .before .before .before .before
+
+abbrev third-entry : tie.After-put-users → tie.Start
+third-entry c = second-entry (behind-roles (before-users c))
 
 abbrev third-end : tie.After-put-users → ℕ
-third-end c = second-end (listed-roles c) + 1 + c .put-users .result
+third-end c = third-start (before-users c) + c .put-users .result
 
-abbrev third-mid : tie.After-put-users → Bytes
-third-mid c =
-    let a = listed-roles c in
-    with-rest (second-end a + 1) (set (second-mid a) (second-end a) line-feed) (c .put-users .last .0)
+abbrev third-after : tie.After-put-users → Bytes
+third-after c = with-rest (third-start (before-users c)) (third-buffer (before-users c)) (c .put-users .last .0)
 
 behind-third : (c : tie.After-put-users)
-    → let s = start (counted (listed-roles c)) in
-    Ready (up-to-third s) line-end (s .args .out .now) (third-mid c) (third-end c)
+    → let s = third-entry c in
+    Ready (up-to-third s) line-end (s .args .out .now) (third-after c) (third-end c)
 behind-third c =
-    let a = listed-roles c in
-    record { written = then-written (at-third a) (c .put-users .ensures); fits = third-room (start (counted a)) }
+    record { written = then-written (at-third (before-users c)) (c .put-users .ensures); fits = third-room (third-entry c) }
 
-at-fourth : (c : tie.After-put-users)
-    → let s = start (counted (listed-roles c)) in
-    Ready (up-to-third s ++ line-end) (fourth s) (s .args .out .now) (set (third-mid c) (third-end c) line-feed) (third-end c + 1)
-at-fourth c = record { written = then-byte (behind-third c); fits = room (start (counted (listed-roles c))) }
+abbrev behind-users : tie.After-put-empty-line3 → tie.After-put-users
+behind-users c = c .before .before .before .before
+
+abbrev fourth-entry : tie.After-put-empty-line3 → tie.Start
+fourth-entry c = third-entry (behind-users c)
+
+at-fourth : (c : tie.After-put-empty-line3)
+    → let s = fourth-entry c in
+    let a = behind-users c in
+    Ready (up-to-third s ++ line-end) (fourth s) (s .args .out .now)
+    (with-rest (third-end a) (third-after a) (c .put-empty-line3 .last .0)) (third-end a + c .put-empty-line3 .result)
+at-fourth c =
+    record { written = then-written (behind-third (behind-users c)) (c .put-empty-line3 .ensures); fits = room (fourth-entry c) }
 
 -- ---- what the code asks
 
@@ -126,8 +166,17 @@ put-counts-requires c κs =
     let s = c .before .before .before in
     front-fits (first s) line-end (first-room s)
 
-slice-write-out : tie.Need-slice-write-out
-slice-write-out c = byte-within (behind-first (c .before .before))
+sub-put-empty-line : tie.Need-sub-put-empty-line
+sub-put-empty-line c = within-buffer (behind-first (c .before .before))
+
+part-put-empty-line-start : tie.Need-part-put-empty-line-start
+part-put-empty-line-start c = within-buffer (behind-first (c .before .before))
+
+part-put-empty-line-end : tie.Need-part-put-empty-line-end
+part-put-empty-line-end c = search needs
+
+put-empty-line-requires : tie.Need-put-empty-line-requires
+put-empty-line-requires c κs = room-behind (behind-first (c .before .before .before))
 
 add-from : tie.Need-add-from
 add-from c = omega (arith, place-within (at-second (c .before .before)))
@@ -144,14 +193,23 @@ part-put-roles-end c = search needs
 put-roles-requires : tie.Need-put-roles-requires
 unfolding row-bits row-words
 put-roles-requires c κs =
-    let s = c .before .before .before .before .before .before .before .before in
+    let s = c .before .before .before .before .before .before .before .before .before .before .before .before in
     ((s .pre .0 .0, s .pre .0 .1, omega arith), room-behind (at-second (c .before .before .before .before)))
 
 add-second : tie.Need-add-second
 add-second c = omega (arith, place-within (behind-second (c .before .before)))
 
-slice-write-out-2 : tie.Need-slice-write-out-2
-slice-write-out-2 c = byte-within (behind-second (c .before .before))
+sub-put-empty-line-2 : tie.Need-sub-put-empty-line-2
+sub-put-empty-line-2 c = within-buffer (behind-second (c .before .before))
+
+part-put-empty-line-start-2 : tie.Need-part-put-empty-line-start-2
+part-put-empty-line-start-2 c = within-buffer (behind-second (c .before .before))
+
+part-put-empty-line-end-2 : tie.Need-part-put-empty-line-end-2
+part-put-empty-line-end-2 c = search needs
+
+put-empty-line-requires-2 : tie.Need-put-empty-line-requires-2
+put-empty-line-requires-2 c κs = room-behind (behind-second (c .before .before .before))
 
 add-from-2 : tie.Need-add-from-2
 add-from-2 c = omega (arith, place-within (at-third (c .before .before)))
@@ -168,14 +226,23 @@ part-put-users-end c = search needs
 put-users-requires : tie.Need-put-users-requires
 unfolding row-words user-limit
 put-users-requires c κs =
-    let s = (c .before .before .before .before .before .before .before .before .before .before .before .before .before) in
+    let s = (c .before .before .before .before .before .before .before .before .before .before .before .before .before .before .before .before .before .before .before .before .before) in
     ((s .pre .0 .0, s .pre .0 .1, omega (arith, few-users (s .pre .0 .0))), room-behind (at-third (c .before .before .before .before)))
 
 add-third : tie.Need-add-third
 add-third c = omega (arith, place-within (behind-third (c .before .before)))
 
-slice-write-out-3 : tie.Need-slice-write-out-3
-slice-write-out-3 c = byte-within (behind-third (c .before .before))
+sub-put-empty-line-3 : tie.Need-sub-put-empty-line-3
+sub-put-empty-line-3 c = within-buffer (behind-third (c .before .before))
+
+part-put-empty-line-start-3 : tie.Need-part-put-empty-line-start-3
+part-put-empty-line-start-3 c = within-buffer (behind-third (c .before .before))
+
+part-put-empty-line-end-3 : tie.Need-part-put-empty-line-end-3
+part-put-empty-line-end-3 c = search needs
+
+put-empty-line-requires-3 : tie.Need-put-empty-line-requires-3
+put-empty-line-requires-3 c κs = room-behind (behind-third (c .before .before .before))
 
 add-from-3 : tie.Need-add-from-3
 add-from-3 c = omega (arith, place-within (at-fourth (c .before .before)))
@@ -192,12 +259,13 @@ part-put-witness-end c = search needs
 put-witness-requires : tie.Need-put-witness-requires
 unfolding row-words user-limit
 put-witness-requires c κs =
-    let s = (c .before .before .before .before .before .before .before .before .before .before .before .before .before .before .before .before .before .before) in
+    let s = (c .before .before .before .before .before .before .before .before .before .before .before .before .before .before .before .before .before .before .before .before .before .before .before .before .before .before .before .before .before .before) in
     ((s .pre .0 .0, omega (arith, few-users (s .pre .0 .0)), s .pre .0 .2), room-behind (at-fourth (c .before .before .before .before)))
 
 add-result : tie.Need-add-result
 add-result c =
-    omega (arith, end-within (at-fourth (c .before .before .before .before .before .before .before)) (c .before .before .put-witness .ensures))
+    let a = (c .before .before .before .before .before .before .before) in
+    omega (arith, fourth-entry a .good .0 .0, end-within (at-fourth a) (c .before .before .put-witness .ensures))
 
 same-length : tie.Need-same-length
 same-length c = then-same-length (at-fourth (c .before .before .before .before .before .before .before)) (c .before .before .put-witness .ensures)
@@ -205,28 +273,37 @@ same-length c = then-same-length (at-fourth (c .before .before .before .before .
 returns : tie.Need-returns
 returns c =
     let a = (c .before .before .before .before .before .before .before) in
-    written-as (sym (parts (start (counted (listed-roles a))))) (then-written (at-fourth a) (c .before .before .put-witness .ensures))
+    written-as (sym (parts (fourth-entry a))) (then-written (at-fourth a) (c .before .before .put-witness .ensures))
 
 pub write-book-spec : {M : Type 1} → statement M
 write-book-spec =
     tie.close
     (tie.spec
     put-counts-requires
-    slice-write-out
+    sub-put-empty-line
+    part-put-empty-line-start
+    part-put-empty-line-end
+    put-empty-line-requires
     add-from
     sub-put-roles
     part-put-roles-start
     part-put-roles-end
     put-roles-requires
     add-second
-    slice-write-out-2
+    sub-put-empty-line-2
+    part-put-empty-line-start-2
+    part-put-empty-line-end-2
+    put-empty-line-requires-2
     add-from-2
     sub-put-users
     part-put-users-start
     part-put-users-end
     put-users-requires
     add-third
-    slice-write-out-3
+    sub-put-empty-line-3
+    part-put-empty-line-start-3
+    part-put-empty-line-end-3
+    put-empty-line-requires-3
     add-from-3
     sub-put-witness
     part-put-witness-start
