@@ -14,6 +14,7 @@ pub mod ListOfLaws
 pub mod EachLaws
 pub mod Total
 pub mod SameLaws
+pub mod SameDropLaws
 pub mod TailLaws
 pub mod Placement
 pub mod Classing

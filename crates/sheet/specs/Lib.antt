@@ -7,6 +7,9 @@ pub mod GrantOrderLaws
 pub mod Refusal
 pub mod Rules
 pub mod Rows
+pub mod Places
+pub mod LaidOut
+pub mod RowsRead
 pub mod TextLaws
 pub mod CauseLaws
 pub mod SheetLines

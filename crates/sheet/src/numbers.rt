@@ -1,0 +1,13 @@
+// Numbers that count different things. None serves for another.
+
+// The number of a user, from 0 in sheet order.
+pub struct UserNo(pub usize);
+
+// The number of a permission, from 0 in sheet order.
+pub struct PermissionNo(pub usize);
+
+// The number of a grant, from 0 by user, then permission.
+pub struct GrantNo(pub usize);
+
+// The number of a role, from 0 by its lowest grant.
+pub struct RoleNo(pub usize);
