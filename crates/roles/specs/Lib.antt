@@ -5,3 +5,4 @@ pub mod PairedLaws
 pub mod Roles
 pub mod RoleLaws
 pub mod RoleRows
+pub mod StandingCases
