@@ -9,3 +9,10 @@ pub mod Blocks
 pub mod BlockLaws
 pub mod LengthLaws
 pub mod Book
+pub mod DigitLaws
+pub mod NameLaws
+pub mod Written
+pub mod DigitsWritten
+pub mod CellsText
+pub mod CellsWritten
+pub mod ListedWritten

@@ -1,1 +1,9 @@
 // Writing a role book.
+mod cells;
+mod decimal;
+mod names;
+mod put;
+
+pub use decimal::decimal_length;
+pub use decimal::put_decimal;
+pub use put::put_bytes;

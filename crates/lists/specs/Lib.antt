@@ -3,14 +3,15 @@ pub mod Lists
 pub mod TestLaws
 pub mod AppendLaws
 pub mod Ordered
+pub mod ReverseLaws
 pub mod OrderedUnique
 pub mod FilterLength
 pub mod Distinct
 pub mod LeastLaws
-pub mod ReverseLaws
 pub mod CutLaws
 pub mod JoinLaws
 pub mod ListOfLaws
+pub mod Listed
 pub mod EachLaws
 pub mod Total
 pub mod SameLaws

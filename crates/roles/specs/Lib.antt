@@ -5,4 +5,5 @@ pub mod PairedLaws
 pub mod Roles
 pub mod RoleLaws
 pub mod RoleRows
+pub mod Cases
 pub mod StandingCases

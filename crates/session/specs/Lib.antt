@@ -11,4 +11,6 @@ pub mod Owed
 pub mod Settled
 pub mod Demand1
 pub mod Demand3
+pub mod CheckerAlone
+pub mod PlacedOnce
 pub mod Demand2

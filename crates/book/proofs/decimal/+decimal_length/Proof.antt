@@ -1,0 +1,44 @@
+-- `decimal::decimal_length`: a number below ten has one digit, and any other one more than its tenth. The measure is the number.
+use Prim.Native.Nat.{ℕ, _/_, _<_}
+use native.Mathlib.Omega.{arith}
+use mathlib.Core.Path.{sym}
+use Rattle.book.specs.DigitLaws.{one-digit, digit-more, digits-of-word}
+use borrow.Fn.Kinds.{In}
+use borrow.Fn.PlainCycle.{Measures, is, falls, and}
+use Rattle.book.proofs.decimal.decimal_length.Reads as decimal-length
+use Rattle.book.proofs.decimal.decimal_length.Kinds as decimal-length-kinds
+use Rattle.book.proofs.decimal.+decimal_length.Lts-decimal_length as lts
+use Rattle.book.proofs.decimal.+decimal_length.{statement}
+use Rattle.book.proofs.decimal.+decimal_length.Tie.{close}
+
+abbrev μ : Measures 0 decimal-length-kinds.ps ℕ
+μ κs a = a .0
+
+-- what the function is given at the measure t, and what a call of it asks below t
+abbrev given-at : ℕ → In 0 decimal-length-kinds.ps
+given-at t = and 0 decimal-length-kinds.ps (is 0 decimal-length-kinds.ps μ t) decimal-length.Pre
+
+abbrev asked-below : ℕ → In 0 decimal-length-kinds.ps
+asked-below t = and 0 decimal-length-kinds.ps (falls 0 decimal-length-kinds.ps _<_ μ t) decimal-length.Pre
+
+module _ (t : ℕ) where
+  returns : lts.Need-returns (asked-below t, decimal-length.Post) (given-at t) decimal-length.Post
+  returns c = sym (one-digit (c .before .args .n) (omega arith))
+
+  requires : lts.Need-decimal-length-requires (asked-below t, decimal-length.Post) (given-at t) decimal-length.Post
+  requires c κs = (omega arith, tt)
+
+  add-result : lts.Need-add-result (asked-below t, decimal-length.Post) (given-at t) decimal-length.Post
+  add-result c =
+      let n = c .before .before .args .n in
+      omega (arith, c .decimal-length .ensures, digits-of-word (n / 10) (omega arith))
+
+  returns-2 : lts.Need-returns-2 (asked-below t, decimal-length.Post) (given-at t) decimal-length.Post
+  returns-2 c =
+      let n = c .before .before .args .n in
+      omega (arith, c .decimal-length .ensures, digit-more n (omega arith))
+
+pub +decimal-length-spec : {M : Type 1} → statement M
++decimal-length-spec =
+    close μ
+    λ t. lts.spec (asked-below t, decimal-length.Post) (given-at t) decimal-length.Post (returns t) (requires t) (add-result t) (returns-2 t)
