@@ -17,3 +17,6 @@ pub mod Alone
 pub mod BookLength
 pub mod Confirmed
 pub mod OwnBook
+pub mod Steps
+pub mod StepLaws
+pub mod Ended

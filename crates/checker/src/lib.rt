@@ -1,1 +1,7 @@
-// Judging a role book against a sheet.
+// The checker: whether a book is right for a sheet, and its counts.
+mod cursor;
+mod limits;
+mod names;
+
+pub use limits::BOOK_LIMIT;
+pub use limits::ROLE_LIMIT;
