@@ -10,7 +10,10 @@ pub mod BlockLaws
 pub mod LengthLaws
 pub mod Book
 pub mod DigitLaws
+pub mod RowsSaid
+pub mod LineLaws
 pub mod NameLaws
+pub mod ShownLaws
 pub mod Written
 pub mod DigitsWritten
 pub mod CellsText

@@ -15,6 +15,13 @@ pub record Written (bytes before after : Bytes) (count : ℕ) : Type 0 where
   pub buffer : after ≡ bytes ++ drop (length bytes) before
   pub counted : count ≡ length bytes
 
+-- the same bytes under another name
+pub fits-as : {bytes same : Bytes} {room : ℕ} → bytes ≡ same → length bytes ≤ room → length same ≤ room
+fits-as e fits = rw e at fits
+
+pub written-as : {bytes same before after : Bytes} {count : ℕ} → bytes ≡ same → Written bytes before after count → Written same before after count
+written-as e w = rw e at w
+
 -- nothing is written yet
 pub nothing-written : (before : Bytes) → Written [] before before 0
 nothing-written before = record { buffer = refl; counted = refl }
@@ -103,6 +110,18 @@ byte-written bytes b {before} {mid} {count} fits w =
           ∙ rw (more, append-assoc bytes (b ∷ []) (drop (suc (length bytes)) before)));
       counted = rw (more) (omega arith);
     }
+
+module _ {done before mid : Bytes} {at b : ℕ} (r : Ready done (b ∷ []) before mid at) where
+  byte-fits : at < length before
+  byte-fits = omega (arith, r .written .counted, r .fits, length-append done (b ∷ []))
+
+  -- the byte stands within the buffer
+  pub byte-within : at < length mid
+  byte-within = omega (arith, byte-fits, written-length done (done-fits r) (r .written))
+
+  -- a byte behind what is written
+  pub then-byte : Written (done ++ b ∷ []) before (set mid at b) (at + 1)
+  then-byte = byte-written done b byte-fits (r .written)
 
 -- one byte more of bytes that are copied
 pub copied-byte : (bytes : Bytes) (i : ℕ) {before mid : Bytes} → i < length bytes → length bytes ≤ length before

@@ -1,5 +1,7 @@
 // Counts in decimal.
+use crate::put::put_bytes;
 ghost use mathlib.Core.Path.{_≡_};
+ghost use mathlib.Core.List.{_++_};
 ghost use Prim.Native.Nat.{_≤_, _<_};
 ghost use lib.ListN.{length};
 ghost use Rattle.book.specs.Decimal.{digit, decimal};
@@ -35,4 +37,13 @@ pub fn put_decimal(out: &mut [u8], n: usize) -> usize
     let at = put_decimal(out, n / 10);
     out[at] = digit_of(n % 10);
     at + 1
+}
+
+// Writes some bytes, and n behind them.
+pub fn put_counted(out: &mut [u8], mark: &[u8], n: usize) -> usize
+    requires { ⌜ length (now mark ++ decimal n) ≤ length (now out) ⌝ }
+    ensures { λ r. ⌜ Written (now (mark .entry) ++ decimal n) (now (out .entry)) (now (out .exit)) r ⌝ }
+{
+    let at = put_bytes(out, mark);
+    at + put_decimal(&mut out[at..], n)
 }

@@ -3,6 +3,7 @@ mod cells;
 mod decimal;
 mod names;
 mod put;
+mod role_block;
 
 pub use decimal::decimal_length;
 pub use decimal::put_decimal;

@@ -1,16 +1,40 @@
-// Role names.
-use crate::decimal::put_decimal;
-use crate::put::put_bytes;
+// Role names: `R1`, `R2`, .. for the roles of number 0, 1, ..
+use crate::decimal::put_counted;
+use sheet::RoleNo;
 ghost use Prim.Native.Nat.{_≤_, _<_};
 ghost use lib.ListN.{length};
+ghost use Rattle.lists.specs.Listed.{listed};
+ghost use Rattle.sheet.specs.Rows.{row-bits};
 ghost use Rattle.book.specs.Words.{role-name};
+ghost use Rattle.book.specs.LineLaws.{behind-comma};
 ghost use Rattle.book.specs.Written.{Written};
 
-// Writes the name of role number r.
-pub fn put_role_name(out: &mut [u8], r: usize) -> usize
-    requires { ⌜ (r < 64) × (length (role-name r) ≤ length (now out)) ⌝ }
-    ensures { λ n. ⌜ Written (role-name r) (now (out .entry)) (now (out .exit)) n ⌝ }
+// Writes the name of a role.
+pub fn put_role_name(out: &mut [u8], role: RoleNo) -> usize
+    requires { ⌜ (role .0 < row-bits) × (length (role-name (role .0)) ≤ length (now out)) ⌝ }
+    ensures { λ r. ⌜ Written (role-name (role .0)) (now (out .entry)) (now (out .exit)) r ⌝ }
 {
-    let at = put_bytes(out, b"R");
-    at + put_decimal(&mut out[at..], r + 1)
+    put_counted(out, b"R", role.0 + 1)
+}
+
+// Writes the name of a role behind a comma.
+fn put_role_field(out: &mut [u8], role: RoleNo) -> usize
+    requires { ⌜ (role .0 < row-bits) × (length (behind-comma (role-name (role .0))) ≤ length (now out)) ⌝ }
+    ensures { λ r. ⌜ Written (behind-comma (role-name (role .0))) (now (out .entry)) (now (out .exit)) r ⌝ }
+{
+    put_counted(out, b",R", role.0 + 1)
+}
+
+// Writes the names of so many roles, a comma before each.
+pub fn put_role_fields(out: &mut [u8], roles: usize) -> usize
+    requires { ⌜ (roles ≤ row-bits) × (length (listed roles (λ r. behind-comma (role-name r))) ≤ length (now out)) ⌝ }
+    ensures { λ r. ⌜ Written (listed roles (λ r. behind-comma (role-name r))) (now (out .entry)) (now (out .exit)) r ⌝ }
+{
+    let mut at = 0;
+    let mut i = 0;
+    while i < roles {
+        at += put_role_field(&mut out[at..], RoleNo(i));
+        i += 1;
+    }
+    at
 }

@@ -1,0 +1,49 @@
+-- What a book says by rows of words: the two matrices and the witness as their cells. Assumes nothing.
+use Prim.Native.Nat.{ℕ, _<_}
+use mathlib.Core.Bool.{So}
+use mathlib.Core.List.{List, _∷_}
+use Rattle.lists.specs.Ascii.{ascii}
+use Rattle.lists.specs.Lists.{list-of}
+use Rattle.sheet.specs.Text.{Line}
+use Rattle.sheet.specs.Sheet.{Sheet, user-count, permission-count, holds, cell-text}
+use Rattle.sheet.specs.Rows.{cell}
+use Rattle.grants.specs.CellSets.{cell-grants}
+use Rattle.roles.specs.RoleSet.{RoleSet}
+use Rattle.roles.specs.Roles.{Standing}
+use Rattle.book.specs.Decimal.{decimal}
+use Rattle.book.specs.Words.{role-name}
+use Rattle.book.specs.Blocks.{Block}
+use Rattle.book.specs.Book.{Said, user-name}
+
+-- the role set of two matrices
+abbrev pub roles-in : List ℕ → List ℕ → ℕ → RoleSet
+roles-in has gives count = record { count = count; has = cell has; gives = cell gives }
+
+-- what is said by two matrices and a witness
+abbrev pub said-by : Sheet → List ℕ → List ℕ → List ℕ → ℕ → ℕ → Standing → Said
+said-by sheet has gives witness count bound standing =
+    record {
+      role-digits = decimal count;
+      bound-digits = decimal bound;
+      standing = standing;
+      roles = roles-in has gives count;
+      witness = cell-grants sheet witness;
+    }
+
+-- a role's line, and block 2
+abbrev pub role-line : List ℕ → ℕ → ℕ → Line
+role-line gives permissions r = role-name r ∷ list-of permissions (λ p. cell-text (cell gives r p))
+
+abbrev pub shown-roles : Sheet → List ℕ → ℕ → Block
+shown-roles sheet gives count = (ascii "role" ∷ sheet .permissions) ∷ list-of count (role-line gives (permission-count sheet))
+
+-- a user's line, and block 3
+abbrev pub user-line : Sheet → List ℕ → ℕ → ℕ → Line
+user-line sheet has count u = user-name sheet u ∷ list-of count (λ r. cell-text (cell has u r))
+
+abbrev pub shown-users : Sheet → List ℕ → ℕ → Block
+shown-users sheet has count = (ascii "user" ∷ list-of count role-name) ∷ list-of (user-count sheet) (user-line sheet has count)
+
+-- every cell of the sheet that is set is a grant
+pub record GrantCells (words : List ℕ) (sheet : Sheet) : Type 0 where
+  pub held : (u p : ℕ) → u < user-count sheet → p < permission-count sheet → So (cell words u p) → So (holds sheet u p)
