@@ -6,14 +6,14 @@ use native.Mathlib.Omega.{arith}
 use mathlib.Core.Path.{_≡_, refl, sym, ap, _∙_}
 use mathlib.Core.Logic.{⊎-elim}
 use mathlib.Core.Bool.{false}
-use mathlib.Core.List.{List, [], _∷_, _++_, append-assoc, append-cancel-left, append-nil, head-eq-of-cons-eq, tail-eq-of-cons-eq, List·Memᴰ, List·Memᴰ·head, Memᴰ·append-right, List·Memᴰ·append-cases, List·Memᴰ·eq-of-singleton, List·Memᴰ·not-nil}
+use mathlib.Core.List.{List, [], _∷_, _++_, append-assoc, append-cancel-left, append-nil, tail-eq-of-cons-eq, List·Memᴰ, List·Memᴰ·head, Memᴰ·append-right, List·Memᴰ·append-cases, List·Memᴰ·eq-of-singleton, List·Memᴰ·not-nil}
 use borrow.Author.Tests.{eq-eqb, ne-eqb}
 use lib.Dec.{eqb}
 use lib.ListN.{length, getD, take, drop, length-drop, take-append-drop, drop-of-length-le}
 use lib.Seq.{drop-cons, take-suc, getD-drop, drop-drop}
 use Rattle.bits.specs.Truth.{not-both}
-use Rattle.lists.specs.Lists.{parted-by}
-use Rattle.lists.specs.CutLaws.{Free, parted-front}
+use Rattle.lists.specs.CutLaws.{Free}
+use Rattle.lists.specs.Aligned.{ended-same}
 use Rattle.sheet.specs.Text.{Bytes}
 use Rattle.sheet.specs.Places.{part}
 use Rattle.checker.specs.declared.cursor.Step.{Step}
@@ -104,17 +104,13 @@ pub record EndedAs (text : Bytes) (at to : ℕ) (bytes rest : Bytes) : Type 0 wh
 pub ended-once : {text : Bytes} {at end to : ℕ} → Ended text at end to → (bytes rest : Bytes) → Free (eqb end) bytes
     → drop at text ≡ bytes ++ end ∷ rest → EndedAs text at to bytes rest
 ended-once {text} {at} {end} {to} p bytes rest free e =
-    record { before = same; behind = tail-eq-of-cons-eq (append-cancel-left (part at to text) (end ∷ rest) (end ∷ drop (suc to) text) (rw same at there)) }
-  where
-    there : bytes ++ end ∷ rest ≡ part at to text ++ end ∷ drop (suc to) text
-    there = sym e ∙ p .reads
-
-    same : bytes ≡ part at to text
-    same =
-        head-eq-of-cons-eq
-        (sym (parted-front (eqb end) end (eq-eqb end end refl) bytes rest free)
-        ∙ ap (parted-by (eqb end)) there
-        ∙ parted-front (eqb end) end (eq-eqb end end refl) (part at to text) (drop (suc to) text) (p .free))
+    let there : bytes ++ end ∷ rest ≡ part at to text ++ end ∷ drop (suc to) text = sym e ∙ p .reads in
+    let same : bytes ≡ part at to text =
+    ended-same (eqb end) end (eq-eqb end end refl) bytes (part at to text) rest (drop (suc to) text) free (p .free) there in
+    record {
+      before = same;
+      behind = tail-eq-of-cons-eq (append-cancel-left (part at to text) (end ∷ rest) (end ∷ drop (suc to) text) (rw same at there));
+    }
 
 -- a part and the byte that ends it stand there
 pub ended-reads : {text : Bytes} {at end to : ℕ} → Ended text at end to → Reads text at (part at to text ++ end ∷ []) (suc to)

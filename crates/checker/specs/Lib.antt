@@ -17,6 +17,11 @@ pub mod Alone
 pub mod BookLength
 pub mod Confirmed
 pub mod OwnBook
+pub mod RoleLimit
 pub mod Steps
 pub mod StepLaws
 pub mod Ended
+pub mod Pieces
+pub mod Capped
+pub mod CellWords
+pub mod CellSteps

@@ -5,8 +5,10 @@ use native.Mathlib.Numerals.{add-one}
 use native.Mathlib.Omega.{arith}
 use mathlib.Core.Path.{_≡_, refl, sym, ap, _∙_}
 use mathlib.Core.List.{[], _∷_, _++_, append-assoc, append-cancel-left, nil≢cons, head-eq-of-cons-eq}
-use lib.ListN.{length, drop, getD, drop-of-length-le}
+use lib.ListN.{length, drop, getD, length-append, length-drop, drop-of-length-le}
 use lib.Seq.{drop-cons}
+use Rattle.lists.specs.Listed.{listed, listed-more}
+use Rattle.lists.specs.Aligned.{Aligned, listed-next}
 use Rattle.sheet.specs.Text.{Bytes}
 use Rattle.checker.specs.declared.cursor.Step.{Step}
 use Rattle.checker.specs.declared.cursor.Step.the-variants.{On, Off}
@@ -28,6 +30,19 @@ reads-then {text} {a} {b} {at} {next} {last} p q =
 pub reads-rest : {text a : Bytes} {at next : ℕ} → Reads text at a next → (rest : Bytes) → drop at text ≡ a ++ rest → rest ≡ drop next text
 reads-rest {text} {a} {at} {next} p rest e = append-cancel-left a rest (drop next text) (sym e ∙ p .reads)
 
+-- the place where it goes on is as far as the bytes are long
+pub reads-place : {text a : Bytes} {at next : ℕ} → Reads text at a next → next ≡ at + length a
+reads-place {text} {a} {at} {next} p =
+    omega (
+      arith,
+      ap length (p .reads),
+      length-append a (drop next text),
+      length-drop at text,
+      length-drop next text,
+      p .forward,
+      p .within,
+    )
+
 -- the first part is missing
 pub misses-first : {text a : Bytes} {at : ℕ} (b : Bytes) → Misses text at a → Misses text at (a ++ b)
 misses-first {text} {a} {at} b m = record { misses = λ rest e. m .misses (b ++ rest) (e ∙ append-assoc a b rest) }
@@ -36,6 +51,29 @@ misses-first {text} {a} {at} b m = record { misses = λ rest e. m .misses (b ++ 
 pub misses-second : {text a : Bytes} {at next : ℕ} (b : Bytes) → Reads text at a next → Misses text next b → Misses text at (a ++ b)
 misses-second {text} {a} {at} {next} b p m =
     record { misses = λ rest e. m .misses rest (sym (reads-rest p (b ++ rest) (e ∙ append-assoc a b rest))) }
+
+-- the second part is missing behind another first part that can only be followed by the same
+pub misses-after : {text a b : Bytes} {at next : ℕ} (c : Bytes) → Reads text at a next → Aligned a b → Misses text next c
+    → Misses text at (b ++ c)
+misses-after {text} {a} {b} {at} {next} c p same m =
+    record {
+      misses = λ rest e.
+          m .misses rest (same .rest (drop next text) (c ++ rest) (sym (p .reads) ∙ e ∙ append-assoc b c rest));
+    }
+
+-- the next of parts by number is missing
+pub misses-next : {text : Bytes} {at next : ℕ} (j count : ℕ) (f g : ℕ → Bytes) → j < count → ((i : ℕ) → i < j → Aligned (f i) (g i))
+    → Reads text at (listed j f) next → Misses text next (g j) → Misses text at (listed count g)
+misses-next {text} {at} {next} j count f g h same p m =
+    record {
+      misses = λ rest e.
+          (let b = listed-next j count f g h same (drop next text) rest (sym (p .reads) ∙ e) in m .misses (b .more) (b .there));
+    }
+
+-- with the next of parts by number there, one more is
+pub reads-more : {text : Bytes} {at next last : ℕ} (j : ℕ) (f : ℕ → Bytes) → Reads text at (listed j f) next → Reads text next (f j) last
+    → Reads text at (listed (j + 1) f) last
+reads-more j f p q = rw (listed-more j f) (reads-then p q)
 
 -- with the first part there, the second decides
 pub expects-then : {text a : Bytes} {at next : ℕ} (b : Bytes) → Reads text at a next → (r : Step) → Expects text next b r

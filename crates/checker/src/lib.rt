@@ -1,5 +1,7 @@
 // The checker: whether a book is right for a sheet, and its counts.
+mod cells;
 mod cursor;
+mod digits;
 mod limits;
 mod names;
 

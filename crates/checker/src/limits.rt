@@ -10,3 +10,6 @@ pub const ROLE_LIMIT: usize = PERMISSION_LIMIT;
 
 // The words of the rows of all roles that a book can have.
 pub const ROLE_WORDS: usize = ROLE_LIMIT * ROW_WORDS;
+
+// No number of lines of a book reaches this.
+pub const COUNT_CAP: usize = BOOK_LIMIT + 1;

@@ -12,6 +12,7 @@ pub mod CutLaws
 pub mod JoinLaws
 pub mod ListOfLaws
 pub mod Listed
+pub mod Aligned
 pub mod EachLaws
 pub mod Total
 pub mod SameLaws

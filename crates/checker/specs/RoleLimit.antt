@@ -1,0 +1,17 @@
+-- What the limit of roles means for the code: a role has a place in a row of words, and its name is short.
+use Prim.Native.Nat.{ℕ, _≤_, _<_}
+use native.Mathlib.Omega.{arith}
+use lib.ListN.{length}
+use Rattle.sheet.specs.Limits.{permission-limit}
+use Rattle.sheet.specs.Rows.{row-words, row-bits}
+use Rattle.book.specs.Words.{role-name}
+use Rattle.book.specs.WordLaws.{role-name-length}
+use Rattle.checker.specs.Form.{role-limit}
+
+pub roles-fit-a-row : role-limit ≤ row-bits
+unfolding role-limit row-bits row-words
+roles-fit-a-row = omega arith
+
+pub role-name-short : (r : ℕ) → r < role-limit → length (role-name r) ≤ 3
+unfolding role-limit
+role-name-short r h = role-name-length 1 r (omega arith)
