@@ -23,5 +23,6 @@ pub mod StepLaws
 pub mod Ended
 pub mod Pieces
 pub mod Capped
+pub mod CountSteps
 pub mod CellWords
 pub mod CellSteps

@@ -1,5 +1,6 @@
 // The checker: whether a book is right for a sheet, and its counts.
 mod cells;
+mod counts_block;
 mod cursor;
 mod digits;
 mod limits;
