@@ -26,3 +26,5 @@ pub mod Capped
 pub mod CountSteps
 pub mod CellWords
 pub mod CellSteps
+pub mod LineSteps
+pub mod RoleSteps

@@ -30,13 +30,17 @@ name-fields names = listed (length names) (λ i. behind-comma (getD names i []))
 abbrev pub role-fields : ℕ → Bytes
 role-fields count = listed count (λ r. behind-comma (role-name r))
 
+-- a line of a name and cells
+abbrev pub named-text : Bytes → ℕ → (ℕ → Bool) → Bytes
+named-text name count cells = name ++ (cell-fields count cells ++ line-end)
+
 -- the line of a role
 abbrev pub role-text : ℕ → (ℕ → ℕ → Bool) → ℕ → Bytes
-role-text permissions gives r = (role-name r ++ cell-fields permissions (gives r)) ++ line-end
+role-text permissions gives r = named-text (role-name r) permissions (gives r)
 
 -- the line of a user
 abbrev pub user-text : Sheet → ℕ → (ℕ → ℕ → Bool) → ℕ → Bytes
-user-text sheet roles has u = (user-name sheet u ++ cell-fields roles (has u)) ++ line-end
+user-text sheet roles has u = named-text (user-name sheet u) roles (has u)
 
 -- ---- parts
 
@@ -77,6 +81,11 @@ counts-in-parts : (role-digits bound-digits : Bytes) (standing : Standing)
     → text-of (counts-block role-digits bound-digits standing) ++ line-end ≡ counts-part role-digits bound-digits standing
 counts-in-parts role-digits bound-digits standing = simp append-assoc
 
+named-in-parts : (name : Bytes) (count : ℕ) (cells : ℕ → Bool)
+    → line-text (name ∷ list-of count (λ i. cell-text (cells i))) ≡ named-text name count cells
+named-in-parts name count cells =
+    line-parts name count (λ i. cell-text (cells i)) ∙ append-assoc name (cell-fields count cells) line-end
+
 roles-in-parts : (sheet : Sheet) (roles : RoleSet)
     → text-of (roles-block sheet roles) ++ line-end ≡ roles-part sheet (roles .count) (roles .gives)
 roles-in-parts sheet roles =
@@ -91,7 +100,7 @@ roles-in-parts sheet roles =
     line r = role-name r ∷ list-of (permission-count sheet) (λ p. cell-text (roles .gives r p))
 
     parts : (r : ℕ) → r < roles .count → line-text (line r) ≡ role-text (permission-count sheet) (roles .gives) r
-    parts r h = line-parts (role-name r) (permission-count sheet) (λ p. cell-text (roles .gives r p))
+    parts r h = named-in-parts (role-name r) (permission-count sheet) (roles .gives r)
 
 users-in-parts : (sheet : Sheet) (roles : RoleSet)
     → text-of (users-block sheet roles) ++ line-end ≡ users-part sheet (roles .count) (roles .has)
@@ -107,7 +116,7 @@ users-in-parts sheet roles =
     line u = user-name sheet u ∷ list-of (roles .count) (λ r. cell-text (roles .has u r))
 
     parts : (u : ℕ) → u < user-count sheet → line-text (line u) ≡ user-text sheet (roles .count) (roles .has) u
-    parts u h = line-parts (user-name sheet u) (roles .count) (λ r. cell-text (roles .has u r))
+    parts u h = named-in-parts (user-name sheet u) (roles .count) (roles .has u)
 
 witness-in-parts : (sheet : Sheet) (grants : List Grant) → text-of (witness-block sheet grants) ≡ witness-part sheet grants
 witness-in-parts sheet grants = ap (λ l. ascii "user,permission\n" ++ concat l) (map-map line-text (witness-line sheet) grants)

@@ -1,5 +1,7 @@
 -- What the limit of roles means for the code: a role has a place in a row of words, and its name is short.
-use Prim.Native.Nat.{ℕ, _≤_, _<_}
+use Prim.Native.Nat.{ℕ, _+_, _*_, _≤_, _<_}
+use native.Mathlib.Nat.{mul-le-mul-right}
+use native.Mathlib.Numerals.{add-one}
 use native.Mathlib.Omega.{arith}
 use lib.ListN.{length}
 use Rattle.sheet.specs.Limits.{permission-limit}
@@ -15,3 +17,7 @@ roles-fit-a-row = omega arith
 pub role-name-short : (r : ℕ) → r < role-limit → length (role-name r) ≤ 3
 unfolding role-limit
 role-name-short r h = role-name-length 1 r (omega arith)
+
+-- a row that the words have
+pub row-within : (row rows size : ℕ) → row < rows → rows * row-words ≤ size → (row + 1) * row-words ≤ size
+row-within row rows size h k = omega (arith, mul-le-mul-right {m = row + 1} {n = rows} row-words (rw (add-one row) h))

@@ -4,7 +4,9 @@ mod counts_block;
 mod cursor;
 mod digits;
 mod limits;
+mod line;
 mod names;
+mod roles_block;
 
 pub use limits::BOOK_LIMIT;
 pub use limits::ROLE_LIMIT;

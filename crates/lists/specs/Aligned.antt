@@ -5,6 +5,7 @@ use Prim.Native.Nat.{ℕ, zero, suc, _≤_, _<_}
 use native.Mathlib.Nat.{le-of-suc-le-suc, not-suc-le-zero}
 use native.Mathlib.Omega.{arith}
 use mathlib.Core.Path.{_≡_, refl, sym, ap, _∙_}
+use mathlib.Core.Logic.{_⊎_, inl, inr, ⊎-elim}
 use mathlib.Core.Bool.{Bool, So}
 use mathlib.Core.List.{List, [], _∷_, _++_, append-assoc, append-cancel-left, head-eq-of-cons-eq, tail-eq-of-cons-eq}
 use lib.ListN.{length, drop}
@@ -64,6 +65,21 @@ module _ {A : Type 0} where
   listed-next (suc j) (suc count) f g k h l m e =
       listed-next j count (λ i. f (suc i)) (λ i. g (suc i)) (le-of-suc-le-suc k) (λ i n. h (suc i) (omega arith)) l m
       (h 0 (omega arith) .rest (listed j (λ i. f (suc i)) ++ l) (listed count (λ i. g (suc i)) ++ m) (sym (front j f l) ∙ e ∙ front count g m))
+
+  -- where an element that begins no part ends the parts, behind the parts below r the next one follows, or that element
+  pub listed-ended : (s : A) (r count : ℕ) (f g : ℕ → List A) → ((i : ℕ) → i < r → Aligned (f i) (g i))
+      → ((i : ℕ) → i < r → (l m : List A) → f i ++ l ≡ s ∷ m → ⊥) → (l m : List A) → listed r f ++ l ≡ listed count g ++ s ∷ m
+      → ((r < count) × Begins (g r) l) ⊎ ((r ≡ count) × (l ≡ s ∷ m))
+  listed-ended s zero zero f g h other l m e = inr (refl, e)
+  listed-ended s zero (suc count) f g h other l m e =
+      inl (omega arith, record { more = listed count (λ i. g (suc i)) ++ s ∷ m; there = e ∙ front count g (s ∷ m) })
+  listed-ended s (suc r) zero f g h other l m e =
+      absurd (other 0 (omega arith) (listed r (λ i. f (suc i)) ++ l) m (sym (front r f l) ∙ e))
+  listed-ended s (suc r) (suc count) f g h other l m e =
+      ⊎-elim (λ n. inl (omega (arith, n .0), n .1)) (λ n. inr (ap suc (n .0), n .1))
+      (listed-ended s r count (λ i. f (suc i)) (λ i. g (suc i)) (λ i n. h (suc i) (omega arith)) (λ i n. other (suc i) (omega arith)) l m
+      (h 0 (omega arith) .rest (listed r (λ i. f (suc i)) ++ l) (listed count (λ i. g (suc i)) ++ s ∷ m)
+      (sym (front r f l) ∙ e ∙ front count g (s ∷ m))))
 
   -- ---- parts that a separator ends
 

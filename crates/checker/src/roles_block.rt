@@ -1,0 +1,56 @@
+// Block 2: the permissions of each role.
+use crate::cursor::Step;
+use crate::cursor::expect_byte;
+use crate::limits::ROLE_LIMIT;
+use crate::line::read_line_cells;
+use crate::names::expect_role_name;
+use sheet::RoleNo;
+ghost use Prim.Native.Nat.{_+_, _*_, _≤_, _<_};
+ghost use lib.ListN.{length};
+ghost use Rattle.sheet.specs.Rows.{row-words, row-bits};
+ghost use Rattle.book.specs.Words.{role-name};
+ghost use Rattle.checker.specs.Form.{role-limit};
+ghost use Rattle.checker.specs.CellWords.{Blank};
+ghost use Rattle.checker.specs.LineSteps.{LineReads};
+ghost use Rattle.checker.specs.RoleSteps.{AllBlank, RoleLinesRead};
+
+// What reading the lines of roles finds: how many there are, and where to go on.
+pub enum RolesRead {
+    Roles(usize, usize),
+    Off,
+}
+
+// Reads the line of a role into its row.
+fn role_line(book: &[u8], at: usize, gives: &mut [u64], role: RoleNo, permissions: usize) -> Step
+    requires { ⌜ (at ≤ length (now book)) × (role .0 < role-limit) × (permissions ≤ row-bits) ⌝ }
+    requires { ⌜ ((role .0 + 1) * row-words ≤ length (now gives)) × Blank (now gives) (role .0) ⌝ }
+    ensures { λ r. ⌜ LineReads (now (book .entry)) at (role-name (role .0)) (role .0) permissions (now (gives .entry)) (now (gives .exit)) r ⌝ }
+{
+    let Step::On(cells) = expect_role_name(book, at, role) else {
+        return Step::Off;
+    };
+    let row = role.0;
+    read_line_cells(book, cells, gives, row, permissions)
+}
+
+// Reads the lines of the roles in order, up to the empty line behind them.
+pub fn role_lines(book: &[u8], at: usize, gives: &mut [u64], permissions: usize) -> RolesRead
+    requires { ⌜ (at ≤ length (now book)) × (permissions ≤ row-bits) × (role-limit * row-words ≤ length (now gives)) × AllBlank (now gives) ⌝ }
+    ensures { λ r. ⌜ RoleLinesRead (now (book .entry)) at permissions (now (gives .exit)) r ⌝ }
+{
+    let mut next = at;
+    let mut r = 0;
+    loop {
+        if let Step::On(end) = expect_byte(book, next, b'\n') {
+            return RolesRead::Roles(r, end);
+        }
+        if r == ROLE_LIMIT {
+            return RolesRead::Off;
+        }
+        let Step::On(after) = role_line(book, next, gives, RoleNo(r), permissions) else {
+            return RolesRead::Off;
+        };
+        next = after;
+        r += 1;
+    }
+}
