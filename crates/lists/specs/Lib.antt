@@ -8,6 +8,8 @@ pub mod OrderedUnique
 pub mod FilterLength
 pub mod Distinct
 pub mod LeastLaws
+pub mod DropLaws
+pub mod Span
 pub mod CutLaws
 pub mod JoinLaws
 pub mod ListOfLaws

@@ -3,13 +3,11 @@
 use Prim.Native.Nat.{ℕ, suc, _<_}
 use mathlib.Core.Path.{_≡_}
 use mathlib.Core.Bool.{So}
-use mathlib.Core.List.{List, []}
 use mathlib.Core.Option.{Option, none, some}
 use lib.ListN.{length, getD, drop}
-use Rattle.bits.specs.Below.{lowest-below}
 use Rattle.sheet.specs.Text.{Bytes, lines-of}
 use Rattle.sheet.specs.Sheet.{sheet-of, user-count, permission-count, grants}
-use Rattle.sheet.specs.Refusal.{accepted, same-name}
+use Rattle.sheet.specs.Refusal.{accepted}
 use Rattle.sheet.specs.Places.{Placed}
 use Rattle.sheet.specs.declared.layout.Layout.{Layout}
 use Rattle.sheet.specs.declared.layout.FoundUser.{FoundUser}
@@ -27,10 +25,6 @@ pub record LaidOut (text : Bytes) (layout : Layout) : Type 0 where
   pub permission-names : Placed text (layout .«permission_places») (sheet-of text .permissions)
   pub user-lines : (u : ℕ) → u < user-count (sheet-of text)
       → lines-of (drop (getD (layout .«user_places» .from) u 0) text) ≡ drop (suc u) (lines-of text)
-
--- the lowest number of a name in a list of names
-abbrev pub name-number : List Bytes → Bytes → Option ℕ
-name-number names name = lowest-below (length names) (λ i. same-name name (getD names i []))
 
 abbrev pub found-user : Option ℕ → FoundUser
 found-user none = user.Nothing

@@ -1,13 +1,27 @@
 // Reading a grant sheet: its refusal, its names as parts of the sheet itself, and its cells as rows of words.
+mod body;
+mod bytes;
+mod cells;
+mod cursor;
 mod layout;
 mod limits;
+mod line;
+mod lookup;
 mod names;
 mod numbers;
 mod places;
+mod refusal;
 
+pub use cursor::Cursor;
+pub use cursor::FieldRead;
 pub use layout::FoundPermission;
 pub use layout::FoundUser;
 pub use layout::Layout;
+pub use layout::find_permission;
+pub use layout::find_user;
+pub use layout::lay_out;
+pub use layout::permission_name;
+pub use layout::user_name;
 pub use limits::CELL_WORDS;
 pub use limits::GRANT_LIMIT;
 pub use limits::NAME_LIMIT;
@@ -22,3 +36,4 @@ pub use numbers::PermissionNo;
 pub use numbers::RoleNo;
 pub use numbers::UserNo;
 pub use places::Places;
+pub use refusal::judge;

@@ -1,8 +1,71 @@
-// Where the names of a list stand in a sheet.
+// Where the names of a list stand in a sheet, and the names compared there.
+use crate::cursor::Cursor;
 use crate::limits::USER_LIMIT;
+use crate::line::read_line;
+use crate::names::same_name;
+ghost use Prim.Native.Nat.{suc, _≤_};
+ghost use mathlib.Core.List.{tail};
+ghost use lib.ListN.{length, drop};
+ghost use Rattle.sheet.specs.Limits.{user-limit};
+ghost use Rattle.sheet.specs.Text.{lines-of};
+ghost use Rattle.sheet.specs.FieldLaws.{line-fields};
+ghost use Rattle.sheet.specs.Places.{Placed};
+ghost use Rattle.sheet.specs.PlacesLaws.{HasRoom};
+ghost use Rattle.sheet.specs.UserPlaces.{UserPlaces};
 
 // Name i is the bytes of the sheet from `from[i]` up to `to[i]`. There is room for as many names as there can be users.
 pub struct Places {
     pub from: [usize; USER_LIMIT],
     pub to: [usize; USER_LIMIT],
+}
+
+impl Places {
+    // Room for places, none of them noted.
+    fn none() -> Self
+        ensures { λ r. ⌜ HasRoom user-limit r ⌝ }
+    {
+        Self {
+            from: [0; USER_LIMIT],
+            to: [0; USER_LIMIT],
+        }
+    }
+}
+
+// Where the names of the lines from `at` on stand.
+pub fn user_places(s: &[u8], at: usize) -> Places
+    requires { ⌜ (at ≤ suc (length (now s))) × (length (lines-of (drop at (now s))) ≤ user-limit) ⌝ }
+    ensures { λ r. ⌜ UserPlaces (now (s .entry)) at r ⌝ }
+{
+    let mut places = Places::none();
+    let mut n = 0;
+    let mut from = at;
+    while from < s.len() {
+        let line = read_line(s, from);
+        places.from[n] = from;
+        places.to[n] = line.to;
+        n += 1;
+        from = line.next;
+    }
+    places
+}
+
+// Where the fields after the first of the first line stand.
+pub fn permission_places(s: &[u8]) -> Places
+    requires { ⌜ length (tail (line-fields (now s))) ≤ user-limit ⌝ }
+    ensures { λ r. ⌜ Placed (now (s .entry)) r (tail (line-fields (now (s .entry)))) ⌝ }
+{
+    let first = Cursor { at: 0 }.field(s);
+    let mut places = Places::none();
+    let mut n = 0;
+    let mut last = first.last;
+    let mut next = first.next;
+    while !last {
+        let field = next.field(s);
+        places.from[n] = field.from;
+        places.to[n] = field.to;
+        n += 1;
+        last = field.last;
+        next = field.next;
+    }
+    places
 }

@@ -1,0 +1,36 @@
+-- The names that stand at places of a text, and looking for one. Assumes nothing.
+use Prim.Native.Nat.{ℕ, _≤_, _<_}
+use mathlib.Core.List.{List, []}
+use mathlib.Core.Option.{Option, none, some}
+use lib.ListN.{length, getD}
+use Rattle.bits.specs.Below.{lowest-below}
+use Rattle.lists.specs.Lists.{list-of}
+use Rattle.sheet.specs.Limits.{user-limit}
+use Rattle.sheet.specs.Text.{Bytes}
+use Rattle.sheet.specs.Refusal.{same-name}
+use Rattle.sheet.specs.Places.{part}
+use Rattle.sheet.specs.declared.places.Places.{Places}
+use Rattle.sheet.specs.declared.lookup.Found.{Found}
+use Rattle.sheet.specs.declared.lookup.Found.the-variants.{At, Nothing}
+
+-- the first `count` places are parts of the text
+pub record Inside (text : Bytes) (places : Places) (count : ℕ) : Type 0 where
+  pub few : count ≤ user-limit
+  pub forward : (i : ℕ) → i < count → getD (places .from) i 0 ≤ getD (places .to) i 0
+  pub within : (i : ℕ) → i < count → getD (places .to) i 0 ≤ length text
+
+-- what stands at one of the places
+abbrev pub name-there : Bytes → Places → ℕ → Bytes
+name-there text places i = part (getD (places .from) i 0) (getD (places .to) i 0) text
+
+-- what stands at the first `count` places
+abbrev pub names-at : Bytes → Places → ℕ → List Bytes
+names-at text places count = list-of count (name-there text places)
+
+-- the lowest number of a name in a list of names
+abbrev pub name-number : List Bytes → Bytes → Option ℕ
+name-number names name = lowest-below (length names) (λ i. same-name name (getD names i []))
+
+abbrev pub found : Option ℕ → Found
+found none = Nothing
+found (some i) = At i
