@@ -27,4 +27,5 @@ pub mod CountSteps
 pub mod CellWords
 pub mod CellSteps
 pub mod LineSteps
+pub mod RowSteps
 pub mod RoleSteps

@@ -34,13 +34,9 @@ role-fields count = listed count (λ r. behind-comma (role-name r))
 abbrev pub named-text : Bytes → ℕ → (ℕ → Bool) → Bytes
 named-text name count cells = name ++ (cell-fields count cells ++ line-end)
 
--- the line of a role
-abbrev pub role-text : ℕ → (ℕ → ℕ → Bool) → ℕ → Bytes
-role-text permissions gives r = named-text (role-name r) permissions (gives r)
-
--- the line of a user
-abbrev pub user-text : Sheet → ℕ → (ℕ → ℕ → Bool) → ℕ → Bytes
-user-text sheet roles has u = named-text (user-name sheet u) roles (has u)
+-- such lines by number
+abbrev pub named-texts : (ℕ → Bytes) → ℕ → (ℕ → ℕ → Bool) → ℕ → Bytes
+named-texts name width cells count = listed count (λ i. named-text (name i) width (cells i))
 
 -- ---- parts
 
@@ -56,14 +52,14 @@ abbrev pub roles-heading : Sheet → Bytes
 roles-heading sheet = (ascii "role" ++ name-fields (sheet .permissions)) ++ line-end
 
 abbrev pub roles-part : Sheet → ℕ → (ℕ → ℕ → Bool) → Bytes
-roles-part sheet count gives = roles-heading sheet ++ (listed count (role-text (permission-count sheet) gives) ++ line-end)
+roles-part sheet count gives = roles-heading sheet ++ (named-texts role-name (permission-count sheet) gives count ++ line-end)
 
 -- block 3: its line of names, and a line for each user
 abbrev pub users-heading : ℕ → Bytes
 users-heading count = (ascii "user" ++ role-fields count) ++ line-end
 
 abbrev pub users-part : Sheet → ℕ → (ℕ → ℕ → Bool) → Bytes
-users-part sheet count has = users-heading count ++ (listed (user-count sheet) (user-text sheet count has) ++ line-end)
+users-part sheet count has = users-heading count ++ (named-texts (user-name sheet) count has (user-count sheet) ++ line-end)
 
 -- block 4: its line of names, and the witness
 abbrev pub witness-text : Sheet → Grant → Bytes
@@ -86,37 +82,29 @@ named-in-parts : (name : Bytes) (count : ℕ) (cells : ℕ → Bool)
 named-in-parts name count cells =
     line-parts name count (λ i. cell-text (cells i)) ∙ append-assoc name (cell-fields count cells) line-end
 
+-- a block of such lines
+block-in-parts : (heading : Line) (name : ℕ → Bytes) (width : ℕ) (cells : ℕ → ℕ → Bool) (count : ℕ)
+    → text-of (heading ∷ list-of count (λ i. name i ∷ list-of width (λ j. cell-text (cells i j)))) ++ line-end
+    ≡ line-text heading ++ (named-texts name width cells count ++ line-end)
+block-in-parts heading name width cells count =
+    rw (
+      block-parts heading count (λ i. name i ∷ list-of width (λ j. cell-text (cells i j))),
+      listed-same count (λ i. line-text (name i ∷ list-of width (λ j. cell-text (cells i j)))) (λ i. named-text (name i) width (cells i))
+          (λ i h. named-in-parts (name i) width (cells i)),
+    )
+    (append-assoc (line-text heading) (named-texts name width cells count) line-end)
+
 roles-in-parts : (sheet : Sheet) (roles : RoleSet)
     → text-of (roles-block sheet roles) ++ line-end ≡ roles-part sheet (roles .count) (roles .gives)
 roles-in-parts sheet roles =
-    rw (
-      block-parts (ascii "role" ∷ sheet .permissions) (roles .count) line,
-      line-parts-of (ascii "role") (sheet .permissions),
-      listed-same (roles .count) (λ r. line-text (line r)) (role-text (permission-count sheet) (roles .gives)) parts,
-    )
-    (append-assoc (roles-heading sheet) (listed (roles .count) (role-text (permission-count sheet) (roles .gives))) line-end)
-  where
-    line : ℕ → Line
-    line r = role-name r ∷ list-of (permission-count sheet) (λ p. cell-text (roles .gives r p))
-
-    parts : (r : ℕ) → r < roles .count → line-text (line r) ≡ role-text (permission-count sheet) (roles .gives) r
-    parts r h = named-in-parts (role-name r) (permission-count sheet) (roles .gives r)
+    block-in-parts (ascii "role" ∷ sheet .permissions) role-name (permission-count sheet) (roles .gives) (roles .count)
+    ∙ rw (line-parts-of (ascii "role") (sheet .permissions))
 
 users-in-parts : (sheet : Sheet) (roles : RoleSet)
     → text-of (users-block sheet roles) ++ line-end ≡ users-part sheet (roles .count) (roles .has)
 users-in-parts sheet roles =
-    rw (
-      block-parts (ascii "user" ∷ list-of (roles .count) role-name) (user-count sheet) line,
-      line-parts (ascii "user") (roles .count) role-name,
-      listed-same (user-count sheet) (λ u. line-text (line u)) (user-text sheet (roles .count) (roles .has)) parts,
-    )
-    (append-assoc (users-heading (roles .count)) (listed (user-count sheet) (user-text sheet (roles .count) (roles .has))) line-end)
-  where
-    line : ℕ → Line
-    line u = user-name sheet u ∷ list-of (roles .count) (λ r. cell-text (roles .has u r))
-
-    parts : (u : ℕ) → u < user-count sheet → line-text (line u) ≡ user-text sheet (roles .count) (roles .has) u
-    parts u h = named-in-parts (user-name sheet u) (roles .count) (roles .has u)
+    block-in-parts (ascii "user" ∷ list-of (roles .count) role-name) (user-name sheet) (roles .count) (roles .has) (user-count sheet)
+    ∙ rw (line-parts (ascii "user") (roles .count) role-name)
 
 witness-in-parts : (sheet : Sheet) (grants : List Grant) → text-of (witness-block sheet grants) ≡ witness-part sheet grants
 witness-in-parts sheet grants = ap (λ l. ascii "user,permission\n" ++ concat l) (map-map line-text (witness-line sheet) grants)

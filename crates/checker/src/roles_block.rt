@@ -12,7 +12,8 @@ ghost use Rattle.book.specs.Words.{role-name};
 ghost use Rattle.checker.specs.Form.{role-limit};
 ghost use Rattle.checker.specs.CellWords.{Blank};
 ghost use Rattle.checker.specs.LineSteps.{LineReads};
-ghost use Rattle.checker.specs.RoleSteps.{AllBlank, RoleLinesRead};
+ghost use Rattle.checker.specs.RowSteps.{AllBlank};
+ghost use Rattle.checker.specs.RoleSteps.{RoleLinesRead};
 
 // What reading the lines of roles finds: how many there are, and where to go on.
 pub enum RolesRead {

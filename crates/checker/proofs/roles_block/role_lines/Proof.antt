@@ -4,21 +4,23 @@ use native.Mathlib.Omega.{arith}
 use mathlib.Core.Path.{_≡_, refl, _∙_}
 use borrow.Author.Needs.{needs}
 use lib.ListN.{length}
+use Rattle.book.specs.Words.{role-name}
 use Rattle.checker.specs.Form.{role-limit}
 use Rattle.checker.specs.RoleLimit.{row-within}
-use Rattle.checker.specs.RoleSteps.{RolesBelow, roles-start, roles-more, roles-end, roles-full, roles-off}
+use Rattle.checker.specs.RoleSteps.{roles-end, roles-full, roles-off}
+use Rattle.checker.specs.RowSteps.{LinesBelow, lines-start, lines-more}
 use Rattle.checker.proofs.roles_block.role_lines.Statement.{statement}
 use Rattle.checker.proofs.roles_block.role_lines.Tie as tie
 
 abbrev Inv-loop : tie.InvT-loop
 Inv-loop book at gives₀ permissions next₀ r₀ gives next r =
-    (r ≤ role-limit) × (length gives ≡ length gives₀) × RolesBelow book at permissions gives r next
+    (r ≤ role-limit) × (length gives ≡ length gives₀) × LinesBelow book at role-name permissions gives r next
 
 abbrev μ-loop : tie.MeasureT-loop
 μ-loop book at gives₀ permissions next₀ r₀ gives next r = role-limit - r
 
 loop-holds : tie.Need-loop-holds Inv-loop μ-loop
-loop-holds c = (omega arith, refl, roles-start (c .before .before .args .permissions) (c .before .before .pre .0) (c .before .before .pre .3))
+loop-holds c = (omega arith, refl, lines-start role-name (c .before .before .args .permissions) (c .before .before .pre .0) (c .before .before .pre .3))
 
 expect-byte-requires : tie.Need-expect-byte-requires Inv-loop μ-loop
 expect-byte-requires c κs = c .loop .inv .2 .reads .within
@@ -81,7 +83,7 @@ loop-again : tie.Need-loop-again Inv-loop μ-loop
 loop-again c = (
   omega (arith, below (c .before .before .before .before .before .before .before)),
   c .before .before .before .before .before .role-line .kept .1 .1 .0 ∙ c .before .before .before .before .before .before .before .before .before .before .before .loop .inv .1,
-  roles-more (c .before .before .before .before .before .before .before .before .before .before .before .before .before .before .pre .1) (c .before .before .before .before .before .before .before .before .before .before .before .loop .inv .2) (rw (c .before .after .given .1) at (c .before .before .before .before .before .role-line .ensures)),
+  lines-more (c .before .before .before .before .before .before .before .before .before .before .before .before .before .before .pre .1) (c .before .before .before .before .before .before .before .before .before .before .before .loop .inv .2) (rw (c .before .after .given .1) at (c .before .before .before .before .before .role-line .ensures)),
 )
 
 pub role-lines-spec : {M : Type 1} → statement M
