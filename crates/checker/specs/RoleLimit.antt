@@ -21,3 +21,8 @@ role-name-short r h = role-name-length 1 r (omega arith)
 -- a row that the words have
 pub row-within : (row rows size : ℕ) → row < rows → rows * row-words ≤ size → (row + 1) * row-words ≤ size
 row-within row rows size h k = omega (arith, mul-le-mul-right {m = row + 1} {n = rows} row-words (rw (add-one row) h))
+
+-- a permission has a place in a row of words
+pub permissions-fit-a-row : permission-limit ≤ row-bits
+unfolding permission-limit row-bits row-words
+permissions-fit-a-row = omega arith

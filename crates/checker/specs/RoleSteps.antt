@@ -6,11 +6,12 @@ use native.Mathlib.Omega.{arith}
 use mathlib.Core.Path.{_≡_, refl, sym, ap, _∙_}
 use mathlib.Core.Logic.{_⊎_, inl, inr, ⊎-elim}
 use mathlib.Core.Bool.{Bool, false}
-use mathlib.Core.List.{List, [], _∷_, _++_, append-assoc, head-eq-of-cons-eq, tail-eq-of-cons-eq}
+use mathlib.Core.List.{List, [], _∷_, _++_, append-assoc, append-cancel-left, head-eq-of-cons-eq, tail-eq-of-cons-eq}
 use lib.ListN.{length, drop}
 use Rattle.lists.specs.Listed.{listed}
 use Rattle.lists.specs.Aligned.{Aligned, Begins, listed-ended}
 use Rattle.sheet.specs.Text.{Bytes, line-feed}
+use Rattle.sheet.specs.Sheet.{Sheet, permission-count}
 use Rattle.sheet.specs.Rows.{row-bits, cell}
 use Rattle.book.specs.Words.{role-name}
 use Rattle.book.specs.WordLaws.{role-name-parts}
@@ -19,8 +20,8 @@ use Rattle.checker.specs.declared.roles_block.RolesRead.{RolesRead}
 use Rattle.checker.specs.declared.roles_block.RolesRead.the-variants as found
 use Rattle.checker.specs.Form.{role-limit}
 use Rattle.checker.specs.Steps.{Reads, Misses}
-use Rattle.checker.specs.StepLaws.{reads-then}
-use Rattle.checker.specs.Pieces.{named-text, named-texts}
+use Rattle.checker.specs.StepLaws.{reads-then, misses-first, misses-second}
+use Rattle.checker.specs.Pieces.{named-text, named-texts, roles-heading, roles-part}
 use Rattle.checker.specs.LineSteps.{named-aligned}
 use Rattle.checker.specs.RowSteps.{LinesBelow}
 
@@ -41,6 +42,21 @@ NoRoles text at permissions = (count : ℕ) (gives : ℕ → ℕ → Bool) → c
 abbrev pub RoleLinesRead : Bytes → ℕ → ℕ → List ℕ → RolesRead → Type 0
 RoleLinesRead text at permissions words (found.Roles count next) = RolesAt text at permissions words count next
 RoleLinesRead text at permissions words found.Off = NoRoles text at permissions
+
+-- block 2 was read
+pub record RolesPart (sheet : Sheet) (text : Bytes) (at : ℕ) (words : List ℕ) (count next : ℕ) : Type 0 where
+  pub few : count ≤ role-limit
+  pub reads : Reads text at (roles-part sheet count (cell words)) next
+  pub beyond : (r p : ℕ) → r < count → permission-count sheet ≤ p → p < row-bits → cell words r p ≡ false
+
+-- no block 2 stands at a place
+abbrev pub NoRolesPart : Sheet → Bytes → ℕ → Type 0
+NoRolesPart sheet text at = (count : ℕ) (gives : ℕ → ℕ → Bool) → count ≤ role-limit → Misses text at (roles-part sheet count gives)
+
+-- a step over block 2 and the empty line behind it
+abbrev pub RolesReads : Sheet → Bytes → ℕ → List ℕ → RolesRead → Type 0
+RolesReads sheet text at words (found.Roles count next) = RolesPart sheet text at words count next
+RolesReads sheet text at words found.Off = NoRolesPart sheet text at
 
 -- ---- where the lines end
 
@@ -92,3 +108,24 @@ roles-once permissions f g r count l m e =
     (listed-ended line-feed r count (λ i. named-text (role-name i) permissions (f i)) (λ i. named-text (role-name i) permissions (g i))
     (λ i h. named-aligned (role-name i) permissions (f i) (g i)) (λ i h. role-begins permissions f i) (line-feed ∷ l) m
     (sym (append-assoc (role-texts permissions f r) line-end l) ∙ e ∙ append-assoc (role-texts permissions g count) line-end m))
+
+-- ---- block 2
+
+pub no-roles-heading : (sheet : Sheet) {text : Bytes} {at : ℕ} → Misses text at (roles-heading sheet) → NoRolesPart sheet text at
+no-roles-heading sheet m count gives few = misses-first (role-texts (permission-count sheet) gives count ++ line-end) m
+
+pub heading-then-roles : (sheet : Sheet) {text : Bytes} {at mid : ℕ} (words : List ℕ) → Reads text at (roles-heading sheet) mid
+    → (r : RolesRead) → RoleLinesRead text mid (permission-count sheet) words r → RolesReads sheet text at words r
+heading-then-roles sheet words h (found.Roles count next) p =
+    record { few = p .few; reads = reads-then h (p .reads); beyond = p .beyond }
+heading-then-roles sheet words h found.Off m = λ count gives few. misses-second _ h (m count gives few)
+
+-- what follows block 2, and how many roles it has, are known
+pub roles-part-once : (sheet : Sheet) (f g : ℕ → ℕ → Bool) (r count : ℕ) (l m : Bytes)
+    → roles-part sheet r f ++ l ≡ roles-part sheet count g ++ m → (r ≡ count) × (l ≡ m)
+roles-part-once sheet f g r count l m e =
+    roles-once (permission-count sheet) f g r count l m
+    (append-cancel-left (roles-heading sheet) _ _
+    (sym (append-assoc (roles-heading sheet) (role-texts (permission-count sheet) f r ++ line-end) l)
+    ∙ e
+    ∙ append-assoc (roles-heading sheet) (role-texts (permission-count sheet) g count ++ line-end) m))

@@ -8,7 +8,7 @@ use mathlib.Core.List.{[], _∷_, _++_, append-assoc, append-cancel-left, nil≢
 use lib.ListN.{length, drop, getD, length-append, length-drop, drop-of-length-le}
 use lib.Seq.{drop-cons}
 use Rattle.lists.specs.Listed.{listed, listed-more}
-use Rattle.lists.specs.Aligned.{Aligned, listed-next}
+use Rattle.lists.specs.Aligned.{Aligned, aligned-same, listed-next}
 use Rattle.sheet.specs.Text.{Bytes}
 use Rattle.checker.specs.declared.cursor.Step.{Step}
 use Rattle.checker.specs.declared.cursor.Step.the-variants.{On, Off}
@@ -69,6 +69,11 @@ misses-next {text} {at} {next} j count f g h same p m =
       misses = λ rest e.
           (let b = listed-next j count f g h same (drop next text) rest (sym (p .reads) ∙ e) in m .misses (b .more) (b .there));
     }
+
+-- the next of parts that are known is missing
+pub misses-known : {text : Bytes} {at next : ℕ} (j count : ℕ) (f : ℕ → Bytes) → j < count → Reads text at (listed j f) next
+    → Misses text next (f j) → Misses text at (listed count f)
+misses-known j count f h p m = misses-next j count f f h (λ i l. aligned-same (f i)) p m
 
 -- with the next of parts by number there, one more is
 pub reads-more : {text : Bytes} {at next last : ℕ} (j : ℕ) (f : ℕ → Bytes) → Reads text at (listed j f) next → Reads text next (f j) last
