@@ -29,3 +29,4 @@ pub mod CellSteps
 pub mod LineSteps
 pub mod RowSteps
 pub mod RoleSteps
+pub mod UserSteps

@@ -7,6 +7,7 @@ mod limits;
 mod line;
 mod names;
 mod roles_block;
+mod users_block;
 
 pub use limits::BOOK_LIMIT;
 pub use limits::ROLE_LIMIT;
