@@ -30,3 +30,7 @@ pub mod LineSteps
 pub mod RowSteps
 pub mod RoleSteps
 pub mod UserSteps
+pub mod WitnessList
+pub mod NameFound
+pub mod WitnessLineSteps
+pub mod WitnessSteps

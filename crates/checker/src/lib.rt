@@ -8,6 +8,7 @@ mod line;
 mod names;
 mod roles_block;
 mod users_block;
+mod witness_block;
 
 pub use limits::BOOK_LIMIT;
 pub use limits::ROLE_LIMIT;

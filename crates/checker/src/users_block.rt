@@ -35,7 +35,15 @@ fn users_heading(book: &[u8], at: usize, roles: usize) -> Step
 }
 
 // Reads the line of a user into the user's row.
-fn user_line<'a>(book: &'a [u8], at: usize, sheet: &'a [u8], layout: Layout, has: &mut [u64], u: UserNo, roles: usize) -> Step
+fn user_line<'a>(
+    book: &'a [u8],
+    at: usize,
+    sheet: &'a [u8],
+    layout: Layout,
+    has: &mut [u64],
+    u: UserNo,
+    roles: usize,
+) -> Step
     requires { ⌜ (at ≤ length (now book)) × LaidOut (now sheet) layout × (u .0 < layout .users) × (roles ≤ row-bits) ⌝ }
     requires { ⌜ ((u .0 + 1) * row-words ≤ length (now has)) × Blank (now has) (u .0) ⌝ }
     ensures { λ r. ⌜ LineReads (now (book .entry)) at (user-name (sheet-of (now (sheet .entry))) (u .0)) (u .0) roles (now (has .entry)) (now (has .exit)) r ⌝ }
@@ -49,7 +57,14 @@ fn user_line<'a>(book: &'a [u8], at: usize, sheet: &'a [u8], layout: Layout, has
 }
 
 // Reads the lines of the users in order.
-fn user_lines<'a>(book: &'a [u8], at: usize, sheet: &'a [u8], layout: Layout, has: &mut [u64], roles: usize) -> Step
+fn user_lines<'a>(
+    book: &'a [u8],
+    at: usize,
+    sheet: &'a [u8],
+    layout: Layout,
+    has: &mut [u64],
+    roles: usize,
+) -> Step
     requires { ⌜ (at ≤ length (now book)) × LaidOut (now sheet) layout × (roles ≤ row-bits) ⌝ }
     requires { ⌜ (layout .users * row-words ≤ length (now has)) × AllBlank (now has) ⌝ }
     ensures { λ r. ⌜ UserLinesRead (sheet-of (now (sheet .entry))) (now (book .entry)) at roles (now (has .exit)) r ⌝ }
@@ -68,7 +83,14 @@ fn user_lines<'a>(book: &'a [u8], at: usize, sheet: &'a [u8], layout: Layout, ha
 }
 
 // Reads block 3 and the empty line behind it.
-pub fn read_users<'a>(book: &'a [u8], at: usize, sheet: &'a [u8], layout: Layout, has: &mut [u64], roles: usize) -> Step
+pub fn read_users<'a>(
+    book: &'a [u8],
+    at: usize,
+    sheet: &'a [u8],
+    layout: Layout,
+    has: &mut [u64],
+    roles: usize,
+) -> Step
     requires { ⌜ (at ≤ length (now book)) × LaidOut (now sheet) layout × (roles ≤ role-limit) ⌝ }
     requires { ⌜ (layout .users * row-words ≤ length (now has)) × AllBlank (now has) ⌝ }
     ensures { λ r. ⌜ UsersReads (sheet-of (now (sheet .entry))) (now (book .entry)) at roles (now (has .exit)) r ⌝ }

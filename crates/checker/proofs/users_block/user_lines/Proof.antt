@@ -31,8 +31,8 @@ user-line-requires c κs = (
   (c .before .before .loop .inv .2 .reads .within, c .before .before .before .before .before .before .pre .0 .1, c .before .loop-test .taken, c .before .before .before .before .before .before .pre .0 .2),
   (
     row-within (c .before .before .loop .u) (c .before .before .before .before .before .before .args .layout .users) _ (c .before .loop-test .taken) (omega (arith, c .before .before .before .before .before .before .pre .1 .0, c .before .before .loop .inv .1)),
-    c .before .before .loop .inv .2 .blank (c .before .before .loop .u) (omega arith)
-  )
+    c .before .before .loop .inv .2 .blank (c .before .before .loop .u) (omega arith),
+  ),
 )
 
 enum-known-after : tie.Need-enum-known-after Inv-loop μ-loop
