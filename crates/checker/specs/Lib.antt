@@ -34,3 +34,4 @@ pub mod WitnessList
 pub mod NameFound
 pub mod WitnessLineSteps
 pub mod WitnessSteps
+pub mod ProductWords

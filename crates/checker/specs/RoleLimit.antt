@@ -3,6 +3,7 @@ use Prim.Native.Nat.{ℕ, _+_, _*_, _≤_, _<_}
 use native.Mathlib.Nat.{mul-le-mul-right}
 use native.Mathlib.Numerals.{add-one}
 use native.Mathlib.Omega.{arith}
+use lib.Arith.{digits-lt}
 use lib.ListN.{length}
 use Rattle.sheet.specs.Limits.{permission-limit}
 use Rattle.sheet.specs.Rows.{row-words, row-bits}
@@ -26,3 +27,7 @@ row-within row rows size h k = omega (arith, mul-le-mul-right {m = row + 1} {n =
 pub permissions-fit-a-row : permission-limit ≤ row-bits
 unfolding permission-limit row-bits row-words
 permissions-fit-a-row = omega arith
+
+-- a word of a row that the words have
+pub word-below : (row rows k size : ℕ) → row < rows → k < row-words → rows * row-words ≤ size → row * row-words + k < size
+word-below row rows k size h l m = omega (arith, digits-lt h l)

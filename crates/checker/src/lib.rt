@@ -1,4 +1,5 @@
 // The checker: whether a book is right for a sheet, and its counts.
+mod agree;
 mod cells;
 mod counts_block;
 mod cursor;
@@ -6,6 +7,7 @@ mod digits;
 mod limits;
 mod line;
 mod names;
+mod product;
 mod roles_block;
 mod users_block;
 mod witness_block;
