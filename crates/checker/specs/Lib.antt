@@ -35,3 +35,4 @@ pub mod NameFound
 pub mod WitnessLineSteps
 pub mod WitnessSteps
 pub mod ProductWords
+pub mod WitnessWords

@@ -10,6 +10,7 @@ mod names;
 mod product;
 mod roles_block;
 mod users_block;
+mod witness;
 mod witness_block;
 
 pub use limits::BOOK_LIMIT;
