@@ -36,3 +36,4 @@ pub mod WitnessLineSteps
 pub mod WitnessSteps
 pub mod ProductWords
 pub mod WitnessWords
+pub mod Judged
