@@ -5,6 +5,7 @@ pub mod Below
 pub mod StepLaws
 pub mod BelowLaws
 pub mod LowestLaws
+pub mod CutLaws
 pub mod CountLaws
 pub mod CountJoinLaws
 pub mod SumLaws

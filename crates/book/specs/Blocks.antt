@@ -1,5 +1,5 @@
 -- Blocks of lines with one empty line between, as bytes and back. Assumes nothing.
-use mathlib.Core.Bool.{Bool, true, false}
+use mathlib.Core.Bool.{Bool, false}
 use mathlib.Core.List.{List, [], _∷_}
 use Rattle.lists.specs.Lists.{empty, joined, parted-by}
 use Rattle.sheet.specs.Text.{Bytes, Line, lines-of, text-of}

@@ -1,7 +1,7 @@
 -- A number's decimal is a count of the book's form, and the only count that says the number: a count is `0`, or digits that do not begin with
 -- `0`, and each digit read makes the number just as one more digit writes it.
 use Prim.Native.Nat.{ℕ, zero, suc, _+_, _-_, _*_, _≤_, _<_}
-use Prim.Native.Char.{Char, code}
+use Prim.Native.Char.{code}
 use native.Mathlib.Omega.{arith}
 use mathlib.Core.Path.{_≡_, refl, sym, ap, _∙_}
 use mathlib.Core.Logic.{_⊎_, inl, inr}

@@ -1,7 +1,7 @@
 -- A number in decimal: one digit below ten, and else the decimal of its tenth with one digit behind it. So what holds of one digit, and goes
 -- on with one more, holds of every number's decimal: it says the number, is made of digits, and is as short as the number is small.
 use Prim.Native.Nat.{ℕ, zero, suc, _+_, _-_, _*_, _/_, _%_, _^_, _≤_, _<_}
-use Prim.Native.Char.{Char, code}
+use Prim.Native.Char.{code}
 use native.Mathlib.Nat.{pow-suc}
 use native.Mathlib.Omega.{arith}
 use mathlib.Core.Path.{_≡_, refl, ap, _∙_}

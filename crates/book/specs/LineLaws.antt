@@ -2,7 +2,7 @@
 -- names first, then the lines by number; a block, then each further block behind an empty line. Assumes nothing.
 use Prim.Native.Nat.{ℕ}
 use mathlib.Core.Path.{_≡_, refl, sym, ap, _∙_}
-use mathlib.Core.List.{List, [], _∷_, _++_, map, append-assoc, append-nil}
+use mathlib.Core.List.{List, [], _∷_, _++_, map, map-append, append-assoc, append-nil}
 use lib.ListN.{length, getD}
 use Rattle.lists.specs.Lists.{list-of, joined, concat}
 use Rattle.lists.specs.JoinLaws.{concat-append}
@@ -41,12 +41,9 @@ pub block-parts : (heading : Line) (count : ℕ) (line : ℕ → Line)
     → text-of (heading ∷ list-of count line) ≡ line-text heading ++ listed count (λ i. line-text (line i))
 block-parts heading count line = ap (λ (l : List Bytes). line-text heading ++ concat l) (map-list-of line-text count line)
 
-text-append : (a b : List Line) → text-of (a ++ b) ≡ text-of a ++ text-of b
-text-append a b = ap concat (map-append a b) ∙ concat-append (map line-text a) (map line-text b)
-  where
-    map-append : (a b : List Line) → map line-text (a ++ b) ≡ map line-text a ++ map line-text b
-    map-append [] b = refl
-    map-append (line ∷ a) b = ap (λ (l : List Bytes). line-text line ∷ l) (map-append a b)
+-- lines one after the other
+pub text-append : (a b : List Line) → text-of (a ++ b) ≡ text-of a ++ text-of b
+text-append a b = ap concat (map-append line-text a b) ∙ concat-append (map line-text a) (map line-text b)
 
 -- one block before others
 blocks-parts : (block next : Block) (later : List Block)

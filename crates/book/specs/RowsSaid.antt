@@ -1,7 +1,10 @@
 -- What a book says by rows of words: the two matrices and the witness as their cells. Assumes nothing.
 use Prim.Native.Nat.{ℕ, _<_}
-use mathlib.Core.Bool.{So}
+use mathlib.Core.Bool.{Bool, So}
 use mathlib.Core.List.{List, _∷_}
+use Rattle.bits.specs.Truth.{implies, implies-elim}
+use Rattle.bits.specs.Below.{every-below}
+use Rattle.bits.specs.BelowLaws.{every-below-elim}
 use Rattle.lists.specs.Ascii.{ascii}
 use Rattle.lists.specs.Lists.{list-of}
 use Rattle.sheet.specs.Text.{Line}
@@ -47,3 +50,16 @@ shown-users sheet has count = (ascii "user" ∷ list-of count role-name) ∷ lis
 -- every cell of the sheet that is set is a grant
 pub record GrantCells (words : List ℕ) (sheet : Sheet) : Type 0 where
   pub held : (u p : ℕ) → u < user-count sheet → p < permission-count sheet → So (cell words u p) → So (holds sheet u p)
+
+-- the same as a test
+abbrev pub grant-cells : List ℕ → Sheet → Bool
+grant-cells words sheet =
+    every-below (user-count sheet) (λ u. every-below (permission-count sheet) (λ p. implies (cell words u p) (holds sheet u p)))
+
+pub grant-cells-elim : (words : List ℕ) (sheet : Sheet) → So (grant-cells words sheet) → GrantCells words sheet
+grant-cells-elim words sheet e =
+    record {
+      held = λ u p h k.
+          implies-elim (cell words u p) (holds sheet u p)
+          (every-below-elim (permission-count sheet) _ (every-below-elim (user-count sheet) _ e h) k);
+    }

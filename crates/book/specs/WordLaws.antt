@@ -1,7 +1,7 @@
 -- The words of the book's form are fields: each has a byte, and all of its bytes are bytes of a name, so none is a comma or a line feed.
 -- Two roles have two names, since a decimal count says its number.
 use Prim.Native.Nat.{ℕ, suc, _≤_, _<_, _^_}
-use Prim.Native.Char.{Char, code}
+use Prim.Native.Char.{code}
 use native.Mathlib.Omega.{arith}
 use mathlib.Core.Path.{_≡_, refl, sym, ap, _∙_}
 use mathlib.Core.Bool.{Bool, true, false, So, _||_}

@@ -1,6 +1,6 @@
 -- The words of the book's form. Assumes nothing.
 use Prim.Native.Nat.{ℕ, suc}
-use mathlib.Core.List.{List, [], _∷_, _++_}
+use mathlib.Core.List.{[], _∷_, _++_}
 use Rattle.lists.specs.Ascii.{ascii}
 use Rattle.sheet.specs.Text.{Bytes, Line}
 use Rattle.roles.specs.Roles.{Standing, witnessed, searched, unsettled}

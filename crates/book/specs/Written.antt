@@ -69,8 +69,11 @@ module _ {done next before mid : Bytes} {at : ℕ} (r : Ready done next before m
   done-fits = front-fits done next (r .fits)
 
   -- the rest starts within the buffer
+  pub place-within : at ≤ length before
+  place-within = omega (arith, r .written .counted, done-fits)
+
   pub within-buffer : at ≤ length mid
-  within-buffer = omega (arith, r .written .counted, written-length done done-fits (r .written), done-fits)
+  within-buffer = omega (arith, place-within, written-length done done-fits (r .written))
 
   -- the rest has room for what follows
   pub room-behind : length next ≤ length (rest-from at mid)
@@ -91,10 +94,12 @@ module _ {done next before mid : Bytes} {at : ℕ} (r : Ready done next before m
         counted = omega (arith, r .written .counted, v .counted);
       }
 
--- a writer's answer is within the buffer
-pub answer-within : {bytes before after : Bytes} {count : ℕ} → Written bytes before after count → length bytes ≤ length before
-    → count ≤ length before
-answer-within w fits = omega (arith, w .counted)
+  -- the end of both is within the buffer, which keeps its length
+  pub end-within : {rest : Bytes} {m : ℕ} → Written next (rest-from at mid) rest m → at + m ≤ length before
+  end-within v = omega (arith, then-written v .counted, r .fits)
+
+  pub then-same-length : {rest : Bytes} {m : ℕ} → Written next (rest-from at mid) rest m → length (with-rest at mid rest) ≡ length before
+  then-same-length v = written-length (done ++ next) (r .fits) (then-written v)
 
 -- ---- one byte more
 
@@ -122,6 +127,9 @@ module _ {done before mid : Bytes} {at b : ℕ} (r : Ready done (b ∷ []) befor
   -- a byte behind what is written
   pub then-byte : Written (done ++ b ∷ []) before (set mid at b) (at + 1)
   then-byte = byte-written done b byte-fits (r .written)
+
+  pub byte-same-length : length (set mid at b) ≡ length before
+  byte-same-length = written-length (done ++ b ∷ []) (r .fits) then-byte
 
 -- one byte more of bytes that are copied
 pub copied-byte : (bytes : Bytes) (i : ℕ) {before mid : Bytes} → i < length bytes → length bytes ≤ length before

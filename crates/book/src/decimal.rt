@@ -5,11 +5,13 @@ ghost use mathlib.Core.List.{_++_};
 ghost use Prim.Native.Nat.{_≤_, _<_};
 ghost use lib.ListN.{length};
 ghost use Rattle.book.specs.Decimal.{digit, decimal};
+ghost use Rattle.book.specs.DigitLaws.{word-digits};
+ghost use Rattle.book.specs.Measured.{Measured};
 ghost use Rattle.book.specs.Written.{Written};
 
 // How many digits n has.
 pub fn decimal_length(n: usize) -> usize
-    ensures { λ r. ⌜ r ≡ length (decimal n) ⌝ }
+    ensures { λ r. ⌜ Measured (decimal n) word-digits r ⌝ }
 {
     if n < 10 {
         return 1;

@@ -1,4 +1,5 @@
 // Role names: `R1`, `R2`, .. for the roles of number 0, 1, ..
+use crate::decimal::decimal_length;
 use crate::decimal::put_counted;
 use sheet::RoleNo;
 ghost use Prim.Native.Nat.{_≤_, _<_};
@@ -7,6 +8,8 @@ ghost use Rattle.lists.specs.Listed.{listed};
 ghost use Rattle.sheet.specs.Rows.{row-bits};
 ghost use Rattle.book.specs.Words.{role-name};
 ghost use Rattle.book.specs.LineLaws.{behind-comma};
+ghost use Rattle.book.specs.Measured.{Measured, line-most};
+ghost use Rattle.book.specs.LengthsMeasured.{role-name-most};
 ghost use Rattle.book.specs.Written.{Written};
 
 // Writes the name of a role.
@@ -37,4 +40,26 @@ pub fn put_role_fields(out: &mut [u8], roles: usize) -> usize
         i += 1;
     }
     at
+}
+
+// How long the name of a role is.
+pub fn role_name_length(role: RoleNo) -> usize
+    requires { ⌜ role .0 < row-bits ⌝ }
+    ensures { λ r. ⌜ Measured (role-name (role .0)) role-name-most r ⌝ }
+{
+    1 + decimal_length(role.0 + 1)
+}
+
+// How long the names of so many roles are, with a comma before each.
+pub fn role_fields_length(roles: usize) -> usize
+    requires { ⌜ roles ≤ row-bits ⌝ }
+    ensures { λ r. ⌜ Measured (listed roles (λ r. behind-comma (role-name r))) line-most r ⌝ }
+{
+    let mut total = 0;
+    let mut i = 0;
+    while i < roles {
+        total += 1 + role_name_length(RoleNo(i));
+        i += 1;
+    }
+    total
 }

@@ -1,6 +1,7 @@
 // Bytes into a buffer.
 ghost use Prim.Native.Nat.{_≤_};
 ghost use lib.ListN.{length};
+ghost use Rattle.book.specs.LineLaws.{behind-comma};
 ghost use Rattle.book.specs.Written.{Written};
 
 // Writes the bytes at the front of the buffer, and answers how many they are.
@@ -14,4 +15,13 @@ pub fn put_bytes(out: &mut [u8], bytes: &[u8]) -> usize
         i += 1;
     }
     i
+}
+
+// Writes a field behind a comma.
+pub fn put_field(out: &mut [u8], field: &[u8]) -> usize
+    requires { ⌜ length (behind-comma (now field)) ≤ length (now out) ⌝ }
+    ensures { λ r. ⌜ Written (behind-comma (now (field .entry))) (now (out .entry)) (now (out .exit)) r ⌝ }
+{
+    out[0] = b',';
+    1 + put_bytes(&mut out[1..], field)
 }

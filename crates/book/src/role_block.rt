@@ -1,14 +1,56 @@
 // Block 2: the permissions of each role.
 use crate::cells::put_cells;
 use crate::names::put_role_name;
+use crate::names::role_name_length;
+use crate::put::put_bytes;
+use crate::put::put_field;
+use sheet::Layout;
+use sheet::PermissionNo;
 use sheet::RoleNo;
-ghost use Prim.Native.Nat.{_+_, _*_, _≤_, _<_};
+use sheet::permission_name;
+ghost use mathlib.Core.List.{List};
+ghost use Prim.Native.Nat.{ℕ, _+_, _*_, _≤_, _<_};
 ghost use lib.ListN.{length};
 ghost use Rattle.lists.specs.Listed.{listed};
-ghost use Rattle.sheet.specs.Text.{line-text};
+ghost use Rattle.sheet.specs.Text.{line-text, text-of};
+ghost use Rattle.sheet.specs.Sheet.{sheet-of};
+ghost use Rattle.sheet.specs.LaidOut.{LaidOut};
 ghost use Rattle.sheet.specs.Rows.{row-words, row-bits};
-ghost use Rattle.book.specs.RowsSaid.{role-line};
+ghost use Rattle.book.specs.Book.{permission-name};
+ghost use Rattle.book.specs.RowsSaid.{role-line, shown-roles};
+ghost use Rattle.book.specs.LineLaws.{behind-comma};
+ghost use Rattle.book.specs.ShownLaws.{roles-heading};
+ghost use Rattle.book.specs.Measured.{Measured, line-most, block-most};
 ghost use Rattle.book.specs.Written.{Written};
+
+// Writes the permission names, a comma before each.
+fn put_permission_fields(out: &mut [u8], s: &[u8], layout: Layout) -> usize
+    requires { ⌜ LaidOut (now s) layout ⌝ }
+    requires { ⌜ length (listed (layout .permissions) (λ p. behind-comma (permission-name (sheet-of (now s)) p))) ≤ length (now out) ⌝ }
+    ensures { λ r. ⌜ Written (listed (layout .permissions) (λ p. behind-comma (permission-name (sheet-of (now (s .entry))) p)))
+        (now (out .entry)) (now (out .exit)) r ⌝ }
+{
+    let permissions = layout.permissions;
+    let mut at = 0;
+    let mut i = 0;
+    while i < permissions {
+        let name = permission_name(s, layout, PermissionNo(i));
+        at += put_field(&mut out[at..], name);
+        i += 1;
+    }
+    at
+}
+
+// Writes the line of names.
+fn put_roles_heading(out: &mut [u8], s: &[u8], layout: Layout) -> usize
+    requires { ⌜ LaidOut (now s) layout × (length (roles-heading (sheet-of (now s)) (layout .permissions)) ≤ length (now out)) ⌝ }
+    ensures { λ r. ⌜ Written (roles-heading (sheet-of (now (s .entry))) (layout .permissions)) (now (out .entry)) (now (out .exit)) r ⌝ }
+{
+    let names = put_bytes(out, b"role");
+    let end = names + put_permission_fields(&mut out[names..], s, layout);
+    out[end] = b'\n';
+    end + 1
+}
 
 // Writes the line of a role.
 fn put_role_line(out: &mut [u8], gives: &[u64], role: RoleNo, permissions: usize) -> usize
@@ -36,4 +78,61 @@ fn put_role_lines(out: &mut [u8], gives: &[u64], roles: usize, permissions: usiz
         i += 1;
     }
     at
+}
+
+// Writes block 2.
+pub fn put_roles<'a>(
+    out: &mut [u8],
+    s: &'a [u8],
+    layout: Layout,
+    gives: &'a [u64],
+    roles: usize,
+) -> usize
+    requires { ⌜ LaidOut (now s) layout × (roles ≤ row-bits) × (roles * row-words ≤ length (now gives)) ⌝ }
+    requires { ⌜ length (text-of (shown-roles (sheet-of (now s)) (now gives) roles)) ≤ length (now out) ⌝ }
+    ensures { λ r. ⌜ Written (text-of (shown-roles (sheet-of (now (s .entry))) (now (gives .entry)) roles)) (now (out .entry)) (now (out .exit)) r ⌝ }
+{
+    let lines = put_roles_heading(out, s, layout);
+    let permissions = layout.permissions;
+    lines + put_role_lines(&mut out[lines..], gives, roles, permissions)
+}
+
+// How long the permission names are, with a comma before each.
+fn permission_fields_length(s: &[u8], layout: Layout) -> usize
+    requires { ⌜ LaidOut (now s) layout ⌝ }
+    ensures { λ r. ⌜ Measured (listed (layout .permissions) (λ p. behind-comma (permission-name (sheet-of (now (s .entry))) p))) line-most r ⌝ }
+{
+    let permissions = layout.permissions;
+    let mut total = 0;
+    let mut i = 0;
+    while i < permissions {
+        let name = permission_name(s, layout, PermissionNo(i));
+        total += 1 + name.len();
+        i += 1;
+    }
+    total
+}
+
+// How long the lines of so many roles are, whatever they hold.
+fn role_lines_length(roles: usize, permissions: usize) -> usize
+    requires { ⌜ (roles ≤ row-bits) × (permissions ≤ row-bits) ⌝ }
+    ensures { λ r. ⌜ ((gives : List ℕ) → Measured (listed roles (λ r. line-text (role-line gives permissions r))) block-most r) ⌝ }
+{
+    let mut total = 0;
+    let mut i = 0;
+    while i < roles {
+        total += role_name_length(RoleNo(i)) + 2 * permissions + 1;
+        i += 1;
+    }
+    total
+}
+
+// How long block 2 is, whatever its roles hold.
+pub fn roles_length(s: &[u8], layout: Layout, roles: usize) -> usize
+    requires { ⌜ LaidOut (now s) layout × (roles ≤ row-bits) ⌝ }
+    ensures { λ r. ⌜ ((gives : List ℕ) → Measured (text-of (shown-roles (sheet-of (now (s .entry))) gives roles)) (2 * block-most) r) ⌝ }
+{
+    let permissions = layout.permissions;
+    let heading = b"role".len() + permission_fields_length(s, layout) + 1;
+    heading + role_lines_length(roles, permissions)
 }

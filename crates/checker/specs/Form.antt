@@ -12,7 +12,6 @@ use Rattle.sheet.specs.Limits.{permission-limit}
 use Rattle.sheet.specs.Text.{Bytes, Line, line-feed}
 use Rattle.sheet.specs.Sheet.{Sheet, Grant, first-field, first-line, is-one, user-count, permission-count}
 use Rattle.sheet.specs.Refusal.{last-byte, is-bit, same-name}
-use Rattle.roles.specs.RoleSet.{RoleSet}
 use Rattle.roles.specs.Roles.{Standing, witnessed, searched, unsettled}
 use Rattle.book.specs.Decimal.{is-count}
 use Rattle.book.specs.Words.{standing-word, role-name, counts-heading, witness-heading}
@@ -23,7 +22,7 @@ use Rattle.book.specs.Book.{Said, user-name}
 unfoldable pub book-limit : ℕ
 book-limit = 65_536
 
--- the most roles of a book: as many as permissions, since no cover needs more
+-- the most roles of a book: the most permissions of a sheet, since no cover needs more
 unfoldable pub role-limit : ℕ
 unfolding permission-limit
 role-limit = permission-limit
@@ -63,7 +62,7 @@ counts-form block =
 abbrev pub cells-line : Line → ℕ → Bool
 cells-line line count = eqb (length line) (suc count) && all is-bit (tail line)
 
--- block 2: `role` and the sheet's permissions in order, then up to 64 lines of the roles `R1`, `R2`, .. in order
+-- block 2: `role` and the sheet's permissions in order, then lines of the roles `R1`, `R2`, .. in order, at most as many as the limit
 unfoldable pub roles-form : Sheet → Block → Bool
 unfolding role-limit role-name
 roles-form sheet block =

@@ -1,7 +1,7 @@
 -- What makes a book right, from what a book says to its bytes: no reading is involved. Assumes nothing.
 use Prim.Native.Nat.{ℕ, _≤_, _<_}
 use mathlib.Core.Path.{_≡_}
-use mathlib.Core.Bool.{Bool, So, false}
+use mathlib.Core.Bool.{So, false}
 use mathlib.Core.List.{List, List·Memᴰ}
 use lib.ListN.{length}
 use Rattle.sheet.specs.Text.{Bytes}

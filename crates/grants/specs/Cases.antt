@@ -7,7 +7,7 @@ use mathlib.Core.Bool.{Bool, true, false}
 use mathlib.Core.List.{List, [], _∷_, map}
 use Rattle.lists.specs.Ascii.{ascii}
 use Rattle.sheet.specs.Sheet.{Sheet, Grant}
-use Rattle.grants.specs.Reduction.{Removal, single, tied, Reduction, reduction}
+use Rattle.grants.specs.Reduction.{Removal, single, tied, reduction}
 use Rattle.grants.specs.Witness.{witness}
 
 -- a sheet of these rows

@@ -1,5 +1,4 @@
 -- Fitting grants (adjacent in the edge dual). Assumes nothing.
-use Prim.Native.Nat.{ℕ}
 use mathlib.Core.Bool.{Bool, _&&_, not}
 use mathlib.Core.List.{List}
 use Rattle.lists.specs.Lists.{any, filter}

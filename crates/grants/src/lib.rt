@@ -1,1 +1,31 @@
-// Fit, reduction, witness and first cover.
+// Grants over rows of words: which fit, the reduction with its log, the witness and the first cover.
+mod cell;
+mod choice;
+mod cover;
+mod fit;
+mod judgement;
+mod kernel;
+mod reduction;
+mod sets;
+mod table;
+mod witness;
+
+pub use cell::CellNo;
+pub use cell::ROW_BITS;
+pub use cover::Placement;
+pub use cover::first_best;
+pub use fit::fitting;
+pub use fit::partners;
+pub use kernel::Kernel;
+pub use kernel::listed;
+pub use kernel::permission_of;
+pub use kernel::user_of;
+pub use reduction::Reduced;
+pub use reduction::reduce;
+pub use table::TABLE_LIMIT;
+pub use table::TABLE_ROW;
+pub use table::TABLE_WORDS;
+pub use table::fit_table;
+pub use witness::Witness;
+pub use witness::single_cells;
+pub use witness::witness_of;

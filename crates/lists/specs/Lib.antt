@@ -5,7 +5,9 @@ pub mod AppendLaws
 pub mod Ordered
 pub mod ReverseLaws
 pub mod OrderedUnique
+pub mod OrderedMap
 pub mod FilterLength
+pub mod FilterSame
 pub mod Distinct
 pub mod LeastLaws
 pub mod DropLaws
@@ -13,6 +15,7 @@ pub mod Span
 pub mod CutLaws
 pub mod JoinLaws
 pub mod ListOfLaws
+pub mod FilterLaws
 pub mod Listed
 pub mod Aligned
 pub mod EachLaws
@@ -25,7 +28,12 @@ pub mod Classing
 pub mod GrownLaws
 pub mod PlacementLaws
 pub mod GroupingLaws
+pub mod SameGrouping
+pub mod LatestFirst
+pub mod LeastLast
 pub mod KeyLaws
+pub mod KeyStep
 pub mod Beginning
 pub mod Lexicographic
 pub mod Ascii
+pub mod PassingBelow

@@ -49,3 +49,16 @@ module _ {A : Type 0} where
         h count (omega arith),
         listed-length count most f (λ i l. h i (omega arith)),
       )
+
+  -- parts of one length
+  pub listed-even : (count each : ℕ) (f : ℕ → List A) → ((i : ℕ) → i < count → length (f i) ≡ each) → length (listed count f) ≡ count * each
+  listed-even zero each f h = omega arith
+  listed-even (suc count) each f h =
+      omega (
+        arith,
+        suc-mul count each,
+        ap length (listed-suc count f),
+        length-append (listed count f) (f count),
+        h count (omega arith),
+        listed-even count each f (λ i l. h i (omega arith)),
+      )

@@ -2,7 +2,7 @@
 use Prim.Native.Nat.{ℕ, zero, suc, max}
 use mathlib.Core.Bool.{Bool, true, _&&_, _||_, not}
 use mathlib.Core.List.{List, [], _∷_}
-use mathlib.Core.Option.{Option, Option·getD}
+use mathlib.Core.Option.{Option·getD}
 use lib.Dec.{eqb}
 use lib.ListN.{length}
 use Rattle.bits.specs.Below.{lowest-below}

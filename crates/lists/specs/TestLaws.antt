@@ -1,18 +1,18 @@
 -- What a passed or failed test over a list says of its members, and back. Each law is an induction on the list: a member of
 -- `a ∷ rest` is a, or is a member of rest. Assumes nothing.
-use Prim.Native.Nat.{ℕ, zero, suc, _≤_, _<_}
-use native.Mathlib.Nat.{le-refl, le-step, le-of-suc-le-suc, not-suc-le-zero}
+use Prim.Native.Nat.{ℕ, zero, suc, _<_}
+use native.Mathlib.Nat.{le-of-suc-le-suc, not-suc-le-zero}
 use native.Mathlib.Omega.{arith}
-use mathlib.Core.Path.{_≡_, refl, sym, ap, _∙_}
+use mathlib.Core.Path.{_≡_, refl, sym}
 use mathlib.Core.Logic.{_⊎_, inl, inr, ⊎-elim}
-use mathlib.Core.Bool.{Bool, true, false, So, _&&_, _||_, not, false≢true}
+use mathlib.Core.Bool.{Bool, true, false, So, false≢true}
 use mathlib.Core.List.{List, [], _∷_, List·Memᴰ, List·Memᴰ·head, List·Memᴰ·tail, List·Memᴰ·not-nil, List·Memᴰ·cases-cons, Memᴰ·cast}
-use mathlib.Core.Option.{Option, none, some}
+use mathlib.Core.Option.{none, some}
 use borrow.Author.Tests.{eqb-true, eq-eqb}
 use lib.Dec.{eqb}
 use lib.ListN.{length, getD}
-use Rattle.bits.specs.Truth.{passes-or-fails, not-both, fails-unless, and-intro, and-left, and-right, or-left, or-right, or-cases}
-use Rattle.lists.specs.Lists.{any, all, keep, filter, or-later, first, same-by, same-bytes}
+use Rattle.bits.specs.Truth.{not-both, fails-unless, and-intro, and-left, and-right, or-left, or-right, or-cases}
+use Rattle.lists.specs.Lists.{any, all, keep, filter, first, same-bytes}
 
 module _ {A : Type 0} where
   pub all-intro : (test : A → Bool) (l : List A) → ((a : A) → List·Memᴰ a l → So (test a)) → So (all test l)

@@ -1,5 +1,5 @@
 -- The terms of the argument: a sheet of even rows, a classing of some grants, and grants of which no two fit.
-use Prim.Native.Nat.{ℕ, _≤_, _<_}
+use Prim.Native.Nat.{ℕ, _<_}
 use mathlib.Core.Path.{_≡_}
 use mathlib.Core.Bool.{Bool, So, false}
 use mathlib.Core.List.{List, List·Memᴰ}

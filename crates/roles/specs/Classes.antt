@@ -1,10 +1,10 @@
 -- The classes of all grants: the kernel's placement, and the removals gone back over. Assumes nothing.
 use Prim.Native.Nat.{ℕ, suc}
-use mathlib.Core.Bool.{Bool, cond}
+use mathlib.Core.Bool.{cond}
 use mathlib.Core.List.{List, [], _∷_, reverse}
 use Rattle.lists.specs.Placement.{used}
-use Rattle.sheet.specs.Sheet.{Sheet, Grant, same-grant}
-use Rattle.grants.specs.Reduction.{Removal, single, tied, Reduction, reduction}
+use Rattle.sheet.specs.Sheet.{Grant, same-grant}
+use Rattle.grants.specs.Reduction.{Removal, single, tied, Reduction}
 
 -- a grant with its class
 pub record Classed : Type 0 where

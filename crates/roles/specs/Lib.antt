@@ -7,3 +7,13 @@ pub mod RoleLaws
 pub mod RoleRows
 pub mod Cases
 pub mod StandingCases
+pub mod CellClasses
+pub mod CellClassLaws
+pub mod GoingBack
+pub mod RoleNumbers
+pub mod RoleNumberLaws
+pub mod RoleMatrices
+pub mod RolesShown
+pub mod RolesInput
+pub mod RolesInputLaws
+pub mod ReducedBelongs

@@ -1,6 +1,6 @@
 -- The roles of a placement of the kernel, the state and the bound. Assumes nothing.
 use Prim.Native.Nat.{ℕ}
-use mathlib.Core.Bool.{Bool, true, false, _&&_, cond}
+use mathlib.Core.Bool.{Bool, _&&_, cond}
 use mathlib.Core.List.{List, reverse}
 use lib.Dec.{eqb}
 use lib.ListN.{length}
@@ -12,7 +12,7 @@ use Rattle.grants.specs.Witness.{witness}
 use Rattle.grants.specs.Cover.{grant-at, fit-at, first-best}
 use Rattle.search.specs.Machine.{Kernel, State, start}
 use Rattle.roles.specs.RoleSet.{RoleSet}
-use Rattle.roles.specs.Classes.{Classed, Classes, paired, class-of, classes-of}
+use Rattle.roles.specs.Classes.{Classed, paired, class-of, classes-of}
 
 -- two grants of a list, by number: they are of one class
 abbrev pub class-at : List Grant → List Classed → ℕ → ℕ → Bool
@@ -58,7 +58,7 @@ unfoldable pub start-of : Sheet → State
 unfolding kernel-of first-best
 start-of sheet = start (kernel-of sheet) (first-best sheet)
 
--- the state that a search names and a book says
+-- the state that a search names and a book says; the word `open` is reserved in this language, so its case is called `unsettled`
 pub data Standing : Type 0 where
   witnessed : Standing
   searched : Standing

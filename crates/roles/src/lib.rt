@@ -1,6 +1,16 @@
-// Roles from a placement of the kernel.
+// Roles from a placement of the kernel: the classes of all grants, the roles by their lowest grant and their two
+// matrices; and the state and the bound of a book.
+mod classes;
+mod limits;
+mod matrices;
+mod numbers;
+mod rows;
 mod standing;
 
+pub use limits::ROLE_LIMIT;
+pub use limits::ROLE_WORDS;
+pub use matrices::RoleMatrices;
+pub use matrices::roles_of;
 pub use standing::Standing;
 pub use standing::bound_of;
 pub use standing::standing_of;

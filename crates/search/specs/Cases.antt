@@ -3,13 +3,13 @@
 -- though class 1 is below the new count: a machine that holds only the class and not the classes in use below it goes on there.
 use Prim.Native.Nat.{ℕ}
 use mathlib.Core.Path.{_≡_, refl}
-use mathlib.Core.Bool.{Bool, true, false, not}
+use mathlib.Core.Bool.{Bool, true, false}
 use mathlib.Core.List.{List, [], _∷_, map}
 use lib.Dec.{eqb}
-use lib.ListN.{getD, length}
+use lib.ListN.{getD}
 use Rattle.bits.specs.Below.{lowest-below}
 use Rattle.lists.specs.Lists.{any}
-use Rattle.search.specs.Machine.{Kernel, State, Ran, start, run, depth}
+use Rattle.search.specs.Machine.{Kernel, Ran, start, run, depth}
 
 -- with which of the kernel each grant fits
 fitting : List (List ℕ)

@@ -1,4 +1,5 @@
--- The search machine: its state, one step, a search within a budget; and what holds of every run.
+-- The search machine: its state, one step, a search within a budget; and what holds of every run. From `Marks` on: what the words and bytes of the
+-- code stand for (`View`), and why a step and a run of the code are the machine's.
 pub mod Machine
 pub mod Budget
 pub mod Cases
@@ -12,3 +13,15 @@ pub mod Complete
 pub mod Potential
 pub mod Progress
 pub mod Rising
+pub mod SameFit
+pub mod Marks
+pub mod MarkLaws
+pub mod View
+pub mod Gathered
+pub mod PlacedLaws
+pub mod TrailLaws
+pub mod ChoiceLaws
+pub mod ClassEnd
+pub mod Moves
+pub mod Running
+pub mod Carried

@@ -3,25 +3,21 @@
 -- written, its bound is a bound for every role set, and unless it is open no role set has fewer roles.
 use Prim.Native.Nat.{ℕ, _≤_}
 use native.Mathlib.Omega.{arith}
-use mathlib.Core.Path.{_≡_, refl, sym, ap, _∙_}
+use mathlib.Core.Path.{_≡_, ap, _∙_}
 use mathlib.Core.Bool.{So}
-use mathlib.Core.List.{List·Memᴰ}
 use mathlib.Core.Logic.{_⊎_, inl, inr, _≢_}
-use lib.ListN.{length}
 use Rattle.sheet.specs.Text.{Bytes}
-use Rattle.sheet.specs.Sheet.{Sheet, Grant, sheet-of}
+use Rattle.sheet.specs.Sheet.{Sheet, sheet-of}
 use Rattle.sheet.specs.Refusal.{accepted}
 use Rattle.sheet.specs.GrantLaws.{grant-held}
 use Rattle.sheet.specs.Accepted.{accepted-keeps}
 use Rattle.grants.specs.Witness.{witness}
-use Rattle.search.specs.Machine.{State}
 use Rattle.roles.specs.RoleSet.{RoleSet, Multiplies}
-use Rattle.roles.specs.Roles.{Standing, witnessed, searched, unsettled, role-count, standing, bound, kernel-of, start-of}
+use Rattle.roles.specs.Roles.{Standing, witnessed, searched, unsettled, role-count, standing, bound}
 use Rattle.book.specs.Decimal.{number-of}
 use Rattle.book.specs.DecimalLaws.{number-of-decimal}
 use Rattle.book.specs.Book.{said-in, book}
 use Rattle.checker.specs.Form.{role-limit, said}
-use Rattle.checker.specs.Check.{held}
 use Rattle.checker.specs.Right.{Stands}
 use Rattle.checker.specs.ReadBack.{SaysSame}
 use Rattle.checker.specs.Exact.{reads-books}

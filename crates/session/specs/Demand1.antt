@@ -2,14 +2,13 @@
 -- the call's definition takes the branch that returns the number alone and changes nothing.
 use Prim.Native.Nat.{ℕ}
 use mathlib.Core.Path.{_≡_, refl, sym, ap, _∙_}
-use mathlib.Core.Bool.{Bool, true, false, So, cond}
+use mathlib.Core.Bool.{Bool, true, false, So}
 use mathlib.Core.List.{List}
 use mathlib.Core.Logic.{_≢_, ⊎-elim}
-use borrow.Author.Tests.{eqb-true, eq-eqb, ne-eqb}
+use borrow.Author.Tests.{eqb-true, ne-eqb}
 use lib.Dec.{eqb}
 use Rattle.bits.specs.Truth.{passes-or-fails}
 use Rattle.sheet.specs.Text.{Bytes}
-use Rattle.sheet.specs.Sheet.{sheet-of}
 use Rattle.sheet.specs.Refusal.{Cause, first-number, sheet-causes, refusal, accepted}
 use Rattle.sheet.specs.CauseLaws.{rising, none-lower, some-applies, sheet-causes-rise}
 use Rattle.checker.specs.Check.{CheckAnswer, check, check-causes, check-refused, book-causes, Checks}

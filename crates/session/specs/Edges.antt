@@ -2,7 +2,7 @@
 use Prim.Native.Nat.{ℕ}
 use mathlib.Core.Path.{_≡_, refl}
 use mathlib.Core.List.{List, [], _∷_, map}
-use mathlib.Core.Option.{Option, none, some}
+use mathlib.Core.Option.{some}
 use Rattle.bits.specs.Below.{lowest-below}
 use Rattle.lists.specs.Ascii.{ascii}
 use Rattle.sheet.specs.Text.{Bytes}

@@ -15,8 +15,8 @@ use Rattle.roles.specs.Roles.{standing, unsettled}
 use Rattle.book.specs.Book.{book}
 use Rattle.checker.specs.Form.{book-limit, said}
 use Rattle.session.specs.Session.{Session, no-sheet, loaded, SearchAnswer, search-answer, searched-on, WriteAnswer, session-book, write-answer, Searches, Writes}
-use Rattle.session.specs.Sequence.{Call, load, search, write, Written, Event, Happens, Outcome, Led, last-accepted, budgets-given, calls, brought-out}
-use Rattle.session.specs.Demands.{Believed, Ended, SearchOwed, WriteOwed, BookOwed, Owed, OwedOfAll, Demand3}
+use Rattle.session.specs.Sequence.{Call, load, search, write, Written, Happens, Outcome, last-accepted, budgets-given, calls, brought-out}
+use Rattle.session.specs.Demands.{Believed, Ended, SearchOwed, WriteOwed, BookOwed, Owed, Demand3}
 use Rattle.session.specs.Answers.{load-owed, sheetless-search, sheetless-write, loaded-search, loaded-book, loaded-write, brings-the-book}
 use Rattle.session.specs.Settled.{ended-settles}
 use Rattle.session.specs.Reached.{reached, reached-further, session-of, session-after, led-session, last-is-accepted}

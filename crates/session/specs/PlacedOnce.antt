@@ -2,13 +2,13 @@
 -- one that a single run from the start comes to, and along a run the placed lists rise.
 use Prim.Native.Nat.{ℕ, suc, _≤_, _<_}
 use native.Mathlib.Omega.{arith}
-use mathlib.Core.Path.{_≡_, refl, sym, ap, _∙_}
+use mathlib.Core.Path.{_≡_, ap}
 use mathlib.Core.Logic.{_≢_, ⊎-elim}
 use Rattle.bits.specs.BelowLaws.{below-or-from}
 use Rattle.sheet.specs.Text.{Bytes}
 use Rattle.sheet.specs.Sheet.{sheet-of}
 use Rattle.grants.specs.Cover.{first-best}
-use Rattle.search.specs.Machine.{State, Ran, depth, run, start, search-limit}
+use Rattle.search.specs.Machine.{Ran, depth, run, start, search-limit}
 use Rattle.search.specs.Runs.{search-within, search-above}
 use Rattle.search.specs.Rising.{placed-once}
 use Rattle.roles.specs.Roles.{kernel-of, start-of}

@@ -4,10 +4,10 @@ use Prim.Native.Nat.{ℕ, _+_}
 use native.Mathlib.Nat.{add-comm}
 use native.Mathlib.Omega.{arith}
 use mathlib.Core.Path.{_≡_, refl, sym, ap, _∙_}
-use mathlib.Core.Bool.{Bool, true, false, So, cond}
+use mathlib.Core.Bool.{Bool, true, false, So}
 use mathlib.Core.List.{List, [], _∷_}
 use mathlib.Core.Option.{Option, none, some}
-use mathlib.Core.Logic.{_⊎_, inl, inr, ⊎-elim}
+use mathlib.Core.Logic.{⊎-elim}
 use Rattle.bits.specs.Truth.{passes-or-fails}
 use Rattle.bits.specs.BelowLaws.{below-or-from}
 use Rattle.sheet.specs.Text.{Bytes}
@@ -17,7 +17,7 @@ use Rattle.search.specs.Machine.{Kernel, State, Ran, no-step, search-limit}
 use Rattle.search.specs.Machine
 use Rattle.search.specs.Runs.{run-none, search-within, search-above, search-add}
 use Rattle.roles.specs.Roles.{kernel-of, start-of}
-use Rattle.session.specs.Session.{Session, no-sheet, loaded, fresh, searched-on, after-load, after-search}
+use Rattle.session.specs.Session.{Session, no-sheet, loaded, searched-on, after-load, after-search}
 use Rattle.session.specs.Sequence.{Call, load, search, write, Event, Happens, Outcome, Led, last-accepted, budgets-given, calls}
 
 -- the machine's state on an accepted sheet once so much budget was given

@@ -1,7 +1,7 @@
 -- Sequences of calls on one session from a fresh one, the last accepted load, the budgets given and the books brought out. Assumes nothing.
 use Prim.Native.Nat.{ℕ, _+_}
 use mathlib.Core.Path.{_≡_}
-use mathlib.Core.Bool.{Bool, true, false, cond}
+use mathlib.Core.Bool.{cond}
 use mathlib.Core.List.{List, [], _∷_, map}
 use mathlib.Core.Option.{Option, none, some}
 use lib.ListN.{take}
@@ -9,7 +9,7 @@ use Rattle.sheet.specs.Text.{Bytes}
 use Rattle.sheet.specs.Refusal.{accepted}
 use Rattle.session.specs.Session.{Session, fresh, LoadAnswer, SearchAnswer, WriteAnswer, Loads, Searches, Writes}
 
--- a load brings its own sheet, a search its budget, a writing its own buffer
+-- a load brings its own sheet, a search its budget, a writing its own buffer; a check has no session and changes nothing between any two
 pub data Call : Type 0 where
   load : Bytes → Call
   search : ℕ → Call

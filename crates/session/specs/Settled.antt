@@ -7,10 +7,9 @@ use mathlib.Core.Logic.{_≢_}
 use lib.Dec.{eqb}
 use lib.ListN.{length}
 use Rattle.sheet.specs.Text.{Bytes}
-use Rattle.sheet.specs.Sheet.{Sheet, sheet-of}
+use Rattle.sheet.specs.Sheet.{sheet-of}
 use Rattle.grants.specs.Witness.{witness}
 use Rattle.grants.specs.Cover.{first-best}
-use Rattle.search.specs.Machine.{State}
 use Rattle.search.specs.Progress.{enough-ends-search}
 use Rattle.roles.specs.Roles.{unsettled, standing-of, kernel-of, start-of, role-count, standing}
 use Rattle.session.specs.Session.{searched-on}

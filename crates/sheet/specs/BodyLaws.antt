@@ -2,7 +2,7 @@
 use Prim.Native.Nat.{ℕ, suc, _+_, _≤_, _<_}
 use native.Mathlib.Nat.{zero-add}
 use native.Mathlib.Omega.{arith}
-use mathlib.Core.Path.{_≡_, refl, sym, ap, _∙_}
+use mathlib.Core.Path.{_≡_, refl, sym, _∙_}
 use mathlib.Core.Bool.{_&&_, and-true, and-assoc}
 use mathlib.Core.List.{List, [], _∷_, tail}
 use lib.Dec.{eqb}
@@ -13,9 +13,8 @@ use Rattle.sheet.specs.Text.{Bytes, Line, lines-of}
 use Rattle.sheet.specs.Sheet.{first-field}
 use Rattle.sheet.specs.Refusal.{is-bit, name-length}
 use Rattle.sheet.specs.Places.{part}
-use Rattle.sheet.specs.FieldLaws.{line-fields, after-line, first-line-read}
+use Rattle.sheet.specs.FieldLaws.{line-fields, first-line-read}
 use Rattle.sheet.specs.ReadLine.{ReadLine}
-use Rattle.sheet.specs.Cells.{ones-in}
 use Rattle.sheet.specs.Body.{no-lines, add-read-line, add-line, add-lines, ones-after-names, body-of}
 use Rattle.sheet.specs.declared.line.LineRead.{LineRead}
 use Rattle.sheet.specs.declared.body.Body.{Body}

@@ -1,7 +1,7 @@
 -- What the fields after the first of a line say, taken together, one field after the other. Assumes nothing.
 use Prim.Native.Nat.{ℕ, _+_}
 use mathlib.Core.Bool.{true, _&&_}
-use mathlib.Core.List.{List, [], _∷_}
+use mathlib.Core.List.{[], _∷_}
 use lib.ListN.{length}
 use Rattle.bits.specs.Below.{one-if}
 use Rattle.lists.specs.Lists.{all}

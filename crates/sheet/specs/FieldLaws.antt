@@ -1,22 +1,20 @@
 -- What reading the field at a cursor leaves of a line. A field ends at the first comma or line feed: after a comma the fields of the line go on,
 -- after a line feed and at the end of the text there is none. The laws follow the bytes up to there, one by one. Assumes nothing.
 use Prim.Native.Nat.{ℕ, suc, _+_, _-_, _≤_, _<_, min}
-use native.Mathlib.Nat.{add-zero}
 use native.Mathlib.Numerals.{add-one}
 use native.Mathlib.Omega.{arith}
 use mathlib.Core.Path.{_≡_, refl, sym, ap, _∙_}
 use mathlib.Core.Logic.{⊎-elim}
-use mathlib.Core.Bool.{Bool, true, false, So, not, _||_}
-use mathlib.Core.List.{List, [], _∷_, map}
+use mathlib.Core.Bool.{Bool, true, false, not}
+use mathlib.Core.List.{[], _∷_, map}
 use borrow.Author.Tests.{eqb-true, eqb-false, ne-eqb}
 use lib.Dec.{eqb}
 use lib.ListN.{length, getD, take, drop, length-drop, List·getD-eq-default}
-use lib.Seq.{drop-drop, getD-drop, drop-cons}
+use lib.Seq.{drop-drop, getD-drop}
 use Rattle.bits.specs.Truth.{passes-or-fails, not-both}
 use Rattle.bits.specs.BelowLaws.{below-or-from}
-use Rattle.lists.specs.Lists.{cut}
-use Rattle.lists.specs.Span.{further, span, span-within, ended-first}
-use Rattle.sheet.specs.Text.{Bytes, Line, comma, line-feed, fields, lines, lines-of}
+use Rattle.lists.specs.Span.{span, span-within, ended-first}
+use Rattle.sheet.specs.Text.{Bytes, Line, comma, line-feed, fields, lines-of}
 use Rattle.sheet.specs.Fields.{separator, field-from, field-read}
 use Rattle.sheet.specs.Places.{part}
 use Rattle.sheet.specs.declared.cursor.FieldRead.{FieldRead}

@@ -1,15 +1,11 @@
 -- Reading field after field with a cursor. A field ends at the first comma or line feed; after a comma the line goes on, after a line feed and at
 -- the end of the text it does not. The laws follow the bytes up to there, one by one. Assumes nothing.
-use Prim.Native.Nat.{ℕ, suc, _+_, _≤_, _<_, min}
-use mathlib.Core.Path.{_≡_, refl}
-use mathlib.Core.Bool.{Bool, true, false, not, _||_}
-use mathlib.Core.List.{List, [], _∷_}
+use Prim.Native.Nat.{ℕ, _+_, min}
+use mathlib.Core.Bool.{Bool, not, _||_}
 use lib.Dec.{eqb}
-use lib.ListN.{length, getD, take, drop}
-use Rattle.lists.specs.Lists.{cut}
-use Rattle.lists.specs.Span.{further, span}
-use Rattle.sheet.specs.Text.{Bytes, Line, comma, line-feed, fields, lines-of}
-use Rattle.sheet.specs.declared.cursor.Cursor.{Cursor}
+use lib.ListN.{length, getD, drop}
+use Rattle.lists.specs.Span.{span}
+use Rattle.sheet.specs.Text.{Bytes, comma, line-feed}
 use Rattle.sheet.specs.declared.cursor.FieldRead.{FieldRead}
 
 -- a byte ends a field

@@ -4,7 +4,6 @@ use mathlib.Core.Path.{_≡_, refl}
 use mathlib.Core.Option.{Option, none, some}
 use Rattle.sheet.specs.NamesAt.{found}
 use Rattle.sheet.specs.LaidOut.{found-user, found-permission}
-use Rattle.sheet.specs.declared.lookup.Found.{Found}
 use Rattle.sheet.specs.declared.lookup.Found.the-variants.{At, Nothing}
 use Rattle.sheet.specs.declared.layout.FoundUser.the-variants as user
 use Rattle.sheet.specs.declared.layout.FoundPermission.the-variants as permission

@@ -17,7 +17,7 @@ use Rattle.lists.specs.TailLaws.{length-tail}
 use Rattle.sheet.specs.Limits.{permission-limit, user-limit, grant-limit}
 use Rattle.sheet.specs.Text.{Bytes, Line, comma, line-feed, between, fields, lines, lines-of}
 use Rattle.sheet.specs.Sheet.{first-field, sheet-of, grants}
-use Rattle.sheet.specs.Refusal.{too-long, bad-bytes, bad-first-line, bad-line-count, name-length, bad-name, uneven-line, bad-cell, same-name, name-twice, too-many-grants, refuse-if, sheet-causes, refusal}
+use Rattle.sheet.specs.Refusal.{too-long, bad-bytes, bad-first-line, bad-line-count, name-length, bad-name, uneven-line, bad-cell, same-name, name-twice, too-many-grants, refuse-if, refusal}
 use Rattle.sheet.specs.Places.{part}
 use Rattle.sheet.specs.FieldLaws.{line-fields, first-line-read}
 use Rattle.sheet.specs.ReadLine.{ReadLine}

@@ -1,13 +1,13 @@
 -- What was read of an accepted sheet is its layout: its first line gives the permissions, the lines after it the users, and the limits leave room
 -- for the places of both. Assumes nothing.
-use Prim.Native.Nat.{ℕ, suc, _≤_, _<_}
+use Prim.Native.Nat.{_≤_}
 use native.Mathlib.Omega.{arith}
 use mathlib.Core.Path.{_≡_, refl, sym, ap, _∙_}
 use mathlib.Core.Bool.{So}
-use mathlib.Core.List.{List, [], _∷_, map, tail}
-use lib.ListN.{length, getD, drop, length-map}
+use mathlib.Core.List.{map, tail}
+use lib.ListN.{length, length-map}
 use Rattle.sheet.specs.Limits.{permission-limit, user-limit}
-use Rattle.sheet.specs.Text.{Bytes, Line, lines-of}
+use Rattle.sheet.specs.Text.{Bytes}
 use Rattle.sheet.specs.Sheet.{first-field, sheet-of, user-count, permission-count}
 use Rattle.sheet.specs.Refusal.{accepted}
 use Rattle.sheet.specs.ByteCauses.{good-bytes}

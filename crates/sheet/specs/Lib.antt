@@ -22,6 +22,7 @@ pub mod JudgeLaws
 pub mod PlacesLaws
 pub mod UserPlaces
 pub mod UserPlacesLaws
+pub mod FieldsLeft
 pub mod PermissionPlacesLaws
 pub mod NamesAt
 pub mod NamesAtLaws
@@ -29,6 +30,10 @@ pub mod LaidOut
 pub mod LaidOutLaws
 pub mod FoundLaws
 pub mod RowsRead
+pub mod CellAdded
+pub mod CellLaws
+pub mod RowLaws
+pub mod RowsReadLaws
 pub mod TextLaws
 pub mod CauseLaws
 pub mod SheetLines

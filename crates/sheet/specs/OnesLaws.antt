@@ -1,14 +1,14 @@
 -- The grants of a sheet are as many as the fields after the user names that are `1`: each such field adds one grant to those of its row. Assumes nothing.
 use Prim.Native.Nat.{ℕ, suc, _+_}
 use native.Mathlib.Omega.{arith}
-use mathlib.Core.Path.{_≡_, refl, sym, ap, _∙_}
+use mathlib.Core.Path.{_≡_, refl, ap, _∙_}
 use mathlib.Core.Bool.{Bool, true, false}
-use mathlib.Core.List.{List, [], _∷_, _++_, map, tail}
+use mathlib.Core.List.{List, [], _∷_, map, tail}
 use lib.ListN.{length, length-append}
 use Rattle.bits.specs.Below.{one-if}
 use Rattle.lists.specs.Lists.{keep}
 use Rattle.sheet.specs.Text.{Line}
-use Rattle.sheet.specs.Sheet.{Grant, is-one, grants-of-row, grants-of-rows}
+use Rattle.sheet.specs.Sheet.{is-one, grants-of-row, grants-of-rows}
 use Rattle.sheet.specs.Cells.{ones-in}
 use Rattle.sheet.specs.Body.{ones-after-names}
 

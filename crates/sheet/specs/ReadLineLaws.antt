@@ -2,7 +2,7 @@
 -- more field moves it from the second group to the first. Assumes nothing.
 use Prim.Native.Nat.{ℕ, suc, _+_, _≤_, _<_}
 use native.Mathlib.Omega.{arith}
-use mathlib.Core.Path.{_≡_, refl, sym, ap, _∙_}
+use mathlib.Core.Path.{_≡_, refl, sym, _∙_}
 use mathlib.Core.Bool.{Bool, true, false}
 use mathlib.Core.List.{tail}
 use lib.ListN.{length, drop}
@@ -10,7 +10,7 @@ use Rattle.sheet.specs.Text.{Bytes}
 use Rattle.sheet.specs.Sheet.{first-field, is-one}
 use Rattle.sheet.specs.Fields.{field-read}
 use Rattle.sheet.specs.Places.{part, Part}
-use Rattle.sheet.specs.FieldLaws.{line-fields, after-line, later-fields, after-field, FieldStep, field-step}
+use Rattle.sheet.specs.FieldLaws.{line-fields, after-line, later-fields, after-field, field-step}
 use Rattle.sheet.specs.Cells.{no-cells, add-cell, add-cells, cells-of}
 use Rattle.sheet.specs.CellsLaws.{one-if-small, cells-added}
 use Rattle.sheet.specs.declared.cells.Cells.{Cells}

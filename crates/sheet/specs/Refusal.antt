@@ -3,12 +3,12 @@ use Prim.Native.Nat.{ℕ, suc}
 use mathlib.Core.Bool.{Bool, true, false, _&&_, _||_, not}
 use mathlib.Core.List.{List, [], _∷_, tail}
 use lib.Dec.{eqb, ltb}
-use lib.ListN.{length, getD}
+use lib.ListN.{length}
 use Rattle.lists.specs.Ascii.{ascii}
 use Rattle.lists.specs.Lists.{empty, all, repeats, same-bytes}
 use Rattle.sheet.specs.Limits.{sheet-limit, permission-limit, user-limit, name-limit, grant-limit}
 use Rattle.sheet.specs.Text.{Bytes, Line, between, line-feed, allowed-byte, lines-of}
-use Rattle.sheet.specs.Sheet.{Sheet, first-field, first-line, is-one, sheet-of, user-count, permission-count, grants}
+use Rattle.sheet.specs.Sheet.{Sheet, first-field, first-line, is-one, sheet-of, grants}
 
 -- the last of some bytes, 0 where there is none
 abbrev pub last-byte : Bytes → ℕ

@@ -1,6 +1,6 @@
 -- What a sheet's bytes say: the users, the permissions, who holds what, and the grants in order.
 -- Users and permissions are numbered from 0 in sheet order. Assumes nothing.
-use Prim.Native.Nat.{ℕ, zero, suc}
+use Prim.Native.Nat.{ℕ, suc}
 use mathlib.Core.Bool.{Bool, true, false, _&&_}
 use mathlib.Core.List.{List, [], _∷_, _++_, map, tail}
 use lib.Dec.{eqb}
@@ -9,7 +9,7 @@ use Rattle.lists.specs.Ascii.{ascii}
 use Rattle.lists.specs.Lists.{keep, same-bytes}
 use Rattle.sheet.specs.Text.{Bytes, Line, lines-of}
 
--- a sheet that has been read (user-permission assignment)
+-- what a sheet says (user-permission assignment)
 pub record Sheet : Type 0 where
   pub users : List Bytes
   pub permissions : List Bytes

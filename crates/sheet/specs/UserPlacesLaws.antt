@@ -4,16 +4,15 @@ use native.Mathlib.Nat.{not-suc-le-zero}
 use native.Mathlib.Omega.{arith}
 use mathlib.Core.Path.{_≡_, refl, sym, ap, _∙_}
 use mathlib.Core.Logic.{⊎-elim}
-use mathlib.Core.List.{List, [], _∷_, map, tail}
+use mathlib.Core.List.{[], _∷_, map}
 use lib.ListN.{length, getD, drop, set, drop-of-length-le, List·getD-map}
 use Rattle.bits.specs.BelowLaws.{last-or-below}
 use Rattle.lists.specs.DropLaws.{left-below, left-first, left-rest, none-left}
-use Rattle.sheet.specs.Text.{Bytes, Line, lines-of}
+use Rattle.sheet.specs.Text.{Bytes, lines-of}
 use Rattle.sheet.specs.Sheet.{first-field}
 use Rattle.sheet.specs.FieldLaws.{line-fields}
 use Rattle.sheet.specs.ReadLine.{ReadLine}
 use Rattle.sheet.specs.BodyLaws.{line-read}
-use Rattle.sheet.specs.Places.{Part}
 use Rattle.sheet.specs.PlacesLaws.{HasRoom, note-place, note-room-kept, noted-from, earlier-from, name-noted, none-noted}
 use Rattle.sheet.specs.UserPlaces.{UserPlacesBelow, UserPlaces}
 use Rattle.sheet.specs.declared.line.LineRead.{LineRead}

@@ -11,6 +11,7 @@ mod names;
 mod numbers;
 mod places;
 mod refusal;
+mod rows;
 
 pub use cursor::Cursor;
 pub use cursor::FieldRead;
@@ -37,3 +38,5 @@ pub use numbers::RoleNo;
 pub use numbers::UserNo;
 pub use places::Places;
 pub use refusal::judge;
+pub use rows::no_rows;
+pub use rows::rows_of;

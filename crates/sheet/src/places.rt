@@ -2,7 +2,6 @@
 use crate::cursor::Cursor;
 use crate::limits::USER_LIMIT;
 use crate::line::read_line;
-use crate::names::same_name;
 ghost use Prim.Native.Nat.{suc, _≤_};
 ghost use mathlib.Core.List.{tail};
 ghost use lib.ListN.{length, drop};

@@ -1,8 +1,9 @@
 -- `decimal::decimal_length`: a number below ten has one digit, and any other one more than its tenth. The measure is the number.
-use Prim.Native.Nat.{ℕ, _/_, _<_}
+use Prim.Native.Nat.{ℕ, _<_}
 use native.Mathlib.Omega.{arith}
 use mathlib.Core.Path.{sym}
-use Rattle.book.specs.DigitLaws.{one-digit, digit-more, digits-of-word}
+use Rattle.book.specs.DigitLaws.{one-digit}
+use Rattle.book.specs.DigitsMeasured.{one-digit-more}
 use borrow.Fn.Kinds.{In}
 use borrow.Fn.PlainCycle.{Measures, is, falls, and}
 use Rattle.book.proofs.decimal.decimal_length.Reads as decimal-length
@@ -23,20 +24,16 @@ asked-below t = and 0 decimal-length-kinds.ps (falls 0 decimal-length-kinds.ps _
 
 module _ (t : ℕ) where
   returns : lts.Need-returns (asked-below t, decimal-length.Post) (given-at t) decimal-length.Post
-  returns c = sym (one-digit (c .before .args .n) (omega arith))
+  returns c = record { counted = sym (one-digit (c .before .args .n) (omega arith)); small = omega arith }
 
   requires : lts.Need-decimal-length-requires (asked-below t, decimal-length.Post) (given-at t) decimal-length.Post
   requires c κs = (omega arith, tt)
 
   add-result : lts.Need-add-result (asked-below t, decimal-length.Post) (given-at t) decimal-length.Post
-  add-result c =
-      let n = c .before .before .args .n in
-      omega (arith, c .decimal-length .ensures, digits-of-word (n / 10) (omega arith))
+  add-result c = omega (arith, c .decimal-length .ensures .small)
 
   returns-2 : lts.Need-returns-2 (asked-below t, decimal-length.Post) (given-at t) decimal-length.Post
-  returns-2 c =
-      let n = c .before .before .args .n in
-      omega (arith, c .decimal-length .ensures, digit-more n (omega arith))
+  returns-2 c = one-digit-more (c .before .before .args .n) (c .before .before .fits .n .fits) (omega arith) (c .decimal-length .ensures)
 
 pub +decimal-length-spec : {M : Type 1} → statement M
 +decimal-length-spec =

@@ -1,6 +1,5 @@
 -- `cells::name_length`: the two ends of the range in turn.
 use borrow.Author.Tests.{lt-leb, le-leb}
-use Rattle.sheet.specs.Limits.{name-limit}
 use Rattle.sheet.specs.Refusal.{name-length}
 use Rattle.sheet.proofs.cells.name_length.Statement.{statement}
 use Rattle.sheet.proofs.cells.name_length.Tie as tie

@@ -1,5 +1,4 @@
 -- `layout::permission_name`: the names at the permissions' places are the permissions' names.
-use mathlib.Core.Path.{_∙_}
 use Rattle.sheet.specs.LaidOutLaws.{permissions-inside, permissions-there}
 use Rattle.sheet.proofs.layout.permission_name.Statement.{statement}
 use Rattle.sheet.proofs.layout.permission_name.Tie as tie

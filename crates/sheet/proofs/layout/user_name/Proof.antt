@@ -1,5 +1,4 @@
 -- `layout::user_name`: the names at the users' places are the users' names.
-use mathlib.Core.Path.{_∙_}
 use Rattle.sheet.specs.LaidOutLaws.{users-inside, users-there}
 use Rattle.sheet.proofs.layout.user_name.Statement.{statement}
 use Rattle.sheet.proofs.layout.user_name.Tie as tie

@@ -1,5 +1,5 @@
 -- `line::read_line`: the loop reads the line field by field (`Reading`), and each field starts at a later place than the one before.
-use Prim.Native.Nat.{ℕ, suc, _-_}
+use Prim.Native.Nat.{suc, _-_}
 use native.Mathlib.Omega.{arith}
 use mathlib.Core.Path.{refl, sym}
 use mathlib.Core.Bool.{false}

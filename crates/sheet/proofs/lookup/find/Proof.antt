@@ -3,10 +3,9 @@ use Prim.Native.Nat.{_-_, _≤_, _<_}
 use native.Mathlib.Omega.{arith}
 use native.Mathlib.Numerals.{add-one}
 use mathlib.Core.Path.{_≡_, sym, ap, _∙_}
-use mathlib.Core.Bool.{Bool}
 use Rattle.sheet.specs.Limits.{user-limit}
 use Rattle.sheet.specs.Refusal.{same-name}
-use Rattle.sheet.specs.NamesAt.{Inside, name-there, found}
+use Rattle.sheet.specs.NamesAt.{found}
 use Rattle.sheet.specs.NamesAtLaws.{Unlike, unlike-none, unlike-more, found-at, found-nothing}
 use Rattle.sheet.proofs.lookup.find.Statement.{statement}
 use Rattle.sheet.proofs.lookup.find.Tie as tie

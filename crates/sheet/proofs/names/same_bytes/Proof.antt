@@ -1,13 +1,12 @@
 -- `names::same_bytes`: slices of other lengths are not the same; and with the bytes before i the same, the slices are the same exactly
 -- where what stands from i on is.
-use Prim.Native.Nat.{ℕ, _≤_, _-_}
+use Prim.Native.Nat.{_≤_, _-_}
 use native.Mathlib.Omega.{arith}
 use native.Mathlib.Numerals.{add-one}
 use mathlib.Core.Path.{_≡_, refl, sym, _∙_}
 use borrow.Author.Tests.{eq-eqb, ne-eqb}
 use lib.Dec.{eqb}
-use lib.ListN.{length, drop, getD, drop-of-length-le}
-use lib.Seq.{drop-cons}
+use lib.ListN.{length, drop, drop-of-length-le}
 use Rattle.lists.specs.Lists.{same-bytes}
 use Rattle.lists.specs.SameDropLaws.{same-by-drop, other-lengths-differ}
 use Rattle.sheet.proofs.names.same_bytes.Statement.{statement}

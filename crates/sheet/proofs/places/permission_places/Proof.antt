@@ -3,14 +3,15 @@
 use Prim.Native.Nat.{suc, _-_, _<_}
 use native.Mathlib.Omega.{arith}
 use native.Mathlib.Numerals.{add-one}
-use mathlib.Core.Bool.{true, false}
+use mathlib.Core.Bool.{false}
 use borrow.Author.Tests.{not-false}
 use lib.ListN.{length}
 use Rattle.bits.specs.Truth.{not-fails}
 use Rattle.sheet.specs.Limits.{user-limit}
 use Rattle.sheet.specs.Text.{Bytes}
 use Rattle.sheet.specs.FieldLaws.{FieldStep}
-use Rattle.sheet.specs.PermissionPlacesLaws.{FieldsNoted, fields-start, step, fields-below, fields-go-on, fields-end}
+use Rattle.sheet.specs.FieldsLeft.{field-next, field-below}
+use Rattle.sheet.specs.PermissionPlacesLaws.{FieldsNoted, noting-fields-starts, noting-fields-goes-on, noting-fields-ends}
 use Rattle.sheet.proofs.places.permission_places.Statement.{statement}
 use Rattle.sheet.proofs.places.permission_places.Tie as tie
 
@@ -29,7 +30,7 @@ none-requires c κs = tt
 loop-holds : tie.Need-loop-holds Inv-loop μ-loop
 loop-holds c =
     rw (c .before .before .field .ensures)
-    (fields-start user-limit (c .before .before .before .before .args .s .now) (c .before .none .result) (c .before .none .ensures))
+    (noting-fields-starts user-limit (c .before .before .before .before .args .s .now) (c .before .none .result) (c .before .none .ensures))
 
 field-requires-2 : tie.Need-field-requires-2 Inv-loop μ-loop
 field-requires-2 c κs = tt
@@ -48,14 +49,14 @@ room c =
     omega (
       arith,
       c .before .before .before .before .before .before .pre,
-      fields-below user-limit (text (c .before)) (loop .places) (loop .n) (loop .next .at) (noting c),
+      field-below (text (c .before)) 0 (loop .n) (loop .next .at) (noting c .left),
     )
 
 -- the field that a turn reads
 read : (c : tie.After-field2 Inv-loop μ-loop) → FieldStep (text (c .before .before)) (c .before .before .loop .next .at) (c .field2 .result)
 read c =
     let loop = c .before .before .loop in
-    rw (c .field2 .ensures) (step user-limit (text (c .before .before)) (loop .places) (loop .n) (loop .next .at) (noting (c .before)))
+    rw (c .field2 .ensures) (field-next (text (c .before .before)) 0 (loop .n) (loop .next .at) (noting (c .before) .left))
 
 mul-places : tie.Need-mul-places Inv-loop μ-loop
 unfolding user-limit
@@ -85,13 +86,13 @@ loop-again c =
     let turn = c .before .before in
     let loop = turn .before .loop in
     rw (add-one, c .before .field2 .ensures)
-    (fields-go-on user-limit (text (turn .before)) (loop .places) (loop .n) (loop .next .at) (noting turn)
+    (noting-fields-goes-on user-limit (text (turn .before)) (loop .places) (loop .n) (loop .next .at) (noting turn)
     (turn .before .before .before .before .before .before .pre))
 
 returns : tie.Need-returns Inv-loop μ-loop
 returns c =
     let loop = c .before .loop in
-    fields-end user-limit (text (c .before)) (loop .places) (loop .n) (loop .next .at)
+    noting-fields-ends user-limit (text (c .before)) (loop .places) (loop .n) (loop .next .at)
     (rw (not-false (loop .last) (c .loop-test .left)) at (loop .inv))
 
 pub permission-places-spec : {M : Type 1} → statement M

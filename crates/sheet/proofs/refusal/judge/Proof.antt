@@ -1,10 +1,9 @@
 -- `refusal::judge`: each test is the cause of its number, in terms of what was read; where it passes the number is the lowest, and where it fails the
 -- later causes decide.
 use borrow.Author.Needs.{needs}
-use Prim.Native.Nat.{ℕ, _≤_}
-use native.Mathlib.Omega.{arith}
-use mathlib.Core.Path.{_≡_, refl, sym, ap, _∙_}
-use mathlib.Core.Bool.{Bool, true, false, not}
+use Prim.Native.Nat.{_≤_}
+use mathlib.Core.Path.{_≡_, sym, ap, _∙_}
+use mathlib.Core.Bool.{Bool, not}
 use borrow.Author.Tests.{lt-ltb, le-ltb, not-false}
 use lib.Dec.{ltb}
 use Rattle.bits.specs.Truth.{and-right}

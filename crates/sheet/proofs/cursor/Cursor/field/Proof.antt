@@ -1,11 +1,11 @@
 -- `Cursor::field`: the cursor, or the end where it is past that, is where the field starts; the rest is what the two functions called say.
-use Prim.Native.Nat.{_≤_, min}
+use Prim.Native.Nat.{min}
 use native.Mathlib.Omega.{arith}
-use mathlib.Core.Path.{_≡_, refl, _∙_}
+use mathlib.Core.Path.{_≡_}
 use mathlib.Core.Logic.{⊎-elim}
 use borrow.Author.Needs.{needs}
 use lib.ListN.{length, drop, length-drop}
-use Rattle.lists.specs.Span.{span, span-within}
+use Rattle.lists.specs.Span.{span-within}
 use Rattle.sheet.specs.Fields.{separator, field-read}
 use Rattle.sheet.proofs.cursor.Cursor.field.Statement.{statement}
 use Rattle.sheet.proofs.cursor.Cursor.field.Tie as tie

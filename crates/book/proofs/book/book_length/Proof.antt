@@ -1,0 +1,60 @@
+-- `book::book_length`: the lengths of the blocks, and one for each empty line.
+use borrow.Author.Needs.{needs}
+use native.Mathlib.Omega.{arith}
+use mathlib.Core.List.{[]}
+use Rattle.sheet.specs.Limits.{user-limit}
+use Rattle.sheet.specs.Rows.{row-words}
+use Rattle.book.specs.BookMeasured.{book-measured}
+use Rattle.book.specs.LaidLaws.{few-users}
+use Rattle.book.proofs.book.book_length.Statement.{statement}
+use Rattle.book.proofs.book.book_length.Tie as tie
+
+counts-length-requires : tie.Need-counts-length-requires
+counts-length-requires c κs = search needs
+
+add-first : tie.Need-add-first
+add-first c = search needs
+
+roles-length-requires : tie.Need-roles-length-requires
+roles-length-requires c κs = search needs
+
+add-second : tie.Need-add-second
+add-second c = omega (arith, c .roles-length .ensures [] .small)
+
+users-length-requires : tie.Need-users-length-requires
+users-length-requires c κs = search needs
+
+add-third : tie.Need-add-third
+add-third c = omega (arith, c .users-length .ensures [] .small)
+
+add-result : tie.Need-add-result
+add-result c = omega (arith, c .before .before .counts-length .ensures .small, c .before .roles-length .ensures [] .small)
+
+add-result-2 : tie.Need-add-result-2
+add-result-2 c = omega (arith, c .before .before .counts-length .ensures .small, c .before .roles-length .ensures [] .small, c .users-length .ensures [] .small)
+
+witness-length-requires : tie.Need-witness-length-requires
+unfolding row-words user-limit
+witness-length-requires c κs = (c .before .before .before .before .before .pre .0, omega (arith, few-users (c .before .before .before .before .before .pre .0)), c .before .before .before .before .before .pre .2)
+
+add-result-3 : tie.Need-add-result-3
+add-result-3 c = omega (arith, c .before .before .before .before .counts-length .ensures .small, c .before .before .before .roles-length .ensures [] .small, c .before .before .users-length .ensures [] .small, c .witness-length .ensures .small)
+
+returns : tie.Need-returns
+returns c = λ has gives. book-measured (c .before .before .before .before .before .before .args .s .now) has gives (c .before .before .before .before .before .before .args .witness .now) (c .before .before .before .before .before .before .args .counts) (c .before .before .before .before .counts-length .ensures) (c .before .before .before .roles-length .ensures gives) (c .before .before .users-length .ensures has) (c .witness-length .ensures)
+
+pub book-length-spec : {M : Type 1} → statement M
+book-length-spec =
+    tie.close
+    (tie.spec
+    counts-length-requires
+    add-first
+    roles-length-requires
+    add-second
+    users-length-requires
+    add-third
+    add-result
+    add-result-2
+    witness-length-requires
+    add-result-3
+    returns)

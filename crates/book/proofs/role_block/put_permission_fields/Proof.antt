@@ -1,0 +1,73 @@
+-- `role_block::put_permission_fields`: where the names below i are written, a turn writes name i behind them.
+use borrow.Author.Needs.{needs}
+use Prim.Native.Nat.{_-_}
+use native.Mathlib.Omega.{arith}
+use mathlib.Core.Path.{ap, sym}
+use Rattle.sheet.specs.Sheet.{sheet-of}
+use Rattle.book.specs.Book.{permission-name}
+use Rattle.book.specs.LineLaws.{behind-comma}
+use Rattle.book.specs.ListedWritten.{Listing, listing-ends, listing-starts, part-ready, part-within, part-written}
+use Rattle.book.specs.Written.{fits-as, room-behind, within-buffer, written-as}
+use Rattle.book.proofs.role_block.put_permission_fields.Statement.{statement}
+use Rattle.book.proofs.role_block.put_permission_fields.Tie as tie
+
+abbrev Inv-loop : tie.InvT-loop
+Inv-loop out₀ s layout permissions at₀ i₀ out at i = Listing permissions (λ p. behind-comma (permission-name (sheet-of s) p)) i out₀ out at
+
+abbrev μ-loop : tie.MeasureT-loop
+μ-loop out₀ s layout permissions at₀ i₀ out at i = permissions - i
+
+loop-holds : tie.Need-loop-holds Inv-loop μ-loop
+loop-holds c = listing-starts _ _ (c .before .before .pre .1)
+
+permission-name-requires : tie.Need-permission-name-requires Inv-loop μ-loop
+permission-name-requires c κs = (c .before .before .before .before .pre .0, c .loop-test .taken)
+
+sub-put-field : tie.Need-sub-put-field Inv-loop μ-loop
+sub-put-field c = within-buffer (part-ready (c .before .before .loop .inv) (c .before .loop-test .taken))
+
+part-put-field-start : tie.Need-part-put-field-start Inv-loop μ-loop
+part-put-field-start c = within-buffer (part-ready (c .before .before .loop .inv) (c .before .loop-test .taken))
+
+part-put-field-end : tie.Need-part-put-field-end Inv-loop μ-loop
+part-put-field-end c = search needs
+
+put-field-requires : tie.Need-put-field-requires Inv-loop μ-loop
+put-field-requires c κs = fits-as (ap behind-comma (sym (c .before .permission-name .ensures))) (room-behind (part-ready (c .before .before .before .loop .inv) (c .before .before .loop-test .taken)))
+
+add-at : tie.Need-add-at Inv-loop μ-loop
+add-at c = omega (arith, part-within (c .before .before .before .before .before .before .loop .inv) (c .before .before .before .before .before .loop-test .taken) (written-as (ap behind-comma (c .before .before .before .before .permission-name .ensures)) (c .before .before .put-field .ensures)))
+
+add-i : tie.Need-add-i Inv-loop μ-loop
+add-i c = omega arith
+
+loop-less : tie.Need-loop-less Inv-loop μ-loop
+loop-less c = omega arith
+
+loop-again : tie.Need-loop-again Inv-loop μ-loop
+loop-again c = part-written (c .before .before .before .before .before .before .loop .inv) (c .before .before .before .before .before .loop-test .taken) (written-as (ap behind-comma (c .before .before .before .before .permission-name .ensures)) (c .before .before .put-field .ensures))
+
+same-length : tie.Need-same-length Inv-loop μ-loop
+same-length c = c .before .loop .inv .same-length
+
+returns : tie.Need-returns Inv-loop μ-loop
+returns c = listing-ends (c .before .loop .inv) (c .loop-test .left)
+
+pub put-permission-fields-spec : {M : Type 1} → statement M
+put-permission-fields-spec =
+    tie.close
+    (tie.spec
+    Inv-loop
+    μ-loop
+    loop-holds
+    permission-name-requires
+    sub-put-field
+    part-put-field-start
+    part-put-field-end
+    put-field-requires
+    add-at
+    add-i
+    loop-less
+    loop-again
+    same-length
+    returns)

@@ -1,0 +1,44 @@
+-- `role_block::roles_length`: the word, the names, the line feed, and the lines.
+use borrow.Author.Needs.{needs}
+use native.Mathlib.Omega.{arith}
+use mathlib.Core.List.{[]}
+use mathlib.Core.Path.{refl, sym}
+use Rattle.lists.specs.Ascii.{ascii}
+use Rattle.sheet.specs.Sheet.{sheet-of}
+use Rattle.book.specs.LaidLaws.{permissions-fit}
+use Rattle.book.specs.LengthsMeasured.{block-measured}
+use Rattle.book.specs.Measured.{measured-as}
+use Rattle.book.specs.ShownLaws.{roles-parts}
+use Rattle.book.proofs.role_block.roles_length.Statement.{statement}
+use Rattle.book.proofs.role_block.roles_length.Tie as tie
+
+permission-fields-length-requires : tie.Need-permission-fields-length-requires
+permission-fields-length-requires c κs = search needs
+
+add-heading : tie.Need-add-heading
+add-heading c = search needs
+
+add-heading-2 : tie.Need-add-heading-2
+add-heading-2 c = search needs
+
+role-lines-length-requires : tie.Need-role-lines-length-requires
+role-lines-length-requires c κs = (c .before .before .before .pre .1, permissions-fit (c .before .before .before .pre .0))
+
+add-result : tie.Need-add-result
+add-result c = omega (arith, c .before .permission-fields-length .ensures .small, c .role-lines-length .ensures [] .small)
+
+returns : tie.Need-returns
+returns c =
+    λ gives. measured-as (sym (roles-parts (sheet-of (c .before .before .before .before .args .s .now)) gives (c .before .before .before .before .args .roles) (c .before .before .before .before .pre .0 .permission-total)))
+    (block-measured (ascii "role") _ _ 4 _ _ refl (c .before .permission-fields-length .ensures) (c .role-lines-length .ensures gives) (omega arith))
+
+pub roles-length-spec : {M : Type 1} → statement M
+roles-length-spec =
+    tie.close
+    (tie.spec
+    permission-fields-length-requires
+    add-heading
+    add-heading-2
+    role-lines-length-requires
+    add-result
+    returns)

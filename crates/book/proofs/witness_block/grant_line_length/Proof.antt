@@ -1,0 +1,41 @@
+-- `witness_block::grant_line_length`: both names, the comma and the line feed.
+use borrow.Author.Needs.{needs}
+use Prim.Native.Nat.{_≤_}
+use native.Mathlib.Omega.{arith}
+use mathlib.Core.Path.{ap, sym}
+use lib.ListN.{length}
+use Rattle.sheet.specs.Limits.{name-limit}
+use Rattle.sheet.specs.Sheet.{sheet-of}
+use Rattle.book.specs.LaidLaws.{permission-name-short, user-name-short}
+use Rattle.book.specs.LengthsMeasured.{cell-line-measured}
+use Rattle.book.specs.Written.{fits-as}
+use Rattle.book.proofs.witness_block.grant_line_length.Statement.{statement}
+use Rattle.book.proofs.witness_block.grant_line_length.Tie as tie
+
+user-short : (c : tie.After-permission-name) → length (c .before .user-name .result .now) ≤ name-limit
+user-short c = fits-as (sym (c .before .user-name .ensures)) (user-name-short (c .before .before .before .pre .0) (c .before .before .before .args .user .0) (c .before .before .before .pre .1))
+
+permission-short : (c : tie.After-permission-name) → length (c .permission-name .result .now) ≤ name-limit
+permission-short c = fits-as (sym (c .permission-name .ensures)) (permission-name-short (c .before .before .before .pre .0) (c .before .before .before .args .permission .0) (c .before .before .before .pre .2))
+
+user-name-requires : tie.Need-user-name-requires
+user-name-requires c κs = search needs
+
+permission-name-requires : tie.Need-permission-name-requires
+permission-name-requires c κs = search needs
+
+add-result : tie.Need-add-result
+unfolding name-limit
+add-result c = omega (arith, user-short c, permission-short c)
+
+add-result-2 : tie.Need-add-result-2
+unfolding name-limit
+add-result-2 c = omega (arith, user-short c, permission-short c)
+
+returns : tie.Need-returns
+returns c = cell-line-measured (sheet-of (c .before .before .before .args .s .now)) (c .before .before .before .args .user .0) (c .before .before .before .args .permission .0) _ _ (ap length (c .before .user-name .ensures)) (user-short c) (ap length (c .permission-name .ensures)) (permission-short c)
+
+pub grant-line-length-spec : {M : Type 1} → statement M
+grant-line-length-spec =
+    tie.close
+    (tie.spec user-name-requires permission-name-requires add-result add-result-2 returns)

@@ -1,0 +1,120 @@
+-- The book that rows of words and counts say: block after block in the order in which it is written; and the book of a role set that the rows
+-- hold, since only cells of the sheet's users, the roles and the sheet's permissions are spelled. Assumes nothing.
+use Prim.Native.Nat.{ℕ, _≤_, _<_}
+use native.Mathlib.Nat.{lt-of-lt-of-le}
+use mathlib.Core.Path.{_≡_, refl, sym, ap, ap₂, _∙_}
+use mathlib.Core.Bool.{Bool}
+use mathlib.Core.List.{List, [], _∷_, _++_}
+use Rattle.lists.specs.Ascii.{ascii}
+use Rattle.lists.specs.Lists.{list-of}
+use Rattle.lists.specs.ListOfLaws.{list-of-same}
+use Rattle.sheet.specs.Text.{Bytes, Line, text-of}
+use Rattle.sheet.specs.Sheet.{Sheet, Grant, sheet-of, user-count, permission-count, cell-text}
+use Rattle.sheet.specs.Rows.{row-bits}
+use Rattle.grants.specs.CellSets.{cell-grants}
+use Rattle.grants.specs.Witness.{witness}
+use Rattle.search.specs.Machine.{State}
+use Rattle.roles.specs.RoleSet.{RoleSet}
+use Rattle.roles.specs.RoleRows.{RoleRows}
+use Rattle.roles.specs.RolesShown.{RolesAt}
+use Rattle.roles.specs.Roles.{Standing, roles-of, role-count, standing, bound}
+use Rattle.roles.specs.StandingCases.{standing-case}
+use Rattle.book.specs.Decimal.{decimal}
+use Rattle.book.specs.Words.{role-name}
+use Rattle.book.specs.Blocks.{Block, text-of-blocks}
+use Rattle.book.specs.Book.{Said, counts-block, roles-block, users-block, user-name, witness-block, blocks-saying, book-text, said-in, book}
+use Rattle.book.specs.CountsText.{counts-text}
+use Rattle.book.specs.RowsSaid.{roles-in, said-by, shown-roles, shown-users}
+use Rattle.book.specs.LineLaws.{line-end, four-blocks}
+use Rattle.book.specs.declared.counts.Counts.{Counts}
+
+-- the book of a sheet's bytes
+abbrev pub rows-book : Bytes → List ℕ → List ℕ → List ℕ → Counts → Bytes
+rows-book text has gives witness counts =
+    book-text (sheet-of text)
+    (said-by (sheet-of text) has gives witness (counts .roles) (counts .bound) (standing-case (counts .standing)))
+
+-- its blocks one after the other, one empty line between each two
+pub book-parts : (text : Bytes) (has gives witness : List ℕ) (counts : Counts)
+    → rows-book text has gives witness counts
+    ≡ (((((counts-text counts ++ line-end) ++ text-of (shown-roles (sheet-of text) gives (counts .roles))) ++ line-end)
+    ++ text-of (shown-users (sheet-of text) has (counts .roles))) ++ line-end)
+    ++ text-of (witness-block (sheet-of text) (cell-grants (sheet-of text) witness))
+unfolding book-text blocks-saying
+book-parts text has gives witness counts =
+    four-blocks
+    (counts-block (decimal (counts .roles)) (decimal (counts .bound)) (standing-case (counts .standing)))
+    (shown-roles (sheet-of text) gives (counts .roles))
+    (shown-users (sheet-of text) has (counts .roles))
+    (witness-block (sheet-of text) (cell-grants (sheet-of text) witness))
+
+-- ---- the book of a role set
+
+-- the two blocks spell the role set that the rows hold
+roles-shown : (sheet : Sheet) {has gives : List ℕ} {users : ℕ} {roles : RoleSet} → RoleRows has gives users roles
+    → permission-count sheet ≤ row-bits → shown-roles sheet gives (roles .count) ≡ roles-block sheet roles
+unfolding role-name
+roles-shown sheet {roles} rows fit =
+    ap (λ (lines : Block). (ascii "role" ∷ sheet .permissions) ∷ lines)
+    (list-of-same (roles .count) _ _ (λ r h.
+    ap (λ (cells : Line). role-name r ∷ cells)
+    (list-of-same (permission-count sheet) _ _ (λ p k. ap cell-text (rows .gives-shown r p h (lt-of-lt-of-le k fit))))))
+
+users-shown : (sheet : Sheet) {has gives : List ℕ} {roles : RoleSet} → RoleRows has gives (user-count sheet) roles
+    → shown-users sheet has (roles .count) ≡ users-block sheet roles
+users-shown sheet {roles} rows =
+    ap (λ (lines : Block). (ascii "user" ∷ list-of (roles .count) role-name) ∷ lines)
+    (list-of-same (user-count sheet) _ _ (λ u h.
+    ap (λ (cells : Line). user-name sheet u ∷ cells)
+    (list-of-same (roles .count) _ _ (λ r k. ap cell-text (rows .has-shown u r h k)))))
+
+-- so the book is that of the role set, and of the grants that are the witness
+pub rows-book-says : (text : Bytes) {has gives : List ℕ} (words : List ℕ) (counts : Counts) {roles : RoleSet} {grants : List Grant}
+    → RolesAt has gives (counts .roles) (user-count (sheet-of text)) roles → permission-count (sheet-of text) ≤ row-bits
+    → cell-grants (sheet-of text) words ≡ grants
+    → rows-book text has gives words counts
+    ≡ book-text (sheet-of text)
+    (record {
+      role-digits = decimal (roles .count);
+      bound-digits = decimal (counts .bound);
+      standing = standing-case (counts .standing);
+      roles = roles;
+      witness = grants;
+    })
+unfolding book-text blocks-saying
+rows-book-says text {has} {gives} words counts {roles} {grants} at fit e =
+    let sheet : Sheet = sheet-of text in
+    let first : Block = counts-block (decimal (roles .count)) (decimal (counts .bound)) (standing-case (counts .standing)) in
+    ap (λ (n : ℕ). book-text sheet (said-by sheet has gives words n (counts .bound) (standing-case (counts .standing)))) (at .total)
+    ∙ ap (λ (l : List Grant).
+    text-of-blocks (first ∷ shown-roles sheet gives (roles .count) ∷ shown-users sheet has (roles .count) ∷ witness-block sheet l ∷ [])) e
+    ∙ ap (λ (b : Block). text-of-blocks (first ∷ b ∷ shown-users sheet has (roles .count) ∷ witness-block sheet grants ∷ []))
+    (roles-shown sheet (at .rows) fit)
+    ∙ ap (λ (b : Block). text-of-blocks (first ∷ roles-block sheet roles ∷ b ∷ witness-block sheet grants ∷ []))
+    (users-shown sheet (at .rows))
+
+-- and it is the book of the sheet in a state of its search, where the counts, the roles and the witness are those of that state
+pub rows-book-in : (text : Bytes) {has gives : List ℕ} (words : List ℕ) (counts : Counts) (st : State)
+    → RolesAt has gives (counts .roles) (user-count (sheet-of text)) (roles-of (sheet-of text) (st .best))
+    → permission-count (sheet-of text) ≤ row-bits → counts .bound ≡ bound (sheet-of text) st
+    → standing-case (counts .standing) ≡ standing (sheet-of text) st → cell-grants (sheet-of text) words ≡ witness (sheet-of text)
+    → rows-book text has gives words counts ≡ book (sheet-of text) st
+unfolding book said-in role-count
+rows-book-in text words counts st at fit same-bound same-standing same-witness =
+    let sheet : Sheet = sheet-of text in
+    let roles : RoleSet = roles-of sheet (st .best) in
+    rows-book-says text words counts at fit same-witness
+    ∙ ap (λ (n : ℕ). book-text sheet (record {
+      role-digits = decimal (roles .count);
+      bound-digits = decimal n;
+      standing = standing-case (counts .standing);
+      roles = roles;
+      witness = witness sheet;
+    })) same-bound
+    ∙ ap (λ (k : Standing). book-text sheet (record {
+      role-digits = decimal (roles .count);
+      bound-digits = decimal (bound sheet st);
+      standing = k;
+      roles = roles;
+      witness = witness sheet;
+    })) same-standing

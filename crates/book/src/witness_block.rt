@@ -1,0 +1,183 @@
+// Block 4: the witness, in grant order.
+use crate::cells::cell_at;
+use crate::put::put_bytes;
+use crate::put::put_field;
+use sheet::Layout;
+use sheet::PermissionNo;
+use sheet::UserNo;
+use sheet::permission_name;
+use sheet::user_name;
+ghost use Prim.Native.Nat.{_+_, _*_, _≤_, _<_};
+ghost use lib.ListN.{length};
+ghost use Rattle.lists.specs.Listed.{listed};
+ghost use Rattle.sheet.specs.Text.{text-of};
+ghost use Rattle.sheet.specs.Sheet.{sheet-of};
+ghost use Rattle.sheet.specs.Rows.{row-words, cell};
+ghost use Rattle.sheet.specs.LaidOut.{LaidOut};
+ghost use Rattle.grants.specs.CellSets.{cell-grants};
+ghost use Rattle.book.specs.Book.{witness-block};
+ghost use Rattle.book.specs.RowsSaid.{GrantCells};
+ghost use Rattle.book.specs.WitnessText.{cell-line, line-if, witness-row};
+ghost use Rattle.book.specs.Measured.{Measured, piece-most, line-most, block-most};
+ghost use Rattle.book.specs.Written.{Written};
+
+// Writes the line of a grant.
+fn put_grant_line(
+    out: &mut [u8],
+    s: &[u8],
+    layout: Layout,
+    user: UserNo,
+    permission: PermissionNo,
+) -> usize
+    requires { ⌜ LaidOut (now s) layout × (user .0 < layout .users) × (permission .0 < layout .permissions) ⌝ }
+    requires { ⌜ length (cell-line (sheet-of (now s)) (user .0) (permission .0)) ≤ length (now out) ⌝ }
+    ensures { λ r. ⌜ Written (cell-line (sheet-of (now (s .entry))) (user .0) (permission .0)) (now (out .entry)) (now (out .exit)) r ⌝ }
+{
+    let name = user_name(s, layout, user);
+    let held = permission_name(s, layout, permission);
+    let field = put_bytes(out, name);
+    let end = field + put_field(&mut out[field..], held);
+    out[end] = b'\n';
+    end + 1
+}
+
+// Writes the line of a cell that is set, and nothing for another.
+fn put_cell_line<'a>(
+    out: &mut [u8],
+    s: &'a [u8],
+    layout: Layout,
+    witness: &'a [u64],
+    user: UserNo,
+    permission: PermissionNo,
+) -> usize
+    requires { ⌜ LaidOut (now s) layout × (user .0 < layout .users) × (permission .0 < layout .permissions)
+        × (layout .users * row-words ≤ length (now witness)) ⌝ }
+    requires { ⌜ length (line-if (cell (now witness) (user .0) (permission .0)) (cell-line (sheet-of (now s)) (user .0) (permission .0)))
+        ≤ length (now out) ⌝ }
+    ensures { λ r. ⌜ Written (line-if (cell (now (witness .entry)) (user .0) (permission .0))
+        (cell-line (sheet-of (now (s .entry))) (user .0) (permission .0))) (now (out .entry)) (now (out .exit)) r ⌝ }
+{
+    if cell_at(witness, user.0, permission.0) {
+        return put_grant_line(out, s, layout, user, permission);
+    }
+    0
+}
+
+// Writes the lines of a user.
+fn put_witness_row<'a>(
+    out: &mut [u8],
+    s: &'a [u8],
+    layout: Layout,
+    witness: &'a [u64],
+    user: UserNo,
+) -> usize
+    requires { ⌜ LaidOut (now s) layout × (user .0 < layout .users) × (layout .users * row-words ≤ length (now witness)) ⌝ }
+    requires { ⌜ length (witness-row (sheet-of (now s)) (now witness) (layout .permissions) (user .0)) ≤ length (now out) ⌝ }
+    ensures { λ r. ⌜ Written (witness-row (sheet-of (now (s .entry))) (now (witness .entry)) (layout .permissions) (user .0))
+        (now (out .entry)) (now (out .exit)) r ⌝ }
+{
+    let permissions = layout.permissions;
+    let mut at = 0;
+    let mut i = 0;
+    while i < permissions {
+        at += put_cell_line(&mut out[at..], s, layout, witness, user, PermissionNo(i));
+        i += 1;
+    }
+    at
+}
+
+// Writes the lines of all users.
+fn put_witness_rows<'a>(out: &mut [u8], s: &'a [u8], layout: Layout, witness: &'a [u64]) -> usize
+    requires { ⌜ LaidOut (now s) layout × (layout .users * row-words ≤ length (now witness)) ⌝ }
+    requires { ⌜ length (listed (layout .users) (witness-row (sheet-of (now s)) (now witness) (layout .permissions))) ≤ length (now out) ⌝ }
+    ensures { λ r. ⌜ Written (listed (layout .users) (witness-row (sheet-of (now (s .entry))) (now (witness .entry)) (layout .permissions)))
+        (now (out .entry)) (now (out .exit)) r ⌝ }
+{
+    let users = layout.users;
+    let mut at = 0;
+    let mut i = 0;
+    while i < users {
+        at += put_witness_row(&mut out[at..], s, layout, witness, UserNo(i));
+        i += 1;
+    }
+    at
+}
+
+// Writes block 4.
+pub fn put_witness<'a>(out: &mut [u8], s: &'a [u8], layout: Layout, witness: &'a [u64]) -> usize
+    requires { ⌜ LaidOut (now s) layout × (layout .users * row-words ≤ length (now witness)) × GrantCells (now witness) (sheet-of (now s)) ⌝ }
+    requires { ⌜ length (text-of (witness-block (sheet-of (now s)) (cell-grants (sheet-of (now s)) (now witness)))) ≤ length (now out) ⌝ }
+    ensures { λ r. ⌜ Written (text-of (witness-block (sheet-of (now (s .entry))) (cell-grants (sheet-of (now (s .entry))) (now (witness .entry)))))
+        (now (out .entry)) (now (out .exit)) r ⌝ }
+{
+    let lines = put_bytes(out, b"user,permission\n");
+    lines + put_witness_rows(&mut out[lines..], s, layout, witness)
+}
+
+// How long the line of a grant is.
+fn grant_line_length(s: &[u8], layout: Layout, user: UserNo, permission: PermissionNo) -> usize
+    requires { ⌜ LaidOut (now s) layout × (user .0 < layout .users) × (permission .0 < layout .permissions) ⌝ }
+    ensures { λ r. ⌜ Measured (cell-line (sheet-of (now (s .entry))) (user .0) (permission .0)) piece-most r ⌝ }
+{
+    let name = user_name(s, layout, user);
+    let held = permission_name(s, layout, permission);
+    name.len() + held.len() + 2
+}
+
+// How long the line of a cell is, where it is set.
+fn cell_line_length<'a>(
+    s: &'a [u8],
+    layout: Layout,
+    witness: &'a [u64],
+    user: UserNo,
+    permission: PermissionNo,
+) -> usize
+    requires { ⌜ LaidOut (now s) layout × (user .0 < layout .users) × (permission .0 < layout .permissions)
+        × (layout .users * row-words ≤ length (now witness)) ⌝ }
+    ensures { λ r. ⌜ Measured (line-if (cell (now (witness .entry)) (user .0) (permission .0))
+        (cell-line (sheet-of (now (s .entry))) (user .0) (permission .0))) piece-most r ⌝ }
+{
+    if cell_at(witness, user.0, permission.0) {
+        return grant_line_length(s, layout, user, permission);
+    }
+    0
+}
+
+// How long the lines of a user are.
+fn witness_row_length<'a>(s: &'a [u8], layout: Layout, witness: &'a [u64], user: UserNo) -> usize
+    requires { ⌜ LaidOut (now s) layout × (user .0 < layout .users) × (layout .users * row-words ≤ length (now witness)) ⌝ }
+    ensures { λ r. ⌜ Measured (witness-row (sheet-of (now (s .entry))) (now (witness .entry)) (layout .permissions) (user .0)) line-most r ⌝ }
+{
+    let permissions = layout.permissions;
+    let mut total = 0;
+    let mut i = 0;
+    while i < permissions {
+        total += cell_line_length(s, layout, witness, user, PermissionNo(i));
+        i += 1;
+    }
+    total
+}
+
+// How long the lines of all users are.
+fn witness_rows_length<'a>(s: &'a [u8], layout: Layout, witness: &'a [u64]) -> usize
+    requires { ⌜ LaidOut (now s) layout × (layout .users * row-words ≤ length (now witness)) ⌝ }
+    ensures { λ r. ⌜ Measured (listed (layout .users) (witness-row (sheet-of (now (s .entry))) (now (witness .entry)) (layout .permissions))) block-most r ⌝ }
+{
+    let users = layout.users;
+    let mut total = 0;
+    let mut i = 0;
+    while i < users {
+        total += witness_row_length(s, layout, witness, UserNo(i));
+        i += 1;
+    }
+    total
+}
+
+// How long block 4 is.
+pub fn witness_length<'a>(s: &'a [u8], layout: Layout, witness: &'a [u64]) -> usize
+    requires { ⌜ LaidOut (now s) layout × (layout .users * row-words ≤ length (now witness)) × GrantCells (now witness) (sheet-of (now s)) ⌝ }
+    ensures { λ r. ⌜ Measured (text-of (witness-block (sheet-of (now (s .entry))) (cell-grants (sheet-of (now (s .entry))) (now (witness .entry)))))
+        (2 * block-most) r ⌝ }
+{
+    b"user,permission\n".len() + witness_rows_length(s, layout, witness)
+}

@@ -1,0 +1,40 @@
+// A book into a buffer that may be too short for it.
+use crate::book::book_length;
+use crate::book::write_book;
+use crate::counts::Counts;
+use roles::ROLE_WORDS;
+use sheet::CELL_WORDS;
+use sheet::Layout;
+ghost use Prim.Native.Nat.{_≤_};
+ghost use Rattle.sheet.specs.Sheet.{sheet-of};
+ghost use Rattle.sheet.specs.Rows.{row-bits};
+ghost use Rattle.sheet.specs.LaidOut.{LaidOut};
+ghost use Rattle.book.specs.RowsSaid.{GrantCells};
+ghost use Rattle.book.specs.BookRows.{rows-book};
+ghost use Rattle.book.specs.Writing.{Writes};
+
+// What writing a book answers: its byte count, or that the buffer is shorter than the book.
+pub enum Writing {
+    Bytes(usize),
+    TooShort,
+}
+
+// Writes the book where the buffer is long enough, and else leaves every byte of the buffer.
+pub fn write_if_room<'a>(
+    out: &mut [u8],
+    s: &'a [u8],
+    layout: Layout,
+    has: &'a [u64; CELL_WORDS],
+    gives: &'a [u64; ROLE_WORDS],
+    witness: &'a [u64; CELL_WORDS],
+    counts: Counts,
+) -> Writing
+    requires { ⌜ LaidOut (now s) layout × (counts .roles ≤ row-bits) × GrantCells (now witness) (sheet-of (now s)) ⌝ }
+    ensures { λ r. ⌜ Writes (rows-book (now (s .entry)) (now (has .entry)) (now (gives .entry)) (now (witness .entry)) counts)
+        (now (out .entry)) r (now (out .exit)) ⌝ }
+{
+    if out.len() < book_length(s, layout, witness, counts) {
+        return Writing::TooShort;
+    }
+    Writing::Bytes(write_book(out, s, layout, has, gives, witness, counts))
+}

@@ -1,0 +1,15 @@
+-- How many users and grants there are where each of four users holds every permission but their own, and how many searches of which budget.
+use Prim.Native.Nat.{ℕ, _*_, pred}
+
+abbrev pub users : ℕ
+users = 4
+
+abbrev pub grants : ℕ
+grants = users * pred users
+
+-- the budget of each of many searches, and the most of them
+abbrev pub part : ℕ
+part = 7
+
+abbrev pub most : ℕ
+most = 100

@@ -1,0 +1,2 @@
+-- The kernel that the program closes.
+pub mod Crown

@@ -1,0 +1,11 @@
+-- `grants::choice::less`: `and` with the complement keeps the positions that the other word has not.
+use Rattle.bits.specs.Bit.{word-bits}
+use Rattle.bits.specs.BitLaws.{bit-and-not}
+use Rattle.grants.proofs.choice.less.Statement.{statement}
+use Rattle.grants.proofs.choice.less.Tie as tie
+
+returns : tie.Need-returns
+returns c = bit-and-not word-bits (c .args .word) (c .args .other) (c .fits .word .fits) (c .fits .other .fits)
+
+pub less-spec : {M : Type 1} → statement M
+less-spec = tie.close (tie.spec returns)

@@ -1,0 +1,106 @@
+use Prim.Native.Nat.{_-_, _≤_}
+use native.Mathlib.Omega.{arith}
+use mathlib.Core.Path.{_≡_, refl, sym, _∙_}
+use mathlib.Core.Logic.{⊎-elim}
+use native.Mathlib.Numerals.{add-one}
+use borrow.Author.Tests.{not-true, not-false}
+use lib.ListN.{length, length-set}
+use Rattle.grants.specs.CoverRelation.{related-at}
+use Rattle.grants.specs.CoverMarks.{Marks, no-marks, marks-kept, class-marked}
+use Rattle.sheet.specs.Limits.{grant-limit}
+use Rattle.grants.proofs.cover.blocked.Statement.{statement}
+use Rattle.grants.proofs.cover.blocked.Tie as tie
+
+abbrev Inv-loop : tie.InvT-loop
+Inv-loop rows cells by classes d cell marks₀ i₀ marks i =
+    (i ≤ d) × (length marks ≡ grant-limit) × Marks (related-at rows cells by) classes d i grant-limit marks
+
+abbrev μ-loop : tie.MeasureT-loop
+μ-loop rows cells by classes d cell marks₀ i₀ marks i = d - i
+
+mul-cell : tie.Need-mul-cell Inv-loop μ-loop
+mul-cell c = omega arith
+
+shared-slice-read-cell : tie.Need-shared-slice-read-cell Inv-loop μ-loop
+shared-slice-read-cell c = omega arith
+
+loop-holds : tie.Need-loop-holds Inv-loop μ-loop
+unfolding grant-limit
+loop-holds c = (omega arith, refl, no-marks _ _ _ _)
+
+mul-are-related : tie.Need-mul-are-related Inv-loop μ-loop
+mul-are-related c = omega arith
+
+shared-slice-read-are-related : tie.Need-shared-slice-read-are-related Inv-loop μ-loop
+shared-slice-read-are-related c = omega arith
+
+are-related-requires : tie.Need-are-related-requires Inv-loop μ-loop
+are-related-requires c κs = tt
+
+mul-c : tie.Need-mul-c Inv-loop μ-loop
+mul-c c = omega arith
+
+element-copy-out-c : tie.Need-element-copy-out-c Inv-loop μ-loop
+unfolding grant-limit
+element-copy-out-c c = omega arith
+
+cast-c : tie.Need-cast-c Inv-loop μ-loop
+unfolding grant-limit
+cast-c c = omega (arith, c .before .before .before .before .before .before .before .before .before .pre .1 (c .before .before .before .before .before .loop .i) (c .before .before .before .before .loop-test .taken))
+
+array-write-marks : tie.Need-array-write-marks Inv-loop μ-loop
+unfolding grant-limit
+array-write-marks c = c .before .before .before .before .before .before .before .before .before .pre .1 (c .before .before .before .before .before .loop .i) (c .before .before .before .before .loop-test .taken)
+
+add-i : tie.Need-add-i Inv-loop μ-loop
+add-i c = omega arith
+
+loop-less : tie.Need-loop-less Inv-loop μ-loop
+loop-less c = omega arith
+
+loop-again : tie.Need-loop-again Inv-loop μ-loop
+loop-again c =
+    let a = c .before .before .before .before .before .before .before .before .args in
+    let l = c .before .before .before .before .loop in
+    let together = related-at (a .rows .now) (a .cells .now) (a .by) in
+    let told = c .before .are-related .ensures in
+    let below = c .before .before .before .before .before .before .before .before .pre .1 (l .i) (c .before .before .before .loop-test .taken) in
+    ⊎-elim
+    (λ w. (
+      omega arith,
+      rw (w .2) (simp length-set (l .inv .1)),
+      rw (w .2, add-one (l .i))
+          (class-marked together (a .classes .now) (a .d) (l .i) grant-limit (l .marks) (l .inv .2)
+          (sym told ∙ not-true _ (w .0 .taken)) (rw (l .inv .1) below)),
+    ))
+    (λ w. (
+      omega arith,
+      rw (w .1) (l .inv .1),
+      rw (w .1, add-one (l .i))
+          (marks-kept together (a .classes .now) (a .d) (l .i) grant-limit (l .marks) (l .inv .2) (sym told ∙ not-false _ (w .0 .left))),
+    ))
+    (c .if1 .came)
+
+returns : tie.Need-returns Inv-loop μ-loop
+returns c = let e : c .before .loop .i ≡ c .before .before .before .before .before .args .d = omega arith in rw e at (c .before .loop .inv .2)
+
+pub blocked-spec : {M : Type 1} → statement M
+blocked-spec =
+    tie.close
+    (tie.spec
+    Inv-loop
+    μ-loop
+    mul-cell
+    shared-slice-read-cell
+    loop-holds
+    mul-are-related
+    shared-slice-read-are-related
+    are-related-requires
+    mul-c
+    element-copy-out-c
+    cast-c
+    array-write-marks
+    add-i
+    loop-less
+    loop-again
+    returns)

@@ -1,0 +1,13 @@
+-- `grants::cover::with_fewer`: the counts that are compared are those of the two placements.
+use Rattle.grants.specs.CoverPlaced.{sooner-is-fewer, later-is-fewer}
+use Rattle.grants.proofs.cover.with_fewer.Statement.{statement}
+use Rattle.grants.proofs.cover.with_fewer.Tie as tie
+
+returns : tie.Need-returns
+returns c n p q sooner later = sooner-is-fewer p q n sooner later (c .if1 .taken)
+
+returns-2 : tie.Need-returns-2
+returns-2 c n p q sooner later = later-is-fewer p q n sooner later (c .if1 .left)
+
+pub with-fewer-spec : {M : Type 1} → statement M
+with-fewer-spec = tie.close (tie.spec returns returns-2)

@@ -1,0 +1,26 @@
+-- `grants::reduction::reduce`: the sweeps start from all cells of the rows and an empty log.
+use borrow.Author.Needs.{needs}
+use Prim.Native.Nat.{ℕ}
+use mathlib.Core.Path.{refl}
+use lib.ListN.{replicate, length-replicate}
+use Rattle.sheet.specs.Limits.{grant-limit}
+use Rattle.grants.specs.ReductionResult.{reducible-ready, settled-reduced}
+use Rattle.grants.proofs.reduction.reduce.Statement.{statement}
+use Rattle.grants.proofs.reduction.reduce.Tie as tie
+
+sweeps-requires : tie.Need-sweeps-requires
+unfolding grant-limit
+sweeps-requires c κs = (
+  reducible-ready (replicate grant-limit 0) (replicate grant-limit 0) (c .before .before .before .before .pre)
+      (length-replicate {A = ℕ} grant-limit 0) (length-replicate {A = ℕ} grant-limit 0),
+  refl,
+)
+
+count-singles-requires : tie.Need-count-singles-requires
+count-singles-requires c κs = search needs
+
+returns : tie.Need-returns
+returns c = settled-reduced (c .before .before .before .sweeps .ensures) (c .count-singles .ensures)
+
+pub reduce-spec : {M : Type 1} → statement M
+reduce-spec = tie.close (tie.spec sweeps-requires count-singles-requires returns)

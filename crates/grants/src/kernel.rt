@@ -1,0 +1,107 @@
+// The kernel's grants in order.
+use crate::cell::ROW_BITS;
+use bits::WORD_BITS;
+use sheet::CELL_WORDS;
+use sheet::GRANT_LIMIT;
+use sheet::PermissionNo;
+use sheet::ROW_WORDS;
+use sheet::UserNo;
+ghost use mathlib.Core.Path.{_≡_};
+ghost use Prim.Native.Nat.{_+_, _*_, _/_, _%_, _^_, _≤_, _<_};
+ghost use Rattle.bits.specs.Bit.{bit, word-bits};
+ghost use Rattle.sheet.specs.Limits.{user-limit};
+ghost use Rattle.sheet.specs.Rows.{row-words, row-bits, cell};
+ghost use Rattle.grants.specs.CellPlaces.{marked, fit-in, grant-of};
+ghost use Rattle.grants.specs.KernelArray.{Listed};
+ghost use Rattle.grants.specs.KernelWalk.{NextFrom};
+
+// Grants in order: the cell of each by its number, and how many there are.
+pub struct Kernel {
+    pub cells: [u16; GRANT_LIMIT],
+    pub size: usize,
+}
+
+// The lowest position of a word from a place on, else the end of the word.
+fn next_position(word: u64, from: usize) -> usize
+    requires { ⌜ from < word-bits ⌝ }
+    ensures { λ r. ⌜ NextFrom (bit word) from word-bits r ⌝ }
+{
+    let rest = word >> from;
+    if 0 < rest {
+        from + bits::lowest(rest)
+    } else {
+        WORD_BITS
+    }
+}
+
+// The lowest cell from a place on that is set, else the end of the users' rows.
+pub fn next_cell(words: &[u64; CELL_WORDS], users: usize, from: usize) -> usize
+    requires { ⌜ (users ≤ user-limit) × (from ≤ users * row-bits) ⌝ }
+    ensures { λ r. ⌜ NextFrom (marked (now (words .entry))) from (users * row-bits) r ⌝ }
+{
+    let mut n = from;
+    while n < users * ROW_BITS {
+        let i = n / WORD_BITS;
+        let p = next_position(words[i], n % WORD_BITS);
+        if p < WORD_BITS {
+            return i * WORD_BITS + p;
+        }
+        n = (i + 1) * WORD_BITS;
+    }
+    n
+}
+
+// The grants of a set in order. A set of more than GRANT_LIMIT, which no sheet has, is cut there.
+pub fn listed(left: &[u64; CELL_WORDS], users: usize) -> Kernel
+    requires { ⌜ users ≤ user-limit ⌝ }
+    ensures { λ r. ⌜ Listed (now (left .entry)) users (r .cells) (r .size) ⌝ }
+{
+    let mut cells = [0; GRANT_LIMIT];
+    let mut size = 0;
+    let mut n = next_cell(left, users, 0);
+    while n < users * ROW_BITS && size < GRANT_LIMIT {
+        cells[size] = n as u16;
+        size += 1;
+        n = next_cell(left, users, n + 1);
+    }
+    Kernel { cells, size }
+}
+
+// The user of a cell.
+pub fn user_of(cell: u16) -> UserNo
+    ensures { λ r. ⌜ r .0 ≡ cell / row-bits ⌝ }
+{
+    UserNo(cell as usize / ROW_BITS)
+}
+
+// The permission of a cell.
+pub fn permission_of(cell: u16) -> PermissionNo
+    ensures { λ r. ⌜ r .0 ≡ cell % row-bits ⌝ }
+{
+    PermissionNo(cell as usize % ROW_BITS)
+}
+
+// Whether a user holds a permission, as the rows say.
+fn holds(rows: &[u64], u: UserNo, p: PermissionNo) -> bool
+    requires { ⌜ u .0 * row-words + p .0 / word-bits < 2 ^ word-bits ⌝ }
+    ensures { λ r. ⌜ r ≡ cell (now (rows .entry)) (u .0) (p .0) ⌝ }
+{
+    let p = p.0;
+    let i = u.0 * ROW_WORDS + p / WORD_BITS;
+    if i < rows.len() {
+        bits::has(rows[i], p % WORD_BITS)
+    } else {
+        false
+    }
+}
+
+// Whether the grants at two cells fit.
+pub fn cells_fit(rows: &[u64], a: u16, b: u16) -> bool
+    ensures { λ r. ⌜ r ≡ fit-in (now (rows .entry)) (grant-of a) (grant-of b) ⌝ }
+{
+    if holds(rows, user_of(a), permission_of(b)) {
+        holds(rows, user_of(b), permission_of(a))
+    } else {
+        false
+    }
+}

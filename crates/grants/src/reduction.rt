@@ -1,0 +1,182 @@
+// The reduction: sweeps that remove singles and tie dominating grants, until one removes nothing.
+use crate::cell::CellNo;
+use crate::judgement::Verdict;
+use crate::judgement::judge;
+use bits::WORD_BITS;
+use sheet::CELL_WORDS;
+use sheet::GRANT_LIMIT;
+use sheet::ROW_WORDS;
+ghost use mathlib.Core.Path.{_≡_};
+ghost use mathlib.Core.Bool.{So};
+ghost use mathlib.Core.List.{[], _∷_};
+ghost use Prim.Native.Nat.{_*_, _<_, _≤_};
+ghost use lib.ListN.{length, getD};
+ghost use Rattle.lists.specs.PassingBelow.{passing-below};
+ghost use Rattle.sheet.specs.Limits.{grant-limit};
+ghost use Rattle.sheet.specs.Rows.{row-words};
+ghost use Rattle.grants.specs.Reduction.{singles-of};
+ghost use Rattle.grants.specs.Log.{log-of};
+ghost use Rattle.grants.specs.CellPlaces.{marked};
+ghost use Rattle.grants.specs.NearCells.{cells-of};
+ghost use Rattle.grants.specs.ReductionResult.{Reducible, ReducedFrom};
+ghost use Rattle.grants.specs.ReductionWork.{work-of, word-cells, Ready, Visited, Settled, Removable, Removed};
+
+// The cells of the kernel, and the removals in order: the cell of each, and its partner's, which is its own where it was removed as single.
+pub struct Reduced {
+    pub left: [u64; CELL_WORDS],
+    pub removed: [u16; GRANT_LIMIT],
+    pub partner: [u16; GRANT_LIMIT],
+    pub count: usize,
+    pub singles: usize,
+}
+
+// One grant is removed, with the partner that it is tied to, or itself. How many removals there are then.
+fn remove<'a>(
+    left: &'a mut [u64; CELL_WORDS],
+    removed: &'a mut [u16; GRANT_LIMIT],
+    partner: &'a mut [u16; GRANT_LIMIT],
+    count: usize,
+    it: CellNo,
+    other: CellNo,
+) -> usize
+    requires { ⌜ Removable (it .0) (other .0) (work-of (now left) (now removed) (now partner) count) ⌝ }
+    ensures { λ r. ⌜ Removed (it .0) (other .0) (work-of (now (left .entry)) (now (removed .entry)) (now (partner .entry)) count)
+        (work-of (now (left .exit)) (now (removed .exit)) (now (partner .exit)) r) ⌝ }
+{
+    let at = it.0;
+    let i = at / WORD_BITS;
+    left[i] = bits::without(left[i], at % WORD_BITS);
+    removed[count] = at as u16;
+    partner[count] = other.0 as u16;
+    count + 1
+}
+
+// One grant is judged against those remaining at that moment.
+fn visit<'a>(
+    rows: &'a [u64; CELL_WORDS],
+    left: &'a mut [u64; CELL_WORDS],
+    removed: &'a mut [u16; GRANT_LIMIT],
+    partner: &'a mut [u16; GRANT_LIMIT],
+    users: usize,
+    count: usize,
+    it: CellNo,
+) -> usize
+    requires { ⌜ Ready (now rows) users (work-of (now left) (now removed) (now partner) count)
+        × (it .0 < cells-of users) × So (marked (now left) (it .0)) ⌝ }
+    ensures { λ r. ⌜ Visited (now (rows .entry)) users (it .0 ∷ []) (work-of (now (left .entry)) (now (removed .entry)) (now (partner .entry)) count)
+        (work-of (now (left .exit)) (now (removed .exit)) (now (partner .exit)) r) ⌝ }
+{
+    match judge(rows, left, users, it) {
+        Verdict::Stays => count,
+        Verdict::Single => remove(left, removed, partner, count, it, it),
+        Verdict::Tied(other) => remove(left, removed, partner, count, it, other),
+    }
+}
+
+// The grants of word i are visited, in rising number.
+fn sweep_word<'a>(
+    rows: &'a [u64; CELL_WORDS],
+    left: &'a mut [u64; CELL_WORDS],
+    removed: &'a mut [u16; GRANT_LIMIT],
+    partner: &'a mut [u16; GRANT_LIMIT],
+    users: usize,
+    count: usize,
+    i: usize,
+) -> usize
+    requires { ⌜ Ready (now rows) users (work-of (now left) (now removed) (now partner) count) × (i < users * row-words) ⌝ }
+    ensures { λ r. ⌜ Visited (now (rows .entry)) users (word-cells i (getD (now (left .entry)) i 0))
+        (work-of (now (left .entry)) (now (removed .entry)) (now (partner .entry)) count)
+        (work-of (now (left .exit)) (now (removed .exit)) (now (partner .exit)) r) ⌝ }
+{
+    let mut count = count;
+    let mut w = left[i];
+    while w != 0 {
+        let at = i * WORD_BITS + bits::lowest(w);
+        count = visit(rows, left, removed, partner, users, count, CellNo(at));
+        w = bits::without_lowest(w);
+    }
+    count
+}
+
+// All remaining grants are visited, in rising number.
+fn sweep<'a>(
+    rows: &'a [u64; CELL_WORDS],
+    left: &'a mut [u64; CELL_WORDS],
+    removed: &'a mut [u16; GRANT_LIMIT],
+    partner: &'a mut [u16; GRANT_LIMIT],
+    users: usize,
+    count: usize,
+) -> usize
+    requires { ⌜ Ready (now rows) users (work-of (now left) (now removed) (now partner) count) ⌝ }
+    ensures { λ r. ⌜ Visited (now (rows .entry)) users (passing-below (cells-of users) (marked (now (left .entry))))
+        (work-of (now (left .entry)) (now (removed .entry)) (now (partner .entry)) count)
+        (work-of (now (left .exit)) (now (removed .exit)) (now (partner .exit)) r) ⌝ }
+{
+    let mut count = count;
+    let mut i = 0;
+    while i < users * ROW_WORDS {
+        count = sweep_word(rows, left, removed, partner, users, count, i);
+        i += 1;
+    }
+    count
+}
+
+// Sweeps repeat until one removes nothing.
+fn sweeps<'a>(
+    rows: &'a [u64; CELL_WORDS],
+    left: &'a mut [u64; CELL_WORDS],
+    removed: &'a mut [u16; GRANT_LIMIT],
+    partner: &'a mut [u16; GRANT_LIMIT],
+    users: usize,
+) -> usize
+    requires { ⌜ Ready (now rows) users (work-of (now left) (now removed) (now partner) 0) × (now left ≡ now rows) ⌝ }
+    ensures { λ r. ⌜ Settled (now (rows .entry)) users (work-of (now (left .exit)) (now (removed .exit)) (now (partner .exit)) r) ⌝ }
+{
+    let mut count = 0;
+    loop {
+        let after = sweep(rows, left, removed, partner, users, count);
+        if after == count {
+            return after;
+        }
+        count = after;
+    }
+}
+
+// How many of the removals are singles.
+fn count_singles<'a>(
+    removed: &'a [u16; GRANT_LIMIT],
+    partner: &'a [u16; GRANT_LIMIT],
+    count: usize,
+) -> usize
+    requires { ⌜ count ≤ grant-limit ⌝ }
+    ensures { λ r. ⌜ r ≡ length (singles-of (log-of (now (removed .entry)) (now (partner .entry)) count)) ⌝ }
+{
+    let mut singles = 0;
+    let mut i = 0;
+    while i < count {
+        if removed[i] == partner[i] {
+            singles += 1;
+        }
+        i += 1;
+    }
+    singles
+}
+
+// The reduction of the grants whose cells the rows have set.
+pub fn reduce(rows: &[u64; CELL_WORDS], users: usize) -> Reduced
+    requires { ⌜ Reducible (now rows) users ⌝ }
+    ensures { λ r. ⌜ ReducedFrom (now (rows .entry)) users r ⌝ }
+{
+    let mut left = *rows;
+    let mut removed = [0; GRANT_LIMIT];
+    let mut partner = [0; GRANT_LIMIT];
+    let count = sweeps(rows, &mut left, &mut removed, &mut partner, users);
+    let singles = count_singles(&removed, &partner, count);
+    Reduced {
+        left,
+        removed,
+        partner,
+        count,
+        singles,
+    }
+}

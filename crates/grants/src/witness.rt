@@ -1,0 +1,94 @@
+// The witness: the greedy choice from the kernel, and the singles.
+use crate::cell::CellNo;
+use crate::choice::dropped;
+use crate::choice::fewest;
+use crate::sets::counted;
+use crate::sets::joined;
+use crate::sets::with_cell;
+use sheet::CELL_WORDS;
+use sheet::GRANT_LIMIT;
+ghost use Prim.Native.Nat.{ℕ, _≤_, _<_};
+ghost use lib.ListN.{getD};
+ghost use Rattle.sheet.specs.Limits.{grant-limit, user-limit};
+ghost use Rattle.sheet.specs.Sheet.{Sheet};
+ghost use Rattle.grants.specs.Reduction.{singles-of};
+ghost use Rattle.grants.specs.Log.{log-of};
+ghost use Rattle.grants.specs.CellPlaces.{cell-limit, Shown, Part};
+ghost use Rattle.grants.specs.WitnessGreedy.{Chosen};
+ghost use Rattle.grants.specs.WitnessSingles.{CellsOf};
+ghost use Rattle.grants.specs.WitnessRows.{ReducedTo, Witnessed};
+
+// The grants taken from a set one after the other, each with the fewest partners among those left, and dropped with them.
+fn chosen<'a>(
+    rows: &'a [u64; CELL_WORDS],
+    kernel: &'a [u64; CELL_WORDS],
+    users: usize,
+) -> [u64; CELL_WORDS]
+    requires { ⌜ users ≤ user-limit ⌝ }
+    ensures { λ r. ⌜ ((sheet : Sheet) → Shown (now (rows .entry)) users sheet → Part (now (kernel .entry)) (now (rows .entry))
+        → Chosen sheet (now (rows .entry)) (now (kernel .entry)) r) ⌝ }
+{
+    let mut left = *kernel;
+    let mut taken = [0; CELL_WORDS];
+    let mut count = 0;
+    while count < GRANT_LIMIT {
+        let best = fewest(rows, &left, users);
+        let cell = best.cell;
+        if best.partners == 0 {
+            return taken;
+        }
+        let more = with_cell(taken, cell);
+        let rest = dropped(rows, &left, users, cell);
+        taken = more;
+        left = rest;
+        count += 1;
+    }
+    taken
+}
+
+// The cells of the grants that a log of removals has as single.
+pub fn single_cells<'a>(
+    removed: &'a [u16; GRANT_LIMIT],
+    partner: &'a [u16; GRANT_LIMIT],
+    count: usize,
+) -> [u64; CELL_WORDS]
+    requires { ⌜ (count ≤ grant-limit) × ((i : ℕ) → i < count → getD (now removed) i 0 < cell-limit) ⌝ }
+    ensures { λ r. ⌜ CellsOf r (singles-of (log-of (now (removed .entry)) (now (partner .entry)) count)) ⌝ }
+{
+    let mut cells = [0; CELL_WORDS];
+    let mut i = 0;
+    while i < count {
+        let at = removed[i];
+        if at == partner[i] {
+            let cell = at as usize;
+            let more = with_cell(cells, CellNo(cell));
+            cells = more;
+        }
+        i += 1;
+    }
+    cells
+}
+
+// The witness: its grants by their cells, and w.
+pub struct Witness {
+    pub cells: [u64; CELL_WORDS],
+    pub count: usize,
+}
+
+// The grants taken from the kernel and all singles.
+pub fn witness_of<'a>(
+    rows: &'a [u64; CELL_WORDS],
+    kernel: &'a [u64; CELL_WORDS],
+    singles: &'a [u64; CELL_WORDS],
+    users: usize,
+) -> Witness
+    requires { ⌜ users ≤ user-limit ⌝ }
+    ensures { λ r. ⌜ ((sheet : Sheet) → Shown (now (rows .entry)) users sheet
+        → ReducedTo sheet (now (rows .entry)) (now (kernel .entry)) (now (singles .entry))
+        → Witnessed sheet (now (rows .entry)) (r .cells) (r .count)) ⌝ }
+{
+    let taken = chosen(rows, kernel, users);
+    let cells = joined(&taken, singles, users);
+    let count = counted(&cells, users);
+    Witness { cells, count }
+}

@@ -1,0 +1,51 @@
+-- `roles::roles_of`: the grants of the sheet are listed, the classes of all grants stand at their cells, and the roles of the listed grants in these classes
+-- are those of the sheet.
+use mathlib.Core.Path.{_≡_, sym, ap, _∙_}
+use borrow.Author.Needs.{needs}
+use lib.ListN.{length}
+use Rattle.lists.specs.Placement.{used}
+use Rattle.sheet.specs.Limits.{grant-limit}
+use Rattle.grants.specs.Reduction.{reduction}
+use Rattle.roles.specs.Classes.{classes-of}
+use Rattle.roles.specs.RolesInputLaws.{kernel-below, removed-below, partner-below, all-listed, all-below, classes-below, roles-few, all-class-at, roles-belong}
+use Rattle.roles.proofs.matrices.roles_of.Statement.{statement}
+use Rattle.roles.proofs.matrices.roles_of.Tie as tie
+
+room : (c : tie.After-listed) → length (c .listed .result .cells) ≡ grant-limit
+unfolding grant-limit
+room c = search needs
+
+listed-requires : tie.Need-listed-requires
+listed-requires c κs = search needs
+
+all-classes-requires : tie.Need-all-classes-requires
+all-classes-requires c κs =
+    let b = c .before .pre .belongs in (
+      (b .few-cells, kernel-below b),
+      ((b .placement-held .in-use ∙ ap used (sym (b .placement-held .so-far)), b .few-classes), (b .few-removals, removed-below b, partner-below b)),
+    )
+
+roles-of-classes-requires : tie.Need-roles-of-classes-requires
+roles-of-classes-requires c κs =
+    let at-listed = c .before .before .before .before .before in
+    let b = at-listed .before .pre .belongs in
+    let all = at-listed .listed .result in
+    let whole = all-listed (all .cells) (all .size) (b .shown) (b .few-grants) (room at-listed) (at-listed .listed .ensures) in
+    let at = c .before .before .before .before .all-classes .ensures in (
+      (at-listed .listed .ensures .few, all-below b (all .cells) (all .size) whole at, classes-below b (all .cells) (all .size) whole at),
+      roles-few b (all .cells) (all .size) whole at,
+    )
+
+returns : tie.Need-returns
+returns c sheet placement b =
+    let at-listed = c .before .before .before .before .before .before in
+    let all = at-listed .listed .result in
+    let whole = all-listed (all .cells) (all .size) (b .shown) (b .few-grants) (room at-listed) (at-listed .listed .ensures) in
+    let at = c .before .before .before .before .before .all-classes .ensures in
+    rw (roles-belong b (all .cells) (all .size) whole at) at
+    (c .roles-of-classes .ensures (classes-of (reduction sheet) placement .members) (at-listed .before .args .users)
+    (all-class-at b (all .cells) (all .size) whole at))
+
+pub roles-of-spec : {M : Type 1} → statement M
+roles-of-spec =
+    tie.close (tie.spec listed-requires all-classes-requires roles-of-classes-requires returns)

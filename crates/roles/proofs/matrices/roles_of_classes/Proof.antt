@@ -1,0 +1,28 @@
+-- `roles::roles_of_classes`: the role numbers are below the count, so they are columns of a row; and the two matrices show the grants with these numbers.
+use borrow.Author.Needs.{needs}
+use Rattle.roles.specs.RolesShown.{roles-below, matrices-show}
+use Rattle.roles.proofs.matrices.roles_of_classes.Statement.{statement}
+use Rattle.roles.proofs.matrices.roles_of_classes.Tie as tie
+
+number-roles-requires : tie.Need-number-roles-requires
+number-roles-requires c κs = search needs
+
+user-rows-requires : tie.Need-user-rows-requires
+user-rows-requires c κs =
+    let pre = c .before .before .before .pre in
+    (pre .0 .0, pre .0 .1, roles-below (c .before .before .number-roles .ensures) (pre .1))
+
+role-rows-requires : tie.Need-role-rows-requires
+role-rows-requires c κs =
+    let pre = c .before .before .before .before .before .before .pre in
+    (pre .0 .0, pre .0 .1, roles-below (c .before .before .before .before .before .number-roles .ensures) (pre .1))
+
+returns : tie.Need-returns
+returns c members users at =
+    let pre = c .before .before .before .before .before .before .before .pre in
+    let numbered = c .before .before .before .before .before .before .number-roles .ensures in
+    matrices-show users at (pre .0 .1) numbered (pre .1) (c .before .before .before .user-rows .ensures) (c .role-rows .ensures)
+
+pub roles-of-classes-spec : {M : Type 1} → statement M
+roles-of-classes-spec =
+    tie.close (tie.spec number-roles-requires user-rows-requires role-rows-requires returns)

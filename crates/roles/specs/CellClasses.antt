@@ -1,0 +1,49 @@
+-- Classes by cell: an array with the class of the grant at each cell, 0 at the other cells, as `class-of` says of any grant. Assumes nothing.
+use Prim.Native.Nat.{ℕ, _<_}
+use mathlib.Core.Path.{_≡_}
+use mathlib.Core.Bool.{cond}
+use mathlib.Core.List.{List, reverse}
+use lib.Dec.{eqb}
+use lib.ListN.{length, getD}
+use Rattle.lists.specs.Lists.{list-of}
+use Rattle.lists.specs.LatestFirst.{latest-first}
+use Rattle.sheet.specs.Sheet.{Grant}
+use Rattle.grants.specs.Reduction.{Removal, single, tied, Reduction}
+use Rattle.grants.specs.CellPlaces.{cell-limit, grant-of}
+use Rattle.grants.specs.Log.{log-of}
+use Rattle.roles.specs.Classes.{Classed, Classes, paired, class-of, classes-of}
+
+-- the array has the class of each cell
+pub record ClassAt (class : List ℕ) (members : List Classed) : Type 0 where
+  pub wide : length class ≡ cell-limit
+  pub shown : (n : ℕ) → n < cell-limit → getD class n 0 ≡ class-of members (grant-of n)
+
+-- the array and the count are those of the classes
+pub record ClassesAt (class : List ℕ) (count : ℕ) (classes : Classes) : Type 0 where
+  pub each : ClassAt class (classes .members)
+  pub total : count ≡ classes .count
+
+-- the grants at the first cells of an array
+abbrev pub listed : List ℕ → ℕ → List Grant
+listed cells size = list-of size (λ i. grant-of (getD cells i 0))
+
+-- these grants with classes from another array, the latest first
+abbrev pub paired-in : List ℕ → List ℕ → ℕ → List Classed
+paired-in cells placed size = paired (reverse (listed cells size)) (latest-first placed size)
+
+-- the first numbers of an array are cells
+pub record CellsBelow (size : ℕ) (cells : List ℕ) : Type 0 where
+  pub below : (i : ℕ) → i < size → getD cells i 0 < cell-limit
+
+-- a removal by its two cells: a grant whose partner is itself was removed as single
+abbrev pub removal-of : ℕ → ℕ → Removal
+removal-of it partner = cond (eqb it partner) (single (grant-of it)) (tied (grant-of it) (grant-of partner))
+
+-- what a reduction left and removed, as arrays of cells say it
+abbrev pub reduction-in : List ℕ → ℕ → List ℕ → List ℕ → ℕ → Reduction
+reduction-in kernel size removed partner count = record { remaining = listed kernel size; removed = log-of removed partner count }
+
+-- the classes of all grants, as arrays say them
+abbrev pub classes-in : List ℕ → ℕ → List ℕ → List ℕ → List ℕ → ℕ → Classes
+classes-in kernel size placed removed partner count =
+    classes-of (reduction-in kernel size removed partner count) (latest-first placed size)

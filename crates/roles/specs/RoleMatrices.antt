@@ -1,0 +1,99 @@
+-- The two matrices of some grants in roles as rows of words: a user has the role of each of its grants, and a role gives the permission of each of its grants.
+-- Each grant sets one cell in either matrix, and the cells set by the grants so far are those that the definition finds among them.
+use Prim.Native.Nat.{ℕ, zero, suc, _+_, _*_, _/_, _%_, _<_}
+use native.Mathlib.Nat.{mul-assoc, mod-lt}
+use native.Mathlib.Numerals.{add-one}
+use mathlib.Core.Path.{_≡_, refl}
+use mathlib.Core.Bool.{Bool, true, false, _&&_, _||_, or-comm, and-comm, and-true}
+use mathlib.Core.List.{List}
+use lib.Dec.{eqb}
+use lib.ListN.{getD, replicate}
+use Rattle.bits.specs.Bit.{word-bits}
+use Rattle.bits.specs.BitLaws.{bit-of-zero}
+use Rattle.lists.specs.Lists.{any}
+use Rattle.sheet.specs.Limits.{user-limit}
+use Rattle.sheet.specs.Rows.{row-words, row-bits, cell}
+use Rattle.sheet.specs.CellAdded.{CellAdded}
+use Rattle.sheet.specs.CellLaws.{word-of, word-below}
+use Rattle.search.specs.Gathered.{eqb-comm}
+use Rattle.grants.specs.CellPlaces.{cell-words, cell-limit, grant-of}
+use Rattle.grants.specs.CellPlaceLaws.{row-bits-pos, user-below}
+use Rattle.roles.specs.Classes.{Classed}
+use Rattle.roles.specs.CellClasses.{paired-in}
+use Rattle.roles.specs.CellClassLaws.{paired-next}
+
+-- user u has a grant of role r
+abbrev pub has-role : List Classed → ℕ → ℕ → Bool
+has-role members u r = any (λ x. eqb (x .grant .user) u && eqb (x .class) r) members
+
+-- a grant of role r has permission p
+abbrev pub gives-permission : List Classed → ℕ → ℕ → Bool
+gives-permission members r p = any (λ x. eqb (x .grant .permission) p && eqb (x .class) r) members
+
+-- the words hold a matrix
+pub record CellsShow (words : List ℕ) (matrix : ℕ → ℕ → Bool) : Type 0 where
+  pub shown : (u p : ℕ) → p < row-bits → cell words u p ≡ matrix u p
+
+-- the words of as many roles as a row has bits
+abbrev pub role-words : ℕ
+role-words = row-bits * row-words
+
+-- the first role numbers are columns of a row
+pub record RolesBelow (size : ℕ) (roles : List ℕ) : Type 0 where
+  pub below : (i : ℕ) → i < size → getD roles i 0 < row-bits
+
+-- ---- where a grant's cell stands
+
+user-of-cell-below : (n : ℕ) → n < cell-limit → n / row-bits < user-limit
+unfolding row-bits
+user-of-cell-below n l = user-below n user-limit (rw (mul-assoc user-limit row-words word-bits) at l)
+
+-- in the rows of the users, by its user and its role
+pub user-word-below : (it role : ℕ) → it < cell-limit → role < row-bits → word-of (it / row-bits) role < cell-words
+user-word-below it role l k = word-below user-limit (it / row-bits) role (user-of-cell-below it l) k
+
+-- in the rows of the roles, by its role and its permission
+pub permission-of-cell-below : (n : ℕ) → n % row-bits < row-bits
+permission-of-cell-below n = mod-lt n row-bits-pos
+
+pub role-word-below : (it role : ℕ) → role < row-bits → word-of role (it % row-bits) < role-words
+role-word-below it role k = word-below row-bits role (it % row-bits) k (permission-of-cell-below it)
+
+-- ---- no grant, and one grant more
+
+-- words of zeros hold no cell
+pub no-cells : (n : ℕ) → CellsShow (replicate n 0) (λ u p. false)
+no-cells n = record { shown = λ u p l. rw (zeros n (word-of u p)) (bit-of-zero (p % word-bits)) }
+  where
+    zeros : (n i : ℕ) → _≡_ {A = ℕ} (getD (replicate n 0) i 0) 0
+    zeros zero i = refl
+    zeros (suc n) zero = refl
+    zeros (suc n) (suc i) = zeros n i
+
+-- one cell more, as a test on its two parts says it
+one-more : (already first second : Bool) → (already || (first && (second && true))) ≡ ((first && second) || already)
+one-more already first second = rw (and-true second) (or-comm already (first && second))
+
+module _ {before after : List ℕ} (cells roles : List ℕ) (i : ℕ) where
+  pub has-role-next : CellAdded before after (grant-of (getD cells i 0) .user) (getD roles i 0) true
+      → CellsShow before (has-role (paired-in cells roles i)) → CellsShow after (has-role (paired-in cells roles (i + 1)))
+  has-role-next added so-far = record { shown = next }
+    where
+      next : (u r : ℕ) → r < row-bits → cell after u r ≡ has-role (paired-in cells roles (i + 1)) u r
+      next u r l =
+          let user = grant-of (getD cells i 0) .user in
+          let role = getD roles i 0 in
+          rw (add-one i, paired-next cells roles i, added .shows u r l, so-far .shown u r l, eqb-comm u user, eqb-comm r role)
+          (one-more (has-role (paired-in cells roles i) u r) (eqb user u) (eqb role r))
+
+  pub gives-permission-next : CellAdded before after (getD roles i 0) (grant-of (getD cells i 0) .permission) true
+      → CellsShow before (gives-permission (paired-in cells roles i)) → CellsShow after (gives-permission (paired-in cells roles (i + 1)))
+  gives-permission-next added so-far = record { shown = next }
+    where
+      next : (r p : ℕ) → p < row-bits → cell after r p ≡ gives-permission (paired-in cells roles (i + 1)) r p
+      next r p l =
+          let permission = grant-of (getD cells i 0) .permission in
+          let role = getD roles i 0 in
+          rw (add-one i, paired-next cells roles i, added .shows r p l, so-far .shown r p l, eqb-comm r role, eqb-comm p permission)
+          (rw (and-comm (eqb permission p) (eqb role r))
+          (one-more (gives-permission (paired-in cells roles i) r p) (eqb role r) (eqb permission p)))

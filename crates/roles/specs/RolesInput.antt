@@ -1,0 +1,36 @@
+-- What the roles of a sheet are found from: the rows of the sheet, its kernel as cells in order, a placement of it as an array of class numbers, and the log
+-- of its reduction as two arrays of cells. Assumes nothing.
+use Prim.Native.Nat.{ℕ, _≤_}
+use mathlib.Core.Path.{_≡_}
+use mathlib.Core.List.{List}
+use lib.ListN.{length}
+use Rattle.sheet.specs.Limits.{user-limit, grant-limit}
+use Rattle.sheet.specs.Sheet.{Sheet, grants}
+use Rattle.sheet.specs.Rows.{row-bits}
+use Rattle.grants.specs.Reduction.{reduction, kernel}
+use Rattle.grants.specs.CellPlaces.{Shown}
+use Rattle.grants.specs.CoverPlaced.{Placed}
+use Rattle.grants.specs.Log.{log-of}
+use Rattle.roles.specs.Roles.{roles-of}
+use Rattle.roles.specs.CellClasses.{listed}
+
+-- the arrays are those of a sheet and of a placement of its kernel, within the limits
+pub record Belongs (rows : List ℕ) (users : ℕ) (cells : List ℕ) (size : ℕ) (placed : List ℕ) (total : ℕ) (removed partner : List ℕ) (count : ℕ)
+    (sheet : Sheet) (placement : List ℕ) : Type 0 where
+  pub shown : Shown rows users sheet
+  pub few-users : users ≤ user-limit
+  pub few-grants : length (grants sheet) ≤ grant-limit
+  pub kernel-listed : listed cells size ≡ kernel sheet
+  pub few-cells : size ≤ grant-limit
+  pub placement-held : Placed placement placed size total
+  pub few-classes : total ≤ grant-limit
+  pub log-held : log-of removed partner count ≡ reduction sheet .removed
+  pub few-removals : count ≤ grant-limit
+  pub few-roles : roles-of sheet placement .count ≤ row-bits
+
+-- there is such a sheet and such a placement
+pub record OfSheet (rows : List ℕ) (users : ℕ) (cells : List ℕ) (size : ℕ) (placed : List ℕ) (total : ℕ) (removed partner : List ℕ) (count : ℕ)
+    : Type 0 where
+  pub sheet : Sheet
+  pub placement : List ℕ
+  pub belongs : Belongs rows users cells size placed total removed partner count sheet placement

@@ -1,0 +1,81 @@
+// The classes of all grants, by cell: the kernel's placement, and the removals gone back over.
+use crate::limits::CELL_LIMIT;
+use sheet::GRANT_LIMIT;
+ghost use mathlib.Core.Path.{_≡_};
+ghost use Prim.Native.Nat.{_+_, _<_, _≤_, _^_};
+ghost use Rattle.lists.specs.Placement.{used};
+ghost use Rattle.lists.specs.LatestFirst.{latest-first};
+ghost use Rattle.sheet.specs.Limits.{grant-limit};
+ghost use Rattle.grants.specs.CellPlaces.{cell-limit};
+ghost use Rattle.roles.specs.Classes.{Classes, put-back};
+ghost use Rattle.roles.specs.CellClasses.{ClassAt, ClassesAt, CellsBelow, removal-of, classes-in, paired-in};
+
+// The class of each cell, 0 where no grant has one, and how many classes there are.
+pub struct CellClasses {
+    pub class: [u16; CELL_LIMIT],
+    pub count: usize,
+}
+
+// The classes of the kernel's grants, each at its cell.
+fn place_kernel<'a>(
+    kernel: &'a [u16; GRANT_LIMIT],
+    size: usize,
+    placed: &'a [u16; GRANT_LIMIT],
+) -> [u16; CELL_LIMIT]
+    requires { ⌜ (size ≤ grant-limit) × CellsBelow size (now kernel) ⌝ }
+    ensures { λ r. ⌜ ClassAt r (paired-in (now (kernel .entry)) (now (placed .entry)) size) ⌝ }
+{
+    let mut class = [0; CELL_LIMIT];
+    let mut i = 0;
+    while i < size {
+        let cell = kernel[i] as usize;
+        class[cell] = placed[i];
+        i += 1;
+    }
+    class
+}
+
+// One removal gone back over: a single opens a class, a tied grant joins its partner's. The number of classes then.
+fn put_back(class: &mut [u16; CELL_LIMIT], count: usize, cell: u16, partner: u16) -> usize
+    requires { ⌜ (count < 2 ^ 16) × (cell < cell-limit) × (partner < cell-limit) ⌝ }
+    ensures { λ r. ⌜ ((classes : Classes) → ClassesAt (now (class .entry)) count classes
+        → ClassesAt (now (class .exit)) r (put-back (removal-of cell partner) classes)) ⌝ }
+{
+    let at = cell as usize;
+    if cell == partner {
+        class[at] = count as u16;
+        return count + 1;
+    }
+    let joined = class[partner as usize];
+    class[at] = joined;
+    count
+}
+
+// The classes of all grants, from a placement of the kernel and the removals, the latest gone back over first.
+pub fn all_classes<'a>(
+    kernel: &'a [u16; GRANT_LIMIT],
+    size: usize,
+    placed: &'a [u16; GRANT_LIMIT],
+    total: usize,
+    removed: &'a [u16; GRANT_LIMIT],
+    partner: &'a [u16; GRANT_LIMIT],
+    count: usize,
+) -> CellClasses
+    requires { ⌜ (size ≤ grant-limit) × CellsBelow size (now kernel) ⌝ }
+    requires { ⌜ (total ≡ used (latest-first (now placed) size)) × (total ≤ grant-limit) ⌝ }
+    requires { ⌜ (count ≤ grant-limit) × CellsBelow count (now removed) × CellsBelow count (now partner) ⌝ }
+    ensures { λ r. ⌜ ClassesAt (r .class) (r .count) (classes-in (now (kernel .entry)) size (now (placed .entry))
+        (now (removed .entry)) (now (partner .entry)) count) ⌝ }
+{
+    let mut class = place_kernel(kernel, size, placed);
+    let mut opened = total;
+    let mut i = count;
+    while 0 < i {
+        i -= 1;
+        opened = put_back(&mut class, opened, removed[i], partner[i]);
+    }
+    CellClasses {
+        class,
+        count: opened,
+    }
+}

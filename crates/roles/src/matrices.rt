@@ -1,0 +1,73 @@
+// The roles of a sheet, from a placement of its kernel.
+use crate::classes::all_classes;
+use crate::limits::CELL_LIMIT;
+use crate::limits::ROLE_WORDS;
+use crate::numbers::number_roles;
+use crate::rows::role_rows;
+use crate::rows::user_rows;
+use sheet::CELL_WORDS;
+use sheet::GRANT_LIMIT;
+ghost use mathlib.Core.List.{List};
+ghost use Prim.Native.Nat.{ℕ, _≤_};
+ghost use Rattle.lists.specs.Placement.{used};
+ghost use Rattle.lists.specs.KeyLaws.{by-key};
+ghost use Rattle.sheet.specs.Limits.{grant-limit};
+ghost use Rattle.sheet.specs.Sheet.{Sheet};
+ghost use Rattle.sheet.specs.Rows.{row-bits};
+ghost use Rattle.roles.specs.Classes.{Classed};
+ghost use Rattle.roles.specs.Roles.{roles-of-classes, roles-of};
+ghost use Rattle.roles.specs.CellClasses.{ClassAt, CellsBelow, listed};
+ghost use Rattle.roles.specs.RoleNumbers.{class-key, KeysBelow};
+ghost use Rattle.roles.specs.RolesShown.{RolesAt};
+ghost use Rattle.roles.specs.RolesInput.{Belongs, OfSheet};
+
+// Who has which role, what each role gives, and how many roles there are.
+pub struct RoleMatrices {
+    pub has: [u64; CELL_WORDS],
+    pub gives: [u64; ROLE_WORDS],
+    pub count: usize,
+}
+
+// The roles of the grants at some cells, from the class of each.
+fn roles_of_classes<'a>(
+    cells: &'a [u16; GRANT_LIMIT],
+    n: usize,
+    class: &'a [u16; CELL_LIMIT],
+) -> RoleMatrices
+    requires { ⌜ (n ≤ grant-limit) × CellsBelow n (now cells) × KeysBelow n (now class) (now cells) ⌝ }
+    requires { ⌜ used (by-key (class-key (now class) (now cells)) n) ≤ row-bits ⌝ }
+    ensures { λ r. ⌜ ((members : List Classed) (users : ℕ) → ClassAt (now (class .entry)) members
+        → RolesAt (r .has) (r .gives) (r .count) users (roles-of-classes (listed (now (cells .entry)) n) members)) ⌝ }
+{
+    let numbers = number_roles(cells, n, class);
+    let has = user_rows(cells, &numbers.roles, n);
+    let gives = role_rows(cells, &numbers.roles, n);
+    RoleMatrices {
+        has,
+        gives,
+        count: numbers.count,
+    }
+}
+
+// The roles of the sheet that the rows show, from a placement of its kernel and the log of its reduction.
+pub fn roles_of<'a>(
+    rows: &'a [u64; CELL_WORDS],
+    users: usize,
+    kernel: &'a [u16; GRANT_LIMIT],
+    size: usize,
+    placed: &'a [u16; GRANT_LIMIT],
+    total: usize,
+    removed: &'a [u16; GRANT_LIMIT],
+    partner: &'a [u16; GRANT_LIMIT],
+    count: usize,
+) -> RoleMatrices
+    requires { ⌜ OfSheet (now rows) users (now kernel) size (now placed) total (now removed) (now partner) count ⌝ }
+    ensures { λ r. ⌜ ((sheet : Sheet) (placement : List ℕ)
+        → Belongs (now (rows .entry)) users (now (kernel .entry)) size (now (placed .entry)) total
+        (now (removed .entry)) (now (partner .entry)) count sheet placement
+        → RolesAt (r .has) (r .gives) (r .count) users (roles-of sheet placement)) ⌝ }
+{
+    let all = grants::listed(rows, users);
+    let classes = all_classes(kernel, size, placed, total, removed, partner, count);
+    roles_of_classes(&all.cells, all.size, &classes.class)
+}

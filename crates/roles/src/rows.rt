@@ -1,0 +1,89 @@
+// The two matrices of roles as rows of words: for each user the roles, for each role the permissions.
+use crate::limits::ROLE_WORDS;
+use bits::WORD_BITS;
+use grants::permission_of;
+use grants::user_of;
+use sheet::CELL_WORDS;
+use sheet::GRANT_LIMIT;
+use sheet::PermissionNo;
+use sheet::ROW_WORDS;
+use sheet::RoleNo;
+use sheet::UserNo;
+ghost use mathlib.Core.Path.{_≡_};
+ghost use mathlib.Core.Bool.{true};
+ghost use Prim.Native.Nat.{_<_, _≤_};
+ghost use lib.ListN.{length};
+ghost use Rattle.sheet.specs.Limits.{grant-limit};
+ghost use Rattle.sheet.specs.Rows.{row-bits};
+ghost use Rattle.sheet.specs.CellAdded.{CellAdded};
+ghost use Rattle.sheet.specs.CellLaws.{word-of};
+ghost use Rattle.roles.specs.CellClasses.{CellsBelow, paired-in};
+ghost use Rattle.roles.specs.RoleMatrices.{CellsShow, RolesBelow, has-role, gives-permission};
+
+// Sets the cell of a row and a column.
+fn mark(words: &mut [u64], row: usize, column: usize)
+    requires { ⌜ (column < row-bits) × (word-of row column < length (now words)) ⌝ }
+    ensures { λ _. ⌜ CellAdded (now (words .entry)) (now (words .exit)) row column true ⌝ }
+{
+    let i = row * ROW_WORDS + column / WORD_BITS;
+    words[i] = bits::with(words[i], column % WORD_BITS);
+}
+
+// The user has the role.
+fn give_role(has: &mut [u64], u: UserNo, r: RoleNo)
+    requires { ⌜ (r .0 < row-bits) × (word-of (u .0) (r .0) < length (now has)) ⌝ }
+    ensures { λ _. ⌜ CellAdded (now (has .entry)) (now (has .exit)) (u .0) (r .0) true ⌝ }
+{
+    mark(has, u.0, r.0);
+}
+
+// The role gives the permission.
+fn give_permission(gives: &mut [u64], r: RoleNo, p: PermissionNo)
+    requires { ⌜ (p .0 < row-bits) × (word-of (r .0) (p .0) < length (now gives)) ⌝ }
+    ensures { λ _. ⌜ CellAdded (now (gives .entry)) (now (gives .exit)) (r .0) (p .0) true ⌝ }
+{
+    mark(gives, r.0, p.0);
+}
+
+// A role by its number.
+fn role_of(number: u16) -> RoleNo
+    ensures { λ r. ⌜ r .0 ≡ number ⌝ }
+{
+    RoleNo(number as usize)
+}
+
+// Who has which role: each grant's user has its role.
+pub fn user_rows<'a>(
+    cells: &'a [u16; GRANT_LIMIT],
+    roles: &'a [u16; GRANT_LIMIT],
+    n: usize,
+) -> [u64; CELL_WORDS]
+    requires { ⌜ (n ≤ grant-limit) × CellsBelow n (now cells) × RolesBelow n (now roles) ⌝ }
+    ensures { λ r. ⌜ CellsShow r (has-role (paired-in (now (cells .entry)) (now (roles .entry)) n)) ⌝ }
+{
+    let mut has = [0; CELL_WORDS];
+    let mut i = 0;
+    while i < n {
+        give_role(&mut has, user_of(cells[i]), role_of(roles[i]));
+        i += 1;
+    }
+    has
+}
+
+// What each role gives: each grant's role gives its permission.
+pub fn role_rows<'a>(
+    cells: &'a [u16; GRANT_LIMIT],
+    roles: &'a [u16; GRANT_LIMIT],
+    n: usize,
+) -> [u64; ROLE_WORDS]
+    requires { ⌜ (n ≤ grant-limit) × CellsBelow n (now cells) × RolesBelow n (now roles) ⌝ }
+    ensures { λ r. ⌜ CellsShow r (gives-permission (paired-in (now (cells .entry)) (now (roles .entry)) n)) ⌝ }
+{
+    let mut gives = [0; ROLE_WORDS];
+    let mut i = 0;
+    while i < n {
+        give_permission(&mut gives, role_of(roles[i]), permission_of(cells[i]));
+        i += 1;
+    }
+    gives
+}

@@ -1,0 +1,33 @@
+-- `class_end`: each test decides one part of the definition, and with fewer classes in use than the best placement has, at most one more is
+-- the next one.
+use borrow.Author.Needs.{needs}
+use borrow.Author.Tests.{lt-ltb, le-ltb}
+use mathlib.Core.Bool.{and-false}
+use native.Mathlib.Omega.{arith}
+use Rattle.search.proofs.choice.class_end.Statement.{statement}
+use Rattle.search.proofs.choice.class_end.Tie as tie
+
+returns : tie.Need-returns
+returns c = let a = c .before .args in rw (le-ltb (a .depth) (a .size) (c .if1 .taken))
+
+returns-2 : tie.Need-returns-2
+returns-2 c = let a = c .before .before .args in rw (le-ltb (a .used) (a .count) (c .if2 .taken), and-false)
+
+add-if3 : tie.Need-add-if3
+add-if3 c = search needs
+
+add-result : tie.Need-add-result
+add-result c = search needs
+
+returns-3 : tie.Need-returns-3
+returns-3 c =
+    let a = c .before .before .before .args in
+    rw (lt-ltb (a .depth) (a .size) (c .before .before .if1 .left), lt-ltb (a .used) (a .count) (c .before .if2 .left)) (omega arith)
+
+returns-4 : tie.Need-returns-4
+returns-4 c =
+    let a = c .before .before .before .args in
+    rw (lt-ltb (a .depth) (a .size) (c .before .before .if1 .left), lt-ltb (a .used) (a .count) (c .before .if2 .left)) (omega arith)
+
+pub class-end-spec : {M : Type 1} → statement M
+class-end-spec = tie.close (tie.spec returns returns-2 add-if3 add-result returns-3 returns-4)

@@ -1,0 +1,26 @@
+-- `Marks::with`: the number is put in in the word that has its position, and the other word stays.
+use mathlib.Core.Path.{refl}
+use mathlib.Core.Bool.{_||_, or-false}
+use borrow.Author.Needs.{needs}
+use Rattle.search.specs.MarkLaws.{changed-low, changed-high}
+use Rattle.search.proofs.marks.Marks.with.Statement.{statement}
+use Rattle.search.proofs.marks.Marks.with.Tie as tie
+
+with-requires : tie.Need-with-requires
+with-requires c κs = search needs
+
+with-requires-2 : tie.Need-with-requires-2
+with-requires-2 c κs = search needs
+
+returns : tie.Need-returns
+returns c =
+    let a = c .before .before .args in
+    changed-low _||_ or-false (a .self) _ (a .p) (c .before .if1 .taken) (c .with .ensures) refl
+
+returns-2 : tie.Need-returns-2
+returns-2 c =
+    let a = c .before .before .args in
+    changed-high _||_ or-false (a .self) _ (a .p) (c .before .if1 .left) refl (c .with2 .ensures)
+
+pub with-spec : {M : Type 1} → statement M
+with-spec = tie.close (tie.spec with-requires with-requires-2 returns returns-2)

@@ -1,0 +1,26 @@
+-- `Marks::without`: the number is taken out in the word that has its position, and the other word stays.
+use mathlib.Core.Path.{refl}
+use mathlib.Core.Bool.{not, _&&_, and-true}
+use borrow.Author.Needs.{needs}
+use Rattle.search.specs.MarkLaws.{changed-low, changed-high}
+use Rattle.search.proofs.marks.Marks.without.Statement.{statement}
+use Rattle.search.proofs.marks.Marks.without.Tie as tie
+
+without-requires : tie.Need-without-requires
+without-requires c κs = search needs
+
+without-requires-2 : tie.Need-without-requires-2
+without-requires-2 c κs = search needs
+
+returns : tie.Need-returns
+returns c =
+    let a = c .before .before .args in
+    changed-low (λ b t. b && not t) and-true (a .self) _ (a .p) (c .before .if1 .taken) (c .without .ensures) refl
+
+returns-2 : tie.Need-returns-2
+returns-2 c =
+    let a = c .before .before .args in
+    changed-high (λ b t. b && not t) and-true (a .self) _ (a .p) (c .before .if1 .left) refl (c .without2 .ensures)
+
+pub without-spec : {M : Type 1} → statement M
+without-spec = tie.close (tie.spec without-requires without-requires-2 returns returns-2)

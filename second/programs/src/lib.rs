@@ -1,0 +1,38 @@
+//! What the small programs share: the budget argument, and the bytes that the book program and the check
+//! program print.
+
+use second::checker::check;
+use second::refusal::Refusal;
+use second::session::Session;
+
+/// The budget that an argument says: decimal digits of a value in range, else 0.
+pub fn budget(argument: Option<&str>) -> u32 {
+    argument
+        .filter(|text| text.bytes().all(|byte| byte.is_ascii_digit()))
+        .and_then(|text| text.parse().ok())
+        .unwrap_or(0)
+}
+
+/// The book of the sheet after one search, or the number of the refusal and a line feed.
+pub fn book_output(sheet: &[u8], budget: u32) -> Vec<u8> {
+    searched_book(sheet, budget).unwrap_or_else(number_line)
+}
+
+fn searched_book(sheet: &[u8], budget: u32) -> Result<Vec<u8>, Refusal> {
+    let mut session = Session::fresh();
+    session.load(sheet)?;
+    session.search(budget)?;
+    session.accepted().map(|accepted| accepted.book_bytes()).ok_or(Refusal::NoSheet)
+}
+
+/// Roles and witness lines, or the number of the refusal.
+pub fn check_output(sheet: &[u8], book: &[u8]) -> Vec<u8> {
+    match check(sheet, book) {
+        Ok(answer) => format!("{},{}\n", answer.roles, answer.witness_lines).into_bytes(),
+        Err(refusal) => number_line(refusal),
+    }
+}
+
+fn number_line(refusal: Refusal) -> Vec<u8> {
+    format!("{}\n", refusal.number()).into_bytes()
+}

@@ -1,0 +1,162 @@
+//! The three programs as they are called.
+
+use std::io::Write;
+use std::path::PathBuf;
+use std::process::{Command, Output, Stdio};
+
+use second::script::answer_line;
+use second::session::Session;
+use trials::calls::{script, sequence};
+use trials::cases::cases;
+
+const EXAMPLE: &str = "user,rec,id,map\nann,1,1,0\nbo,0,1,1\ncy,1,1,1\n";
+
+const EXAMPLE_BOOK: &str = "roles,bound,state\n2,2,witnessed\n\nrole,rec,id,map\nR1,1,1,0\nR2,0,1,1\n\n\
+    user,R1,R2\nann,1,0\nbo,0,1\ncy,1,1\n\nuser,permission\nann,rec\nbo,map\n";
+
+/// Four users each lacking only their own permission; closed with step 125.
+const FOUR_USERS: &str = "user,a,b,c,d\ns,0,1,1,1\nt,1,0,1,1\nu,1,1,0,1\nv,1,1,1,0\n";
+
+fn run(program: &str, arguments: &[&str], input: &[u8]) -> Output {
+    let mut child = Command::new(program)
+        .args(arguments)
+        .stdin(Stdio::piped())
+        .stdout(Stdio::piped())
+        .stderr(Stdio::piped())
+        .spawn()
+        .expect("the program starts");
+    let mut stdin = child.stdin.take().expect("standard input is piped");
+    stdin.write_all(input).expect("the program reads its input");
+    drop(stdin);
+    child.wait_with_output().expect("the program ends")
+}
+
+fn printed(output: Output) -> String {
+    assert!(output.status.success(), "{output:?}");
+    String::from_utf8(output.stdout).expect("the output is plain text")
+}
+
+fn book(arguments: &[&str], sheet: &str) -> String {
+    printed(run(env!("CARGO_BIN_EXE_second-book"), arguments, sheet.as_bytes()))
+}
+
+/// A file with these bytes; each test takes names of its own.
+fn file(name: &str, bytes: &str) -> String {
+    let path = PathBuf::from(env!("CARGO_TARGET_TMPDIR")).join(name);
+    std::fs::write(&path, bytes).expect("the file can be written");
+    path.to_str().expect("the path is plain text").to_string()
+}
+
+#[test]
+fn book_program_prints_the_worked_example() {
+    assert_eq!(book(&[], EXAMPLE), EXAMPLE_BOOK);
+    assert_eq!(book(&["0"], EXAMPLE), EXAMPLE_BOOK);
+}
+
+#[test]
+fn budget_is_the_first_argument() {
+    let counts = |arguments: &[&str]| book(arguments, FOUR_USERS).lines().nth(1).map(str::to_string);
+    for argument in ["125", "00125", "000000000000000000125", "126", "4294967295"] {
+        assert_eq!(counts(&[argument]).as_deref(), Some("4,4,searched"), "{argument}");
+    }
+    for argument in [
+        "",
+        "0",
+        "124",
+        "+125",
+        "-125",
+        " 125",
+        "125 ",
+        "125.0",
+        "0x125",
+        "1e3",
+        "4294967296",
+        "99999999999999999999",
+    ] {
+        assert_eq!(counts(&[argument]).as_deref(), Some("4,3,open"), "{argument}");
+    }
+    assert_eq!(counts(&[]).as_deref(), Some("4,3,open"));
+    assert_eq!(counts(&["0", "125"]).as_deref(), Some("4,3,open"));
+    assert_eq!(counts(&["125", "0"]).as_deref(), Some("4,4,searched"));
+}
+
+#[test]
+fn book_program_prints_the_number_of_a_refusal() {
+    let long = |bytes: usize| format!("user,p\n{},1\n", "n".repeat(bytes - "user,p\n,1\n".len()));
+    assert_eq!(book(&[], ""), "2\n");
+    assert_eq!(book(&["7"], "user,p\nu,2\n"), "7\n");
+    assert_eq!(book(&[], &long(40_960)), "5\n");
+    assert_eq!(book(&[], &long(40_961)), "1\n");
+    assert_eq!(book(&[], &long(400_000)), "1\n");
+}
+
+#[test]
+fn check_program_prints_counts_or_a_number() {
+    let sheet = file("check-sheet", EXAMPLE);
+    let good = file("check-good", EXAMPLE_BOOK);
+    let bad = file("check-bad", &EXAMPLE_BOOK.replace("2,2", "2,3"));
+    let check = |book: &str| printed(run(env!("CARGO_BIN_EXE_second-check"), &[&sheet, book], b""));
+    assert_eq!(check(&good), "2,2\n");
+    assert_eq!(check(&bad), "13\n");
+    assert_eq!(check(&sheet), "12\n");
+}
+
+#[test]
+fn check_program_says_what_is_wrong_with_its_arguments() {
+    let program = env!("CARGO_BIN_EXE_second-check");
+    for arguments in [&[][..], &["one"][..], &["no such sheet", "no such book"][..]] {
+        let output = run(program, arguments, b"");
+        assert_eq!(output.status.code(), Some(2), "{output:?}");
+        assert!(output.stdout.is_empty() && !output.stderr.is_empty(), "{output:?}");
+    }
+}
+
+/// The digests were worked out apart from the program.
+#[test]
+fn play_program_answers_each_call_with_a_line() {
+    let four = file("play-four", FOUR_USERS);
+    let example = file("play-example", EXAMPLE);
+    let book = file("play-book", EXAMPLE_BOOK);
+    let script = format!(
+        "search 1\nwrite 5\nload {book}\nload {four}\nsearch 100\nload {book}\nsearch 4294967295\nload {example}\n\
+         search 0\nwrite 0\nwrite 132\nwrite 133\nwrite 200\ncheck {example} {book}\ncheck {four} {book}\n"
+    );
+    let expected = "search 10 0 0 0 -\nwrite 10 0 02da015a\nload 3 0 0 0 0 0\nload 0 4 4 12 12 3\n\
+        search 0 100 4 3 open\nload 3 0 0 0 0 0\nsearch 0 25 4 4 searched\nload 0 3 3 7 0 2\n\
+        search 0 0 2 2 witnessed\nwrite 11 0 00000001\nwrite 11 0 197f4297\nwrite 0 133 aade27d3\n\
+        write 0 133 77404876\ncheck 0 2 2\ncheck 12 0 0\n";
+    assert_eq!(printed(run(env!("CARGO_BIN_EXE_second-play"), &[], script.as_bytes())), expected);
+}
+
+#[test]
+fn play_program_stops_at_a_line_that_is_no_call() {
+    let program = env!("CARGO_BIN_EXE_second-play");
+    for script in [
+        "jump 3\n",
+        "search -1\n",
+        "search 4294967296\n",
+        "write 131073\n",
+        "load\n",
+        "load no-such-file\n",
+        "\n",
+    ] {
+        let output = run(program, &[], script.as_bytes());
+        assert_eq!(output.status.code(), Some(2), "{output:?}");
+        assert!(output.stdout.is_empty() && !output.stderr.is_empty(), "{output:?}");
+    }
+    assert!(printed(run(program, &[], b"write 131072\n")).starts_with("write 10 0 "));
+}
+
+/// The program gives the lines that the library gives.
+#[test]
+fn play_program_answers_whole_sequences() {
+    let directory = PathBuf::from(env!("CARGO_TARGET_TMPDIR")).join("sequences");
+    std::fs::create_dir_all(&directory).expect("the directory can be made");
+    cases(20, |random| {
+        let calls = sequence(random, 40, 8);
+        let mut session = Session::fresh();
+        let expected: String = calls.iter().map(|call| answer_line(&mut session, call) + "\n").collect();
+        let script = script(&calls, &directory).expect("the files can be written");
+        assert_eq!(printed(run(env!("CARGO_BIN_EXE_second-play"), &[], script.as_bytes())), expected);
+    });
+}

@@ -1,0 +1,191 @@
+//! The checker: judges a book against a sheet without a session.
+
+use crate::book::{COUNTS_HEADING, ROLE_HEADING, USER_HEADING, WITNESS_HEADING, role_name};
+use crate::grants::{self, Grant, fits};
+use crate::limits;
+use crate::refusal::Refusal;
+use crate::roles::State;
+use crate::sheet::{Permission, Sheet, User};
+
+/// What the checker answers about an accepted book.
+#[derive(Clone, Copy, Debug, PartialEq, Eq)]
+pub struct CheckAnswer {
+    pub roles: usize,
+    pub witness_lines: usize,
+}
+
+/// Judges the sheet first, then the book's form, counts, product and witness.
+pub fn check(sheet: &[u8], book: &[u8]) -> Result<CheckAnswer, Refusal> {
+    let sheet = Sheet::read(sheet)?;
+    let claim = Claim::read(&sheet, book).ok_or(Refusal::BookForm)?;
+    if !claim.counts_agree() {
+        Err(Refusal::BookCounts)
+    } else if !claim.product_is(&sheet) {
+        Err(Refusal::BookProduct)
+    } else if !claim.witness_stands(&sheet) {
+        Err(Refusal::BookWitness)
+    } else {
+        Ok(CheckAnswer { roles: claim.gives.len(), witness_lines: claim.witness.len() })
+    }
+}
+
+/// What a book of the form claims. Counts stay digits, since they may have any length.
+struct Claim<'a> {
+    roles: &'a [u8],
+    bound: &'a [u8],
+    state: State,
+    /// For each role, whether it holds each permission.
+    gives: Vec<Vec<bool>>,
+    /// For each user, whether they have each role.
+    has: Vec<Vec<bool>>,
+    witness: Vec<Grant>,
+}
+
+type Line<'a> = &'a [u8];
+
+impl<'a> Claim<'a> {
+    /// Reads a book, or gives nothing if it is not of the form. No line within a block is empty, so empty
+    /// lines part the blocks.
+    fn read(sheet: &Sheet, book: &'a [u8]) -> Option<Claim<'a>> {
+        if book.len() > limits::BOOK_BYTES {
+            return None;
+        }
+        let lines: Vec<Line<'a>> = book.strip_suffix(b"\n")?.split(|byte| *byte == b'\n').collect();
+        let blocks: Vec<&[Line<'a>]> = lines.split(|line| line.is_empty()).collect();
+        let [counts, roles, users, witness] = blocks[..] else {
+            return None;
+        };
+        let (role_count, bound, state) = read_counts(counts)?;
+        let gives = read_roles(sheet, roles)?;
+        Some(Claim {
+            roles: role_count,
+            bound,
+            state,
+            has: read_users(sheet, gives.len(), users)?,
+            gives,
+            witness: read_witness(sheet, witness)?,
+        })
+    }
+
+    fn counts_agree(&self) -> bool {
+        let roles = self.gives.len();
+        let witness_lines = self.witness.len();
+        let state_agrees = match self.state {
+            State::Witnessed => says(self.bound, roles) && witness_lines == roles,
+            State::Searched => says(self.bound, roles) && witness_lines < roles,
+            State::Open => says(self.bound, witness_lines) && witness_lines < roles,
+        };
+        says(self.roles, roles) && state_agrees
+    }
+
+    fn product_is(&self, sheet: &Sheet) -> bool {
+        sheet.users().all(|user| {
+            sheet
+                .permissions()
+                .all(|permission| self.opens(user, permission) == sheet.holds(user, permission))
+        })
+    }
+
+    /// Whether some role of the user holds the permission.
+    fn opens(&self, user: User, permission: Permission) -> bool {
+        self.gives
+            .iter()
+            .zip(&self.has[user.0])
+            .any(|(permissions, has_role)| *has_role && permissions[permission.0])
+    }
+
+    fn witness_stands(&self, sheet: &Sheet) -> bool {
+        self.witness.iter().enumerate().all(|(index, grant)| {
+            let earlier = &self.witness[..index];
+            grants::is_held(sheet, *grant) && !earlier.iter().any(|other| fits(sheet, *other, *grant))
+        })
+    }
+}
+
+/// Whether a count without leading zeros is this number.
+fn says(digits: &[u8], number: usize) -> bool {
+    digits == number.to_string().as_bytes()
+}
+
+fn fields<'a>(line: Line<'a>) -> Vec<&'a [u8]> {
+    line.split(|byte| *byte == b',').collect()
+}
+
+fn read_counts<'a>(block: &[Line<'a>]) -> Option<(&'a [u8], &'a [u8], State)> {
+    let [heading, values] = block else {
+        return None;
+    };
+    let [roles, bound, word] = fields(values)[..] else {
+        return None;
+    };
+    let state = State::ALL.into_iter().find(|state| state.word().as_bytes() == word)?;
+    let of_the_form = *heading == COUNTS_HEADING.as_bytes() && is_count(roles) && is_count(bound);
+    of_the_form.then_some((roles, bound, state))
+}
+
+/// Decimal, of any length, without leading zeros.
+fn is_count(digits: &[u8]) -> bool {
+    match digits {
+        [] => false,
+        [first, ..] => digits.iter().all(u8::is_ascii_digit) && (digits.len() == 1 || *first != b'0'),
+    }
+}
+
+fn read_roles(sheet: &Sheet, block: &[Line<'_>]) -> Option<Vec<Vec<bool>>> {
+    let (heading, rows) = block.split_first()?;
+    let names: Vec<&[u8]> = sheet.permissions().map(|permission| sheet.permission_name(permission)).collect();
+    if !is_row(heading, ROLE_HEADING.as_bytes(), &names) || rows.len() > limits::ROLES {
+        return None;
+    }
+    let numbered = rows.iter().enumerate();
+    numbered.map(|(index, row)| read_cells(row, role_name(index).as_bytes(), names.len())).collect()
+}
+
+fn read_users(sheet: &Sheet, role_count: usize, block: &[Line<'_>]) -> Option<Vec<Vec<bool>>> {
+    let (heading, rows) = block.split_first()?;
+    let names: Vec<String> = (0..role_count).map(role_name).collect();
+    let names: Vec<&[u8]> = names.iter().map(|name| name.as_bytes()).collect();
+    if !is_row(heading, USER_HEADING.as_bytes(), &names) || rows.len() != sheet.users().count() {
+        return None;
+    }
+    let named = sheet.users().zip(rows);
+    named.map(|(user, row)| read_cells(row, sheet.user_name(user), role_count)).collect()
+}
+
+fn read_witness(sheet: &Sheet, block: &[Line<'_>]) -> Option<Vec<Grant>> {
+    let (heading, rows) = block.split_first()?;
+    if *heading != WITNESS_HEADING.as_bytes() {
+        return None;
+    }
+    rows.iter().map(|row| read_grant(sheet, row)).collect()
+}
+
+fn read_grant(sheet: &Sheet, row: Line<'_>) -> Option<Grant> {
+    let [user, permission] = fields(row)[..] else {
+        return None;
+    };
+    Some(Grant { user: sheet.user_named(user)?, permission: sheet.permission_named(permission)? })
+}
+
+/// Whether the line has this first field and then these names.
+fn is_row(line: Line<'_>, first: &[u8], names: &[&[u8]]) -> bool {
+    let fields = fields(line);
+    fields[0] == first && fields[1..] == *names
+}
+
+/// The cells of a line that begins with this name and has this many of them.
+fn read_cells(line: Line<'_>, name: &[u8], count: usize) -> Option<Vec<bool>> {
+    let fields = fields(line);
+    if fields[0] != name || fields.len() != count + 1 {
+        return None;
+    }
+    fields[1..].iter().map(|field| read_cell(field)).collect()
+}
+
+fn read_cell(field: &[u8]) -> Option<bool> {
+    match field {
+        b"0" => Some(false),
+        b"1" => Some(true),
+        _ => None,
+    }
+}

@@ -1,0 +1,21 @@
+//! A second implementation of document 01, written from the paper alone, to compare the proved one with.
+//!
+//! Everything is kept in sets and vectors: a grant is a pair of a user and a permission, and a set of grants
+//! is an ordered set of such pairs. The modules follow the data: a `sheet` is read, its `grants` go through
+//! the `reduction`, give a `witness` and a first `cover`, the `machine` improves on that, `roles` and the
+//! `book` come out, and the `checker` judges any book. A `session` holds a sheet between calls; a `script` is
+//! a list of calls.
+
+pub mod book;
+pub mod checker;
+pub mod cover;
+pub mod grants;
+pub mod limits;
+pub mod machine;
+pub mod reduction;
+pub mod refusal;
+pub mod roles;
+pub mod script;
+pub mod session;
+pub mod sheet;
+pub mod witness;

@@ -1,0 +1,28 @@
+//! Every limit of document 01, once.
+
+/// Bytes of a sheet.
+pub const SHEET_BYTES: usize = 40_960;
+
+/// Permissions of a sheet; at least one.
+pub const PERMISSIONS: usize = 64;
+
+/// Users of a sheet; at least one.
+pub const USERS: usize = 256;
+
+/// Bytes of a name; at least one.
+pub const NAME_BYTES: usize = 16;
+
+/// Grants of a sheet.
+pub const GRANTS: usize = 2_048;
+
+/// Kernel grants up to which a search makes steps.
+pub const SEARCHED_KERNEL: usize = 128;
+
+/// Roles of a book that the checker reads.
+pub const ROLES: usize = 64;
+
+/// Bytes of a book that the checker reads.
+pub const BOOK_BYTES: usize = 65_536;
+
+/// Bytes of a buffer that a script of calls may lend.
+pub const SCRIPT_BUFFER_BYTES: usize = 131_072;

@@ -1,0 +1,43 @@
+//! The causes to refuse a call, with the number of each.
+
+/// A cause; the number is document 01's, and a lower one goes before a higher one.
+#[derive(Clone, Copy, Debug, PartialEq, Eq, PartialOrd, Ord, Hash)]
+pub enum Refusal {
+    /// The sheet has too many bytes.
+    SheetLength = 1,
+    /// The sheet is empty, does not end in a line feed, or has a byte that is not allowed.
+    SheetBytes = 2,
+    /// The first field is not `user`, or the first line names too few or too many permissions.
+    FirstLine = 3,
+    /// There are no or too many user lines.
+    UserLines = 4,
+    /// A name is empty or too long.
+    NameLength = 5,
+    /// A line has another field count than the first.
+    FieldCount = 6,
+    /// A field after a user name is neither `0` nor `1`.
+    FieldValue = 7,
+    /// Two users or two permissions have one name.
+    NameTwice = 8,
+    /// There are too many grants.
+    GrantCount = 9,
+    /// A search or a writing came before any accepted sheet.
+    NoSheet = 10,
+    /// The lent buffer is shorter than the book.
+    BufferLength = 11,
+    /// The book is too long or not of the form, or names a witness that the sheet does not know.
+    BookForm = 12,
+    /// The counts of the book disagree.
+    BookCounts = 13,
+    /// The product of the book's two matrices is not the sheet.
+    BookProduct = 14,
+    /// A witness grant is not held, or two of them fit.
+    BookWitness = 15,
+}
+
+impl Refusal {
+    /// The number that a refused call returns.
+    pub fn number(self) -> u32 {
+        self as u32
+    }
+}

@@ -1,0 +1,85 @@
+//! Calls on one session, each with one line of answer, so that two programs can be compared line by line.
+
+use crate::checker::{CheckAnswer, check};
+use crate::refusal::Refusal;
+use crate::session::{LoadAnswer, SearchAnswer, Session};
+
+/// One call with everything that it brings along.
+#[derive(Clone, Debug, PartialEq, Eq)]
+pub enum Call {
+    Load(Vec<u8>),
+    Search(u32),
+    /// A writing into a buffer of this length.
+    Write(usize),
+    Check {
+        sheet: Vec<u8>,
+        book: Vec<u8>,
+    },
+}
+
+/// Makes the call and gives its line: the call's name, 0 or the number of the refusal, and the values, which
+/// are 0 on a refusal.
+pub fn answer_line(session: &mut Session, call: &Call) -> String {
+    match call {
+        Call::Load(sheet) => load_line(session.load(sheet)),
+        Call::Search(budget) => search_line(session.search(*budget)),
+        Call::Write(length) => {
+            let mut buffer = lent_buffer(*length);
+            let written = session.write(&mut buffer);
+            write_line(written, &buffer)
+        }
+        Call::Check { sheet, book } => check_line(check(sheet, book)),
+    }
+}
+
+/// A buffer of this length as it is before a writing.
+pub fn lent_buffer(length: usize) -> Vec<u8> {
+    (0..length).map(|index| ((31 * index + 7) % 256) as u8).collect()
+}
+
+/// Adler-32 of the bytes.
+pub fn digest(bytes: &[u8]) -> u32 {
+    const MODULUS: u32 = 65_521;
+    let mut sum = 1;
+    let mut sum_of_sums = 0;
+    for byte in bytes {
+        sum = (sum + u32::from(*byte)) % MODULUS;
+        sum_of_sums = (sum_of_sums + sum) % MODULUS;
+    }
+    sum_of_sums << 16 | sum
+}
+
+fn load_line(answer: Result<LoadAnswer, Refusal>) -> String {
+    match answer {
+        Ok(counts) => format!(
+            "load 0 {} {} {} {} {}",
+            counts.users, counts.permissions, counts.grants, counts.kernel, counts.witness
+        ),
+        Err(refusal) => format!("load {} 0 0 0 0 0", refusal.number()),
+    }
+}
+
+fn search_line(answer: Result<SearchAnswer, Refusal>) -> String {
+    match answer {
+        Ok(found) => {
+            let word = found.state.word();
+            format!("search 0 {} {} {} {word}", found.steps, found.roles, found.bound)
+        }
+        Err(refusal) => format!("search {} 0 0 0 -", refusal.number()),
+    }
+}
+
+fn write_line(answer: Result<usize, Refusal>, buffer: &[u8]) -> String {
+    let (number, count) = match answer {
+        Ok(count) => (0, count),
+        Err(refusal) => (refusal.number(), 0),
+    };
+    format!("write {number} {count} {:08x}", digest(buffer))
+}
+
+fn check_line(answer: Result<CheckAnswer, Refusal>) -> String {
+    match answer {
+        Ok(counts) => format!("check 0 {} {}", counts.roles, counts.witness_lines),
+        Err(refusal) => format!("check {} 0 0", refusal.number()),
+    }
+}

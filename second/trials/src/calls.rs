@@ -1,0 +1,105 @@
+//! Sequences of calls on one session, refused ones among them.
+
+use std::path::Path;
+
+use second::script::Call;
+use second::session::Session;
+
+use crate::damage;
+use crate::draft::Draft;
+use crate::extremes;
+use crate::families;
+use crate::paper;
+use crate::random::Random;
+
+/// Searches of a sequence stay below this budget unless nothing is left to search.
+const BUDGET: usize = 3_000;
+
+/// A sequence of this many calls from a fresh session. The sheets have at most about this many users and
+/// permissions.
+pub fn sequence(random: &mut Random, length: usize, size: usize) -> Vec<Call> {
+    let count = random.between(1, 3);
+    let sheets: Vec<Draft> = (0..count).map(|_| families::any(random, size)).collect();
+    let mut session = Session::fresh();
+    let mut calls = Vec::new();
+    for _ in 0..length {
+        let call = any_call(random, &sheets, &session);
+        match &call {
+            Call::Load(sheet) => drop(session.load(sheet)),
+            Call::Search(budget) => drop(session.search(*budget)),
+            Call::Write(_) | Call::Check { .. } => (),
+        }
+        calls.push(call);
+    }
+    calls
+}
+
+/// A call that goes well with the state of the session: a buffer just long enough, say, or one byte short.
+fn any_call(random: &mut Random, sheets: &[Draft], session: &Session) -> Call {
+    match random.below(10) {
+        0..=1 => Call::Load(any_sheet(random, sheets)),
+        2..=5 => Call::Search(any_budget(random, session)),
+        6..=8 => Call::Write(any_length(random, session)),
+        _ => any_check(random, sheets),
+    }
+}
+
+fn any_sheet(random: &mut Random, sheets: &[Draft]) -> Vec<u8> {
+    let sheet = random.pick(sheets).bytes();
+    match random.below(10) {
+        0..=4 => sheet,
+        5 => extremes::of_bytes(paper::SHEET_BYTES + random.below(2)),
+        _ => damage::bytes(random, &sheet),
+    }
+}
+
+fn any_budget(random: &mut Random, session: &Session) -> u32 {
+    let nothing_left = session.accepted().is_none_or(|accepted| accepted.machine().is_finished());
+    let budget = match random.below(6) {
+        0 => 0,
+        1 => 1,
+        2 if nothing_left => u32::MAX as usize,
+        2 | 3 => random.below(30),
+        _ => random.below(BUDGET),
+    };
+    budget as u32
+}
+
+fn any_length(random: &mut Random, session: &Session) -> usize {
+    let needed = session.accepted().map_or(0, |accepted| accepted.book_bytes().len());
+    match random.below(5) {
+        0 => needed,
+        1 => needed.saturating_sub(1),
+        2 => random.below(needed + 1),
+        _ => needed + random.below(200),
+    }
+}
+
+fn any_check(random: &mut Random, sheets: &[Draft]) -> Call {
+    let draft = random.pick(sheets);
+    let mut session = Session::fresh();
+    session.load(&draft.bytes()).expect("a sheet of a family is acceptable");
+    let book = session.accepted().map(|accepted| accepted.book_bytes()).unwrap_or_default();
+    let book = if random.percent(50) { damage::book(random, draft, &book) } else { book };
+    let sheet = if random.percent(20) { any_sheet(random, sheets) } else { draft.bytes() };
+    Call::Check { sheet, book }
+}
+
+/// The sequence as a script, a call a line. The sheets and books that it names are written into the directory.
+pub fn script(calls: &[Call], directory: &Path) -> std::io::Result<String> {
+    let mut script = String::new();
+    for (index, call) in calls.iter().enumerate() {
+        let file = |kind: &str, bytes: &[u8]| {
+            let path = directory.join(format!("{index}-{kind}"));
+            std::fs::write(&path, bytes).map(|()| path.display().to_string())
+        };
+        let line = match call {
+            Call::Load(sheet) => format!("load {}", file("sheet", sheet)?),
+            Call::Search(budget) => format!("search {budget}"),
+            Call::Write(length) => format!("write {length}"),
+            Call::Check { sheet, book } => format!("check {} {}", file("sheet", sheet)?, file("book", book)?),
+        };
+        script += &(line + "\n");
+    }
+    Ok(script)
+}

@@ -1,0 +1,77 @@
+//! A sheet while it is being made.
+
+use std::collections::BTreeSet;
+
+use crate::paper;
+use crate::random::Random;
+
+/// Names and ones of a sheet; nothing keeps them within the rules.
+#[derive(Clone, Debug, PartialEq, Eq)]
+pub struct Draft {
+    pub users: Vec<String>,
+    pub permissions: Vec<String>,
+    /// For each user, whether they hold each permission.
+    pub held: Vec<Vec<bool>>,
+}
+
+/// Names that also have another meaning somewhere in a sheet or a book.
+const AMBIGUOUS_NAMES: [&str; 12] =
+    ["user", "role", "roles", "permission", "R1", "R2", "0", "1", "-", ".", "_", "open"];
+
+const NAME_CHARACTERS: &[u8] = b"ABCDEFGHIJKLMNOPQRSTUVWXYZabcdefghijklmnopqrstuvwxyz0123456789-._";
+
+impl Draft {
+    /// Users `u0`, `u1`, .. and permissions `p0`, `p1`, ..
+    pub fn plain(users: usize, permissions: usize, holds: impl Fn(usize, usize) -> bool) -> Draft {
+        Draft {
+            users: (0..users).map(|user| format!("u{user}")).collect(),
+            permissions: (0..permissions).map(|permission| format!("p{permission}")).collect(),
+            held: (0..users)
+                .map(|user| (0..permissions).map(|permission| holds(user, permission)).collect())
+                .collect(),
+        }
+    }
+
+    /// The same ones under other names, some of them ambiguous or as long as allowed.
+    pub fn renamed(mut self, random: &mut Random) -> Draft {
+        self.users = distinct_names(random, self.users.len());
+        self.permissions = distinct_names(random, self.permissions.len());
+        self
+    }
+
+    /// The ones as pairs of user and permission in grant order.
+    pub fn grants(&self) -> Vec<(usize, usize)> {
+        let cells = (0..self.users.len())
+            .flat_map(|user| (0..self.permissions.len()).map(move |permission| (user, permission)));
+        cells.filter(|(user, permission)| self.held[*user][*permission]).collect()
+    }
+
+    pub fn bytes(&self) -> Vec<u8> {
+        let mut text = format!("user,{}\n", self.permissions.join(","));
+        for (name, row) in self.users.iter().zip(&self.held) {
+            let cells: Vec<&str> = row.iter().map(|held| if *held { "1" } else { "0" }).collect();
+            text.push_str(&format!("{name},{}\n", cells.join(",")));
+        }
+        text.into_bytes()
+    }
+}
+
+fn distinct_names(random: &mut Random, count: usize) -> Vec<String> {
+    let mut seen = BTreeSet::new();
+    let mut names = Vec::new();
+    while names.len() < count {
+        let name = any_name(random);
+        if seen.insert(name.clone()) {
+            names.push(name);
+        }
+    }
+    names
+}
+
+fn any_name(random: &mut Random) -> String {
+    if random.percent(10) {
+        return random.pick(&AMBIGUOUS_NAMES).to_string();
+    }
+    let length = random.between(1, paper::NAME_BYTES);
+    (0..length).map(|_| char::from(*random.pick(NAME_CHARACTERS))).collect()
+}

@@ -1,0 +1,19 @@
+//! Trials of an implementation of document 01: what to feed it, and what it must answer.
+//!
+//! Generators, all from seeds: `families` of sheets, sheets at the limits (`extremes`), sheets with a kernel
+//! of a given size (`kernels`), damaged sheets and books (`damage`), and sequences of `calls`. Answers from
+//! elsewhere: `brute` finds the smallest number of roles from the two matrices alone, and `restated` says the
+//! rules of document 01 a second time, in another way.
+
+pub mod book_draft;
+pub mod brute;
+pub mod calls;
+pub mod cases;
+pub mod damage;
+pub mod draft;
+pub mod extremes;
+pub mod families;
+pub mod kernels;
+pub mod paper;
+pub mod random;
+pub mod restated;

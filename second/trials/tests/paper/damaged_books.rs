@@ -1,0 +1,58 @@
+//! Damaged books, judged by the checker and in the second way.
+
+use second::checker::check;
+use trials::cases::cases;
+use trials::damage;
+use trials::draft::Draft;
+use trials::extremes;
+use trials::families::{self, crown};
+use trials::restated::form::verdict;
+
+use crate::support::{Tally, accepted, book, loaded};
+
+/// The judgement of a damaged book, and of the second way to judge it.
+fn judge(draft: &Draft, damaged: impl AsRef<[u8]>) -> Result<(usize, usize), u32> {
+    let damaged = damaged.as_ref();
+    let found = check(&draft.bytes(), damaged)
+        .map(|answer| (answer.roles, answer.witness_lines))
+        .map_err(|refusal| refusal.number());
+    assert_eq!(found, verdict(draft, damaged), "{draft:?} {}", String::from_utf8_lossy(damaged));
+    found
+}
+
+#[test]
+fn damaged_books_get_the_same_judgement_in_the_second_way() {
+    let mut seen = Tally::default();
+    cases(20_000, |random| {
+        let draft = families::any(random, 6);
+        let session = loaded(&draft.bytes());
+        let text = accepted(&session).book_bytes();
+        let damaged = if random.percent(70) {
+            damage::book(random, &draft, &text)
+        } else {
+            damage::bytes(random, &text)
+        };
+        seen.note(judge(&draft, &damaged).err());
+    });
+    seen.expect([None, Some(12), Some(13), Some(14), Some(15)], 300);
+}
+
+/// Every book that differs from a good one in one byte, or has one more or one less. Only a witness line can
+/// become another good one so.
+#[test]
+fn every_single_byte_of_a_book_is_judged_alike_in_both_ways() {
+    for draft in [crown(3), extremes::full(2, 3), Draft::plain(2, 1, |_, _| false)] {
+        let text = book(&loaded(&draft.bytes()));
+        let witness_lines = text.find("user,permission").expect("a book has witness lines");
+        for place in 0..text.len() {
+            let with = |piece: &str, rest: usize| [&text[..place], piece, &text[rest..]].concat();
+            judge(&draft, with("", place + 1)).expect_err("a byte less is never of a good book");
+            for piece in ",|\n|0|1|2|6|9|R|U|u|p|w| |\r|-".split('|') {
+                judge(&draft, with(piece, place)).expect_err("a byte more is never of a good book");
+                let changed = with(piece, place + 1);
+                let found = judge(&draft, &changed);
+                assert!(found.is_err() || changed == text || place > witness_lines, "{changed}");
+            }
+        }
+    }
+}

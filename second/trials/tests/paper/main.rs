@@ -1,0 +1,20 @@
+//! The library against document 01: its examples and edges, its settled readings, and its rules on many
+//! sheets, books and sequences.
+
+mod books;
+mod causes;
+mod checker;
+mod damaged_books;
+mod edges;
+mod form;
+mod generators;
+mod kernels;
+mod limits;
+mod machine;
+mod progress;
+mod readings;
+mod reduction;
+mod sequences;
+mod slips;
+mod smallest;
+mod support;
