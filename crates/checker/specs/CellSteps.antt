@@ -11,6 +11,7 @@ use Rattle.lists.specs.Aligned.{Aligned, aligned-length, aligned-listed}
 use Rattle.sheet.specs.Text.{Bytes, comma}
 use Rattle.sheet.specs.Sheet.{cell-text}
 use Rattle.sheet.specs.Rows.{row-bits, cell}
+use Rattle.sheet.specs.CellAdded.{CellAdded}
 use Rattle.book.specs.CellsText.{cell-field}
 use Rattle.book.specs.CellsWritten.{cell-field-length}
 use Rattle.checker.specs.declared.cursor.Step.{Step}
@@ -20,7 +21,7 @@ use Rattle.checker.specs.declared.cells.CellRead.the-variants as found
 use Rattle.checker.specs.Steps.{Reads, Misses}
 use Rattle.checker.specs.StepLaws.{reads-nothing, reads-place, reads-then, reads-more, misses-first, misses-second, misses-next, misses-byte, misses-at-end, reads-this-byte}
 use Rattle.checker.specs.Pieces.{cell-fields}
-use Rattle.checker.specs.CellWords.{Blank, CellPut, Grown, grown-none, cell-read, cells-kept, grown-more}
+use Rattle.checker.specs.RowGrown.{Blank, Grown, grown-none, cell-read, cells-kept, grown-more}
 
 -- a step over a cell
 abbrev pub CellReads : Bytes → ℕ → CellRead → Type 0
@@ -83,7 +84,7 @@ reading-starts {text} {at} h b =
     record { reads = rw here (reads-nothing text at h); grown = grown-none b }
 
 pub reading-more : {text : Bytes} {at row i : ℕ} {words mid after : List ℕ} {one : Bool} → Reading text at row i words mid → i < row-bits
-    → Reads text (at + 2 * i) (cell-field one) (at + 2 * i + 2) → CellPut mid after row i one → Reading text at row (i + 1) words after
+    → Reads text (at + 2 * i) (cell-field one) (at + 2 * i + 2) → CellAdded mid after row i one → Reading text at row (i + 1) words after
 reading-more {text} {at} {row} {i} {words} {mid} {after} {one} r h p put =
     let next : at + 2 * (i + 1) ≡ at + 2 * i + 2 = omega arith in
     let before : listed i (λ j. cell-field (cell mid row j)) ≡ listed i (λ j. cell-field (cell after row j)) =

@@ -39,12 +39,13 @@ answered number says = cond (eqb number 0) (confirmed says) (check-refused numbe
 
 first-of-both : (a b : List Cause) → (first-number a ≡ 0 → ⊥) → first-number (a ++ b) ≡ first-number a
 first-of-both [] b h = absurd (h refl)
-first-of-both (cause ∷ a) b h = choose (cause .applies) h
+first-of-both (cause ∷ a) b h = choose (first-of-both a b) (cause .applies) h
   where
-    choose : (t : Bool) → (refuse-if t (cause .number) (first-number a) ≡ 0 → ⊥)
+    choose : ((first-number a ≡ 0 → ⊥) → first-number (a ++ b) ≡ first-number a) → (t : Bool)
+        → (refuse-if t (cause .number) (first-number a) ≡ 0 → ⊥)
         → refuse-if t (cause .number) (first-number (a ++ b)) ≡ refuse-if t (cause .number) (first-number a)
-    choose true h = refl
-    choose false h = first-of-both a b h
+    choose later true h = refl
+    choose later false h = later h
 
 second-of-both : (a b : List Cause) → NoneApplies a → first-number (a ++ b) ≡ first-number b
 second-of-both [] b n = refl

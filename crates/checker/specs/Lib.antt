@@ -24,7 +24,7 @@ pub mod Ended
 pub mod Pieces
 pub mod Capped
 pub mod CountSteps
-pub mod CellWords
+pub mod RowGrown
 pub mod CellSteps
 pub mod LineSteps
 pub mod RowSteps

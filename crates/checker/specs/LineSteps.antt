@@ -11,7 +11,7 @@ use Rattle.checker.specs.declared.cursor.Step.the-variants.{On, Off}
 use Rattle.checker.specs.Steps.{Reads, Misses, Expects}
 use Rattle.checker.specs.StepLaws.{reads-then, misses-first, misses-second, misses-after}
 use Rattle.checker.specs.Pieces.{cell-fields, named-text}
-use Rattle.checker.specs.CellWords.{Grown}
+use Rattle.checker.specs.RowGrown.{Grown}
 use Rattle.checker.specs.CellSteps.{RowRead, cell-fields-aligned}
 
 -- the cells of a line and its end

@@ -15,7 +15,7 @@ use Rattle.book.specs.CellsText.{cell-field}
 use Rattle.checker.specs.Steps.{Reads}
 use Rattle.checker.specs.StepLaws.{reads-nothing, reads-more}
 use Rattle.checker.specs.Pieces.{named-text, named-texts}
-use Rattle.checker.specs.CellWords.{Blank}
+use Rattle.checker.specs.RowGrown.{Blank}
 use Rattle.checker.specs.LineSteps.{LineRead}
 
 -- no row has a cell set

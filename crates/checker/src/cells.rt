@@ -6,7 +6,8 @@ use sheet::ROW_WORDS;
 ghost use Prim.Native.Nat.{_+_, _*_, _≤_, _<_};
 ghost use lib.ListN.{length};
 ghost use Rattle.sheet.specs.Rows.{row-words, row-bits};
-ghost use Rattle.checker.specs.CellWords.{CellPut, Blank};
+ghost use Rattle.sheet.specs.CellAdded.{CellAdded};
+ghost use Rattle.checker.specs.RowGrown.{Blank};
 ghost use Rattle.checker.specs.CellSteps.{CellReads, CellsRead};
 
 // What reading a cell finds.
@@ -38,7 +39,7 @@ fn cell_field(book: &[u8], at: usize) -> CellRead
 // Sets a cell of a row that is not set, where the book says so.
 fn put_cell(rows: &mut [u64], row: usize, i: usize, one: bool)
     requires { ⌜ (i < row-bits) × ((row + 1) * row-words ≤ length (now rows)) ⌝ }
-    ensures { λ _. ⌜ CellPut (now (rows .entry)) (now (rows .exit)) row i one ⌝ }
+    ensures { λ _. ⌜ CellAdded (now (rows .entry)) (now (rows .exit)) row i one ⌝ }
 {
     if one {
         let word = row * ROW_WORDS + i / WORD_BITS;

@@ -5,7 +5,7 @@ use crate::cursor::expect_byte;
 ghost use Prim.Native.Nat.{_+_, _*_, _≤_};
 ghost use lib.ListN.{length};
 ghost use Rattle.sheet.specs.Rows.{row-words, row-bits};
-ghost use Rattle.checker.specs.CellWords.{Blank};
+ghost use Rattle.checker.specs.RowGrown.{Blank};
 ghost use Rattle.checker.specs.LineSteps.{EndReads};
 
 // Reads so many cells into a row that has none set, and the end of their line.

@@ -15,7 +15,7 @@ ghost use Rattle.book.specs.Book.{user-name};
 ghost use Rattle.checker.specs.Form.{role-limit};
 ghost use Rattle.checker.specs.Steps.{Expects};
 ghost use Rattle.checker.specs.Pieces.{users-heading};
-ghost use Rattle.checker.specs.CellWords.{Blank};
+ghost use Rattle.checker.specs.RowGrown.{Blank};
 ghost use Rattle.checker.specs.LineSteps.{LineReads};
 ghost use Rattle.checker.specs.RowSteps.{AllBlank};
 ghost use Rattle.checker.specs.UserSteps.{UserLinesRead, UsersReads};
