@@ -23,6 +23,10 @@ pub record Placed (placement classes : List ℕ) (d count : ℕ) : Type 0 where
   pub so-far : latest-first classes d ≡ placement
   pub in-use : count ≡ used placement
 
+-- the class that number d takes in a grouping
+abbrev pub next-class : (ℕ → ℕ → Bool) → ℕ → ℕ
+next-class together d = class-taken together d (grouping together d)
+
 -- at first there is none
 pub none-placed : (classes : List ℕ) → Placed [] classes 0 0
 none-placed classes = record { so-far = refl; in-use = refl }
@@ -36,23 +40,24 @@ module _ (together : ℕ → ℕ → Bool) (classes : List ℕ) (d count : ℕ) 
   -- each class is below their count
   pub class-below : {i : ℕ} → i < d → getD classes i 0 < count
   class-below {i} l =
-      let placed = latest-first classes d in
-      rw (latest-first-class classes d l, ap used (p .so-far), ← p .in-use) at (class-below-used placed {i = i} (rw (latest-first-length classes d) l))
+      rw (latest-first-class classes d l, ap used (p .so-far), ← p .in-use) at
+      (class-below-used (latest-first classes d) {i = i} (rw (latest-first-length classes d) l))
 
   -- the lowest class without a mark is the one taken
   pub open-is-taken : (limit : ℕ) (marks : List Bool) → count ≤ limit → Marks together classes d d limit marks
-      → Option·getD (lowest-below count (λ c. not (getD marks c false))) count ≡ class-taken together d (grouping together d)
+      → Option·getD (lowest-below count (λ c. not (getD marks c false))) count ≡ next-class together d
   open-is-taken limit marks l m =
       rw (← p .in-use, ← p .so-far)
       (ap (λ found. Option·getD found count)
-      (lowest-below-ext count (λ c. not (getD marks c false)) (joins together d (latest-first classes d)) (λ c k. rw (m .mark c (lt-of-lt-of-le k l)) (Bool·not-not (joins together d (latest-first classes d) c)))))
+      (lowest-below-ext count (λ c. not (getD marks c false)) (joins together d (latest-first classes d)) (λ c k.
+      rw (m .mark c (lt-of-lt-of-le k l)) (Bool·not-not (joins together d (latest-first classes d) c)))))
 
   -- the class taken is in use or the next one
-  pub taken-le : {c : ℕ} → c ≡ class-taken together d (grouping together d) → c ≤ count
+  pub taken-le : {c : ℕ} → c ≡ next-class together d → c ≤ count
   taken-le e = rw (e, p .in-use) (grouping-grown together (suc d) .0)
 
   -- one number more
-  pub one-placed : {c : ℕ} → c ≡ class-taken together d (grouping together d) → d < length classes
+  pub one-placed : {c : ℕ} → c ≡ next-class together d → d < length classes
       → Placed (grouping together (suc d)) (set classes d c) (suc d) (max (suc c) count)
   one-placed {c} e l =
       record { so-far = rw (latest-first-next classes d c l, p .so-far, e); in-use = rw (p .in-use, e) }

@@ -13,7 +13,6 @@ ghost use Prim.Native.Nat.{ℕ, _<_, _≤_};
 ghost use lib.ListN.{length, getD, take};
 ghost use Rattle.bits.specs.Below.{lowest-below};
 ghost use Rattle.lists.specs.Placement.{grouping};
-ghost use Rattle.lists.specs.GroupingLaws.{class-taken};
 ghost use Rattle.sheet.specs.Limits.{grant-limit};
 ghost use Rattle.sheet.specs.Sheet.{Sheet};
 ghost use Rattle.grants.specs.Reduction.{kernel};
@@ -21,7 +20,7 @@ ghost use Rattle.grants.specs.Cover.{fewer, best-grouping, first-best};
 ghost use Rattle.grants.specs.CellPlaces.{grant-of, Shown};
 ghost use Rattle.grants.specs.CoverRelation.{related, related-at};
 ghost use Rattle.grants.specs.CoverMarks.{Marks};
-ghost use Rattle.grants.specs.CoverPlaced.{Placed};
+ghost use Rattle.grants.specs.CoverPlaced.{next-class, Placed};
 
 // What puts two grants of the kernel together.
 enum Relation {
@@ -98,7 +97,7 @@ fn class_for<'a>(
 ) -> usize
     requires { ⌜ (d < length (now cells)) × (d < grant-limit) ⌝ }
     requires { ⌜ Placed (grouping (related-at (now rows) (now cells) by) d) (now classes) d count ⌝ }
-    ensures { λ r. ⌜ r ≡ class-taken (related-at (now (rows .entry)) (now (cells .entry)) by) d (grouping (related-at (now (rows .entry)) (now (cells .entry)) by) d) ⌝ }
+    ensures { λ r. ⌜ r ≡ next-class (related-at (now (rows .entry)) (now (cells .entry)) by) d ⌝ }
 {
     let marks = blocked(rows, cells, by, classes, d);
     first_open(&marks, count)

@@ -11,7 +11,7 @@ use Rattle.sheet.specs.Rows.{row-bits}
 use Rattle.grants.specs.CellPlaces.{Shown}
 use Rattle.grants.specs.CoverPlaced.{Placed}
 use Rattle.grants.specs.KernelArray.{Listed}
-use Rattle.grants.specs.ReducResult.{ReducedFrom}
+use Rattle.grants.specs.ReductionResult.{ReducedFrom}
 use Rattle.grants.specs.declared.kernel.Kernel.{Kernel}
 use Rattle.grants.specs.declared.reduction.Reduced.{Reduced}
 use Rattle.roles.specs.Roles.{roles-of}

@@ -23,7 +23,7 @@ use Rattle.search.specs.Marks.{marked}
 abbrev pub class-among : List ℕ → ℕ → ℕ → ℕ → Bool
 class-among classes from word c = some-below word-bits (λ i. bit word i && eqb (getD classes (from + i) 0) c)
 
-eqb-comm : (a b : ℕ) → eqb a b ≡ eqb b a
+pub eqb-comm : (a b : ℕ) → eqb a b ≡ eqb b a
 eqb-comm a b =
     same-truth (eqb a b) (eqb b a) (λ e. eq-eqb b a (sym (eqb-true a b e))) (λ e. eq-eqb a b (sym (eqb-true b a e)))
 

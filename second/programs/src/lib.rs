@@ -1,16 +1,21 @@
-//! What the small programs share: the budget argument, and the bytes that the book program and the check
-//! program print.
+//! What the small programs share: numbers in arguments and scripts, and the bytes that the book program and
+//! the check program print.
+
+use std::str::FromStr;
 
 use second::checker::check;
 use second::refusal::Refusal;
 use second::session::Session;
 
-/// The budget that an argument says: decimal digits of a value in range, else 0.
+/// The number that decimal digits say, if it is in range.
+pub fn number<Number: FromStr>(text: &str) -> Option<Number> {
+    let digits_only = text.bytes().all(|byte| byte.is_ascii_digit());
+    digits_only.then(|| text.parse().ok()).flatten()
+}
+
+/// The budget that an argument says, 0 if it says none.
 pub fn budget(argument: Option<&str>) -> u32 {
-    argument
-        .filter(|text| text.bytes().all(|byte| byte.is_ascii_digit()))
-        .and_then(|text| text.parse().ok())
-        .unwrap_or(0)
+    argument.and_then(number).unwrap_or(0)
 }
 
 /// The book of the sheet after one search, or the number of the refusal and a line feed.

@@ -134,6 +134,8 @@ fn play_program_stops_at_a_line_that_is_no_call() {
     for script in [
         "jump 3\n",
         "search -1\n",
+        "search +1\n",
+        "search \n",
         "search 4294967296\n",
         "write 131073\n",
         "load\n",

@@ -85,7 +85,8 @@ fn any_check(random: &mut Random, sheets: &[Draft]) -> Call {
     Call::Check { sheet, book }
 }
 
-/// The sequence as a script, a call a line. The sheets and books that it names are written into the directory.
+/// The sequence as a script, a call a line. The sheets and books that it names are written into the
+/// directory.
 pub fn script(calls: &[Call], directory: &Path) -> std::io::Result<String> {
     let mut script = String::new();
     for (index, call) in calls.iter().enumerate() {

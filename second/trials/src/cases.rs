@@ -8,10 +8,13 @@ pub const SEED_VARIABLE: &str = "SECOND_SEED";
 /// Says how many times as many cases as usual a run takes, 1 where it is not set.
 pub const FACTOR_VARIABLE: &str = "SECOND_FACTOR";
 
-/// Runs the trial for this many seeds, or for more in a longer run. A failure prints the seed of its case.
+/// Runs the trial for this many seeds, or for more in a longer run. The seeds are printed, and a failure
+/// prints the seed of its case.
 pub fn cases(count: u64, mut trial: impl FnMut(&mut Random)) {
     let first = setting(SEED_VARIABLE);
-    for seed in first..first + count * setting(FACTOR_VARIABLE) {
+    let last = first + count * setting(FACTOR_VARIABLE) - 1;
+    println!("seeds {first} to {last}");
+    for seed in first..=last {
         let _printed_on_failure = Seed(seed);
         trial(&mut Random::from_seed(seed));
     }

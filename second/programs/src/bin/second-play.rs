@@ -3,7 +3,9 @@
 
 use std::io::BufRead;
 use std::process::ExitCode;
+use std::str::FromStr;
 
+use programs::number;
 use second::limits::SCRIPT_BUFFER_BYTES;
 use second::script::{Call, answer_line};
 use second::session::Session;
@@ -37,8 +39,8 @@ fn read_file(path: &str) -> Result<Vec<u8>, String> {
     std::fs::read(path).map_err(|error| format!("{path}: {error}"))
 }
 
-fn read_number<Number: std::str::FromStr>(text: &str) -> Result<Number, String> {
-    text.parse().map_err(|_| format!("no number of the range: {text}"))
+fn read_number<Number: FromStr>(text: &str) -> Result<Number, String> {
+    number(text).ok_or_else(|| format!("no number of the range: {text}"))
 }
 
 fn read_length(text: &str) -> Result<usize, String> {

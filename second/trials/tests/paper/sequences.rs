@@ -147,7 +147,7 @@ fn judge_book(known: &Known, book: &[u8]) {
 #[test]
 fn the_claim_about_sequences_stands() {
     let mut seen = Seen::default();
-    cases(400, |random| {
+    cases(1_500, |random| {
         let mut trial = Trial { session: Session::fresh(), known: None };
         for call in sequence(random, 30, 6) {
             trial.make(&call, &mut seen);

@@ -62,7 +62,7 @@ fn every_sheet_of_five_users_and_three_permissions() {
 #[test]
 fn random_sheets_of_up_to_six_users_and_permissions() {
     let (mut searched, mut open) = (0, 0);
-    cases(3_000, |random| {
+    cases(5_000, |random| {
         let (users, permissions) = (random.between(3, 6), random.between(3, 6));
         let density = random.between(20, 90);
         let draft = families::random(random, users, permissions, density);

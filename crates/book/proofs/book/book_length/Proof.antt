@@ -31,17 +31,37 @@ add-result : tie.Need-add-result
 add-result c = omega (arith, c .before .before .counts-length .ensures .small, c .before .roles-length .ensures [] .small)
 
 add-result-2 : tie.Need-add-result-2
-add-result-2 c = omega (arith, c .before .before .counts-length .ensures .small, c .before .roles-length .ensures [] .small, c .users-length .ensures [] .small)
+add-result-2 c =
+    omega (
+      arith,
+      c .before .before .counts-length .ensures .small,
+      c .before .roles-length .ensures [] .small,
+      c .users-length .ensures
+          [] .small,
+    )
 
 witness-length-requires : tie.Need-witness-length-requires
 unfolding row-words user-limit
-witness-length-requires c κs = (c .before .before .before .before .before .pre .0, omega (arith, few-users (c .before .before .before .before .before .pre .0)), c .before .before .before .before .before .pre .2)
+witness-length-requires c κs =
+    let s = c .before .before .before .before .before in
+    (s .pre .0, omega (arith, few-users (s .pre .0)), s .pre .2)
 
 add-result-3 : tie.Need-add-result-3
-add-result-3 c = omega (arith, c .before .before .before .before .counts-length .ensures .small, c .before .before .before .roles-length .ensures [] .small, c .before .before .users-length .ensures [] .small, c .witness-length .ensures .small)
+add-result-3 c =
+    omega (
+      arith,
+      c .before .before .before .before .counts-length .ensures .small,
+      c .before .before .before .roles-length .ensures [] .small,
+      c .before .before .users-length .ensures [] .small,
+      c .witness-length .ensures .small,
+    )
 
 returns : tie.Need-returns
-returns c = λ has gives. book-measured (c .before .before .before .before .before .before .args .s .now) has gives (c .before .before .before .before .before .before .args .witness .now) (c .before .before .before .before .before .before .args .counts) (c .before .before .before .before .counts-length .ensures) (c .before .before .before .roles-length .ensures gives) (c .before .before .users-length .ensures has) (c .witness-length .ensures)
+returns c =
+    let s = (c .before .before .before .before .before .before) in
+    λ has gives. book-measured (s .args .s .now) has gives (s .args .witness .now) (s .args .counts)
+    (c .before .before .before .before .counts-length .ensures)
+    (c .before .before .before .roles-length .ensures gives) (c .before .before .users-length .ensures has) (c .witness-length .ensures)
 
 pub book-length-spec : {M : Type 1} → statement M
 book-length-spec =

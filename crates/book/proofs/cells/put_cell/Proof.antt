@@ -20,7 +20,8 @@ same-length : tie.Need-same-length
 same-length c = search needs
 
 returns : tie.Need-returns
-returns c = cell-written (c .before .before .args .cell) (c .cell-byte .result) (c .before .before .args .out .now) (c .before .before .pre) (c .cell-byte .ensures)
+returns c =
+    cell-written (c .before .before .args .cell) (c .cell-byte .result) (c .before .before .args .out .now) (c .before .before .pre) (c .cell-byte .ensures)
 
 pub put-cell-spec : {M : Type 1} → statement M
 put-cell-spec =

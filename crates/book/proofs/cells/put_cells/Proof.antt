@@ -2,10 +2,11 @@
 use borrow.Author.Needs.{needs}
 use Prim.Native.Nat.{_-_}
 use native.Mathlib.Omega.{arith}
+use mathlib.Core.Path.{ap, sym}
 use Rattle.sheet.specs.Rows.{cell}
 use Rattle.book.specs.CellsText.{cell-field}
 use Rattle.book.specs.ListedWritten.{Listing, listing-ends, listing-starts, part-ready, part-within, part-written}
-use Rattle.book.specs.Written.{room-behind, within-buffer}
+use Rattle.book.specs.Written.{Written, fits-as, rest-from, room-behind, within-buffer, written-as}
 use Rattle.book.proofs.cells.put_cells.Statement.{statement}
 use Rattle.book.proofs.cells.put_cells.Tie as tie
 
@@ -14,6 +15,14 @@ Inv-loop out₀ words row count at₀ i₀ out at i = Listing count (λ p. cell-
 
 abbrev μ-loop : tie.MeasureT-loop
 μ-loop out₀ words row count at₀ i₀ out at i = count - i
+
+-- the cell that is written is cell i
+written : (c : tie.After-put-cell Inv-loop μ-loop)
+    → let a = c .before .before .before in
+    let s = a .before .before .before .before in
+    Written (cell-field (cell (s .args .words .now) (s .args .row) (a .before .loop .i)))
+    (rest-from (a .before .loop .at) (a .before .loop .out)) (c .put-cell .last .0) (c .put-cell .result)
+written c = written-as (ap cell-field (c .before .before .cell-at .ensures)) (c .put-cell .ensures)
 
 loop-holds : tie.Need-loop-holds Inv-loop μ-loop
 loop-holds c = listing-starts _ _ (c .before .before .pre .1)
@@ -31,13 +40,14 @@ part-put-cell-end : tie.Need-part-put-cell-end Inv-loop μ-loop
 part-put-cell-end c = search needs
 
 put-cell-requires : tie.Need-put-cell-requires Inv-loop μ-loop
-put-cell-requires c κs = rw (c .before .cell-at .ensures) (room-behind (part-ready (c .before .before .before .loop .inv) (c .before .before .loop-test .taken)))
+put-cell-requires c κs =
+    fits-as (ap cell-field (sym (c .before .cell-at .ensures)))
+    (room-behind (part-ready (c .before .before .before .loop .inv) (c .before .before .loop-test .taken)))
 
 add-at : tie.Need-add-at Inv-loop μ-loop
 add-at c =
-    let a = c .before .before .before .before .before in
-    let w = part-within (a .before .loop .inv) (a .loop-test .taken) (rw (c .before .before .before .before .cell-at .ensures) at (c .before .before .put-cell .ensures)) in
-    omega (arith, w)
+    let a = (c .before .before .before .before .before) in
+    omega (arith, part-within (a .before .loop .inv) (a .loop-test .taken) (written (c .before .before)))
 
 add-i : tie.Need-add-i Inv-loop μ-loop
 add-i c = omega arith
@@ -47,8 +57,8 @@ loop-less c = omega arith
 
 loop-again : tie.Need-loop-again Inv-loop μ-loop
 loop-again c =
-    let a = c .before .before .before .before .before in
-    part-written (a .before .loop .inv) (a .loop-test .taken) (rw (c .before .before .before .before .cell-at .ensures) at (c .before .before .put-cell .ensures))
+    let a = (c .before .before .before .before .before) in
+    part-written (a .before .loop .inv) (a .loop-test .taken) (written (c .before .before))
 
 same-length : tie.Need-same-length Inv-loop μ-loop
 same-length c = c .before .loop .inv .same-length

@@ -24,10 +24,19 @@ standing-length-requires : tie.Need-standing-length-requires
 standing-length-requires c κs = search needs
 
 add-result-2 : tie.Need-add-result-2
-add-result-2 c = omega (arith, c .before .before .before .decimal-length .ensures .small, c .before .decimal-length2 .ensures .small, c .standing-length .ensures .small)
+add-result-2 c =
+    omega (
+      arith,
+      c .before .before .before .decimal-length .ensures .small,
+      c .before .decimal-length2 .ensures .small,
+      c .standing-length .ensures .small,
+    )
 
 returns : tie.Need-returns
-returns c = counts-measured (c .before .before .before .before .before .args .counts) _ _ _ (c .before .before .before .decimal-length .ensures) (c .before .decimal-length2 .ensures) (c .standing-length .ensures)
+returns c =
+    counts-measured (c .before .before .before .before .before .args .counts) _ _ _ (c .before .before .before .decimal-length .ensures)
+    (c .before .decimal-length2 .ensures)
+    (c .standing-length .ensures)
 
 pub counts-length-spec : {M : Type 1} → statement M
 counts-length-spec =

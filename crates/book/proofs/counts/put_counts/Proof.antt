@@ -11,34 +11,48 @@ use Rattle.roles.specs.StandingCases.{standing-case}
 use Rattle.book.specs.CountsLaws.{counts-parts}
 use Rattle.book.specs.CountsText.{standing-text}
 use Rattle.book.specs.Decimal.{decimal}
-use Rattle.book.specs.Written.{Ready, answer-within, fits-as, front-fits, room-behind, then-written, with-rest, within-buffer, written-as}
+use Rattle.book.specs.Written.{Ready, end-within, fits-as, front-fits, place-within, room-behind, then-same-length, then-written, with-rest, within-buffer, written-as}
 use Rattle.book.proofs.counts.put_counts.Statement.{statement}
 use Rattle.book.proofs.counts.put_counts.Tie as tie
 
 abbrev front : tie.Start → Bytes
-front c = ascii "roles,bound,state\n" ++ decimal (c .args .counts .roles)
+front s = ascii "roles,bound,state\n" ++ decimal (s .args .counts .roles)
 
 abbrev bound : tie.Start → Bytes
-bound c = ascii "," ++ decimal (c .args .counts .bound)
+bound s = ascii "," ++ decimal (s .args .counts .bound)
 
 abbrev state : tie.Start → Bytes
-state c = standing-text (standing-case (c .args .counts .standing))
+state s = standing-text (standing-case (s .args .counts .standing))
 
-fits : (c : tie.Start) → length ((front c ++ bound c) ++ state c) ≤ length (c .args .out .now)
-fits c = fits-as (counts-parts (c .args .counts)) (c .pre)
+room : (s : tie.Start) → length ((front s ++ bound s) ++ state s) ≤ length (s .args .out .now)
+room s = fits-as (counts-parts (s .args .counts)) (s .pre)
 
-behind-roles : (c : tie.After-put-counted) → Ready (front (c .before .before .before .before)) (bound (c .before .before .before .before)) (c .before .before .before .before .args .out .now) (c .put-counted .last .0) (c .put-counted .result)
-behind-roles c = record { written = c .put-counted .ensures; fits = front-fits (front (c .before .before .before .before) ++ bound (c .before .before .before .before)) (state (c .before .before .before .before)) (fits (c .before .before .before .before)) }
+front-room : (s : tie.Start) → length (front s ++ bound s) ≤ length (s .args .out .now)
+front-room s = front-fits (front s ++ bound s) (state s) (room s)
+
+abbrev start : tie.After-put-counted → tie.Start
+start c = c .before .before .before .before
+
+abbrev first : tie.After-put-counted2 → tie.After-put-counted
+first c = c .before .before .before .before .before
+
+behind-roles : (c : tie.After-put-counted)
+    → Ready (front (start c)) (bound (start c)) (start c .args .out .now) (c .put-counted .last .0) (c .put-counted .result)
+behind-roles c = record { written = c .put-counted .ensures; fits = front-room (start c) }
 
 behind-bound : (c : tie.After-put-counted2)
-    → Ready (front (c .before .before .before .before .before .before .before .before .before) ++ bound (c .before .before .before .before .before .before .before .before .before)) (state (c .before .before .before .before .before .before .before .before .before)) (c .before .before .before .before .before .before .before .before .before .args .out .now) (with-rest (c .before .before .before .before .before .put-counted .result) (c .before .before .before .before .before .put-counted .last .0) (c .put-counted2 .last .0)) (c .before .before .before .before .before .put-counted .result + c .put-counted2 .result)
-behind-bound c = record { written = then-written (behind-roles (c .before .before .before .before .before)) (c .put-counted2 .ensures); fits = fits (c .before .before .before .before .before .before .before .before .before) }
+    → let a = first c in
+    Ready (front (start a) ++ bound (start a)) (state (start a)) (start a .args .out .now)
+    (with-rest (a .put-counted .result) (a .put-counted .last .0) (c .put-counted2 .last .0)) (a .put-counted .result + c .put-counted2 .result)
+behind-bound c = record { written = then-written (behind-roles (first c)) (c .put-counted2 .ensures); fits = room (start (first c)) }
 
 slice-aggregate-put-counted : tie.Need-slice-aggregate-put-counted
 slice-aggregate-put-counted c = search needs
 
 put-counted-requires : tie.Need-put-counted-requires
-put-counted-requires c κs = front-fits (front (c .before .before .before)) (bound (c .before .before .before)) (front-fits (front (c .before .before .before) ++ bound (c .before .before .before)) (state (c .before .before .before)) (fits (c .before .before .before)))
+put-counted-requires c κs =
+    let s = c .before .before .before in
+    front-fits (front s) (bound s) (front-room s)
 
 sub-put-counted : tie.Need-sub-put-counted
 sub-put-counted c = within-buffer (behind-roles (c .before .before))
@@ -56,7 +70,7 @@ put-counted-requires-2 : tie.Need-put-counted-requires-2
 put-counted-requires-2 c κs = room-behind (behind-roles (c .before .before .before .before))
 
 add-bound : tie.Need-add-bound
-add-bound c = omega (arith, answer-within (behind-bound (c .before .before) .written) (front-fits (front (c .before .before .before .before .before .before .before .before .before .before .before) ++ bound (c .before .before .before .before .before .before .before .before .before .before .before)) (state (c .before .before .before .before .before .before .before .before .before .before .before)) (fits (c .before .before .before .before .before .before .before .before .before .before .before))))
+add-bound c = omega (arith, place-within (behind-bound (c .before .before)))
 
 sub-put-standing : tie.Need-sub-put-standing
 sub-put-standing c = within-buffer (behind-bound (c .before .before))
@@ -71,13 +85,16 @@ put-standing-requires : tie.Need-put-standing-requires
 put-standing-requires c κs = room-behind (behind-bound (c .before .before .before))
 
 add-result : tie.Need-add-result
-add-result c = omega (arith, answer-within (then-written (behind-bound (c .before .before .before .before .before .before)) (c .before .before .put-standing .ensures)) (fits (c .before .before .before .before .before .before .before .before .before .before .before .before .before .before .before)))
+add-result c =
+    omega (arith, end-within (behind-bound (c .before .before .before .before .before .before)) (c .before .before .put-standing .ensures))
 
 same-length : tie.Need-same-length
-same-length c = search needs
+same-length c = then-same-length (behind-bound (c .before .before .before .before .before .before)) (c .before .before .put-standing .ensures)
 
 returns : tie.Need-returns
-returns c = written-as (sym (counts-parts (c .before .before .before .before .before .before .before .before .before .before .before .before .before .before .before .args .counts))) (then-written (behind-bound (c .before .before .before .before .before .before)) (c .before .before .put-standing .ensures))
+returns c =
+    let a = (c .before .before .before .before .before .before) in
+    written-as (sym (counts-parts (start (first a) .args .counts))) (then-written (behind-bound a) (c .before .before .put-standing .ensures))
 
 pub put-counts-spec : {M : Type 1} → statement M
 put-counts-spec =

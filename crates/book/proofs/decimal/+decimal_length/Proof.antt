@@ -22,20 +22,24 @@ given-at t = and 0 decimal-length-kinds.ps (is 0 decimal-length-kinds.ps μ t) d
 abbrev asked-below : ℕ → In 0 decimal-length-kinds.ps
 asked-below t = and 0 decimal-length-kinds.ps (falls 0 decimal-length-kinds.ps _<_ μ t) decimal-length.Pre
 
+-- what a call of it asks and ensures
+abbrev claims : ℕ → lts.Claims
+claims t = (asked-below t, decimal-length.Post)
+
 module _ (t : ℕ) where
-  returns : lts.Need-returns (asked-below t, decimal-length.Post) (given-at t) decimal-length.Post
+  returns : lts.Need-returns (claims t) (given-at t) decimal-length.Post
   returns c = record { counted = sym (one-digit (c .before .args .n) (omega arith)); small = omega arith }
 
-  requires : lts.Need-decimal-length-requires (asked-below t, decimal-length.Post) (given-at t) decimal-length.Post
+  requires : lts.Need-decimal-length-requires (claims t) (given-at t) decimal-length.Post
   requires c κs = (omega arith, tt)
 
-  add-result : lts.Need-add-result (asked-below t, decimal-length.Post) (given-at t) decimal-length.Post
+  add-result : lts.Need-add-result (claims t) (given-at t) decimal-length.Post
   add-result c = omega (arith, c .decimal-length .ensures .small)
 
-  returns-2 : lts.Need-returns-2 (asked-below t, decimal-length.Post) (given-at t) decimal-length.Post
+  returns-2 : lts.Need-returns-2 (claims t) (given-at t) decimal-length.Post
   returns-2 c = one-digit-more (c .before .before .args .n) (c .before .before .fits .n .fits) (omega arith) (c .decimal-length .ensures)
 
 pub +decimal-length-spec : {M : Type 1} → statement M
 +decimal-length-spec =
     close μ
-    λ t. lts.spec (asked-below t, decimal-length.Post) (given-at t) decimal-length.Post (returns t) (requires t) (add-result t) (returns-2 t)
+    λ t. lts.spec (claims t) (given-at t) decimal-length.Post (returns t) (requires t) (add-result t) (returns-2 t)

@@ -1,17 +1,35 @@
 -- `decimal::put_counted`: the number is written where the bytes ended.
 use borrow.Author.Needs.{needs}
+use Prim.Native.Nat.{_≤_}
 use native.Mathlib.Omega.{arith}
-use Rattle.grants.specs.Fit.{fits}
+use mathlib.Core.List.{_++_}
+use lib.ListN.{length}
+use Rattle.sheet.specs.Text.{Bytes}
 use Rattle.book.specs.Decimal.{decimal}
-use Rattle.book.specs.Written.{Ready, answer-within, front-fits, room-behind, then-written, within-buffer}
+use Rattle.book.specs.Written.{Ready, end-within, front-fits, room-behind, then-same-length, then-written, within-buffer}
 use Rattle.book.proofs.decimal.put_counted.Statement.{statement}
 use Rattle.book.proofs.decimal.put_counted.Tie as tie
 
-behind-mark : (c : tie.After-put-bytes) → Ready (c .before .before .before .before .args .mark .now) (decimal (c .before .before .before .before .args .n)) (c .before .before .before .before .args .out .now) (c .put-bytes .last .0) (c .put-bytes .result)
-behind-mark c = record { written = c .put-bytes .ensures; fits = c .before .before .before .before .pre }
+abbrev mark : tie.Start → Bytes
+mark s = s .args .mark .now
+
+abbrev number : tie.Start → Bytes
+number s = decimal (s .args .n)
+
+fits : (s : tie.Start) → length (mark s ++ number s) ≤ length (s .args .out .now)
+fits s = s .pre
+
+abbrev start : tie.After-put-bytes → tie.Start
+start c = c .before .before .before .before
+
+behind-mark : (c : tie.After-put-bytes)
+    → Ready (mark (start c)) (number (start c)) (start c .args .out .now) (c .put-bytes .last .0) (c .put-bytes .result)
+behind-mark c = record { written = c .put-bytes .ensures; fits = fits (start c) }
 
 put-bytes-requires : tie.Need-put-bytes-requires
-put-bytes-requires c κs = front-fits (c .before .before .before .args .mark .now) (decimal (c .before .before .before .args .n)) (c .before .before .before .pre)
+put-bytes-requires c κs =
+    let s = c .before .before .before in
+    front-fits (mark s) (number s) (fits s)
 
 sub-put-decimal : tie.Need-sub-put-decimal
 sub-put-decimal c = within-buffer (behind-mark (c .before .before))
@@ -26,10 +44,10 @@ put-decimal-requires : tie.Need-put-decimal-requires
 put-decimal-requires c κs = room-behind (behind-mark (c .before .before .before))
 
 add-result : tie.Need-add-result
-add-result c = omega (arith, answer-within (then-written (behind-mark (c .before .before .before .before .before .before)) (c .before .before .put-decimal .ensures)) (c .before .before .before .before .before .before .before .before .before .before .pre))
+add-result c = omega (arith, end-within (behind-mark (c .before .before .before .before .before .before)) (c .before .before .put-decimal .ensures))
 
 same-length : tie.Need-same-length
-same-length c = search needs
+same-length c = then-same-length (behind-mark (c .before .before .before .before .before .before)) (c .before .before .put-decimal .ensures)
 
 returns : tie.Need-returns
 returns c = then-written (behind-mark (c .before .before .before .before .before .before)) (c .before .before .put-decimal .ensures)

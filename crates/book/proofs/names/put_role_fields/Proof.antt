@@ -31,7 +31,9 @@ put-role-field-requires : tie.Need-put-role-field-requires Inv-loop μ-loop
 put-role-field-requires c κs = (omega arith, room-behind (part-ready (c .before .before .loop .inv) (c .before .loop-test .taken)))
 
 add-at : tie.Need-add-at Inv-loop μ-loop
-add-at c = omega (arith, part-within (c .before .before .before .before .before .loop .inv) (c .before .before .before .before .loop-test .taken) (c .before .before .put-role-field .ensures))
+add-at c =
+    let a = (c .before .before .before .before) in
+    omega (arith, part-within (a .before .loop .inv) (a .loop-test .taken) (c .before .before .put-role-field .ensures))
 
 add-i : tie.Need-add-i Inv-loop μ-loop
 add-i c = omega arith
@@ -40,7 +42,9 @@ loop-less : tie.Need-loop-less Inv-loop μ-loop
 loop-less c = omega arith
 
 loop-again : tie.Need-loop-again Inv-loop μ-loop
-loop-again c = part-written (c .before .before .before .before .before .loop .inv) (c .before .before .before .before .loop-test .taken) (c .before .before .put-role-field .ensures)
+loop-again c =
+    let a = (c .before .before .before .before) in
+    part-written (a .before .loop .inv) (a .loop-test .taken) (c .before .before .put-role-field .ensures)
 
 same-length : tie.Need-same-length Inv-loop μ-loop
 same-length c = c .before .loop .inv .same-length

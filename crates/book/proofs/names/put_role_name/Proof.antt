@@ -16,13 +16,17 @@ unfolding row-bits row-words
 add-put-counted c = omega arith
 
 put-counted-requires : tie.Need-put-counted-requires
-put-counted-requires c κs = fits-as (role-name-parts (c .before .before .before .before .args .role .0)) (c .before .before .before .before .pre .1)
+put-counted-requires c κs =
+    let s = c .before .before .before .before in
+    fits-as (role-name-parts (s .args .role .0)) (s .pre .1)
 
 same-length : tie.Need-same-length
 same-length c = search needs
 
 returns : tie.Need-returns
-returns c = written-as (sym (role-name-parts (c .before .before .before .before .before .before .before .args .role .0))) (c .before .before .put-counted .ensures)
+returns c =
+    written-as (sym (role-name-parts (c .before .before .before .before .before .before .before .args .role .0)))
+    (c .before .before .put-counted .ensures)
 
 pub put-role-name-spec : {M : Type 1} → statement M
 put-role-name-spec =

@@ -35,7 +35,10 @@ loop-less : tie.Need-loop-less Inv-loop μ-loop
 loop-less c = omega arith
 
 loop-again : tie.Need-loop-again Inv-loop μ-loop
-loop-again c = part-added (c .before .before .loop .inv) (c .before .loop-test .taken) (field-measured _ (c .role-name-length .result) (c .role-name-length .ensures .counted) (c .role-name-length .ensures .small))
+loop-again c =
+    let a = (c .before) in
+    part-added (a .before .loop .inv) (a .loop-test .taken)
+    (field-measured _ (c .role-name-length .result) (c .role-name-length .ensures .counted) (c .role-name-length .ensures .small))
 
 returns : tie.Need-returns Inv-loop μ-loop
 unfolding row-bits row-words

@@ -4,13 +4,13 @@ use native.Mathlib.Omega.{arith}
 use mathlib.Core.List.{[], _∷_}
 use lib.ListN.{set}
 use Rattle.sheet.specs.Text.{comma}
-use Rattle.grants.specs.Fit.{fits}
-use Rattle.book.specs.Written.{Ready, byte-written, nothing-written, room-behind, then-written, within-buffer, written-length}
+use Rattle.book.specs.Written.{Ready, byte-written, nothing-written, room-behind, then-same-length, then-written, within-buffer}
 use Rattle.book.proofs.put.put_field.Statement.{statement}
 use Rattle.book.proofs.put.put_field.Tie as tie
 
 behind-the-comma : (c : tie.Start) → Ready (comma ∷ []) (c .args .field .now) (c .args .out .now) (set (c .args .out .now) 0 comma) 1
-behind-the-comma c = record { written = byte-written [] comma (omega arith) (nothing-written (c .args .out .now)); fits = c .pre }
+behind-the-comma c =
+    record { written = byte-written [] comma (omega arith) (nothing-written (c .args .out .now)); fits = c .pre }
 
 slice-write-out : tie.Need-slice-write-out
 slice-write-out c = search needs
@@ -31,7 +31,7 @@ add-result : tie.Need-add-result
 add-result c = search needs
 
 same-length : tie.Need-same-length
-same-length c = written-length _ (c .before .before .before .before .before .before .pre) (then-written (behind-the-comma (c .before .before .before .before .before .before)) (c .before .before .put-bytes .ensures))
+same-length c = then-same-length (behind-the-comma (c .before .before .before .before .before .before)) (c .before .before .put-bytes .ensures)
 
 returns : tie.Need-returns
 returns c = then-written (behind-the-comma (c .before .before .before .before .before .before)) (c .before .before .put-bytes .ensures)

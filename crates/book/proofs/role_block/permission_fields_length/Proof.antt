@@ -23,7 +23,9 @@ abbrev μ-loop : tie.MeasureT-loop
 
 short : (c : tie.After-permission-name Inv-loop μ-loop) → length (c .permission-name .result .now) ≤ role-name-most
 unfolding name-limit
-short c = fits-as (sym (c .permission-name .ensures)) (omega (arith, permission-name-short (c .before .before .before .before .pre) _ (c .before .loop-test .taken)))
+short c =
+    fits-as (sym (c .permission-name .ensures))
+    (omega (arith, permission-name-short (c .before .before .before .before .pre) _ (c .before .loop-test .taken)))
 
 loop-holds : tie.Need-loop-holds Inv-loop μ-loop
 loop-holds c = adding-starts _ _ _
@@ -45,11 +47,15 @@ loop-less : tie.Need-loop-less Inv-loop μ-loop
 loop-less c = omega arith
 
 loop-again : tie.Need-loop-again Inv-loop μ-loop
-loop-again c = part-added (c .before .before .loop .inv) (c .before .loop-test .taken) (field-measured _ _ (ap length (c .permission-name .ensures)) (short c))
+loop-again c =
+    let a = (c .before) in
+    part-added (a .before .loop .inv) (a .loop-test .taken)
+    (field-measured _ _ (ap length (c .permission-name .ensures)) (short c))
 
 returns : tie.Need-returns Inv-loop μ-loop
 unfolding row-bits row-words
-returns c = measured-within (adding-ends (c .before .loop .inv) (c .loop-test .left)) (omega (arith, permissions-fit (c .before .before .before .pre)))
+returns c =
+    measured-within (adding-ends (c .before .loop .inv) (c .loop-test .left)) (omega (arith, permissions-fit (c .before .before .before .pre)))
 
 pub permission-fields-length-spec : {M : Type 1} → statement M
 permission-fields-length-spec =

@@ -33,10 +33,18 @@ part-put-field-end : tie.Need-part-put-field-end Inv-loop μ-loop
 part-put-field-end c = search needs
 
 put-field-requires : tie.Need-put-field-requires Inv-loop μ-loop
-put-field-requires c κs = fits-as (ap behind-comma (sym (c .before .permission-name .ensures))) (room-behind (part-ready (c .before .before .before .loop .inv) (c .before .before .loop-test .taken)))
+put-field-requires c κs =
+    fits-as (ap behind-comma (sym (c .before .permission-name .ensures)))
+    (room-behind (part-ready (c .before .before .before .loop .inv) (c .before .before .loop-test .taken)))
 
 add-at : tie.Need-add-at Inv-loop μ-loop
-add-at c = omega (arith, part-within (c .before .before .before .before .before .before .loop .inv) (c .before .before .before .before .before .loop-test .taken) (written-as (ap behind-comma (c .before .before .before .before .permission-name .ensures)) (c .before .before .put-field .ensures)))
+add-at c =
+    let a = (c .before .before .before .before .before) in
+    omega (
+      arith,
+      part-within (a .before .loop .inv) (a .loop-test .taken)
+          (written-as (ap behind-comma (c .before .before .before .before .permission-name .ensures)) (c .before .before .put-field .ensures)),
+    )
 
 add-i : tie.Need-add-i Inv-loop μ-loop
 add-i c = omega arith
@@ -45,7 +53,10 @@ loop-less : tie.Need-loop-less Inv-loop μ-loop
 loop-less c = omega arith
 
 loop-again : tie.Need-loop-again Inv-loop μ-loop
-loop-again c = part-written (c .before .before .before .before .before .before .loop .inv) (c .before .before .before .before .before .loop-test .taken) (written-as (ap behind-comma (c .before .before .before .before .permission-name .ensures)) (c .before .before .put-field .ensures))
+loop-again c =
+    let a = (c .before .before .before .before .before) in
+    part-written (a .before .loop .inv) (a .loop-test .taken)
+    (written-as (ap behind-comma (c .before .before .before .before .permission-name .ensures)) (c .before .before .put-field .ensures))
 
 same-length : tie.Need-same-length Inv-loop μ-loop
 same-length c = c .before .loop .inv .same-length

@@ -1,67 +1,81 @@
 -- `role_block::put_roles_heading`: the word, the permission names behind it, and the line feed behind them.
 use borrow.Author.Needs.{needs}
-use Prim.Native.Nat.{_+_, _≤_}
+use Prim.Native.Nat.{_+_}
 use native.Mathlib.Omega.{arith}
 use mathlib.Core.List.{_++_}
-use lib.ListN.{length}
 use Rattle.lists.specs.Ascii.{ascii}
 use Rattle.lists.specs.Listed.{listed}
 use Rattle.sheet.specs.Sheet.{sheet-of}
 use Rattle.sheet.specs.Text.{Bytes}
 use Rattle.book.specs.Book.{permission-name}
 use Rattle.book.specs.LineLaws.{behind-comma, line-end}
-use Rattle.book.specs.Written.{Ready, answer-within, byte-within, front-fits, room-behind, then-byte, then-written, with-rest, within-buffer, written-length}
+use Rattle.book.specs.LineWritten.{LineRoom, behind-fields, behind-name, name-fits}
+use Rattle.book.specs.Written.{Ready, Written, byte-same-length, byte-within, place-within, room-behind, then-byte, with-rest, within-buffer}
 use Rattle.book.proofs.role_block.put_roles_heading.Statement.{statement}
 use Rattle.book.proofs.role_block.put_roles_heading.Tie as tie
 
 abbrev name : tie.Start → Bytes
-name c = ascii "role"
+name s = ascii "role"
 
-abbrev rest : tie.Start → Bytes
-rest c = listed (c .args .layout .permissions) (λ p. behind-comma (permission-name (sheet-of (c .args .s .now)) p))
+abbrev fields : tie.Start → Bytes
+fields s = listed (s .args .layout .permissions) (λ p. behind-comma (permission-name (sheet-of (s .args .s .now)) p))
 
-fits : (c : tie.Start) → length ((name c ++ rest c) ++ line-end) ≤ length (c .args .out .now)
-fits c = c .pre .1
+room : (s : tie.Start) → LineRoom (name s) (fields s) (s .args .out .now)
+room s = record { fits = s .pre .1 }
 
-behind-name : (c : tie.After-put-bytes) → Ready (name (c .before .before .before .before .before)) (rest (c .before .before .before .before .before)) (c .before .before .before .before .before .args .out .now) (c .put-bytes .last .0) (c .put-bytes .result)
-behind-name c = record { written = c .put-bytes .ensures; fits = front-fits (name (c .before .before .before .before .before) ++ rest (c .before .before .before .before .before)) line-end (fits (c .before .before .before .before .before)) }
+-- the line behind its name, and behind its fields
+abbrev start : tie.After-put-bytes → tie.Start
+start c = c .before .before .before .before .before
 
-behind-fields : (c : tie.After-put-permission-fields)
-    → Ready (name (c .before .before .before .before .before .before .before .before .before) ++ rest (c .before .before .before .before .before .before .before .before .before)) line-end (c .before .before .before .before .before .before .before .before .before .args .out .now) (with-rest (c .before .before .before .before .put-bytes .result) (c .before .before .before .before .put-bytes .last .0) (c .put-permission-fields .last .0)) (c .before .before .before .before .put-bytes .result + c .put-permission-fields .result)
-behind-fields c = record { written = then-written (behind-name (c .before .before .before .before)) (c .put-permission-fields .ensures); fits = fits (c .before .before .before .before .before .before .before .before .before) }
+written : (c : tie.After-put-bytes) → Written (name (start c)) (start c .args .out .now) (c .put-bytes .last .0) (c .put-bytes .result)
+written c = c .put-bytes .ensures
+
+behind-first : (c : tie.After-put-bytes)
+    → Ready (name (start c)) (fields (start c)) (start c .args .out .now) (c .put-bytes .last .0) (c .put-bytes .result)
+behind-first c = behind-name (room (start c)) (written c)
+
+behind-second : (c : tie.After-put-permission-fields)
+    → let a = c .before .before .before .before in
+    Ready (name (start a) ++ fields (start a)) line-end (start a .args .out .now)
+    (with-rest (a .put-bytes .result) (a .put-bytes .last .0) (c .put-permission-fields .last .0))
+    (a .put-bytes .result + c .put-permission-fields .result)
+behind-second c =
+    let a = c .before .before .before .before in
+    behind-fields (room (start a)) (written a) (c .put-permission-fields .ensures)
 
 slice-aggregate-put-bytes : tie.Need-slice-aggregate-put-bytes
 slice-aggregate-put-bytes c = search needs
 
 put-bytes-requires : tie.Need-put-bytes-requires
-put-bytes-requires c κs = front-fits (name (c .before .before .before .before)) (rest (c .before .before .before .before)) (front-fits (name (c .before .before .before .before) ++ rest (c .before .before .before .before)) line-end (fits (c .before .before .before .before)))
+put-bytes-requires c κs = name-fits (room (c .before .before .before .before))
 
 sub-put-permission-fields : tie.Need-sub-put-permission-fields
-sub-put-permission-fields c = within-buffer (behind-name (c .before .before))
+sub-put-permission-fields c = within-buffer (behind-first (c .before .before))
 
 part-put-permission-fields-start : tie.Need-part-put-permission-fields-start
-part-put-permission-fields-start c = within-buffer (behind-name (c .before .before))
+part-put-permission-fields-start c = within-buffer (behind-first (c .before .before))
 
 part-put-permission-fields-end : tie.Need-part-put-permission-fields-end
 part-put-permission-fields-end c = search needs
 
 put-permission-fields-requires : tie.Need-put-permission-fields-requires
-put-permission-fields-requires c κs = (c .before .before .before .before .before .before .before .before .pre .0, room-behind (behind-name (c .before .before .before)))
+put-permission-fields-requires c κs =
+    (c .before .before .before .before .before .before .before .before .pre .0, room-behind (behind-first (c .before .before .before)))
 
 add-end : tie.Need-add-end
-add-end c = omega (arith, answer-within (behind-fields (c .before .before) .written) (front-fits (name (c .before .before .before .before .before .before .before .before .before .before .before) ++ rest (c .before .before .before .before .before .before .before .before .before .before .before)) line-end (fits (c .before .before .before .before .before .before .before .before .before .before .before))))
+add-end c = omega (arith, place-within (behind-second (c .before .before)))
 
 slice-write-out : tie.Need-slice-write-out
-slice-write-out c = byte-within (behind-fields (c .before .before))
+slice-write-out c = byte-within (behind-second (c .before .before))
 
 add-result : tie.Need-add-result
-add-result c = omega (arith, byte-within (behind-fields (c .before .before)))
+add-result c = omega (arith, byte-within (behind-second (c .before .before)), place-within (behind-second (c .before .before)))
 
 same-length : tie.Need-same-length
-same-length c = written-length _ (fits (c .before .before .before .before .before .before .before .before .before .before .before)) (then-byte (behind-fields (c .before .before)))
+same-length c = byte-same-length (behind-second (c .before .before))
 
 returns : tie.Need-returns
-returns c = then-byte (behind-fields (c .before .before))
+returns c = then-byte (behind-second (c .before .before))
 
 pub put-roles-heading-spec : {M : Type 1} → statement M
 put-roles-heading-spec =

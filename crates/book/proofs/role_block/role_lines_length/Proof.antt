@@ -45,7 +45,11 @@ loop-less : tie.Need-loop-less Inv-loop μ-loop
 loop-less c = omega arith
 
 loop-again : tie.Need-loop-again Inv-loop μ-loop
-loop-again c = λ gives. part-added (c .before .before .loop .inv gives) (c .before .loop-test .taken) (role-line-measured gives (c .before .before .before .args .permissions) _ (c .role-name-length .result) (c .before .before .before .pre .1) (c .role-name-length .ensures))
+loop-again c =
+    let a = (c .before) in
+    λ gives. part-added (a .before .loop .inv gives) (a .loop-test .taken)
+    (role-line-measured gives (c .before .before .before .args .permissions) _ (c .role-name-length .result) (c .before .before .before .pre .1)
+    (c .role-name-length .ensures))
 
 returns : tie.Need-returns Inv-loop μ-loop
 unfolding row-bits row-words

@@ -22,15 +22,19 @@ add-heading-2 : tie.Need-add-heading-2
 add-heading-2 c = search needs
 
 role-lines-length-requires : tie.Need-role-lines-length-requires
-role-lines-length-requires c κs = (c .before .before .before .pre .1, permissions-fit (c .before .before .before .pre .0))
+role-lines-length-requires c κs =
+    let s = c .before .before .before in
+    (s .pre .1, permissions-fit (s .pre .0))
 
 add-result : tie.Need-add-result
 add-result c = omega (arith, c .before .permission-fields-length .ensures .small, c .role-lines-length .ensures [] .small)
 
 returns : tie.Need-returns
 returns c =
-    λ gives. measured-as (sym (roles-parts (sheet-of (c .before .before .before .before .args .s .now)) gives (c .before .before .before .before .args .roles) (c .before .before .before .before .pre .0 .permission-total)))
-    (block-measured (ascii "role") _ _ 4 _ _ refl (c .before .permission-fields-length .ensures) (c .role-lines-length .ensures gives) (omega arith))
+    let s = (c .before .before .before .before) in
+    λ gives. measured-as (sym (roles-parts (sheet-of (s .args .s .now)) gives (s .args .roles) (s .pre .0 .permission-total)))
+    (block-measured (ascii "role") _ _ 4 _ _ refl (c .before .permission-fields-length .ensures) (c .role-lines-length .ensures gives)
+    (omega arith))
 
 pub roles-length-spec : {M : Type 1} → statement M
 roles-length-spec =

@@ -31,10 +31,17 @@ part-put-user-line-end c = search needs
 
 put-user-line-requires : tie.Need-put-user-line-requires Inv-loop μ-loop
 unfolding row-words
-put-user-line-requires c κs = ((c .before .before .before .before .before .before .pre .0 .0, c .before .loop-test .taken, c .before .before .before .before .before .before .pre .0 .1, omega arith), room-behind (part-ready (c .before .before .loop .inv) (c .before .loop-test .taken)))
+put-user-line-requires c κs =
+    let s = (c .before .before .before .before .before .before) in (
+      (s .pre .0 .0, c .before .loop-test .taken, s .pre .0 .1, omega arith),
+      room-behind
+          (part-ready (c .before .before .loop .inv) (c .before .loop-test .taken)),
+    )
 
 add-at : tie.Need-add-at Inv-loop μ-loop
-add-at c = omega (arith, part-within (c .before .before .before .before .before .loop .inv) (c .before .before .before .before .loop-test .taken) (c .before .before .put-user-line .ensures))
+add-at c =
+    let a = (c .before .before .before .before) in
+    omega (arith, part-within (a .before .loop .inv) (a .loop-test .taken) (c .before .before .put-user-line .ensures))
 
 add-i : tie.Need-add-i Inv-loop μ-loop
 add-i c = omega arith
@@ -43,7 +50,9 @@ loop-less : tie.Need-loop-less Inv-loop μ-loop
 loop-less c = omega arith
 
 loop-again : tie.Need-loop-again Inv-loop μ-loop
-loop-again c = part-written (c .before .before .before .before .before .loop .inv) (c .before .before .before .before .loop-test .taken) (c .before .before .put-user-line .ensures)
+loop-again c =
+    let a = (c .before .before .before .before) in
+    part-written (a .before .loop .inv) (a .loop-test .taken) (c .before .before .put-user-line .ensures)
 
 same-length : tie.Need-same-length Inv-loop μ-loop
 same-length c = c .before .loop .inv .same-length

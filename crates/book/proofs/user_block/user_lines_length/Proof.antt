@@ -17,7 +17,8 @@ use Rattle.book.proofs.user_block.user_lines_length.Statement.{statemen
 use Rattle.book.proofs.user_block.user_lines_length.Tie as tie
 
 abbrev Inv-loop : tie.InvT-loop
-Inv-loop s layout roles users total₀ i₀ total i = ((has : List ℕ) → Adding users (λ u. line-text (user-line (sheet-of s) has roles u)) line-most i total)
+Inv-loop s layout roles users total₀ i₀ total i =
+    ((has : List ℕ) → Adding users (λ u. line-text (user-line (sheet-of s) has roles u)) line-most i total)
 
 abbrev μ-loop : tie.MeasureT-loop
 μ-loop s layout roles users total₀ i₀ total i = users - i
@@ -55,11 +56,18 @@ loop-less : tie.Need-loop-less Inv-loop μ-loop
 loop-less c = omega arith
 
 loop-again : tie.Need-loop-again Inv-loop μ-loop
-loop-again c = λ has. part-added (c .before .before .loop .inv has) (c .before .loop-test .taken) (user-line-measured (sheet-of (c .before .before .before .before .args .s .now)) has (c .before .before .before .before .args .roles) (c .before .before .loop .i) _ (c .before .before .before .before .pre .1) (ap length (c .user-name .ensures)) (short c))
+loop-again c =
+    let a = (c .before) in
+    λ has. part-added (a .before .loop .inv has) (a .loop-test .taken)
+    (user-line-measured (sheet-of (c .before .before .before .before .args .s .now)) has (c .before .before .before .before .args .roles)
+    (c .before .before .loop .i) _ (c .before .before .before .before .pre .1)
+    (ap length (c .user-name .ensures)) (short c))
 
 returns : tie.Need-returns Inv-loop μ-loop
 unfolding user-limit
-returns c = λ has. measured-within (adding-ends (c .before .loop .inv has) (c .loop-test .left)) (omega (arith, few-users (c .before .before .before .pre .0)))
+returns c =
+    λ has. measured-within (adding-ends (c .before .loop .inv has) (c .loop-test .left))
+    (omega (arith, few-users (c .before .before .before .pre .0)))
 
 pub user-lines-length-spec : {M : Type 1} → statement M
 user-lines-length-spec =

@@ -28,7 +28,8 @@ add-result c = omega (arith, c .before .role-fields-length .ensures .small, c .u
 
 returns : tie.Need-returns
 returns c =
-    λ has. measured-as (sym (users-parts (sheet-of (c .before .before .before .before .args .s .now)) has (c .before .before .before .before .args .roles) (c .before .before .before .before .pre .0 .user-total)))
+    let s = (c .before .before .before .before) in
+    λ has. measured-as (sym (users-parts (sheet-of (s .args .s .now)) has (s .args .roles) (s .pre .0 .user-total)))
     (block-measured (ascii "user") _ _ 4 _ _ refl (c .before .role-fields-length .ensures) (c .user-lines-length .ensures has) (omega arith))
 
 pub users-length-spec : {M : Type 1} → statement M

@@ -2,18 +2,18 @@
 use borrow.Author.Needs.{needs}
 use native.Mathlib.Omega.{arith}
 use mathlib.Core.Bool.{Bool}
-use mathlib.Core.Path.{_∙_, _≡_, ap, refl, sym}
-use Rattle.sheet.specs.Rows.{cell, row-words}
+use mathlib.Core.Path.{_∙_, ap, refl, sym}
+use Rattle.sheet.specs.Rows.{row-words}
 use Rattle.sheet.specs.Sheet.{sheet-of}
+use Rattle.sheet.specs.Text.{Bytes}
 use Rattle.book.specs.LaidLaws.{permissions-fit}
 use Rattle.book.specs.Measured.{measured-as}
 use Rattle.book.specs.WitnessText.{cell-line, line-if}
 use Rattle.book.proofs.witness_block.cell_line_length.Statement.{statement}
 use Rattle.book.proofs.witness_block.cell_line_length.Tie as tie
 
-as-the-cell : (c : tie.Start) {set : Bool} → cell (c .args .witness .now) (c .args .user .0) (c .args .permission .0) ≡ set
-    → line-if (cell (c .args .witness .now) (c .args .user .0) (c .args .permission .0)) (cell-line (sheet-of (c .args .s .now)) (c .args .user .0) (c .args .permission .0)) ≡ line-if set (cell-line (sheet-of (c .args .s .now)) (c .args .user .0) (c .args .permission .0))
-as-the-cell c e = ap (λ (b : Bool). line-if b (cell-line (sheet-of (c .args .s .now)) (c .args .user .0) (c .args .permission .0))) e
+abbrev text : tie.Start → Bool → Bytes
+text s set = line-if set (cell-line (sheet-of (s .args .s .now)) (s .args .user .0) (s .args .permission .0))
 
 cell-at-requires : tie.Need-cell-at-requires
 unfolding row-words
@@ -23,10 +23,14 @@ grant-line-length-requires : tie.Need-grant-line-length-requires
 grant-line-length-requires c κs = search needs
 
 returns : tie.Need-returns
-returns c = measured-as (sym (as-the-cell (c .before .before .before .before .before) (sym (c .before .before .cell-at .ensures) ∙ c .before .if1 .taken))) (c .grant-line-length .ensures)
+returns c =
+    measured-as (sym (ap (text (c .before .before .before .before .before))
+    (sym (c .before .before .cell-at .ensures) ∙ c .before .if1 .taken))) (c .grant-line-length .ensures)
 
 returns-2 : tie.Need-returns-2
-returns-2 c = measured-as (sym (as-the-cell (c .before .before .before .before) (sym (c .before .cell-at .ensures) ∙ c .if1 .left))) (record { counted = refl; small = omega arith })
+returns-2 c =
+    measured-as (sym (ap (text (c .before .before .before .before)) (sym (c .before .cell-at .ensures) ∙ c .if1 .left)))
+    (record { counted = refl; small = omega arith })
 
 pub cell-line-length-spec : {M : Type 1} → statement M
 cell-line-length-spec =

@@ -13,10 +13,14 @@ use Rattle.book.proofs.witness_block.grant_line_length.Statement.{state
 use Rattle.book.proofs.witness_block.grant_line_length.Tie as tie
 
 user-short : (c : tie.After-permission-name) → length (c .before .user-name .result .now) ≤ name-limit
-user-short c = fits-as (sym (c .before .user-name .ensures)) (user-name-short (c .before .before .before .pre .0) (c .before .before .before .args .user .0) (c .before .before .before .pre .1))
+user-short c =
+    fits-as (sym (c .before .user-name .ensures))
+    (user-name-short (c .before .before .before .pre .0) (c .before .before .before .args .user .0) (c .before .before .before .pre .1))
 
 permission-short : (c : tie.After-permission-name) → length (c .permission-name .result .now) ≤ name-limit
-permission-short c = fits-as (sym (c .permission-name .ensures)) (permission-name-short (c .before .before .before .pre .0) (c .before .before .before .args .permission .0) (c .before .before .before .pre .2))
+permission-short c =
+    fits-as (sym (c .permission-name .ensures))
+    (permission-name-short (c .before .before .before .pre .0) (c .before .before .before .args .permission .0) (c .before .before .before .pre .2))
 
 user-name-requires : tie.Need-user-name-requires
 user-name-requires c κs = search needs
@@ -33,7 +37,10 @@ unfolding name-limit
 add-result-2 c = omega (arith, user-short c, permission-short c)
 
 returns : tie.Need-returns
-returns c = cell-line-measured (sheet-of (c .before .before .before .args .s .now)) (c .before .before .before .args .user .0) (c .before .before .before .args .permission .0) _ _ (ap length (c .before .user-name .ensures)) (user-short c) (ap length (c .permission-name .ensures)) (permission-short c)
+returns c =
+    let s = (c .before .before .before) in
+    cell-line-measured (sheet-of (s .args .s .now)) (s .args .user .0) (s .args .permission .0) _ _
+    (ap length (c .before .user-name .ensures)) (user-short c) (ap length (c .permission-name .ensures)) (permission-short c)
 
 pub grant-line-length-spec : {M : Type 1} → statement M
 grant-line-length-spec =

@@ -1,33 +1,46 @@
 -- `witness_block::put_grant_line`: the user's name, the permission's behind a comma, and the line feed behind them.
 use borrow.Author.Needs.{needs}
-use Prim.Native.Nat.{_+_, _≤_}
+use Prim.Native.Nat.{_+_}
 use native.Mathlib.Omega.{arith}
 use mathlib.Core.List.{_++_}
 use mathlib.Core.Path.{ap, sym}
-use lib.ListN.{length}
 use Rattle.sheet.specs.Sheet.{sheet-of}
 use Rattle.sheet.specs.Text.{Bytes}
 use Rattle.book.specs.Book.{permission-name, user-name}
 use Rattle.book.specs.LineLaws.{behind-comma, line-end}
-use Rattle.book.specs.Written.{Ready, answer-within, byte-within, fits-as, front-fits, room-behind, then-byte, then-written, with-rest, within-buffer, written-as, written-length}
+use Rattle.book.specs.LineWritten.{LineRoom, behind-fields, behind-name, name-fits}
+use Rattle.book.specs.Written.{Ready, Written, byte-same-length, byte-within, fits-as, place-within, room-behind, then-byte, with-rest, within-buffer, written-as}
 use Rattle.book.proofs.witness_block.put_grant_line.Statement.{statement}
 use Rattle.book.proofs.witness_block.put_grant_line.Tie as tie
 
 abbrev name : tie.Start → Bytes
-name c = user-name (sheet-of (c .args .s .now)) (c .args .user .0)
+name s = user-name (sheet-of (s .args .s .now)) (s .args .user .0)
 
-abbrev rest : tie.Start → Bytes
-rest c = behind-comma (permission-name (sheet-of (c .args .s .now)) (c .args .permission .0))
+abbrev fields : tie.Start → Bytes
+fields s = behind-comma (permission-name (sheet-of (s .args .s .now)) (s .args .permission .0))
 
-fits : (c : tie.Start) → length ((name c ++ rest c) ++ line-end) ≤ length (c .args .out .now)
-fits c = c .pre .1
+room : (s : tie.Start) → LineRoom (name s) (fields s) (s .args .out .now)
+room s = record { fits = s .pre .1 }
 
-behind-name : (c : tie.After-put-bytes) → Ready (name (c .before .before .before .before .before .before)) (rest (c .before .before .before .before .before .before)) (c .before .before .before .before .before .before .args .out .now) (c .put-bytes .last .0) (c .put-bytes .result)
-behind-name c = record { written = written-as (c .before .before .before .user-name .ensures) (c .put-bytes .ensures); fits = front-fits (name (c .before .before .before .before .before .before) ++ rest (c .before .before .before .before .before .before)) line-end (fits (c .before .before .before .before .before .before)) }
+-- the line behind its name, and behind its fields
+abbrev start : tie.After-put-bytes → tie.Start
+start c = c .before .before .before .before .before .before
 
-behind-fields : (c : tie.After-put-field)
-    → Ready (name (c .before .before .before .before .before .before .before .before .before .before) ++ rest (c .before .before .before .before .before .before .before .before .before .before)) line-end (c .before .before .before .before .before .before .before .before .before .before .args .out .now) (with-rest (c .before .before .before .before .put-bytes .result) (c .before .before .before .before .put-bytes .last .0) (c .put-field .last .0)) (c .before .before .before .before .put-bytes .result + c .put-field .result)
-behind-fields c = record { written = then-written (behind-name (c .before .before .before .before)) (written-as (ap behind-comma (c .before .before .before .before .before .before .permission-name .ensures)) (c .put-field .ensures)); fits = fits (c .before .before .before .before .before .before .before .before .before .before) }
+written : (c : tie.After-put-bytes) → Written (name (start c)) (start c .args .out .now) (c .put-bytes .last .0) (c .put-bytes .result)
+written c = written-as (c .before .before .before .user-name .ensures) (c .put-bytes .ensures)
+
+behind-first : (c : tie.After-put-bytes)
+    → Ready (name (start c)) (fields (start c)) (start c .args .out .now) (c .put-bytes .last .0) (c .put-bytes .result)
+behind-first c = behind-name (room (start c)) (written c)
+
+behind-second : (c : tie.After-put-field)
+    → let a = c .before .before .before .before in
+    Ready (name (start a) ++ fields (start a)) line-end (start a .args .out .now)
+    (with-rest (a .put-bytes .result) (a .put-bytes .last .0) (c .put-field .last .0)) (a .put-bytes .result + c .put-field .result)
+behind-second c =
+    let a = c .before .before .before .before in
+    behind-fields (room (start a)) (written a)
+    (written-as (ap behind-comma (c .before .before .before .before .before .before .permission-name .ensures)) (c .put-field .ensures))
 
 user-name-requires : tie.Need-user-name-requires
 user-name-requires c κs = search needs
@@ -36,34 +49,36 @@ permission-name-requires : tie.Need-permission-name-requires
 permission-name-requires c κs = search needs
 
 put-bytes-requires : tie.Need-put-bytes-requires
-put-bytes-requires c κs = fits-as (sym (c .before .before .user-name .ensures)) (front-fits (name (c .before .before .before .before .before)) (rest (c .before .before .before .before .before)) (front-fits (name (c .before .before .before .before .before) ++ rest (c .before .before .before .before .before)) line-end (fits (c .before .before .before .before .before))))
+put-bytes-requires c κs = fits-as (sym (c .before .before .user-name .ensures)) (name-fits (room (c .before .before .before .before .before)))
 
 sub-put-field : tie.Need-sub-put-field
-sub-put-field c = within-buffer (behind-name (c .before .before))
+sub-put-field c = within-buffer (behind-first (c .before .before))
 
 part-put-field-start : tie.Need-part-put-field-start
-part-put-field-start c = within-buffer (behind-name (c .before .before))
+part-put-field-start c = within-buffer (behind-first (c .before .before))
 
 part-put-field-end : tie.Need-part-put-field-end
 part-put-field-end c = search needs
 
 put-field-requires : tie.Need-put-field-requires
-put-field-requires c κs = fits-as (ap behind-comma (sym (c .before .before .before .before .before .permission-name .ensures))) (room-behind (behind-name (c .before .before .before)))
+put-field-requires c κs =
+    fits-as (ap behind-comma (sym (c .before .before .before .before .before .permission-name .ensures)))
+    (room-behind (behind-first (c .before .before .before)))
 
 add-end : tie.Need-add-end
-add-end c = omega (arith, answer-within (behind-fields (c .before .before) .written) (front-fits (name (c .before .before .before .before .before .before .before .before .before .before .before .before) ++ rest (c .before .before .before .before .before .before .before .before .before .before .before .before)) line-end (fits (c .before .before .before .before .before .before .before .before .before .before .before .before))))
+add-end c = omega (arith, place-within (behind-second (c .before .before)))
 
 slice-write-out : tie.Need-slice-write-out
-slice-write-out c = byte-within (behind-fields (c .before .before))
+slice-write-out c = byte-within (behind-second (c .before .before))
 
 add-result : tie.Need-add-result
-add-result c = omega (arith, byte-within (behind-fields (c .before .before)))
+add-result c = omega (arith, byte-within (behind-second (c .before .before)), place-within (behind-second (c .before .before)))
 
 same-length : tie.Need-same-length
-same-length c = written-length _ (fits (c .before .before .before .before .before .before .before .before .before .before .before .before)) (then-byte (behind-fields (c .before .before)))
+same-length c = byte-same-length (behind-second (c .before .before))
 
 returns : tie.Need-returns
-returns c = then-byte (behind-fields (c .before .before))
+returns c = then-byte (behind-second (c .before .before))
 
 pub put-grant-line-spec : {M : Type 1} → statement M
 put-grant-line-spec =

@@ -11,7 +11,8 @@ use Rattle.book.proofs.witness_block.put_witness_row.Statement.{stateme
 use Rattle.book.proofs.witness_block.put_witness_row.Tie as tie
 
 abbrev Inv-loop : tie.InvT-loop
-Inv-loop out₀ s layout witness user permissions at₀ i₀ out at i = Listing permissions (λ p. line-if (cell witness (user .0) p) (cell-line (sheet-of s) (user .0) p)) i out₀ out at
+Inv-loop out₀ s layout witness user permissions at₀ i₀ out at i =
+    Listing permissions (λ p. line-if (cell witness (user .0) p) (cell-line (sheet-of s) (user .0) p)) i out₀ out at
 
 abbrev μ-loop : tie.MeasureT-loop
 μ-loop out₀ s layout witness user permissions at₀ i₀ out at i = permissions - i
@@ -29,10 +30,17 @@ part-put-cell-line-end : tie.Need-part-put-cell-line-end Inv-loop μ-loop
 part-put-cell-line-end c = search needs
 
 put-cell-line-requires : tie.Need-put-cell-line-requires Inv-loop μ-loop
-put-cell-line-requires c κs = ((c .before .before .before .before .before .before .pre .0 .0, c .before .before .before .before .before .before .pre .0 .1, c .before .loop-test .taken, c .before .before .before .before .before .before .pre .0 .2), room-behind (part-ready (c .before .before .loop .inv) (c .before .loop-test .taken)))
+put-cell-line-requires c κs =
+    let s = (c .before .before .before .before .before .before) in (
+      (s .pre .0 .0, s .pre .0 .1, c .before .loop-test .taken, s .pre .0 .2),
+      room-behind
+          (part-ready (c .before .before .loop .inv) (c .before .loop-test .taken)),
+    )
 
 add-at : tie.Need-add-at Inv-loop μ-loop
-add-at c = omega (arith, part-within (c .before .before .before .before .before .loop .inv) (c .before .before .before .before .loop-test .taken) (c .before .before .put-cell-line .ensures))
+add-at c =
+    let a = (c .before .before .before .before) in
+    omega (arith, part-within (a .before .loop .inv) (a .loop-test .taken) (c .before .before .put-cell-line .ensures))
 
 add-i : tie.Need-add-i Inv-loop μ-loop
 add-i c = omega arith
@@ -41,7 +49,9 @@ loop-less : tie.Need-loop-less Inv-loop μ-loop
 loop-less c = omega arith
 
 loop-again : tie.Need-loop-again Inv-loop μ-loop
-loop-again c = part-written (c .before .before .before .before .before .loop .inv) (c .before .before .before .before .loop-test .taken) (c .before .before .put-cell-line .ensures)
+loop-again c =
+    let a = (c .before .before .before .before) in
+    part-written (a .before .loop .inv) (a .loop-test .taken) (c .before .before .put-cell-line .ensures)
 
 same-length : tie.Need-same-length Inv-loop μ-loop
 same-length c = c .before .loop .inv .same-length

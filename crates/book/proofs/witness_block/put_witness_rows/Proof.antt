@@ -28,10 +28,17 @@ part-put-witness-row-end : tie.Need-part-put-witness-row-end Inv-loop μ-loop
 part-put-witness-row-end c = search needs
 
 put-witness-row-requires : tie.Need-put-witness-row-requires Inv-loop μ-loop
-put-witness-row-requires c κs = ((c .before .before .before .before .before .before .pre .0 .0, c .before .loop-test .taken, c .before .before .before .before .before .before .pre .0 .1), room-behind (part-ready (c .before .before .loop .inv) (c .before .loop-test .taken)))
+put-witness-row-requires c κs =
+    let s = (c .before .before .before .before .before .before) in (
+      (s .pre .0 .0, c .before .loop-test .taken, s .pre .0 .1),
+      room-behind
+          (part-ready (c .before .before .loop .inv) (c .before .loop-test .taken)),
+    )
 
 add-at : tie.Need-add-at Inv-loop μ-loop
-add-at c = omega (arith, part-within (c .before .before .before .before .before .loop .inv) (c .before .before .before .before .loop-test .taken) (c .before .before .put-witness-row .ensures))
+add-at c =
+    let a = (c .before .before .before .before) in
+    omega (arith, part-within (a .before .loop .inv) (a .loop-test .taken) (c .before .before .put-witness-row .ensures))
 
 add-i : tie.Need-add-i Inv-loop μ-loop
 add-i c = omega arith
@@ -40,7 +47,9 @@ loop-less : tie.Need-loop-less Inv-loop μ-loop
 loop-less c = omega arith
 
 loop-again : tie.Need-loop-again Inv-loop μ-loop
-loop-again c = part-written (c .before .before .before .before .before .loop .inv) (c .before .before .before .before .loop-test .taken) (c .before .before .put-witness-row .ensures)
+loop-again c =
+    let a = (c .before .before .before .before) in
+    part-written (a .before .loop .inv) (a .loop-test .taken) (c .before .before .put-witness-row .ensures)
 
 same-length : tie.Need-same-length Inv-loop μ-loop
 same-length c = c .before .loop .inv .same-length

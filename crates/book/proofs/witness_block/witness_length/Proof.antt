@@ -17,8 +17,14 @@ add-result c = search needs
 
 returns : tie.Need-returns
 returns c =
-    measured-as (sym (witness-parts (sheet-of (c .before .before .before .before .args .s .now)) (c .before .before .before .before .args .witness .now) (c .before .before .before .before .pre .0 .user-total) (c .before .before .before .before .pre .0 .permission-total) (accepted-lawful (c .before .before .before .before .args .s .now) (c .before .before .before .before .pre .0 .accepts)) (c .before .before .before .before .pre .2)))
-    (record { counted = omega (arith, c .witness-rows-length .ensures .counted); small = omega (arith, c .witness-rows-length .ensures .small) })
+    let s = (c .before .before .before .before) in
+    measured-as
+    (sym (witness-parts (sheet-of (s .args .s .now)) (s .args .witness .now) (s .pre .0 .user-total) (s .pre .0 .permission-total)
+    (accepted-lawful (s .args .s .now) (s .pre .0 .accepts)) (s .pre .2)))
+    (record {
+      counted = omega (arith, c .witness-rows-length .ensures .counted);
+      small = omega (arith, c .witness-rows-length .ensures .small);
+    })
 
 pub witness-length-spec : {M : Type 1} → statement M
 witness-length-spec = tie.close (tie.spec witness-rows-length-requires add-result returns)

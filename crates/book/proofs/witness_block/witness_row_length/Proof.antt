@@ -10,7 +10,8 @@ use Rattle.book.proofs.witness_block.witness_row_length.Statement.{stat
 use Rattle.book.proofs.witness_block.witness_row_length.Tie as tie
 
 abbrev Inv-loop : tie.InvT-loop
-Inv-loop s layout witness user permissions total₀ i₀ total i = Adding permissions (λ p. line-if (cell witness (user .0) p) (cell-line (sheet-of s) (user .0) p)) piece-most i total
+Inv-loop s layout witness user permissions total₀ i₀ total i =
+    Adding permissions (λ p. line-if (cell witness (user .0) p) (cell-line (sheet-of s) (user .0) p)) piece-most i total
 
 abbrev μ-loop : tie.MeasureT-loop
 μ-loop s layout witness user permissions total₀ i₀ total i = permissions - i
@@ -19,11 +20,20 @@ loop-holds : tie.Need-loop-holds Inv-loop μ-loop
 loop-holds c = adding-starts _ _ _
 
 cell-line-length-requires : tie.Need-cell-line-length-requires Inv-loop μ-loop
-cell-line-length-requires c κs = (c .before .before .before .before .pre .0, c .before .before .before .before .pre .1, c .loop-test .taken, c .before .before .before .before .pre .2)
+cell-line-length-requires c κs =
+    let s = (c .before .before .before .before) in
+    (s .pre .0, s .pre .1, c .loop-test .taken, s .pre .2)
 
 add-total : tie.Need-add-total Inv-loop μ-loop
 unfolding row-bits row-words
-add-total c = omega (arith, c .cell-line-length .ensures .small, c .before .before .loop .inv .small, permissions-fit (c .before .before .before .before .before .pre .0))
+add-total c =
+    omega (
+      arith,
+      c .cell-line-length .ensures .small,
+      c .before .before .loop .inv .small,
+      permissions-fit
+          (c .before .before .before .before .before .pre .0),
+    )
 
 add-i : tie.Need-add-i Inv-loop μ-loop
 add-i c = omega (arith, permissions-fit (c .before .before .before .before .before .pre .0))
@@ -32,11 +42,16 @@ loop-less : tie.Need-loop-less Inv-loop μ-loop
 loop-less c = omega arith
 
 loop-again : tie.Need-loop-again Inv-loop μ-loop
-loop-again c = part-added (c .before .before .loop .inv) (c .before .loop-test .taken) (c .cell-line-length .ensures)
+loop-again c =
+    let a = (c .before) in
+    part-added (a .before .loop .inv) (a .loop-test .taken)
+    (c .cell-line-length .ensures)
 
 returns : tie.Need-returns Inv-loop μ-loop
 unfolding row-bits row-words
-returns c = measured-within (adding-ends (c .before .loop .inv) (c .loop-test .left)) (omega (arith, permissions-fit (c .before .before .before .before .pre .0)))
+returns c =
+    measured-within (adding-ends (c .before .loop .inv) (c .loop-test .left))
+    (omega (arith, permissions-fit (c .before .before .before .before .pre .0)))
 
 pub witness-row-length-spec : {M : Type 1} → statement M
 witness-row-length-spec =

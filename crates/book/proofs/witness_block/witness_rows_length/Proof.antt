@@ -19,11 +19,20 @@ loop-holds : tie.Need-loop-holds Inv-loop μ-loop
 loop-holds c = adding-starts _ _ _
 
 witness-row-length-requires : tie.Need-witness-row-length-requires Inv-loop μ-loop
-witness-row-length-requires c κs = (c .before .before .before .before .pre .0, c .loop-test .taken, c .before .before .before .before .pre .1)
+witness-row-length-requires c κs =
+    let s = c .before .before .before .before in
+    (s .pre .0, c .loop-test .taken, s .pre .1)
 
 add-total : tie.Need-add-total Inv-loop μ-loop
 unfolding user-limit
-add-total c = omega (arith, c .witness-row-length .ensures .small, c .before .before .loop .inv .small, few-users (c .before .before .before .before .before .pre .0))
+add-total c =
+    omega (
+      arith,
+      c .witness-row-length .ensures .small,
+      c .before .before .loop .inv .small,
+      few-users
+          (c .before .before .before .before .before .pre .0),
+    )
 
 add-i : tie.Need-add-i Inv-loop μ-loop
 unfolding user-limit
@@ -33,11 +42,15 @@ loop-less : tie.Need-loop-less Inv-loop μ-loop
 loop-less c = omega arith
 
 loop-again : tie.Need-loop-again Inv-loop μ-loop
-loop-again c = part-added (c .before .before .loop .inv) (c .before .loop-test .taken) (c .witness-row-length .ensures)
+loop-again c =
+    let a = (c .before) in
+    part-added (a .before .loop .inv) (a .loop-test .taken)
+    (c .witness-row-length .ensures)
 
 returns : tie.Need-returns Inv-loop μ-loop
 unfolding user-limit
-returns c = measured-within (adding-ends (c .before .loop .inv) (c .loop-test .left)) (omega (arith, few-users (c .before .before .before .before .pre .0)))
+returns c =
+    measured-within (adding-ends (c .before .loop .inv) (c .loop-test .left)) (omega (arith, few-users (c .before .before .before .before .pre .0)))
 
 pub witness-rows-length-spec : {M : Type 1} → statement M
 witness-rows-length-spec =

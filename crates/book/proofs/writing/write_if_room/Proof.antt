@@ -16,7 +16,8 @@ book-length-requires c κs = search needs
 returns : tie.Need-returns
 returns c =
     let s = (c .before .before .before .before) in
-    refused-short (text s) (s .args .out .now) (omega (arith, c .if1 .taken, c .before .book-length .ensures (s .args .has .now) (s .args .gives .now)))
+    refused-short (text s) (s .args .out .now)
+    (omega (arith, c .if1 .taken, c .before .book-length .ensures (s .args .has .now) (s .args .gives .now)))
 
 write-book-requires : tie.Need-write-book-requires
 write-book-requires c κs =
@@ -29,7 +30,13 @@ same-length c = search needs
 returns-2 : tie.Need-returns-2
 returns-2 c =
     let s = (c .before .before .before .before .before .before .before .before) in
-    written-whole (text s) (omega (arith, c .before .before .before .before .if1 .left, c .before .before .before .before .before .book-length .ensures (s .args .has .now) (s .args .gives .now))) (c .before .before .write-book .ensures)
+    written-whole (text s)
+    (omega (
+      arith,
+      c .before .before .before .before .if1 .left,
+      c .before .before .before .before .before .book-length .ensures (s .args .has .now)
+          (s .args .gives .now),
+    )) (c .before .before .write-book .ensures)
 
 pub write-if-room-spec : {M : Type 1} → statement M
 write-if-room-spec =

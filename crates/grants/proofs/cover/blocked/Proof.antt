@@ -1,10 +1,12 @@
-use Prim.Native.Nat.{_-_, _≤_}
+-- `grants::cover::blocked`: the earlier grants are looked at once, in order. After i of them a class is marked exactly if one of its members among them does not go
+-- together with grant d.
+use Prim.Native.Nat.{_-_, _≤_, _<_}
 use native.Mathlib.Omega.{arith}
 use mathlib.Core.Path.{_≡_, refl, sym, _∙_}
 use mathlib.Core.Logic.{⊎-elim}
 use native.Mathlib.Numerals.{add-one}
 use borrow.Author.Tests.{not-true, not-false}
-use lib.ListN.{length, length-set}
+use lib.ListN.{length, getD, length-set}
 use Rattle.grants.specs.CoverRelation.{related-at}
 use Rattle.grants.specs.CoverMarks.{Marks, no-marks, marks-kept, class-marked}
 use Rattle.sheet.specs.Limits.{grant-limit}
@@ -44,13 +46,21 @@ element-copy-out-c : tie.Need-element-copy-out-c Inv-loop μ-loop
 unfolding grant-limit
 element-copy-out-c c = omega arith
 
+-- the class of the grant looked at is below the limit
+small : (c : tie.After-c Inv-loop μ-loop)
+    → getD (c .before .before .before .before .before .before .before .before .before .args .classes .now) (c .before .before .before .before .before .loop .i) 0
+    < grant-limit
+small c =
+    let turn = c .before .before .before .before in
+    turn .before .before .before .before .before .pre .1 (turn .before .loop .i) (turn .loop-test .taken)
+
 cast-c : tie.Need-cast-c Inv-loop μ-loop
 unfolding grant-limit
-cast-c c = omega (arith, c .before .before .before .before .before .before .before .before .before .pre .1 (c .before .before .before .before .before .loop .i) (c .before .before .before .before .loop-test .taken))
+cast-c c = omega (arith, small c)
 
 array-write-marks : tie.Need-array-write-marks Inv-loop μ-loop
 unfolding grant-limit
-array-write-marks c = c .before .before .before .before .before .before .before .before .before .pre .1 (c .before .before .before .before .before .loop .i) (c .before .before .before .before .loop-test .taken)
+array-write-marks c = small c
 
 add-i : tie.Need-add-i Inv-loop μ-loop
 add-i c = omega arith

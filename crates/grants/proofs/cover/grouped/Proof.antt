@@ -1,3 +1,5 @@
+-- `grants::cover::grouped`: each grant in turn takes the class that the grouping gives it. A class is in use or the next one, so the count grows exactly where a
+-- new class opens, and every class is below the number of grants.
 use Prim.Native.Nat.{ℕ, suc, _-_, _≤_, max}
 use native.Mathlib.Omega.{arith}
 use native.Mathlib.Numerals.{add-one}
@@ -31,11 +33,14 @@ together : (c : tie.After-class-for Inv-loop μ-loop) → ℕ → ℕ → Bool
 together c = let a = c .before .before .before .before .before .before .args in related-at (a .rows .now) (a .cells .now) (a .by)
 
 -- the class taken is below the limit
-small : (c : tie.After-class-for Inv-loop μ-loop) → (c .class-for .result ≤ c .before .before .before .loop .count) × (c .before .before .before .loop .count ≤ c .before .before .before .loop .d)
+small : (c : tie.After-class-for Inv-loop μ-loop)
+    → (c .class-for .result ≤ c .before .before .before .loop .count) × (c .before .before .before .loop .count ≤ c .before .before .before .loop .d)
 unfolding together
 small c =
-    let l = c .before .before .before .loop in
-    (taken-le (together c) (l .classes) (l .d) (l .count) (l .inv .2) (c .class-for .ensures), few-classes (together c) (l .classes) (l .d) (l .count) (l .inv .2))
+    let l = c .before .before .before .loop in (
+      taken-le (together c) (l .classes) (l .d) (l .count) (l .inv .2) (c .class-for .ensures),
+      few-classes (together c) (l .classes) (l .d) (l .count) (l .inv .2),
+    )
 
 cast-classes : tie.Need-cast-classes Inv-loop μ-loop
 unfolding grant-limit

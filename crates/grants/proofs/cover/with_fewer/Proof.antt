@@ -1,13 +1,14 @@
 -- `grants::cover::with_fewer`: the counts that are compared are those of the two placements.
+use native.Mathlib.Omega.{arith}
 use Rattle.grants.specs.CoverPlaced.{sooner-is-fewer, later-is-fewer}
 use Rattle.grants.proofs.cover.with_fewer.Statement.{statement}
 use Rattle.grants.proofs.cover.with_fewer.Tie as tie
 
 returns : tie.Need-returns
-returns c n p q sooner later = sooner-is-fewer p q n sooner later (c .if1 .taken)
+returns c n p q sooner later = sooner-is-fewer p q n sooner later (omega arith)
 
 returns-2 : tie.Need-returns-2
-returns-2 c n p q sooner later = later-is-fewer p q n sooner later (c .if1 .left)
+returns-2 c n p q sooner later = later-is-fewer p q n sooner later (omega arith)
 
 pub with-fewer-spec : {M : Type 1} → statement M
 with-fewer-spec = tie.close (tie.spec returns returns-2)

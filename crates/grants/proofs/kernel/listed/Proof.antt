@@ -1,3 +1,5 @@
+-- `grants::kernel::listed`: the cells passed stand in the array. The walk ends at the last cell; an array that is full before that holds more cells than a sheet
+-- has grants, so no sheet is spoken of.
 use Prim.Native.Nat.{_*_, _-_}
 use native.Mathlib.Omega.{arith}
 use mathlib.Core.Path.{refl}

@@ -1,3 +1,4 @@
+-- `grants::kernel::next_cell`: the word of the place has the next cell from there on, or none; then the walk goes on at the next word.
 use Prim.Native.Nat.{_+_, _*_, _/_, _-_, _≤_}
 use native.Mathlib.Omega.{arith}
 use mathlib.Core.Path.{_≡_}

@@ -1,3 +1,4 @@
+-- `grants::table::table_of`: the words are made one after the other, and each says of its positions whether the two grants fit.
 use Prim.Native.Nat.{_*_, _-_, _≤_}
 use native.Mathlib.Omega.{arith}
 use mathlib.Core.Path.{_≡_, refl}

@@ -1,3 +1,4 @@
+-- `grants::table::table_word`: position by position, a fitting grant is put in and any other left out.
 use Prim.Native.Nat.{_-_, _≤_}
 use native.Mathlib.Omega.{arith}
 use mathlib.Core.Path.{_≡_, sym, _∙_}

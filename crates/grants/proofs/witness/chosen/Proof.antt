@@ -35,8 +35,9 @@ returns : tie.Need-returns Inv-loop μ-loop
 returns c sheet shown part =
     let at = c .before .before .before .before .before .before .loop in
     let greedy = at .inv .1 sheet shown part in
+    let found = c .before .before .before .fewest .ensures .is-fewest sheet shown (greedy .left-part) in
     greedy-ends sheet _ _ (at .left) (at .taken) _ greedy
-    (none-taken sheet (grant-limit - at .count) (cell-grants sheet (at .left)) (c .before .before .before .fewest .ensures .is-fewest sheet shown (greedy .left-part) ∙ rw (eq-eqb _ _ (c .if1 .taken))))
+    (none-taken sheet (grant-limit - at .count) (cell-grants sheet (at .left)) (found ∙ rw (eq-eqb _ _ (c .if1 .taken))))
 
 -- there is a grant to take
 found : (c : tie.Else1 Inv-loop μ-loop) → 0 < c .before .before .before .fewest .result .partners
