@@ -37,3 +37,4 @@ pub mod WitnessSteps
 pub mod ProductWords
 pub mod WitnessWords
 pub mod Judged
+pub mod BookSays

@@ -4,6 +4,7 @@ mod cells;
 mod counts_block;
 mod cursor;
 mod digits;
+mod judgement;
 mod limits;
 mod line;
 mod names;
