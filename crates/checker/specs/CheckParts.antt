@@ -71,13 +71,13 @@ counts-agree-intro book c =
 
 -- ---- the product
 
-same-cell : (a b : Bool) → So (Bool·beq a b) → a ≡ b
+pub same-cell : (a b : Bool) → So (Bool·beq a b) → a ≡ b
 same-cell true true e = refl
 same-cell true false e = absurd (false≢true e)
 same-cell false true e = absurd (false≢true e)
 same-cell false false e = refl
 
-cell-same : (b : Bool) → So (Bool·beq b b)
+pub cell-same : (b : Bool) → So (Bool·beq b b)
 cell-same true = refl
 cell-same false = refl
 

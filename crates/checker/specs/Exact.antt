@@ -46,12 +46,12 @@ passes-right sheet text p =
 
 -- ---- what is right passes
 
-counts-agree-same : (sheet : Sheet) (read written : Said) → SaysSame sheet read written → counts-agree read ≡ counts-agree written
+pub counts-agree-same : (sheet : Sheet) (read written : Said) → SaysSame sheet read written → counts-agree read ≡ counts-agree written
 unfolding counts-agree
 counts-agree-same sheet read written s =
     rw (s .role-digits, s .bound-digits, s .standing, s .count, s .witness)
 
-product-same : (sheet : Sheet) (read written : Said) → SaysSame sheet read written → (u p : ℕ) → u < user-count sheet
+pub product-same : (sheet : Sheet) (read written : Said) → SaysSame sheet read written → (u p : ℕ) → u < user-count sheet
     → p < permission-count sheet → product (read .roles) u p ≡ product (written .roles) u p
 unfolding product
 product-same sheet read written s u p h k =
@@ -97,7 +97,7 @@ confirmed-same : (read written : Said) → read .roles .count ≡ written .roles
 confirmed-same read written e f = rw (e, f)
 
 -- the names of a sheet that keeps the rules are such as a book can hold
-keeps-good : {text : Bytes} {sheet : Sheet} → Keeps text sheet → GoodSheet sheet
+pub keeps-good : {text : Bytes} {sheet : Sheet} → Keeps text sheet → GoodSheet sheet
 keeps-good kept = record { users = good-names (kept .user-names); permissions = good-names (kept .permission-names) }
 
 -- where the checker accepts a book, its sheet is accepted

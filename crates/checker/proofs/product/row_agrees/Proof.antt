@@ -1,0 +1,93 @@
+-- `product::row_agrees`: the cells of the words below k agree; a word that is another has a cell that does not.
+use Prim.Native.Nat.{_+_, _*_, _-_, _≤_, _<_}
+use native.Mathlib.Omega.{arith}
+use mathlib.Core.Path.{_≡_, sym}
+use borrow.Author.Needs.{needs}
+use lib.ListN.{length}
+use Rattle.sheet.specs.Rows.{row-words}
+use Rattle.checker.specs.RoleLimit.{word-below}
+use Rattle.checker.specs.ProductWords.{WordsAgree, words-start, words-more, words-end, word-differs}
+use Rattle.checker.proofs.product.row_agrees.Statement.{statement}
+use Rattle.checker.proofs.product.row_agrees.Tie as tie
+
+abbrev Inv-loop : tie.InvT-loop
+Inv-loop rows has gives roles u k₀ k = (k ≤ row-words) × WordsAgree rows has gives roles u k
+
+abbrev μ-loop : tie.MeasureT-loop
+μ-loop rows has gives roles u k₀ k = row-words - k
+
+loop-holds : tie.Need-loop-holds Inv-loop μ-loop
+loop-holds c = (omega arith, words-start (c .before .before .before .args .rows .now) (c .before .before .before .args .has .now) (c .before .before .before .args .gives .now) (c .before .before .before .args .roles) (c .before .before .before .args .u))
+
+more : (c : tie.In-loop Inv-loop μ-loop) → c .before .loop .k < row-words
+unfolding row-words
+more c = c .loop-test .taken
+
+within : (c : tie.In-loop Inv-loop μ-loop) → c .before .before .before .before .before .args .u * row-words + c .before .loop .k < length (c .before .before .before .before .before .args .rows .now)
+within c = word-below (c .before .before .before .before .before .args .u) (c .before .before .before .before .before .args .u + 1) (c .before .loop .k) _ (omega arith) (more c) (c .before .before .before .before .before .pre .1)
+
+given-word-requires : tie.Need-given-word-requires Inv-loop μ-loop
+given-word-requires c κs = (c .before .before .before .before .before .pre .0, more c, c .before .before .before .before .before .pre .2, c .before .before .before .before .before .pre .3)
+
+mul-if1 : tie.Need-mul-if1 Inv-loop μ-loop
+unfolding row-words
+mul-if1 c = omega (arith, within (c .before))
+
+add-if1 : tie.Need-add-if1 Inv-loop μ-loop
+unfolding row-words
+add-if1 c = omega (arith, within (c .before))
+
+mul-if1-2 : tie.Need-mul-if1-2 Inv-loop μ-loop
+unfolding row-words
+mul-if1-2 c = omega (arith, within (c .before))
+
+shared-slice-read-if1 : tie.Need-shared-slice-read-if1 Inv-loop μ-loop
+unfolding row-words
+shared-slice-read-if1 c = within (c .before .before)
+
+returns : tie.Need-returns Inv-loop μ-loop
+unfolding row-words
+returns c =
+    sym
+    (word-differs (c .before .before .before .before .before .before .before .before .args .rows .now) (c .before .before .before .before .before .before .before .before .args .has .now) (c .before .before .before .before .before .before .before .before .args .gives .now) (c .before .before .before .before .before .before .before .before .args .roles) (c .before .before .before .before .before .before .before .before .args .u) (more (c .before .before .before))
+    (c .before .before .given-word .ensures) (search needs) (c .before .shared-slice-known4 .given (c .before .before .before .before .before .before .before .before .args .u * row-words + c .before .before .before .before .loop .k) .fits) (c .if1 .taken))
+
+add-k : tie.Need-add-k Inv-loop μ-loop
+unfolding row-words
+add-k c = omega (arith, more (c .before .before .before))
+
+loop-less : tie.Need-loop-less Inv-loop μ-loop
+loop-less c = omega (arith, more (c .before .before .before))
+
+loop-again : tie.Need-loop-again Inv-loop μ-loop
+unfolding row-words
+loop-again c = (
+  omega (arith, more (c .before .before .before)),
+  words-more (c .before .before .before .before .before .before .before .before .args .rows .now) (c .before .before .before .before .before .before .before .before .args .has .now) (c .before .before .before .before .before .before .before .before .args .gives .now) (c .before .before .before .before .before .before .before .before .args .roles) (c .before .before .before .before .before .before .before .before .args .u) (c .before .before .before .before .loop .inv .1) (c .before .before .given-word .ensures)
+      (c .if1 .left),
+)
+
+returns-2 : tie.Need-returns-2 Inv-loop μ-loop
+unfolding row-words
+returns-2 c =
+    sym
+    (words-end (c .before .before .before .before .before .args .rows .now) (c .before .before .before .before .before .args .has .now) (c .before .before .before .before .before .args .gives .now) (c .before .before .before .before .before .args .roles) (c .before .before .before .before .before .args .u) (c .before .loop .inv .1)
+    (omega (arith, c .before .loop .inv .0, c .loop-test .left)))
+
+pub row-agrees-spec : {M : Type 1} → statement M
+row-agrees-spec =
+    tie.close
+    (tie.spec
+    Inv-loop
+    μ-loop
+    loop-holds
+    given-word-requires
+    mul-if1
+    add-if1
+    mul-if1-2
+    shared-slice-read-if1
+    returns
+    add-k
+    loop-less
+    loop-again
+    returns-2)

@@ -1,0 +1,72 @@
+-- `product::rows_agree`: the rows of the users below u agree.
+use Prim.Native.Nat.{ℕ, _-_, _≤_}
+use native.Mathlib.Omega.{arith}
+use mathlib.Core.Path.{_≡_, refl, sym, _∙_}
+use mathlib.Core.Bool.{Bool, So}
+use borrow.Author.Tests.{not-true, not-false}
+use Rattle.bits.specs.Below.{every-below}
+use Rattle.bits.specs.BelowLaws.{missed-below-intro}
+use Rattle.bits.specs.StepLaws.{every-below-step}
+use Rattle.bits.specs.Truth.{and-intro}
+use Rattle.book.specs.RowsSaid.{roles-in}
+use Rattle.checker.specs.RoleLimit.{row-within}
+use Rattle.checker.specs.ProductWords.{row-agrees}
+use Rattle.checker.proofs.product.rows_agree.Statement.{statement}
+use Rattle.checker.proofs.product.rows_agree.Tie as tie
+
+abbrev Inv-loop : tie.InvT-loop
+Inv-loop rows has gives roles users u₀ u = (u ≤ users) × So (every-below u (row-agrees rows (roles-in has gives roles)))
+
+abbrev μ-loop : tie.MeasureT-loop
+μ-loop rows has gives roles users u₀ u = users - u
+
+loop-holds : tie.Need-loop-holds Inv-loop μ-loop
+unfolding every-below
+loop-holds c = (omega arith, refl)
+
+row-agrees-requires : tie.Need-row-agrees-requires Inv-loop μ-loop
+row-agrees-requires c κs = (
+  c .before .before .before .before .before .pre .0,
+  row-within (c .before .loop .u) (c .before .before .before .before .before .args .users) _ (c .loop-test .taken) (c .before .before .before .before .before .pre .1),
+  row-within (c .before .loop .u) (c .before .before .before .before .before .args .users) _ (c .loop-test .taken) (c .before .before .before .before .before .pre .2),
+  c .before .before .before .before .before .pre .3,
+)
+
+returns : tie.Need-returns Inv-loop μ-loop
+returns c =
+    sym
+    (missed-below-intro (c .before .before .before .before .before .before .before .args .users) (row-agrees (c .before .before .before .before .before .before .before .args .rows .now) (roles-in (c .before .before .before .before .before .before .before .args .has .now) (c .before .before .before .before .before .before .before .args .gives .now) (c .before .before .before .before .before .before .before .args .roles)))
+    (c .before .before .loop-test .taken) (sym (c .before .row-agrees .ensures) ∙ not-true _ (c .if1 .taken)))
+
+add-u : tie.Need-add-u Inv-loop μ-loop
+add-u c = omega arith
+
+loop-less : tie.Need-loop-less Inv-loop μ-loop
+loop-less c = omega arith
+
+loop-again : tie.Need-loop-again Inv-loop μ-loop
+loop-again c = (
+  omega (arith, c .before .before .loop-test .taken),
+  (let f : ℕ → Bool = row-agrees (c .before .before .before .before .before .before .before .args .rows .now) (roles-in (c .before .before .before .before .before .before .before .args .has .now) (c .before .before .before .before .before .before .before .args .gives .now) (c .before .before .before .before .before .before .before .args .roles)) in
+      every-below-step (c .before .before .before .loop .u) f
+      ∙ and-intro (f (c .before .before .before .loop .u)) (every-below (c .before .before .before .loop .u) f) (sym (c .before .row-agrees .ensures) ∙ not-false _ (c .if1 .left)) (c .before .before .before .loop .inv .1)),
+)
+
+returns-2 : tie.Need-returns-2 Inv-loop μ-loop
+returns-2 c =
+    let all : c .before .loop .u ≡ c .before .before .before .before .before .args .users = omega (arith, c .before .loop .inv .0, c .loop-test .left) in
+    sym (rw all at (c .before .loop .inv .1))
+
+pub rows-agree-spec : {M : Type 1} → statement M
+rows-agree-spec =
+    tie.close
+    (tie.spec
+    Inv-loop
+    μ-loop
+    loop-holds
+    row-agrees-requires
+    returns
+    add-u
+    loop-less
+    loop-again
+    returns-2)

@@ -1,0 +1,137 @@
+-- `witness_block::witness_line`: the user is what stands before the first comma, and the permission what stands from there up to the line feed.
+use Prim.Native.Nat.{_+_}
+use native.Mathlib.Omega.{arith}
+use mathlib.Core.Path.{sym, _∙_}
+use borrow.Author.Needs.{needs}
+use Rattle.sheet.specs.Text.{comma, line-feed}
+use Rattle.sheet.specs.Sheet.{sheet-of}
+use Rattle.sheet.specs.AcceptedFacts.{Lawful, accepted-lawful}
+use Rattle.checker.specs.Ended.{Ended}
+use Rattle.checker.specs.NameFound.{user-found, user-unknown, permission-found, permission-unknown}
+use Rattle.checker.specs.WitnessLineSteps.{no-comma-in-line, no-user, no-line-feed-in-line, no-permission, witness-at}
+use Rattle.checker.proofs.witness_block.witness_line.Statement.{statement}
+use Rattle.checker.proofs.witness_block.witness_line.Tie as tie
+
+part-end-requires : tie.Need-part-end-requires
+part-end-requires c κs = search needs
+
+enum-known-comma : tie.Need-enum-known-comma
+enum-known-comma c = search needs
+
+enum-told : tie.Need-enum-told
+enum-told c = search needs
+
+lawful : (c : tie.Start) → Lawful (sheet-of (c .args .sheet .now))
+lawful c = accepted-lawful (c .args .sheet .now) (c .pre .1 .accepts)
+
+returns : tie.Need-returns
+returns c = no-comma-in-line (sheet-of (c .before .before .before .before .before .args .sheet .now)) (lawful (c .before .before .before .before .before)) (rw (c .enum-told .given .1) at (c .before .before .part-end .ensures))
+
+first : (c : tie.After-known-told) → Ended (c .before .before .before .before .before .before .args .book .now) (c .before .before .before .before .before .before .args .at) comma (c .before .comma .given .0 .0)
+first c = rw (c .before .comma .given .1) at (c .before .before .before .part-end .ensures)
+
+sub-find-user : tie.Need-sub-find-user
+sub-find-user c = first c .forward
+
+part-find-user-start : tie.Need-part-find-user-start
+part-find-user-start c = first c .forward
+
+part-find-user-end : tie.Need-part-find-user-end
+part-find-user-end c = omega (arith, first c .within)
+
+find-user-requires : tie.Need-find-user-requires
+find-user-requires c κs = c .before .before .before .before .before .before .before .pre .1
+
+enum-known-user : tie.Need-enum-known-user
+enum-known-user c = search needs
+
+enum-told-2 : tie.Need-enum-told-2
+enum-told-2 c = search needs
+
+returns-2 : tie.Need-returns-2
+returns-2 c =
+    no-user (sheet-of (c .before .before .before .before .before .before .before .before .before .before .args .sheet .now)) (lawful (c .before .before .before .before .before .before .before .before .before .before)) (first (c .before .before .before .before))
+    (user-unknown (sheet-of (c .before .before .before .before .before .before .before .before .before .before .args .sheet .now) .users) _ (sym (c .enum-told2 .given .1) ∙ c .before .before .find-user .ensures))
+
+add-start : tie.Need-add-start
+add-start c = omega (arith, first (c .before .before .before .before .before) .within)
+
+part-end-requires-2 : tie.Need-part-end-requires-2
+part-end-requires-2 c κs = omega (arith, first (c .before .before .before .before .before) .within)
+
+enum-known-end : tie.Need-enum-known-end
+enum-known-end c = search needs
+
+enum-told-3 : tie.Need-enum-told-3
+enum-told-3 c = search needs
+
+returns-3 : tie.Need-returns-3
+returns-3 c =
+    no-line-feed-in-line (sheet-of (c .before .before .before .before .before .before .before .before .before .before .before .before .before .before .args .sheet .now)) (lawful (c .before .before .before .before .before .before .before .before .before .before .before .before .before .before)) (first (c .before .before .before .before .before .before .before .before))
+    (rw (c .enum-told3 .given .1) at (c .before .before .part-end2 .ensures))
+
+second : (c : tie.After-known-told3) → Ended (c .before .before .before .before .before .before .before .before .before .before .before .before .before .before .before .args .book .now) (c .before .before .before .before .before .before .before .before .before .before .comma .given .0 .0 + 1) line-feed (c .before .end .given .0 .0)
+second c = rw (c .before .end .given .1) at (c .before .before .before .part-end2 .ensures)
+
+sub-find-permission : tie.Need-sub-find-permission
+sub-find-permission c = second c .forward
+
+part-find-permission-start : tie.Need-part-find-permission-start
+part-find-permission-start c = second c .forward
+
+part-find-permission-end : tie.Need-part-find-permission-end
+part-find-permission-end c = omega (arith, second c .within)
+
+find-permission-requires : tie.Need-find-permission-requires
+find-permission-requires c κs = c .before .before .before .before .before .before .before .before .before .before .before .before .before .before .before .before .pre .1
+
+enum-known-permission : tie.Need-enum-known-permission
+enum-known-permission c = search needs
+
+enum-told-4 : tie.Need-enum-told-4
+enum-told-4 c = search needs
+
+returns-4 : tie.Need-returns-4
+returns-4 c =
+    no-permission (sheet-of (c .before .before .before .before .before .before .before .before .before .before .before .before .before .before .before .before .before .before .before .args .sheet .now)) (lawful (c .before .before .before .before .before .before .before .before .before .before .before .before .before .before .before .before .before .before .before)) (first (c .before .before .before .before .before .before .before .before .before .before .before .before .before)) (second (c .before .before .before .before))
+    (permission-unknown (sheet-of (c .before .before .before .before .before .before .before .before .before .before .before .before .before .before .before .before .before .before .before .args .sheet .now) .permissions) _ (sym (c .enum-told4 .given .1) ∙ c .before .before .find-permission .ensures))
+
+add-t13 : tie.Need-add-t13
+add-t13 c = omega (arith, second (c .before .before .before .before .before) .within)
+
+returns-5 : tie.Need-returns-5
+returns-5 c =
+    witness-at (sheet-of (c .before .before .before .before .before .before .before .before .before .before .before .before .before .before .before .before .before .before .before .before .args .sheet .now)) (lawful (c .before .before .before .before .before .before .before .before .before .before .before .before .before .before .before .before .before .before .before .before)) (first (c .before .before .before .before .before .before .before .before .before .before .before .before .before .before)) (second (c .before .before .before .before .before)) _
+    (user-found (sheet-of (c .before .before .before .before .before .before .before .before .before .before .before .before .before .before .before .before .before .before .before .before .args .sheet .now) .users) _ (c .before .before .before .before .before .before .before .before .before .before .user .given .0 .0 .0) (sym (c .before .before .before .before .before .before .before .before .before .before .user .given .1) ∙ c .before .before .before .before .before .before .before .before .before .before .before .before .find-user .ensures))
+    (permission-found (sheet-of (c .before .before .before .before .before .before .before .before .before .before .before .before .before .before .before .before .before .before .before .before .args .sheet .now) .permissions) _ (c .before .permission .given .0 .0 .0)
+    (sym (c .before .permission .given .1) ∙ c .before .before .before .find-permission .ensures))
+
+pub witness-line-spec : {M : Type 1} → statement M
+witness-line-spec =
+    tie.close
+    (tie.spec
+    part-end-requires
+    enum-known-comma
+    enum-told
+    returns
+    sub-find-user
+    part-find-user-start
+    part-find-user-end
+    find-user-requires
+    enum-known-user
+    enum-told-2
+    returns-2
+    add-start
+    part-end-requires-2
+    enum-known-end
+    enum-told-3
+    returns-3
+    sub-find-permission
+    part-find-permission-start
+    part-find-permission-end
+    find-permission-requires
+    enum-known-permission
+    enum-told-4
+    returns-4
+    add-t13
+    returns-5)
