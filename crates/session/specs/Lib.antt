@@ -14,3 +14,7 @@ pub mod Demand3
 pub mod CheckerAlone
 pub mod PlacedOnce
 pub mod Demand2
+pub mod Said
+pub mod Prepared
+pub mod Held
+pub mod Counted

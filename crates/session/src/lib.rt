@@ -1,1 +1,34 @@
 // A session: loads, searches and writings.
+//
+// A session is a value: a call takes one and hands back the next, with its answer. Each call says its whole answer, the session after it and
+// every lent byte, by the records `Loads`, `Searches` and `Writes` of specs/Session.antt, which the sequence of demand 3 is made of. It asks
+// only that the session came from these calls (`Sound`), which `fresh` establishes and each call keeps.
+mod answers;
+mod classes;
+mod counts;
+mod loading;
+mod prepared;
+mod searching;
+mod text;
+mod writing;
+
+use crate::prepared::Prepared;
+pub use answers::LoadAnswer;
+pub use answers::Named;
+pub use answers::SearchAnswer;
+pub use answers::WriteAnswer;
+pub use loading::Loaded;
+use search::Position;
+pub use searching::Searched;
+use sheet::SHEET_LIMIT;
+pub use writing::Written;
+
+// Whether a sheet was accepted, its bytes, what was found of it, and where the search stands. The fields are the session's own: what it stands for
+// is its `view`, and which values come from the calls is said by `Sound`.
+pub struct Session {
+    loaded: bool,
+    length: usize,
+    text: [u8; SHEET_LIMIT],
+    prepared: Prepared,
+    position: Position,
+}

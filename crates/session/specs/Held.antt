@@ -1,0 +1,46 @@
+-- What a session of the code stands for, and which of its values come from the calls: the parts kept beside the sheet's bytes are what follows from
+-- them, and the position is one that searches of the sheet come to. Assumes nothing.
+use Prim.Native.Nat.{ℕ, _≤_}
+use mathlib.Core.Path.{_≡_}
+use mathlib.Core.Bool.{So, cond}
+use lib.Dec.{leb}
+use lib.ListN.{length, take}
+use Rattle.sheet.specs.Text.{Bytes}
+use Rattle.sheet.specs.Sheet.{sheet-of}
+use Rattle.search.specs.Machine.{State, best-count, search-limit}
+use Rattle.search.specs.View.{Stands}
+use Rattle.search.specs.View as position
+use Rattle.roles.specs.Roles.{start-of}
+use Rattle.minimality.specs.StateBound.{Searching}
+use Rattle.session.specs.Session.{Session, no-sheet, loaded}
+use Rattle.session.specs.Prepared.{PreparedFor}
+use Rattle.session.specs.declared.Session.{Session as Held}
+
+-- the bytes of the sheet
+abbrev pub text-in : Held → Bytes
+text-in s = take (s .length) (s .text)
+
+-- the size of the kernel
+abbrev pub size-in : Held → ℕ
+size-in s = s .prepared .kernel .size
+
+-- the machine's state: that of the position, or the start where the kernel is too great to be searched
+abbrev pub state-in : Held → State
+state-in s = cond (leb (size-in s) search-limit) (position.view (s .position) (size-in s)) (start-of (sheet-of (text-in s)))
+
+-- the session that it stands for
+abbrev pub view : Held → Session
+view s = cond (s .loaded) (loaded (text-in s) (state-in s)) no-sheet
+
+-- a session with an accepted sheet
+pub record Holds (s : Held) : Type 0 where
+  pub whole : s .length ≤ length (s .text)
+  pub prepared : PreparedFor (text-in s) (s .prepared)
+  pub stands : size-in s ≤ search-limit → Stands (size-in s) (s .position)
+  pub searching : Searching (sheet-of (text-in s)) (state-in s)
+  pub counted : s .position .cursor .count ≡ best-count (state-in s)
+  pub finished : s .position .cursor .finished ≡ state-in s .finished
+
+-- a session that came from the calls
+pub record Sound (s : Held) : Type 0 where
+  pub held : So (s .loaded) → Holds s

@@ -1,0 +1,28 @@
+-- What a load finds of an accepted sheet: each part is what document 01 says of that sheet. Assumes nothing.
+use mathlib.Core.Path.{_≡_}
+use lib.ListN.{length}
+use Rattle.sheet.specs.Limits.{grant-limit}
+use Rattle.sheet.specs.Text.{Bytes}
+use Rattle.sheet.specs.Sheet.{sheet-of}
+use Rattle.sheet.specs.LaidOut.{LaidOut}
+use Rattle.grants.specs.Reduction.{kernel}
+use Rattle.grants.specs.Cover.{first-best}
+use Rattle.grants.specs.CellPlaces.{Shown}
+use Rattle.grants.specs.ReductionResult.{ReducedFrom}
+use Rattle.grants.specs.KernelArray.{Listed}
+use Rattle.grants.specs.WitnessRows.{Witnessed}
+use Rattle.grants.specs.CoverPlaced.{Placed}
+use Rattle.grants.specs.TableWords.{Table}
+use Rattle.session.specs.declared.prepared.Prepared.{Prepared}
+
+-- the text is an accepted sheet, and this was found of it
+pub record PreparedFor (text : Bytes) (p : Prepared) : Type 0 where
+  pub laid : LaidOut text (p .layout)
+  pub shown : Shown (p .rows) (p .layout .users) (sheet-of text)
+  pub reduced : ReducedFrom (p .rows) (p .layout .users) (p .reduced)
+  pub listed : Listed (p .reduced .left) (p .layout .users) (p .kernel .cells) (p .kernel .size)
+  pub room : length (p .kernel .cells) ≡ grant-limit
+  pub kernel-size : p .kernel .size ≡ length (kernel (sheet-of text))
+  pub witness : Witnessed (sheet-of text) (p .rows) (p .witness .cells) (p .witness .count)
+  pub first : Placed (first-best (sheet-of text)) (p .first .classes) (p .kernel .size) (p .first .used)
+  pub table : Table (sheet-of text) (kernel (sheet-of text)) (p .table)

@@ -1,0 +1,39 @@
+-- The answers of the code as document 01 has them. Assumes nothing.
+use mathlib.Core.Option.{Option, none, some}
+use Rattle.roles.specs.Roles.{Standing}
+use Rattle.roles.specs.StandingCases.{standing-case}
+use Rattle.session.specs.Session.{LoadAnswer, SearchAnswer, WriteAnswer}
+use Rattle.session.specs.declared.answers.LoadAnswer.{LoadAnswer as LoadValue}
+use Rattle.session.specs.declared.answers.SearchAnswer.{SearchAnswer as SearchValue}
+use Rattle.session.specs.declared.answers.WriteAnswer.{WriteAnswer as WriteValue}
+use Rattle.session.specs.declared.answers.Named.{Named}
+use Rattle.session.specs.declared.answers.Named.the-variants as named
+
+abbrev pub load-said : LoadValue → LoadAnswer
+load-said a =
+    record {
+      number = a .number;
+      users = a .users;
+      permissions = a .permissions;
+      grants = a .grants;
+      kernel = a .kernel;
+      witness = a .witness;
+    }
+
+-- the state that is named
+abbrev pub state-said : Named → Option Standing
+state-said named.Nothing = none
+state-said (named.State s) = some (standing-case s)
+
+abbrev pub search-said : SearchValue → SearchAnswer
+search-said a =
+    record {
+      number = a .number;
+      steps = a .steps;
+      roles = a .roles;
+      bound = a .bound;
+      standing = state-said (a .state);
+    }
+
+abbrev pub write-said : WriteValue → WriteAnswer
+write-said a = record { number = a .number; count = a .count }

@@ -1,0 +1,129 @@
+// What the calls of a session answer: a result comes with the number 0, a refusal with document 01's number and counts 0.
+use crate::prepared::Prepared;
+use book::Counts;
+use book::Writing;
+use roles::Standing;
+ghost use mathlib.Core.Path.{_≡_};
+ghost use mathlib.Core.Option.{some};
+ghost use Rattle.sheet.specs.Text.{Bytes};
+ghost use Rattle.sheet.specs.Sheet.{sheet-of};
+ghost use Rattle.roles.specs.StandingCases.{standing-case};
+ghost use Rattle.book.specs.Writing.{writing-number, writing-count};
+ghost use Rattle.session.specs.Session.{load-refused, load-counts, search-refused, write-refused};
+ghost use Rattle.session.specs.Said.{load-said, search-said, write-said};
+ghost use Rattle.session.specs.Prepared.{PreparedFor};
+
+// A load's counts: users, permissions, grants, the kernel's size k and the witness's count w.
+pub struct LoadAnswer {
+    pub number: usize,
+    pub users: usize,
+    pub permissions: usize,
+    pub grants: usize,
+    pub kernel: usize,
+    pub witness: usize,
+}
+
+// The state that a search names; a refused one names none.
+pub enum Named {
+    Nothing,
+    State(Standing),
+}
+
+// A search's steps, roles, bound and state.
+pub struct SearchAnswer {
+    pub number: usize,
+    pub steps: u32,
+    pub roles: usize,
+    pub bound: usize,
+    pub state: Named,
+}
+
+// A writing's byte count.
+pub struct WriteAnswer {
+    pub number: usize,
+    pub count: usize,
+}
+
+impl LoadAnswer {
+    // A refusal.
+    pub fn refused(number: usize) -> LoadAnswer
+        ensures { λ r. ⌜ load-said r ≡ load-refused number ⌝ }
+    {
+        LoadAnswer {
+            number,
+            users: 0,
+            permissions: 0,
+            grants: 0,
+            kernel: 0,
+            witness: 0,
+        }
+    }
+
+    // The counts of an accepted sheet, from what was found of it.
+    pub fn counts(prepared: Prepared) -> LoadAnswer
+        ensures { λ r. ⌜ ((text : Bytes) → PreparedFor text prepared → load-said r ≡ load-counts (sheet-of text)) ⌝ }
+    {
+        LoadAnswer {
+            number: 0,
+            users: prepared.layout.users,
+            permissions: prepared.layout.permissions,
+            grants: prepared.layout.grants,
+            kernel: prepared.kernel.size,
+            witness: prepared.witness.count,
+        }
+    }
+}
+
+impl SearchAnswer {
+    // A refusal, which names no state.
+    pub fn refused(number: usize) -> SearchAnswer
+        ensures { λ r. ⌜ search-said r ≡ search-refused number ⌝ }
+    {
+        SearchAnswer {
+            number,
+            steps: 0,
+            roles: 0,
+            bound: 0,
+            state: Named::Nothing,
+        }
+    }
+
+    // The steps made, and the counts where the search then stands.
+    pub fn found(steps: u32, counts: Counts) -> SearchAnswer
+        ensures { λ r. ⌜ search-said r ≡ record {
+          number = 0;
+          steps = steps;
+          roles = counts .roles;
+          bound = counts .bound;
+          standing = some (standing-case (counts .standing));
+        } ⌝ }
+    {
+        let standing = counts.standing;
+        SearchAnswer {
+            number: 0,
+            steps,
+            roles: counts.roles,
+            bound: counts.bound,
+            state: Named::State(standing),
+        }
+    }
+}
+
+impl WriteAnswer {
+    // A refusal.
+    pub fn refused(number: usize) -> WriteAnswer
+        ensures { λ r. ⌜ write-said r ≡ write-refused number ⌝ }
+    {
+        WriteAnswer { number, count: 0 }
+    }
+
+    // What writing a book answered: its byte count, or that the buffer is shorter than the book.
+    pub fn of(writing: Writing) -> WriteAnswer
+        ensures { λ r. ⌜ write-said r ≡ record { number = writing-number writing; count = writing-count writing } ⌝ }
+    {
+        match writing {
+            Writing::Bytes(count) => WriteAnswer { number: 0, count },
+            Writing::TooShort => WriteAnswer::refused(11),
+        }
+    }
+}

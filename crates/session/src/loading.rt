@@ -1,0 +1,86 @@
+// Loads: a sheet taken in, or refused.
+use crate::Session;
+use crate::answers::LoadAnswer;
+use crate::classes::narrowed;
+use crate::prepared::Prepared;
+use crate::prepared::prepare;
+use crate::text::copied;
+use search::KERNEL_LIMIT;
+use search::Position;
+use sheet::SHEET_LIMIT;
+ghost use mathlib.Core.Path.{_≡_};
+ghost use mathlib.Core.Logic.{_≢_};
+ghost use Rattle.sheet.specs.Sheet.{sheet-of};
+ghost use Rattle.sheet.specs.Refusal.{refusal};
+ghost use Rattle.roles.specs.Roles.{start-of};
+ghost use Rattle.session.specs.Session.{fresh, loaded, Loads};
+ghost use Rattle.session.specs.Said.{load-said};
+ghost use Rattle.session.specs.Held.{view, Holds, Sound};
+
+// The session after a load, and what the load answers.
+pub struct Loaded {
+    pub session: Session,
+    pub answer: LoadAnswer,
+}
+
+impl Session {
+    // A session with no accepted sheet.
+    pub fn fresh() -> Session
+        ensures { λ r. ⌜ view r ≡ fresh ⌝ }
+        ensures { λ r. ⌜ Sound r ⌝ }
+    {
+        let prepared = Prepared::none();
+        let position = Position::start([0u8; KERNEL_LIMIT], 0, 0, 0);
+        Session {
+            loaded: false,
+            length: 0,
+            text: [0; SHEET_LIMIT],
+            prepared,
+            position,
+        }
+    }
+
+    // A session with this accepted sheet, before any search.
+    fn anew(s: &[u8]) -> Session
+        requires { ⌜ refusal (now s) ≡ 0 ⌝ }
+        ensures { λ r. ⌜ view r ≡ loaded (now (s .entry)) (start-of (sheet-of (now (s .entry)))) ⌝ }
+        ensures { λ r. ⌜ Holds r ⌝ }
+    {
+        let text = copied(s);
+        let prepared = prepare(s);
+        let first = prepared.first.classes;
+        let narrow = narrowed(&first, prepared.kernel.size);
+        let singles = prepared.reduced.singles;
+        let witness = prepared.witness.count;
+        let position = Position::start(narrow, prepared.first.used, singles, witness);
+        Session {
+            loaded: true,
+            length: s.len(),
+            text,
+            prepared,
+            position,
+        }
+    }
+
+    // Takes in a sheet and starts anew, or refuses it and leaves the session as it was.
+    pub fn load(self, s: &[u8]) -> Loaded
+        requires { ⌜ Sound self ⌝ }
+        ensures { λ r. ⌜ Loads (view self) (now (s .entry)) (load-said (r .answer)) (view (r .session)) ⌝ }
+        ensures { λ r. ⌜ Sound (r .session) ⌝ }
+        ensures { λ r. ⌜ (r .answer .number ≢ 0 → r .session ≡ self) ⌝ }
+    {
+        let number = sheet::judge(s);
+        if number != 0 {
+            return Loaded {
+                session: self,
+                answer: LoadAnswer::refused(number),
+            };
+        }
+        let session = Session::anew(s);
+        let prepared = session.prepared;
+        Loaded {
+            session,
+            answer: LoadAnswer::counts(prepared),
+        }
+    }
+}

@@ -1,0 +1,111 @@
+// What a load finds of an accepted sheet: all of it follows from the sheet's bytes, and is kept so that no later call finds it again.
+use grants::Kernel;
+use grants::Placement;
+use grants::Reduced;
+use grants::TABLE_WORDS;
+use grants::Witness;
+use sheet::CELL_WORDS;
+use sheet::GRANT_LIMIT;
+use sheet::Layout;
+use sheet::Places;
+use sheet::USER_LIMIT;
+ghost use mathlib.Core.Path.{_≡_};
+ghost use Prim.Native.Nat.{_≤_};
+ghost use lib.ListN.{length};
+ghost use Rattle.sheet.specs.Limits.{user-limit, grant-limit};
+ghost use Rattle.sheet.specs.Sheet.{Sheet, grants};
+ghost use Rattle.sheet.specs.Refusal.{refusal};
+ghost use Rattle.grants.specs.CellPlaces.{Shown};
+ghost use Rattle.grants.specs.ReductionResult.{ReducedFrom};
+ghost use Rattle.grants.specs.WitnessRows.{Witnessed};
+ghost use Rattle.session.specs.Prepared.{PreparedFor};
+
+// Where the names stand, the cells, the reduction, the kernel in order, the witness, the first cover and the fit table.
+pub struct Prepared {
+    pub layout: Layout,
+    pub rows: [u64; CELL_WORDS],
+    pub reduced: Reduced,
+    pub kernel: Kernel,
+    pub witness: Witness,
+    pub first: Placement,
+    pub table: [u64; TABLE_WORDS],
+}
+
+impl Prepared {
+    // Nothing found yet: the parts of a session without a sheet.
+    pub fn none() -> Prepared {
+        let places = Places {
+            from: [0; USER_LIMIT],
+            to: [0; USER_LIMIT],
+        };
+        let layout = Layout {
+            users: 0,
+            permissions: 0,
+            grants: 0,
+            user_places: places,
+            permission_places: places,
+        };
+        let reduced = Reduced {
+            left: [0; CELL_WORDS],
+            removed: [0; GRANT_LIMIT],
+            partner: [0; GRANT_LIMIT],
+            count: 0,
+            singles: 0,
+        };
+        Prepared {
+            layout,
+            rows: [0; CELL_WORDS],
+            reduced,
+            kernel: Kernel {
+                cells: [0; GRANT_LIMIT],
+                size: 0,
+            },
+            witness: Witness {
+                cells: [0; CELL_WORDS],
+                count: 0,
+            },
+            first: Placement {
+                classes: [0; GRANT_LIMIT],
+                used: 0,
+            },
+            table: [0; TABLE_WORDS],
+        }
+    }
+}
+
+// The witness of the grants that the rows show, from their reduction.
+fn witness_found(rows: &[u64; CELL_WORDS], users: usize, reduced: Reduced) -> Witness
+    requires { ⌜ (users ≤ user-limit) × ReducedFrom (now rows) users reduced ⌝ }
+    ensures { λ r. ⌜ ((sheet : Sheet) → Shown (now (rows .entry)) users sheet → length (grants sheet) ≤ grant-limit
+        → Witnessed sheet (now (rows .entry)) (r .cells) (r .count)) ⌝ }
+{
+    let left = reduced.left;
+    let removed = reduced.removed;
+    let partner = reduced.partner;
+    let singles = grants::single_cells(&removed, &partner, reduced.count);
+    grants::witness_of(rows, &left, &singles, users)
+}
+
+// What there is to find of an accepted sheet.
+pub fn prepare(s: &[u8]) -> Prepared
+    requires { ⌜ refusal (now s) ≡ 0 ⌝ }
+    ensures { λ r. ⌜ PreparedFor (now (s .entry)) r ⌝ }
+{
+    let layout = sheet::lay_out(s);
+    let rows = sheet::rows_of(s, layout);
+    let reduced = grants::reduce(&rows, layout.users);
+    let left = reduced.left;
+    let kernel = grants::listed(&left, layout.users);
+    let witness = witness_found(&rows, layout.users, reduced);
+    let first = grants::first_best(&rows, kernel);
+    let table = grants::fit_table(&rows, kernel);
+    Prepared {
+        layout,
+        rows,
+        reduced,
+        kernel,
+        witness,
+        first,
+        table,
+    }
+}

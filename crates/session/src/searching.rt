@@ -1,0 +1,55 @@
+// Searches: the session's own position moved forward within a budget.
+use crate::Session;
+use crate::answers::SearchAnswer;
+use crate::counts::counts_of;
+use search::Ran;
+ghost use mathlib.Core.Path.{_≡_};
+ghost use mathlib.Core.Logic.{_≢_};
+ghost use Rattle.session.specs.Session.{Searches};
+ghost use Rattle.session.specs.Said.{search-said};
+ghost use Rattle.session.specs.Held.{view, Holds, Sound};
+ghost use Rattle.session.specs.Counted.{RanIn};
+
+// The session after a search, and what the search answers.
+pub struct Searched {
+    pub session: Session,
+    pub answer: SearchAnswer,
+}
+
+impl Session {
+    // Where the search comes to within a budget.
+    fn ran(self, budget: u32) -> Ran
+        requires { ⌜ Holds self ⌝ }
+        ensures { λ r. ⌜ RanIn self budget r ⌝ }
+    {
+        let position = self.position;
+        let table = self.prepared.table;
+        let size = self.prepared.kernel.size;
+        let singles = self.prepared.reduced.singles;
+        position.search(&table, size, singles, self.prepared.witness.count, budget)
+    }
+
+    // Moves the session's own position forward by as many steps as the budget, or by those left until finished if fewer.
+    pub fn search(self, budget: u32) -> Searched
+        requires { ⌜ Sound self ⌝ }
+        ensures { λ r. ⌜ Searches (view self) budget (search-said (r .answer)) (view (r .session)) ⌝ }
+        ensures { λ r. ⌜ Sound (r .session) ⌝ }
+        ensures { λ r. ⌜ (r .answer .number ≢ 0 → r .session ≡ self) ⌝ }
+    {
+        if !self.loaded {
+            return Searched {
+                session: self,
+                answer: SearchAnswer::refused(10),
+            };
+        }
+        let ran = self.ran(budget);
+        let position = ran.position;
+        let mut after = self;
+        after.position = position;
+        let counts = counts_of(after);
+        Searched {
+            session: after,
+            answer: SearchAnswer::found(ran.steps, counts),
+        }
+    }
+}
