@@ -16,5 +16,6 @@ pub mod PlacedOnce
 pub mod Demand2
 pub mod Said
 pub mod Prepared
+pub mod Preparing
 pub mod Held
 pub mod Counted
