@@ -18,4 +18,5 @@ pub mod Said
 pub mod Prepared
 pub mod Preparing
 pub mod Held
+pub mod Anew
 pub mod Counted
