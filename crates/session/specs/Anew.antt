@@ -13,7 +13,7 @@ use Rattle.lists.specs.PlacementLaws.{class-below-used}
 use Rattle.lists.specs.GrownLaws.{grown-used-le}
 use Rattle.lists.specs.LatestFirst.{latest-first, latest-first-length, latest-first-class}
 use Rattle.sheet.specs.Text.{Bytes}
-use Rattle.sheet.specs.Sheet.{Sheet, sheet-of}
+use Rattle.sheet.specs.Sheet.{sheet-of}
 use Rattle.grants.specs.Cover.{first-best}
 use Rattle.search.specs.Machine.{State, best-count, search-limit}
 use Rattle.search.specs.View.{placed-of, started, Stands}
@@ -22,8 +22,8 @@ use Rattle.search.specs.Carried.{started-stands}
 use Rattle.search.specs.declared.machine.Position.{Position}
 use Rattle.roles.specs.Roles.{kernel-of, start-of}
 use Rattle.minimality.specs.SheetRoles.{first-best-whole}
-use Rattle.minimality.specs.StateBound.{Searching, searching-start}
-use Rattle.session.specs.Session.{Session, loaded}
+use Rattle.minimality.specs.StateBound.{searching-start}
+use Rattle.session.specs.Session.{loaded}
 use Rattle.session.specs.Prepared.{PreparedFor}
 use Rattle.session.specs.Held.{text-in, size-in, state-in, view, Holds}
 use Rattle.session.specs.declared.prepared.Prepared.{Prepared}

@@ -19,4 +19,5 @@ pub mod Prepared
 pub mod Preparing
 pub mod Held
 pub mod Anew
+pub mod Loading
 pub mod Counted
