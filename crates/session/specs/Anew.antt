@@ -62,16 +62,19 @@ module _ {text : Bytes} {p : Prepared} (found : PreparedFor text p) where
 
 -- ---- the session
 
+-- the session of a text, from a copy of its bytes, what was found of them, and a position
+abbrev pub session-of : Bytes → List ℕ → Prepared → Position → Held
+session-of text copy found at = record { loaded = true; length = length text; text = copy; prepared = found; position = at }
+
 -- the session was made anew from this text
 pub record Anew (text : Bytes) (s : Held) : Type 0 where
   pub accepts : So (s .loaded)
   pub whole : s .length ≤ length (s .text)
   pub kept : text-in s ≡ text
   pub found : PreparedFor text (s .prepared)
-  pub starts :
-      s .position ≡ started (s .position .best) (s .prepared .first .used) (s .prepared .reduced .singles) (s .prepared .witness .count)
-  pub narrow :
-      size-in s ≤ search-limit → placed-of (s .position .best) (size-in s) ≡ latest-first (s .prepared .first .classes) (size-in s)
+  pub first : List ℕ
+  pub same : size-in s ≤ search-limit → placed-of first (size-in s) ≡ latest-first (s .prepared .first .classes) (size-in s)
+  pub starts : s .position ≡ started first (s .prepared .first .used) (s .prepared .reduced .singles) (s .prepared .witness .count)
 
 module _ {text : Bytes} {s : Held} (anew : Anew text s) where
   -- its machine is at the start
@@ -82,7 +85,7 @@ module _ {text : Bytes} {s : Held} (anew : Anew text s) where
           → cond searched (position.view (s .position) (size-in s)) (start-of (sheet-of (text-in s))) ≡ start-of (sheet-of text)
       by-size true e =
           ap (λ (at : Position). position.view at (size-in s)) (anew .starts)
-          ∙ started-at (anew .found) (s .position .best) (anew .narrow (leb-true (size-in s) search-limit e))
+          ∙ started-at (anew .found) (anew .first) (anew .same (leb-true (size-in s) search-limit e))
       by-size false e = ap (λ (t : Bytes). start-of (sheet-of t)) (anew .kept)
 
   pub view-anew : view s ≡ loaded text (start-of (sheet-of text))
@@ -91,8 +94,8 @@ module _ {text : Bytes} {s : Held} (anew : Anew text s) where
   stands-anew : size-in s ≤ search-limit → Stands (size-in s) (s .position)
   stands-anew l =
       rw (anew .starts)
-      (started-stands (s .position .best) (size-in s) (s .prepared .first .used) (s .prepared .reduced .singles) (s .prepared .witness .count)
-      (anew .found .first .in-use ∙ ap used (sym (anew .found .first .so-far) ∙ sym (anew .narrow l))) l)
+      (started-stands (anew .first) (size-in s) (s .prepared .first .used) (s .prepared .reduced .singles) (s .prepared .witness .count)
+      (anew .found .first .in-use ∙ ap used (sym (anew .found .first .so-far) ∙ sym (anew .same l))) l)
 
   pub holds-anew : Holds s
   holds-anew =
