@@ -18,3 +18,4 @@ pub mod Said
 pub mod Prepared
 pub mod Held
 pub mod Counted
+pub mod ClassesCopied
