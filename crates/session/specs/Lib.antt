@@ -18,3 +18,7 @@ pub mod Said
 pub mod Prepared
 pub mod Held
 pub mod Counted
+pub mod TableKernel
+pub mod MovedOn
+pub mod CountsHeld
+pub mod SearchedHeld
