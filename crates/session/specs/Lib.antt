@@ -19,3 +19,7 @@ pub mod Prepared
 pub mod Held
 pub mod Counted
 pub mod ClassesCopied
+pub mod TableKernel
+pub mod MovedOn
+pub mod CountsHeld
+pub mod SearchedHeld
