@@ -21,3 +21,8 @@ pub mod Held
 pub mod Anew
 pub mod Loading
 pub mod Counted
+pub mod ClassesCopied
+pub mod TableKernel
+pub mod MovedOn
+pub mod CountsHeld
+pub mod SearchedHeld
