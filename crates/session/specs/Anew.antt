@@ -63,8 +63,8 @@ module _ {text : Bytes} {p : Prepared} (found : PreparedFor text p) where
 -- ---- the session
 
 -- the session of a text, from a copy of its bytes, what was found of them, and a position
-abbrev pub session-of : Bytes → List ℕ → Prepared → Position → Held
-session-of text copy found at = record { loaded = true; length = length text; text = copy; prepared = found; position = at }
+abbrev pub held-of : Bytes → List ℕ → Prepared → Position → Held
+held-of text copy found at = record { loaded = true; length = length text; text = copy; prepared = found; position = at }
 
 -- the session was made anew from this text
 pub record Anew (text : Bytes) (s : Held) : Type 0 where

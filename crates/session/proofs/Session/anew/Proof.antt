@@ -5,7 +5,7 @@ use mathlib.Core.Path.{_≡_, refl}
 use borrow.Author.Needs.{needs}
 use lib.ListN.{length}
 use Rattle.sheet.specs.Limits.{sheet-limit}
-use Rattle.session.specs.Anew.{first-class-below, session-of, Anew, view-anew, holds-anew}
+use Rattle.session.specs.Anew.{first-class-below, held-of, Anew, view-anew, holds-anew}
 use Rattle.session.specs.Loading.{unrefused-short}
 use Rattle.session.proofs.Session.anew.Statement.{statement}
 use Rattle.session.proofs.Session.anew.Tie as tie
@@ -31,7 +31,7 @@ returns c =
     let at-prepared = c .before .before .before .before in
     let at-copied = at-prepared .before in
     let text = at-copied .before .before .args .s .now in
-    let made : Anew text (session-of text (at-copied .copied .result) (at-prepared .prepare .result) (c .start .result)) =
+    let made : Anew text (held-of text (at-copied .copied .result) (at-prepared .prepare .result) (c .start .result)) =
     record {
       accepts = refl;
       whole = omega (arith, room at-copied, unrefused-short text (at-copied .before .before .pre));
