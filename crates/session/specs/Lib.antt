@@ -22,3 +22,4 @@ pub mod TableKernel
 pub mod MovedOn
 pub mod CountsHeld
 pub mod SearchedHeld
+pub mod CodeSequence
