@@ -26,3 +26,4 @@ pub mod TableKernel
 pub mod MovedOn
 pub mod CountsHeld
 pub mod SearchedHeld
+pub mod CodeSequence
