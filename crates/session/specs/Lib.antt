@@ -27,3 +27,6 @@ pub mod MovedOn
 pub mod CountsHeld
 pub mod SearchedHeld
 pub mod CodeSequence
+pub mod BestHeld
+pub mod BookHeld
+pub mod WritesHeld
