@@ -39,14 +39,14 @@ impl Cursor {
     }
 }
 
-// The field at a place, by a reader that is set there. Its parameters are plain, so whoever calls it needs no walk.
+// The field at a place, by a reader that is set there. Its parameters are plain, so its callers hold no reader.
 fn field_at(s: &[u8], at: usize) -> FieldRead
     ensures { λ r. ⌜ r ≡ field-read (now (s .entry)) at ⌝ }
 {
     next_field(Reader { sheet: s, at })
 }
 
-// The field at the reader's place, and where the reader goes on.
+// The field at the reader's place, and where the reader goes on. The work is `read_field`'s, which takes a plain slice.
 fn next_field<'a>(reader: Reader<'a>) -> FieldRead
     ensures { λ r. ⌜ r ≡ field-read (now (reader .entry .sheet)) (reader .entry .at) ⌝ }
 {
