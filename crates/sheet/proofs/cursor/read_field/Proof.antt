@@ -1,4 +1,4 @@
--- `Cursor::field`: the cursor, or the end where it is past that, is where the field starts; the rest is what the two functions called say.
+-- `cursor::read_field`: the place, or the end where it is past that, is where the field starts; the rest is what the two functions called say.
 use Prim.Native.Nat.{min}
 use native.Mathlib.Omega.{arith}
 use mathlib.Core.Path.{_≡_}
@@ -7,8 +7,8 @@ use borrow.Author.Needs.{needs}
 use lib.ListN.{length, drop, length-drop}
 use Rattle.lists.specs.Span.{span-within}
 use Rattle.sheet.specs.Fields.{separator, field-read}
-use Rattle.sheet.proofs.cursor.Cursor.field.Statement.{statement}
-use Rattle.sheet.proofs.cursor.Cursor.field.Tie as tie
+use Rattle.sheet.proofs.cursor.read_field.Statement.{statement}
+use Rattle.sheet.proofs.cursor.read_field.Tie as tie
 
 field-end-requires : tie.Need-field-end-requires
 field-end-requires c κs = search needs
@@ -16,11 +16,11 @@ field-end-requires c κs = search needs
 ends-line-requires : tie.Need-ends-line-requires
 ends-line-requires c κs = search needs
 
-starts : (c : tie.Joined1) → c .if1 .from ≡ min (c .before .before .args .self .at) (length (c .before .before .args .s .now))
+starts : (c : tie.Joined1) → c .if1 .from ≡ min (c .before .before .args .at) (length (c .before .before .args .s .now))
 starts c = ⊎-elim (λ w. omega arith) (λ w. omega arith) (c .if1 .came)
 
-add-t6 : tie.Need-add-t6
-add-t6 c =
+add-t5 : tie.Need-add-t5
+add-t5 c =
     let s = c .before .before .before .before .args .s .now in
     let from = c .before .before .if1 .from in
     omega (arith, starts (c .before .before), c .before .field-end .ensures, span-within separator (drop from s), length-drop from s)
@@ -29,5 +29,5 @@ returns : tie.Need-returns
 unfolding field-read
 returns c = rw (c .ends-line .ensures, c .before .field-end .ensures, starts (c .before .before))
 
-pub field-spec : {M : Type 1} → statement M
-field-spec = tie.close (tie.spec field-end-requires ends-line-requires add-t6 returns)
+pub read-field-spec : {M : Type 1} → statement M
+read-field-spec = tie.close (tie.spec field-end-requires ends-line-requires add-t5 returns)
