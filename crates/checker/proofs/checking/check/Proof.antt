@@ -1,4 +1,5 @@
 -- `checking::check`: the sheet's own number where it has one; else 12 for a book above the limit, and for any other book what the readings find.
+use native.Mathlib.Omega.{arith}
 use mathlib.Core.Path.{sym, _∙_}
 use borrow.Author.Needs.{needs}
 use Rattle.checker.specs.Form.{book-limit}
@@ -21,11 +22,11 @@ refused-requires-2 c κs = search needs
 returns-2 : tie.Need-returns-2
 unfolding book-limit
 returns-2 c =
-    refused-too-long (sym (c .before .before .before .judge .ensures) ∙ c .before .before .if1 .left) (c .before .if2 .taken) (c .refused2 .ensures)
+    refused-too-long (sym (c .before .before .before .judge .ensures) ∙ c .before .before .if1 .left) (omega (arith, c .before .if2 .taken)) (c .refused2 .ensures)
 
 check-book-requires : tie.Need-check-book-requires
 unfolding book-limit
-check-book-requires c κs = (sym (c .before .before .judge .ensures) ∙ c .before .if1 .left, c .if2 .left)
+check-book-requires c κs = (sym (c .before .before .judge .ensures) ∙ c .before .if1 .left, omega (arith, c .if2 .left))
 
 returns-3 : tie.Need-returns-3
 returns-3 c = search needs
