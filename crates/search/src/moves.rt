@@ -65,12 +65,12 @@ impl Cursor {
 }
 
 // One step from a cursor: what it leads to, with the classes, the best placement and the members as they then are.
-pub fn moved(
+pub fn moved<'a>(
     at: Cursor,
-    classes: &mut [u8; KERNEL_LIMIT],
-    best: &mut [u8; KERNEL_LIMIT],
-    members: &mut [u64; TABLE_WORDS],
-    fit: &[u64; TABLE_WORDS],
+    classes: &'a mut [u8; KERNEL_LIMIT],
+    best: &'a mut [u8; KERNEL_LIMIT],
+    members: &'a mut [u64; TABLE_WORDS],
+    fit: &'a [u64; TABLE_WORDS],
     size: usize,
     singles: usize,
     witness: usize,
