@@ -1,0 +1,30 @@
+-- `Position::step`: the members of each class are gathered from the placed grants' classes, and the step over them is the machine's.
+use mathlib.Core.Path.{_≡_}
+use borrow.Author.Needs.{needs}
+use lib.ListN.{length}
+use Rattle.search.specs.Marks.{mark-limit}
+use Rattle.search.specs.Moves.{depth-le-limit, class-below-limit}
+use Rattle.search.proofs.machine.Position.step.Statement.{statement}
+use Rattle.search.proofs.machine.Position.step.Tie as tie
+
+gathered-requires : tie.Need-gathered-requires
+gathered-requires c κs = let s = c .before .before .before .before .pre in (depth-le-limit s, class-below-limit s)
+
+-- the array has room for every grant's class
+whole-array : (c : tie.Start) → length (c .args .self .classes) ≡ mark-limit
+whole-array c = search needs
+
+moved-requires : tie.Need-moved-requires
+moved-requires c κs =
+    record { stands = c .before .before .before .before .before .before .before .before .pre; classes-sized = whole-array (c .before .before .before .before .before .before .before .before); gathered = c .before .before .before .gathered .ensures }
+
+of-requires : tie.Need-of-requires
+of-requires c κs = search needs
+
+returns : tie.Need-returns
+returns c =
+    let moved = c .before .moved .ensures in
+    rw (c .of .ensures) (moved .stepped, moved .ready .stands)
+
+pub step-spec : {M : Type 1} → statement M
+step-spec = tie.close (tie.spec gathered-requires moved-requires of-requires returns)
