@@ -4,8 +4,11 @@
 // specs/Machine.antt, and the contracts say that a step, a run and a search move the view as the machine moves its state.
 // Of a greater kernel a search makes no step, and whoever has one keeps its best placement elsewhere.
 mod choice;
+mod lent;
 mod machine;
 mod marks;
+mod members;
+mod moves;
 
 pub use machine::Cursor;
 pub use machine::Position;

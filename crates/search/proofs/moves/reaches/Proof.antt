@@ -5,8 +5,8 @@ use borrow.Author.Tests.{eqb-true, eq-eqb, ne-eqb}
 use lib.Dec.{eqb}
 use Prim.Native.Nat.{_+_, _-_}
 use Rattle.bits.specs.Truth.{same-truth}
-use Rattle.search.proofs.machine.reaches.Statement.{statement}
-use Rattle.search.proofs.machine.reaches.Tie as tie
+use Rattle.search.proofs.moves.reaches.Statement.{statement}
+use Rattle.search.proofs.moves.reaches.Tie as tie
 
 returns : tie.Need-returns
 returns c = let a = c .before .args in sym (ne-eqb (a .count + a .singles) (a .witness) (λ e. omega arith))
