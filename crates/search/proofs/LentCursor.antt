@@ -52,11 +52,16 @@ abbrev pub BesideVals : Type 0
 BesideVals = List Val × (List Val × (List Val × (List Val × (List Val × (List Val × (List Val × Unit {0}))))))
 
 abbrev pub beside-vals : Beside → BesideVals
-beside-vals a =
-    (ptr-vals (a .0),
-    (ptr-vals (a .1 .0),
-    (ptr-vals (a .1 .1 .0),
-    (ptr-vals (a .1 .1 .1 .0), (vint w64 (a .1 .1 .1 .1 .0) ∷ [], (vint w64 (a .1 .1 .1 .1 .1 .0) ∷ [], (vint w64 (a .1 .1 .1 .1 .1 .1 .0) ∷ [], tt)))))))
+beside-vals a = (
+  ptr-vals (a .0),
+  (
+    ptr-vals (a .1 .0),
+    (
+      ptr-vals (a .1 .1 .0),
+      (ptr-vals (a .1 .1 .1 .0), (vint w64 (a .1 .1 .1 .1 .0) ∷ [], (vint w64 (a .1 .1 .1 .1 .1 .0) ∷ [], (vint w64 (a .1 .1 .1 .1 .1 .1 .0) ∷ [], tt)))),
+    ),
+  ),
+)
 
 -- their types at a lifetime, which names differ from function to function own alike
 abbrev pub BesideTs : Lft → List RattleType

@@ -19,9 +19,7 @@ pub fn advance<'s, 'a>(
     requires { ⌜ Ready size (now at) (now classes) (now best) (now members) ⌝ }
     ensures { λ _. ⌜ Moved (now (fit .entry)) size singles witness (now (at .entry)) (now (classes .entry)) (now (best .entry)) (now (at .exit)) (now (classes .exit)) (now (best .exit)) (now (members .exit)) ⌝ }
 {
-    let after = moves::moved(
-        *at, classes, best, members, fit, size, singles, witness,
-    );
+    let after = moves::moved(*at, classes, best, members, fit, size, singles, witness);
     *at = after;
 }
 
@@ -41,7 +39,14 @@ pub fn advanced<'a>(
 {
     let mut place = at;
     advance(
-        &mut place, classes, best, members, fit, size, singles, witness,
+        &mut place,
+        classes,
+        best,
+        members,
+        fit,
+        size,
+        singles,
+        witness,
     );
     place
 }

@@ -13,6 +13,7 @@ ghost use Rattle.search.specs.Marks.{mark-limit};
 ghost use Rattle.search.specs.View.{kernel-given, view, view-ran, Stands, started, Placed, taken-back};
 
 // Depth d, next try t, classes in use, class count b of the best placement, finished or not, and which grants opened a class.
+#[repr(C)]
 pub struct Cursor {
     pub depth: usize,
     pub next: usize,
@@ -24,6 +25,7 @@ pub struct Cursor {
 
 // The state of the machine: a cursor, the classes of the grants placed, and the best placement. Which positions stand for a state is said by `Stands`;
 // whoever makes one otherwise than by `start` and the steps from there has to show it.
+#[repr(C)]
 pub struct Position {
     pub cursor: Cursor,
     pub classes: [u8; KERNEL_LIMIT],

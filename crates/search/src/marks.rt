@@ -8,6 +8,7 @@ ghost use Rattle.bits.specs.Below.{every-below};
 ghost use Rattle.bits.specs.Truth.{implies};
 ghost use Rattle.search.specs.Marks.{mark-limit, marked};
 
+#[repr(C)]
 pub struct Marks {
     pub low: u64,
     pub high: u64,
