@@ -120,7 +120,7 @@ module _ (table : List ℕ) (size singles witness : ℕ) {at : Cursor} {classes 
         (set classes (at .depth) class) (set classes (at .depth) class) joined
     put-last whole finished e =
         let f =
-            improves table size singles witness (at-position at classes best) (r .stands) looked l stored after placed whole finished e in
+        improves table size singles witness (at-position at classes best) (r .stands) looked l stored after placed whole finished e in
         record {
           stepped = f .0;
           ready =
