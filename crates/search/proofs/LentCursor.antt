@@ -23,6 +23,7 @@ use denote.Steps.{only, owned, peeks}
 use denote.Struct.Steps.{spelt}
 use denote.Struct.Laws as LL
 use Rattle.search.specs.declared.machine.Cursor.{Cursor}
+use Rattle.search.specs.Marks.{mark-limit, table-words}
 use Rattle.search.proofs.machine.Cursor as cursor
 use Rattle.search.proofs.machine.Cursor.Laws as cursor-laws
 
@@ -32,16 +33,16 @@ abbrev pub CursorT : RattleType
 CursorT = cursor.the-row
 
 abbrev pub Bytes : RattleType
-Bytes = Array u8 128
+Bytes = Array u8 mark-limit
 
 abbrev pub Words : RattleType
-Words = Array u64 256
+Words = Array u64 table-words
 
 abbrev pub bytes : {n : ℕ} → Slot n
-bytes = ArrayOf (plain (λ _. u8)) (λ _. tt) 128
+bytes = ArrayOf (plain (λ _. u8)) (λ _. tt) mark-limit
 
 abbrev pub words : {n : ℕ} → Slot n
-words = ArrayOf (plain (λ _. u64)) (λ _. tt) 256
+words = ArrayOf (plain (λ _. u64)) (λ _. tt) table-words
 
 -- ---- what is passed beside the cursor: three arrays that change, the fit table, and three numbers
 
@@ -63,7 +64,7 @@ beside-vals a = (
   ),
 )
 
--- their types at a lifetime, which names differ from function to function own alike
+-- their types at a lifetime. What a reference owns does not depend on the name that a signature gives its lifetime, so these serve every function's
 abbrev pub BesideTs : Lft → List RattleType
 BesideTs κ =
     MutRef (named 0) κ Bytes ∷ MutRef (named 0) κ Bytes ∷ MutRef (named 0) κ Words ∷ ShrRef (named 0) κ Words ∷ usize ∷ usize ∷ usize ∷ []

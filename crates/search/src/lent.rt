@@ -1,11 +1,12 @@
-// The machine's own place moved forward: a cursor is lent to one thin step function.
+// The search's own position moved forward: the small struct of depth, next try and best count is lent to one thin step function. Both functions are proved
+// by hand, and all that they do is what `moved` does.
 use crate::Cursor;
 use crate::KERNEL_LIMIT;
 use crate::TABLE_WORDS;
 use crate::moves;
 ghost use Rattle.search.specs.Lent.{Ready, Moved};
 
-// One step of a lent cursor.
+// One step: the lent cursor is moved forward.
 pub fn advance<'s, 'a>(
     at: &'s mut Cursor,
     classes: &'a mut [u8; KERNEL_LIMIT],
@@ -23,7 +24,7 @@ pub fn advance<'s, 'a>(
     *at = after;
 }
 
-// The same with the cursor by value, so that whoever calls this lends no struct.
+// The same with the cursor in a local of its own, so that whoever calls this lends no struct.
 pub fn advanced<'a>(
     at: Cursor,
     classes: &'a mut [u8; KERNEL_LIMIT],

@@ -6,11 +6,9 @@ use crate::lent;
 use crate::members;
 use crate::moves;
 ghost use mathlib.Core.Path.{_≡_};
-ghost use Prim.Native.Nat.{_+_, _<_, _≤_};
-ghost use lib.Dec.{eqb};
+ghost use Prim.Native.Nat.{_<_, _≤_};
 ghost use Rattle.search.specs.Machine.{search-limit, step, run, search};
-ghost use Rattle.search.specs.Marks.{mark-limit};
-ghost use Rattle.search.specs.View.{kernel-given, view, view-ran, Stands, started, Placed, taken-back};
+ghost use Rattle.search.specs.View.{kernel-given, view, view-ran, Stands, started};
 
 // Depth d, next try t, classes in use, class count b of the best placement, finished or not, and which grants opened a class.
 #[repr(C)]
@@ -70,7 +68,7 @@ impl Position {
         Position::of(cursor, [0u8; KERNEL_LIMIT], first)
     }
 
-    // One step: it places one grant, takes one back, or closes the search.
+    // One step: it places one grant, takes one back, or closes the search. The members of each class are gathered for it.
     pub fn step(
         self,
         fit: &[u64; TABLE_WORDS],
@@ -99,7 +97,7 @@ impl Position {
         Position::of(after, classes, best)
     }
 
-    // As many steps as the budget, or those left until finished if fewer.
+    // As many steps as the budget, or those left until finished if fewer. The cursor and the arrays are lent to each.
     pub fn run(
         self,
         fit: &[u64; TABLE_WORDS],

@@ -1,4 +1,4 @@
-// One step of the machine over arrays that are lent to it: the grant of the next depth is placed, or the latest is taken back, or the search is closed.
+// What a step does, over a cursor by value and lent arrays: the next grant is placed, the latest is taken back, or the search is closed.
 use crate::Cursor;
 use crate::KERNEL_LIMIT;
 use crate::TABLE_WORDS;
@@ -64,7 +64,7 @@ impl Cursor {
     }
 }
 
-// One step from a cursor: what it leads to, with the classes, the best placement and the members as they then are.
+// One step: the cursor that it leads to. The classes, the best placement and the members of each class are then as that cursor has them.
 pub fn moved<'a>(
     at: Cursor,
     classes: &'a mut [u8; KERNEL_LIMIT],
