@@ -16,7 +16,10 @@ pub mod PlacedOnce
 pub mod Demand2
 pub mod Said
 pub mod Prepared
+pub mod Preparing
 pub mod Held
+pub mod Anew
+pub mod Loading
 pub mod Counted
 pub mod ClassesCopied
 pub mod TableKernel
