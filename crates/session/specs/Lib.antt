@@ -26,3 +26,6 @@ pub mod TableKernel
 pub mod MovedOn
 pub mod CountsHeld
 pub mod SearchedHeld
+pub mod BestHeld
+pub mod BookHeld
+pub mod WritesHeld
