@@ -1,0 +1,6 @@
+-- What the calls for a whole task give.
+pub mod BudgetRead
+pub mod OneShot
+pub mod Output
+pub mod Lines
+pub mod CheckOutput

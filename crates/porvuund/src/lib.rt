@@ -1,0 +1,13 @@
+// One call for a whole task, over bytes: the book of a sheet, the check of a book, and what the two programs print.
+mod budget;
+mod calls;
+mod lines;
+mod output;
+
+pub use budget::BudgetRead;
+pub use budget::budget_of;
+pub use budget::read_budget;
+pub use calls::BookNumbers;
+pub use calls::porvuund_book;
+pub use output::PROGRAM_BUFFER;
+pub use output::book_output;

@@ -1,0 +1,24 @@
+// What the book program and the check program print.
+use crate::budget::budget_of;
+use crate::calls::porvuund_book;
+use crate::lines::put_number_line;
+use checker::BOOK_LIMIT;
+ghost use mathlib.Core.List.{[], _∷_};
+ghost use Rattle.book.specs.Written.{Written};
+ghost use Rattle.session.specs.Program.{program-output};
+
+// The bytes of the book program's buffer: as many as the greatest book that the checker takes.
+pub const PROGRAM_BUFFER: usize = BOOK_LIMIT;
+
+// Puts what the book program prints for a sheet and its argument at the front of the buffer: the book, or the number of the refusal and a line
+// feed. Without an argument the word is empty.
+pub fn book_output<'a>(sheet: &'a [u8], word: &'a [u8], out: &mut [u8; PROGRAM_BUFFER]) -> usize
+    ensures { λ r. ⌜ Written (program-output (now (sheet .entry)) (now (word .entry) ∷ [])) (now (out .entry)) (now (out .exit)) r ⌝ }
+{
+    let budget = budget_of(word);
+    let answer = porvuund_book(sheet, budget, out);
+    if answer.number == 0 {
+        return answer.count;
+    }
+    put_number_line(out, answer.number)
+}
