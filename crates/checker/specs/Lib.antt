@@ -1,6 +1,7 @@
 -- The checker: whether a book is of the form, its counts agree, its product is the sheet and its witness stands. `Form`, `Check` and `Right` have
 -- the definitions. `Exact` shows that the checker accepts exactly the right books, `Alone` what its answer shows by itself, and `Confirmed` that it
--- confirms a book written from what is right; the modules before them have the laws that these rest on.
+-- confirms a book written from what is right; the modules before them have the laws that these rest on. From `RoleLimit` on the modules join the code
+-- to the definitions: what each reading of a book finds, and in `CheckSteps` that the code's answer is the checker's.
 pub mod Form
 pub mod Check
 pub mod Right
@@ -39,3 +40,5 @@ pub mod WitnessWords
 pub mod Judged
 pub mod BookSays
 pub mod Aligned
+pub mod BookRead
+pub mod CheckSteps

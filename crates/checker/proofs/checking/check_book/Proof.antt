@@ -1,0 +1,125 @@
+-- `checking::check_book`: where block 1 or block 2 is missing, nothing that can be said is written as this book; where both are there, the rest decides.
+use Prim.Native.Nat.{_*_}
+use native.Mathlib.Omega.{arith}
+use borrow.Author.Needs.{needs}
+use Rattle.sheet.specs.Sheet.{Sheet, sheet-of}
+use Rattle.sheet.specs.Rows.{row-words}
+use Rattle.checker.specs.Form.{role-limit}
+use Rattle.checker.specs.CountSteps.{CountsAt}
+use Rattle.checker.specs.BookRead.{FrontRead, no-counts-written, no-roles-written}
+use Rattle.checker.specs.CheckSteps.{zeros-blank, refused-for-form}
+use Rattle.checker.proofs.checking.check_book.Statement.{statement}
+use Rattle.checker.proofs.checking.check_book.Tie as tie
+
+-- the layout, from where block 1 and from where block 2 has been read
+abbrev laid : tie.After-known-told → tie.After-lay-out
+laid c = c .before .before .before .before
+
+abbrev counted : tie.After-known-told2 → tie.After-known-told
+counted c = c .before .before .before .before .before .before
+
+-- the call, and its sheet
+abbrev call : tie.After-lay-out → tie.Start
+call c = c .before .before .before
+
+abbrev sheet : tie.After-lay-out → Sheet
+sheet c = sheet-of (call c .args .sheet .now)
+
+lay-out-requires : tie.Need-lay-out-requires
+lay-out-requires c κs = search needs
+
+read-counts-requires : tie.Need-read-counts-requires
+read-counts-requires c κs = search needs
+
+enum-known-counts : tie.Need-enum-known-counts
+enum-known-counts c = search needs
+
+enum-told : tie.Need-enum-told
+enum-told c = search needs
+
+refused-requires : tie.Need-refused-requires
+refused-requires c κs = search needs
+
+returns : tie.Need-returns
+returns c =
+    let read = c .before .before .before in
+    refused-for-form (read .before .lay-out .ensures .accepts)
+    (no-counts-written (sheet (read .before)) (rw (c .before .enum-told .given .1) at (read .read-counts .ensures))) (c .refused .ensures)
+
+first : (c : tie.After-known-told)
+    → CountsAt (call (laid c) .args .book .now) 0 (c .before .counts .given .0 .0) (c .before .counts .given .0 .1 .0)
+first c = rw (c .before .counts .given .1) at (c .before .before .before .read-counts .ensures)
+
+slice-aggregate-read-roles : tie.Need-slice-aggregate-read-roles
+slice-aggregate-read-roles c = search needs
+
+read-roles-requires : tie.Need-read-roles-requires
+unfolding role-limit row-words
+read-roles-requires c κs = (
+  (first (c .before) .reads .within, laid (c .before) .lay-out .ensures),
+  (omega arith, zeros-blank (role-limit * row-words)),
+)
+
+enum-known-roles : tie.Need-enum-known-roles
+enum-known-roles c = search needs
+
+enum-told-2 : tie.Need-enum-told-2
+enum-told-2 c = search needs
+
+refused-requires-2 : tie.Need-refused-requires-2
+refused-requires-2 c κs = search needs
+
+returns-2 : tie.Need-returns-2
+returns-2 c =
+    let read = c .before .before .before .before in
+    let one = read .before .before in
+    refused-for-form (laid one .lay-out .ensures .accepts)
+    (no-roles-written (sheet (laid one)) (first one) (rw (c .before .enum-told2 .given .1) at (read .read-roles .ensures))) (c .refused2 .ensures)
+
+front : (c : tie.After-known-told2)
+    → FrontRead (sheet (laid (counted c))) (call (laid (counted c)) .args .book .now) (counted c .before .counts .given .0 .0)
+    (c .before .before .before .before .read-roles .last .1 .1 .1 .1 .0) (c .before .roles .given .0 .0) (c .before .roles .given .0 .1 .0)
+front c =
+    record {
+      second = counted c .before .counts .given .0 .1 .0;
+      counts-at = first (counted c);
+      roles-at = rw (c .before .roles .given .1) at (c .before .before .before .before .read-roles .ensures);
+    }
+
+slice-aggregate-check-from-users : tie.Need-slice-aggregate-check-from-users
+slice-aggregate-check-from-users c = search needs
+
+check-from-users-requires : tie.Need-check-from-users-requires
+unfolding role-limit row-words
+check-from-users-requires c κs =
+    let one = counted (c .before) in (
+      (
+        laid one .lay-out .ensures,
+        call (laid one) .pre .1,
+        omega (arith, c .before .before .before .before .before .read-roles .kept .1 .1 .1 .1 .0),
+      ),
+      front (c .before),
+    )
+
+returns-3 : tie.Need-returns-3
+returns-3 c = search needs
+
+pub check-book-spec : {M : Type 1} → statement M
+check-book-spec =
+    tie.close
+    (tie.spec
+    lay-out-requires
+    read-counts-requires
+    enum-known-counts
+    enum-told
+    refused-requires
+    returns
+    slice-aggregate-read-roles
+    read-roles-requires
+    enum-known-roles
+    enum-told-2
+    refused-requires-2
+    returns-2
+    slice-aggregate-check-from-users
+    check-from-users-requires
+    returns-3)

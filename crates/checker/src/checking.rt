@@ -1,0 +1,83 @@
+// The check of a book against a sheet.
+use crate::counts_block::Counts;
+use crate::counts_block::CountsRead;
+use crate::counts_block::read_counts;
+use crate::cursor::Step;
+use crate::judgement::Checked;
+use crate::judgement::judge_book;
+use crate::judgement::refused;
+use crate::limits::BOOK_LIMIT;
+use crate::limits::ROLE_WORDS;
+use crate::roles_block::RolesRead;
+use crate::roles_block::read_roles;
+use crate::users_block::read_users;
+use crate::witness_block::read_witness;
+use sheet::Layout;
+ghost use mathlib.Core.Path.{_≡_};
+ghost use Prim.Native.Nat.{_*_, _≤_};
+ghost use lib.ListN.{length};
+ghost use Rattle.sheet.specs.Sheet.{sheet-of};
+ghost use Rattle.sheet.specs.Refusal.{refusal};
+ghost use Rattle.sheet.specs.Rows.{row-words};
+ghost use Rattle.sheet.specs.LaidOut.{LaidOut};
+ghost use Rattle.checker.specs.Form.{book-limit, role-limit};
+ghost use Rattle.checker.specs.Check.{Checks};
+ghost use Rattle.checker.specs.BookSays.{answer-of};
+ghost use Rattle.checker.specs.BookRead.{FrontRead};
+
+// Checks a book whose blocks 1 and 2 have been read, from block 3 on.
+fn check_from_users<'a>(
+    sheet: &'a [u8],
+    layout: Layout,
+    book: &'a [u8],
+    at: usize,
+    counts: Counts,
+    roles: usize,
+    gives: &'a [u64],
+) -> Checked
+    requires { ⌜ LaidOut (now sheet) layout × (length (now book) ≤ book-limit) × (role-limit * row-words ≤ length (now gives)) ⌝ }
+    requires { ⌜ FrontRead (sheet-of (now sheet)) (now book) counts (now gives) roles at ⌝ }
+    ensures { λ r. ⌜ Checks (now (sheet .entry)) (now (book .entry)) (answer-of r) ⌝ }
+{
+    let mut has = sheet::no_rows();
+    let Step::On(last) = read_users(book, at, sheet, layout, &mut has, roles) else {
+        return refused(12);
+    };
+    let read = read_witness(book, last, sheet, layout);
+    if !read.of_form {
+        return refused(12);
+    }
+    let witness = read.witness;
+    judge_book(sheet, layout, counts, roles, &has, gives, witness)
+}
+
+// Checks a book that is not too long against an accepted sheet.
+fn check_book<'a>(sheet: &'a [u8], book: &'a [u8]) -> Checked
+    requires { ⌜ (refusal (now sheet) ≡ 0) × (length (now book) ≤ book-limit) ⌝ }
+    ensures { λ r. ⌜ Checks (now (sheet .entry)) (now (book .entry)) (answer-of r) ⌝ }
+{
+    let layout = sheet::lay_out(sheet);
+    let CountsRead::Counts(counts, second) = read_counts(book) else {
+        return refused(12);
+    };
+    let mut gives = [0u64; ROLE_WORDS];
+    let RolesRead::Roles(roles, third) = read_roles(book, second, sheet, layout, &mut gives) else {
+        return refused(12);
+    };
+    check_from_users(sheet, layout, book, third, counts, roles, &gives)
+}
+
+// Whether a book is right for a sheet: the lowest of document 01's numbers that applies, with counts 0; or 0, with the roles and the witness lines. The
+// sheet is judged first.
+pub fn check<'a>(sheet: &'a [u8], book: &'a [u8]) -> Checked
+    ensures { λ r. ⌜ Checks (now (sheet .entry)) (now (book .entry)) (answer-of r) ⌝ }
+{
+    let number = sheet::judge(sheet);
+    if number != 0 {
+        return refused(number);
+    }
+    if BOOK_LIMIT < book.len() {
+        return refused(12);
+    }
+    check_book(sheet, book)
+}
