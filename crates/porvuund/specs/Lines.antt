@@ -19,6 +19,10 @@ number-line-length n h = omega (arith, digits-of-word n h, length-append (decima
 
 pub pair-line-length : (m n : ℕ) → m < 2 ^ word-bits → n < 2 ^ word-bits → length (pair-line m n) ≤ 2 * (word-digits + 1)
 pair-line-length m n h k =
-    omega
-    (arith, digits-of-word m h, number-line-length n k, length-append (decimal m) (comma ∷ []),
-      length-append (decimal m ++ comma ∷ []) (number-line n))
+    omega (
+      arith,
+      digits-of-word m h,
+      number-line-length n k,
+      length-append (decimal m) (comma ∷ []),
+      length-append (decimal m ++ comma ∷ []) (number-line n),
+    )
