@@ -2,5 +2,6 @@
 pub mod BudgetRead
 pub mod OneShot
 pub mod Output
+pub mod Front
 pub mod Lines
 pub mod CheckOutput
