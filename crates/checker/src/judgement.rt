@@ -15,6 +15,7 @@ ghost use Rattle.checker.specs.Check.{check-refused};
 ghost use Rattle.checker.specs.BookSays.{BookSays, answer-of, JudgedAs};
 
 // The answer: document 01's number, 0 where none applies, with the roles and the witness lines; a number above 0 comes with counts 0.
+#[repr(C)]
 pub struct Checked {
     pub number: usize,
     pub roles: usize,

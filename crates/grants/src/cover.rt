@@ -30,6 +30,7 @@ enum Relation {
 }
 
 // A placement of the kernel: the class of each grant by its number, and how many classes there are.
+#[repr(C)]
 pub struct Placement {
     pub classes: [u16; GRANT_LIMIT],
     pub used: usize,

@@ -16,6 +16,7 @@ ghost use Rattle.grants.specs.KernelArray.{Listed};
 ghost use Rattle.grants.specs.KernelWalk.{NextFrom};
 
 // Grants in order: the cell of each by its number, and how many there are.
+#[repr(C)]
 pub struct Kernel {
     pub cells: [u16; GRANT_LIMIT],
     pub size: usize,

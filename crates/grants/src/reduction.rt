@@ -22,6 +22,7 @@ ghost use Rattle.grants.specs.ReductionResult.{Reducible, ReducedFrom};
 ghost use Rattle.grants.specs.ReductionWork.{work-of, word-cells, Ready, Visited, Settled, Removable, Removed};
 
 // The cells of the kernel, and the removals in order: the cell of each, and its partner's, which is its own where it was removed as single.
+#[repr(C)]
 pub struct Reduced {
     pub left: [u64; CELL_WORDS],
     pub removed: [u16; GRANT_LIMIT],

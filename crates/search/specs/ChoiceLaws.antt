@@ -1,30 +1,30 @@
--- Which classes are free for a grant: those below the next try are marked, and those of the earlier grants that do not fit it, so that a class is not
--- marked just where the grant can be placed in it.
+-- Which classes are open to a grant: those not below the next try all of whose members fit it, so that the lowest of them is the machine's choice.
 use Prim.Native.Nat.{ℕ, _+_, _*_, _-_, _/_, _%_, _≤_, _<_}
-use mathlib.Core.Path.{_≡_, refl, sym, _∙_}
+use mathlib.Core.Path.{_≡_, refl}
 use mathlib.Core.Logic.{⊎-elim}
-use mathlib.Core.Bool.{Bool, true, false, So, not, _&&_, _||_, or-assoc}
+use mathlib.Core.Bool.{Bool, true, false, So, not, _&&_, and-false}
 use mathlib.Core.List.{List}
 use mathlib.Core.Option.{Option·getD}
-use native.Mathlib.Nat.{zero-add, add-zero}
+use native.Mathlib.Nat.{add-zero}
+use native.Mathlib.Numerals.{add-one}
 use native.Mathlib.Omega.{arith}
-use borrow.Author.Tests.{ltb-true, lt-ltb, le-ltb, le-leb, lt-leb}
+use borrow.Author.Tests.{lt-ltb, le-ltb, le-leb, lt-leb}
 use lib.Dec.{eqb, leb, ltb}
 use lib.ListN.{getD}
-use Rattle.bits.specs.Truth.{and-left}
-use Rattle.bits.specs.Below.{some-below, lowest-below}
-use Rattle.bits.specs.BelowLaws.{below-or-from, some-below-ext}
-use Rattle.bits.specs.LowestLaws.{lowest-below-none-intro}
-use Rattle.bits.specs.Bit.{bit, word-bits}
+use Rattle.bits.specs.Truth.{implies}
+use Rattle.bits.specs.Below.{every-below, lowest-below}
+use Rattle.bits.specs.BelowLaws.{below-or-from, last-or-below, every-below-ext, every-below-not}
+use Rattle.bits.specs.LowestLaws.{lowest-below-intro, lowest-below-none-intro}
+use Rattle.bits.specs.Bit.{word-bits}
 use Rattle.search.specs.declared.marks.Marks.{Marks}
 use Rattle.search.specs.Marks.{kernel-words, mark-limit, marked}
-use Rattle.search.specs.MarkLaws.{marked-low, marked-high, marked-later, some-marked}
+use Rattle.search.specs.MarkLaws.{marked-low, marked-high}
 use Rattle.search.specs.View.{fit-in, joinable}
-use Rattle.search.specs.Gathered.{class-among}
+use Rattle.search.specs.Gathered.{member, Gathered}
 use Rattle.bits.specs.CutLaws.{some-below-cut}
 use Rattle.search.specs.PlacedLaws.{joins-unless-apart}
 
--- the words of grant d in the fit table
+-- the words of a grant, or of a class, in a table
 abbrev pub row : List ℕ → ℕ → Marks
 row table d = record { low = getD table (d * kernel-words) 0; high = getD table (d * kernel-words + 1) 0 }
 
@@ -41,53 +41,63 @@ marked-row table d {i} l =
     rw (marked-high (row table d) k, word, place))
     (below-or-from i word-bits)
 
--- what is not below is from there on
-not-ltb : (c n : ℕ) → not (ltb c n) ≡ leb n c
-not-ltb c n = ⊎-elim (λ l. rw (lt-ltb c n l, lt-leb n c l)) (λ l. rw (le-ltb c n l, le-leb n c l)) (below-or-from c n)
+-- all members of class c fit grant d
+abbrev pub all-fit : List ℕ → List ℕ → ℕ → ℕ → Bool
+all-fit table members d c = every-below mark-limit (λ i. implies (member members c i) (fit-in table d i))
 
-not-or : (a b : Bool) → not (a || b) ≡ (not a && not b)
-not-or true b = refl
-not-or false b = refl
+-- class c is not below the next try, and all its members fit grant d
+abbrev pub open-to : List ℕ → List ℕ → ℕ → ℕ → ℕ → Bool
+open-to table members d next c = leb next c && all-fit table members d c
 
--- the earlier grants that do not fit grant d, and their classes
-module _ (table classes : List ℕ) (d : ℕ) (apart : Marks) (within : d ≤ mark-limit)
-    (apart-marked : (q : ℕ) → marked apart q ≡ (ltb q d && not (marked (row table d) q))) where
-  -- a grant at a position of either word is an earlier one
-  pub apart-low-below : (i : ℕ) → i < word-bits → So (bit (apart .low) i) → i < d
-  apart-low-below i l e = ltb-true i d (and-left (ltb i d) (not (marked (row table d) i)) (sym (apart-marked i) ∙ marked-low apart l ∙ e))
+-- a class's words are within a grant's just where all members of the class fit the grant
+pub within-row : (table members : List ℕ) (d c : ℕ)
+    → every-below mark-limit (λ p. implies (marked (row members c) p) (marked (row table d) p)) ≡ all-fit table members d c
+within-row table members d c =
+    every-below-ext mark-limit (λ p. implies (marked (row members c) p) (marked (row table d) p))
+    (λ i. implies (member members c i) (fit-in table d i)) (λ i l. rw (marked-row members c l, marked-row table d l))
 
-  pub apart-high-below : (i : ℕ) → So (bit (apart .high) i) → word-bits + i < d
-  apart-high-below i e =
-      ltb-true (word-bits + i) d
-      (and-left (ltb (word-bits + i) d) (not (marked (row table d) (word-bits + i))) (sym (apart-marked (word-bits + i)) ∙ marked-later apart i ∙ e))
+-- a class is open to grant d just where the grant can be placed in it
+pub open-joinable : (table : List ℕ) {classes members : List ℕ} (d next : ℕ) → d ≤ mark-limit → Gathered classes d members
+    → (c : ℕ) → open-to table members d next c ≡ joinable table classes d next c
+open-joinable table {classes} {members} d next within g c =
+    rw (
+      every-below-ext mark-limit (λ i. implies (member members c i) (fits i)) (λ i. implies (in-class i) (fits i)) (λ i l. rw (g .has c i l)),
+      every-below-not mark-limit (λ i. implies (in-class i) (fits i)),
+      joins-unless-apart (fit-in table) classes d d c,
+      some-below-cut mark-limit d (λ i. not (implies (in-class i) (fits i))) (λ i. not (fits i) && eqb (getD classes i 0) c) within
+          (λ i l. rw (lt-ltb i d l) (unmet (eqb (getD classes i 0) c) (fits i))) (λ i l. rw (le-ltb i d l)),
+    )
+  where
+    fits : ℕ → Bool
+    fits i = fit-in table d i
 
-  -- some grant at the words' positions is of class c just where an earlier one that does not fit is
-  apart-among : (c : ℕ)
-      → (class-among classes 0 (apart .low) c || class-among classes word-bits (apart .high) c)
-      ≡ some-below d (λ i. not (fit-in table d i) && eqb (getD classes i 0) c)
-  apart-among c =
-      rw (
-        some-below-ext word-bits (λ i. bit (apart .low) i && class-is (0 + i)) (λ i. bit (apart .low) i && class-is i) (λ i l. rw (zero-add i)),
-        ← some-marked apart class-is,
-      )
-      (some-below-cut mark-limit d (λ i. marked apart i && class-is i) (λ i. not (fit-in table d i) && class-is i) within
-      (λ i l. rw (apart-marked i, lt-ltb i d l, marked-row table d {i = i} (omega arith)))
-      (λ i l. rw (apart-marked i, le-ltb i d l)))
-    where
-      class-is : ℕ → Bool
-      class-is i = eqb (getD classes i 0) c
+    in-class : ℕ → Bool
+    in-class i = ltb i d && eqb (getD classes i 0) c
 
-  -- a class is free just where grant d can be placed in it
-  pub free-joinable : (next : ℕ) (tried low blocked : Marks)
-      → ((q : ℕ) → marked tried q ≡ ltb q next)
-      → ((c : ℕ) → marked low c ≡ (marked tried c || class-among classes 0 (apart .low) c))
-      → ((c : ℕ) → marked blocked c ≡ (marked low c || class-among classes word-bits (apart .high) c))
-      → (c : ℕ) → not (marked blocked c) ≡ joinable table classes d next c
-  free-joinable next tried low blocked below lows highs c =
-      rw (highs c, lows c, below c, or-assoc, apart-among c, not-or, not-ltb, ← joins-unless-apart (fit-in table) classes d d c)
+    unmet : (a b : Bool) → not (implies a b) ≡ (not b && a)
+    unmet true true = refl
+    unmet true false = refl
+    unmet false true = refl
+    unmet false false = refl
 
--- no class below the next try
-pub none-joinable : (table classes : List ℕ) (d next end : ℕ) → end ≤ next
-    → end ≡ Option·getD (lowest-below end (joinable table classes d next)) end
-none-joinable table classes d next end l =
-    rw (lowest-below-none-intro end (joinable table classes d next) (λ c k. rw (lt-leb next c (omega arith))))
+-- none is open below the next try
+pub none-open : (table members : List ℕ) (d next : ℕ) {c : ℕ} → c < next → open-to table members d next c ≡ false
+none-open table members d next {c} l = rw (lt-leb next c l)
+
+-- the classes from the next try on are looked through, and those before c are not open
+module _ (table members : List ℕ) (d next end : ℕ) {c : ℕ} (passed : (q : ℕ) → q < c → open-to table members d next q ≡ false) where
+  -- class c is open: it is the lowest
+  pub opens-at : next ≤ c → c < end → So (all-fit table members d c)
+      → c ≡ Option·getD (lowest-below end (open-to table members d next)) end
+  opens-at k l fits =
+      rw (lowest-below-intro end (open-to table members d next)
+      (record { within = l; holds = rw (le-leb next c k) fits; first = λ j m. passed j m }))
+
+  -- it is not: one more is passed
+  pub passes-at : all-fit table members d c ≡ false → (q : ℕ) → q < c + 1 → open-to table members d next q ≡ false
+  passes-at shut q l =
+      ⊎-elim (λ (e : q ≡ c). rw (e, shut, and-false)) (λ k. passed q k) (last-or-below (rw (add-one c) at l))
+
+  -- all below the end are passed
+  pub opens-nowhere : end ≤ c → end ≡ Option·getD (lowest-below end (open-to table members d next)) end
+  opens-nowhere l = rw (lowest-below-none-intro end (open-to table members d next) (λ q k. passed q (omega arith)))

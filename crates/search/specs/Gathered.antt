@@ -1,67 +1,150 @@
--- The classes of the grants at a word's positions, gathered one position after the other: a class is marked, or it is that of a grant at a
--- position left. Taking the lowest position left and marking its class keeps that, and with no position left all are marked.
-use Prim.Native.Nat.{ℕ, _+_, _^_, _≤_, _<_}
+-- The members of each class, in a table laid out as the fit table is: bit i of class c's words says that grant i is in class c. One grant put in or taken out
+-- changes one bit, so that the table goes with the classes of the first grants when the next one is placed or the latest taken back.
+use Prim.Native.Nat.{ℕ, zero, suc, _+_, _*_, _/_, _%_, _≤_, _<_}
 use mathlib.Core.Path.{_≡_, refl, sym, _∙_}
-use mathlib.Core.Bool.{Bool, So, not, _&&_, _||_, or-false, or-assoc}
+use mathlib.Core.Logic.{_⊎_, inl, inr, ⊎-elim}
+use mathlib.Core.Bool.{Bool, true, false, So, not, _&&_, _||_, and-true, and-false, or-false}
 use mathlib.Core.List.{List}
-use native.Mathlib.Nat.{lt-trans}
 use native.Mathlib.Omega.{arith}
-use borrow.Author.Tests.{eqb-true, eq-eqb}
-use lib.Dec.{eqb}
-use lib.ListN.{getD}
-use Rattle.bits.specs.Truth.{same-truth, and-left}
-use Rattle.bits.specs.Below.{some-below, Lowest}
-use Rattle.bits.specs.CutLaws.{some-below-apart}
-use Rattle.bits.specs.BelowLaws.{some-below-ext, none-below-intro}
+use borrow.Author.Tests.{eqb-true, eqb-false, eq-eqb, ne-eqb, lt-ltb, le-ltb}
+use lib.Dec.{eqb, ltb}
+use lib.ListN.{length, getD, set, replicate, length-set, length-replicate}
+use lib.Seq.{getD-set-same, getD-set-other}
+use Rattle.bits.specs.Truth.{same-truth, fails-unless, and-left, and-right, and-intro, passes-or-fails}
+use Rattle.bits.specs.BelowLaws.{below-or-from}
 use Rattle.bits.specs.Bit.{bit, word-bits}
 use Rattle.bits.specs.BitLaws.{bit-of-zero}
-use Rattle.bits.specs.Word.{LowestDropped}
-use Rattle.search.specs.declared.marks.Marks.{Marks}
-use Rattle.search.specs.Marks.{marked}
-
--- a grant at some position of a word, whose position 0 is grant `from`, is in class c
-abbrev pub class-among : List ℕ → ℕ → ℕ → ℕ → Bool
-class-among classes from word c = some-below word-bits (λ i. bit word i && eqb (getD classes (from + i) 0) c)
+use Rattle.search.specs.Marks.{kernel-words, mark-limit, table-words}
+use Rattle.search.specs.View.{fit-in}
 
 pub eqb-comm : (a b : ℕ) → eqb a b ≡ eqb b a
 eqb-comm a b =
     same-truth (eqb a b) (eqb b a) (λ e. eq-eqb b a (sym (eqb-true a b e))) (λ e. eq-eqb a b (sym (eqb-true b a e)))
 
--- where a loop stands that gathers the classes at a word's positions
-pub record Gathered (classes : List ℕ) (from word : ℕ) (start all : Marks) (left : ℕ) : Type 0 where
-  pub within : left < 2 ^ word-bits
-  pub part : (i : ℕ) → So (bit left i) → So (bit word i)
-  pub same : (c : ℕ) → (marked all c || class-among classes from left c) ≡ (marked start c || class-among classes from word c)
+-- grant i is in class c
+abbrev pub member : List ℕ → ℕ → ℕ → Bool
+member members c i = fit-in members c i
 
-module _ (classes : List ℕ) (from word : ℕ) (start all : Marks) where
-  pub gathered-none : word < 2 ^ word-bits → Gathered classes from word start start word
-  gathered-none h = record { within = h; part = λ i p. p; same = λ c. refl }
+-- the members of each class are those of the first grants that are placed in it
+pub record Gathered (classes : List ℕ) (depth : ℕ) (members : List ℕ) : Type 0 where
+  pub sized : length members ≡ table-words
+  pub has : (c i : ℕ) → i < mark-limit → member members c i ≡ (ltb i depth && eqb (getD classes i 0) c)
 
-  pub gathered-more : {left rest i : ℕ} (more : Marks) → Gathered classes from word start all left
-      → Lowest word-bits (bit left) i → LowestDropped left rest
-      → ((c : ℕ) → marked more c ≡ (marked all c || eqb c (getD classes (from + i) 0)))
-      → Gathered classes from word start more rest
-  gathered-more {left} {rest} {i} more g low drop marks =
-      record {
-        within = lt-trans (drop .less) (g .within);
-        part = λ q p. g .part q (and-left (bit left q) (not (eqb q i)) (sym (drop .others low q) ∙ p));
-        same = λ c. step c ∙ g .same c;
-      }
-    where
-      step : (c : ℕ) → (marked more c || class-among classes from rest c) ≡ (marked all c || class-among classes from left c)
-      step c =
-          let h : ℕ → Bool = λ q. eqb (getD classes (from + q) 0) c in
-          rw (
-            marks c,
-            or-assoc,
-            eqb-comm c (getD classes (from + i) 0),
-            some-below-ext word-bits (λ q. bit rest q && h q) (λ q. bit left q && not (eqb q i) && h q) (λ q l. rw (drop .others low q)),
-            ← some-below-apart word-bits (bit left) h (low .within) (low .holds),
-          )
+-- a table in which one grant's bit of one class is changed, by what it was
+pub record Changed (change : Bool → Bool → Bool) (members : List ℕ) (class grant : ℕ) (after : List ℕ) : Type 0 where
+  pub sized : length after ≡ length members
+  pub has : (c i : ℕ) → i < mark-limit → member after c i ≡ change (member members c i) (eqb c class && eqb i grant)
 
-  pub gathered-all : {left : ℕ} → Gathered classes from word start all left → left ≤ 0
-      → (c : ℕ) → marked all c ≡ (marked start c || class-among classes from word c)
-  gathered-all {left} g e c =
-      let z : left ≡ 0 = omega arith in
-      let none-left = none-below-intro word-bits (λ i. bit left i && eqb (getD classes (from + i) 0) c) (λ i l. rw (z, bit-of-zero i)) in
-      sym (or-false (marked all c)) ∙ rw none-left at (g .same c)
+-- one grant more is in a class
+abbrev pub Joined : List ℕ → ℕ → ℕ → List ℕ → Type 0
+Joined = Changed _||_
+
+-- one grant fewer is in a class
+abbrev pub Left : List ℕ → ℕ → ℕ → List ℕ → Type 0
+Left = Changed (λ was it. was && not it)
+
+-- a grant's word and bit are those of one class and one grant alone
+same-place : (c i class grant : ℕ) → i < mark-limit → grant < mark-limit
+    → c * kernel-words + i / word-bits ≡ class * kernel-words + grant / word-bits
+    → eqb (i % word-bits) (grant % word-bits) ≡ (eqb c class && eqb i grant)
+same-place c i class grant l k e =
+    same-truth (eqb (i % word-bits) (grant % word-bits)) (eqb c class && eqb i grant)
+    (λ s.
+    let bits : i % word-bits ≡ grant % word-bits = eqb-true (i % word-bits) (grant % word-bits) s in
+    and-intro (eqb c class) (eqb i grant) (eq-eqb c class (omega arith)) (eq-eqb i grant (omega arith)))
+    (λ s.
+    let grants : i ≡ grant = eqb-true i grant (and-right (eqb c class) (eqb i grant) s) in
+    eq-eqb (i % word-bits) (grant % word-bits) (omega arith))
+
+other-place : (c i class grant : ℕ) → (c * kernel-words + i / word-bits ≡ class * kernel-words + grant / word-bits → ⊥)
+    → (eqb c class && eqb i grant) ≡ false
+other-place c i class grant ne =
+    fails-unless (eqb c class && eqb i grant) (λ s.
+    let classes : c ≡ class = eqb-true c class (and-left (eqb c class) (eqb i grant) s) in
+    let grants : i ≡ grant = eqb-true i grant (and-right (eqb c class) (eqb i grant) s) in
+    ne (rw (classes, grants)))
+
+-- one word stored with one bit changed changes that grant's bit of that class
+pub word-changed : (change : Bool → Bool → Bool) → ((b : Bool) → change b false ≡ b) → (members : List ℕ) (class grant word : ℕ)
+    → grant < mark-limit → class * kernel-words + grant / word-bits < length members
+    → ((q : ℕ) → bit word q ≡ change (bit (getD members (class * kernel-words + grant / word-bits) 0) q) (eqb q (grant % word-bits)))
+    → Changed change members class grant (set members (class * kernel-words + grant / word-bits) word)
+word-changed change keeps members class grant word k room changes = record { sized = length-set members at word; has = has }
+  where
+    at : ℕ
+    at = class * kernel-words + grant / word-bits
+
+    has : (c i : ℕ) → i < mark-limit
+        → member (set members at word) c i ≡ change (member members c i) (eqb c class && eqb i grant)
+    has c i l =
+        ⊎-elim
+        (λ (s : So (eqb (c * kernel-words + i / word-bits) at)).
+        let e : c * kernel-words + i / word-bits ≡ at = eqb-true (c * kernel-words + i / word-bits) at s in
+        rw (e, getD-set-same members at word 0 room, ← same-place c i class grant l k e) (changes (i % word-bits)))
+        (λ (f : eqb (c * kernel-words + i / word-bits) at ≡ false).
+        let ne : c * kernel-words + i / word-bits ≡ at → ⊥ = eqb-false (c * kernel-words + i / word-bits) at f in
+        rw (
+          other-place c i class grant ne,
+          keeps,
+          getD-set-other members at (c * kernel-words + i / word-bits) word 0 ne,
+        ))
+        (passes-or-fails (eqb (c * kernel-words + i / word-bits) at))
+
+-- no grant is placed, and no bit is set
+pub gathered-none : (classes : List ℕ) → Gathered classes 0 (replicate table-words 0)
+gathered-none classes =
+    record {
+      sized = length-replicate {A = ℕ} table-words 0;
+      has = λ c i l. rw (zero-word table-words (c * kernel-words + i / word-bits), bit-of-zero (i % word-bits), le-ltb i 0 (omega arith));
+    }
+  where
+    zero-word : (m at : ℕ) → _≡_ {A = ℕ} (getD (replicate m 0) at 0) 0
+    zero-word zero at = refl
+    zero-word (suc m) zero = refl
+    zero-word (suc m) (suc at) = zero-word m at
+
+-- grant d is placed in a class: the table in which it has joined the class goes with the classes in which that is stored
+pub gathered-more : {classes after members joined : List ℕ} {d class : ℕ} → Gathered classes d members → Joined members class d joined
+    → ((i : ℕ) → i < d → getD after i 0 ≡ getD classes i 0) → getD after d 0 ≡ class → Gathered after (suc d) joined
+gathered-more {classes} {after} {d} {class} g j earlier here =
+    record {
+      sized = j .sized ∙ g .sized;
+      has = λ c i l. rw (j .has c i l, g .has c i l) (by-place c i (below-or-from i d));
+    }
+  where
+    by-place : (c i : ℕ) → (i < d) ⊎ (d ≤ i)
+        → (ltb i d && eqb (getD classes i 0) c || eqb c class && eqb i d) ≡ (ltb i (suc d) && eqb (getD after i 0) c)
+    by-place c i (inl k) =
+        rw (lt-ltb i d k, lt-ltb i (suc d) (omega arith), ne-eqb i d (λ e. omega arith), and-false, or-false, earlier i k)
+    by-place c i (inr k) =
+        ⊎-elim
+        (λ (m : i < suc d).
+        let e : i ≡ d = omega arith in
+        rw (e, le-ltb d d (omega arith), lt-ltb d (suc d) (omega arith), eq-eqb d d refl, here, eqb-comm c class, and-true))
+        (λ (m : suc d ≤ i). rw (le-ltb i d k, le-ltb i (suc d) m, ne-eqb i d (λ e. omega arith), and-false))
+        (below-or-from i (suc d))
+
+-- the latest grant is taken back: it leaves its class
+pub gathered-fewer : {classes members left : List ℕ} {d : ℕ} → Gathered classes (suc d) members → Left members (getD classes d 0) d left
+    → Gathered classes d left
+gathered-fewer {classes} {d} g w =
+    record {
+      sized = w .sized ∙ g .sized;
+      has = λ c i l. rw (w .has c i l, g .has c i l) (by-place c i (below-or-from i d));
+    }
+  where
+    and-not : (b : Bool) → (b && not b) ≡ false
+    and-not true = refl
+    and-not false = refl
+
+    by-place : (c i : ℕ) → (i < d) ⊎ (d ≤ i)
+        → (ltb i (suc d) && eqb (getD classes i 0) c && not (eqb c (getD classes d 0) && eqb i d)) ≡ (ltb i d && eqb (getD classes i 0) c)
+    by-place c i (inl k) = rw (lt-ltb i d k, lt-ltb i (suc d) (omega arith), ne-eqb i d (λ e. omega arith), and-false, and-true)
+    by-place c i (inr k) =
+        ⊎-elim
+        (λ (m : i < suc d).
+        let e : i ≡ d = omega arith in
+        rw (e, le-ltb d d (omega arith), lt-ltb d (suc d) (omega arith), eq-eqb d d refl, and-true, eqb-comm c (getD classes d 0))
+        (and-not (eqb (getD classes d 0) c)))
+        (λ (m : suc d ≤ i). rw (le-ltb i d k, le-ltb i (suc d) m))
+        (below-or-from i (suc d))

@@ -23,5 +23,6 @@ pub mod TrailLaws
 pub mod ChoiceLaws
 pub mod ClassEnd
 pub mod Moves
+pub mod Lent
 pub mod Running
 pub mod Carried

@@ -1,20 +1,17 @@
 -- What the words of a set of marks say: a number below the first word's width is marked by that word, any other by the second. So a law
 -- holds of every number once it holds of each word's positions.
-use Prim.Native.Nat.{ℕ, _+_, _-_, _^_, _≤_, _<_}
-use mathlib.Core.Path.{_≡_, sym, ap, _∙_}
+use Prim.Native.Nat.{ℕ, _+_, _-_, _≤_, _<_}
+use mathlib.Core.Path.{_≡_, ap, _∙_}
 use mathlib.Core.Logic.{⊎-elim}
-use mathlib.Core.Bool.{Bool, false, not, _&&_, _||_}
-use mathlib.Core.Option.{none, some, Option·getD}
+use mathlib.Core.Bool.{Bool, false, _&&_}
 use native.Mathlib.Nat.{add-sub-of-le}
 use native.Mathlib.Omega.{arith}
-use borrow.Author.Tests.{ltb-true, lt-ltb, le-ltb, eqb-true, eq-eqb, ne-eqb}
-use lib.Dec.{eqb, ltb}
-use Rattle.bits.specs.Truth.{same-truth}
-use Rattle.bits.specs.Below.{some-below, lowest-below, Lowest}
-use Rattle.bits.specs.BelowLaws.{below-or-from, some-below-add, some-below-ext}
+use borrow.Author.Tests.{lt-ltb, le-ltb, eqb-true, eq-eqb, ne-eqb}
+use lib.Dec.{eqb}
+use Rattle.bits.specs.Truth.{implies, same-truth}
+use Rattle.bits.specs.Below.{every-below}
+use Rattle.bits.specs.BelowLaws.{below-or-from, every-below-add, every-below-ext}
 use Rattle.bits.specs.Bit.{bit, word-bits}
-use Rattle.bits.specs.BitLaws.{bit-of-zero, bit-full, bit-not}
-use Rattle.bits.specs.LowestLaws.{lowest-below-intro, lowest-below-none-intro, lowest-below-more, lowest-below-later, lowest-ext}
 use Rattle.search.specs.declared.marks.Marks.{Marks}
 use Rattle.search.specs.Marks.{mark-limit, marked}
 
@@ -37,12 +34,6 @@ by-words m f low high p =
     (λ l. marked-high m l ∙ high (p - word-bits) ∙ ap f (add-sub-of-le l)) (below-or-from p word-bits)
 
 -- a position of the high word is that much past the low one
-pub ltb-later : (p n : ℕ) → word-bits ≤ n → ltb p (n - word-bits) ≡ ltb (word-bits + p) n
-ltb-later p n l =
-    same-truth (ltb p (n - word-bits)) (ltb (word-bits + p) n)
-    (λ e. lt-ltb (word-bits + p) n (omega (arith, ltb-true p (n - word-bits) e)))
-    (λ e. lt-ltb p (n - word-bits) (omega (arith, ltb-true (word-bits + p) n e)))
-
 pub eqb-later : (p n : ℕ) → word-bits ≤ n → eqb p (n - word-bits) ≡ eqb (word-bits + p) n
 eqb-later p n l =
     same-truth (eqb p (n - word-bits)) (eqb (word-bits + p) n)
@@ -69,80 +60,16 @@ module _ (change : Bool → Bool → Bool) (keeps : (b : Bool) → change b fals
 
 -- ---- whole sets
 
--- the numbers below n, which end in the low word
-pub below-low : (m : Marks) (n : ℕ) → n < word-bits → ((q : ℕ) → bit (m .low) q ≡ ltb q n) → m .high ≡ 0 → (q : ℕ) → marked m q ≡ ltb q n
-below-low m n l low empty =
-    by-words m (λ q. ltb q n) (λ q k. low q) (λ q. rw (empty, bit-of-zero q, le-ltb (word-bits + q) n (omega arith)))
-
--- the numbers below n, which end in the high word
-pub below-high : (m : Marks) (n : ℕ) → word-bits ≤ n → m .low ≡ 2 ^ word-bits - 1 → ((q : ℕ) → bit (m .high) q ≡ ltb q (n - word-bits))
-    → (q : ℕ) → marked m q ≡ ltb q n
-below-high m n l all high =
-    by-words m (λ q. ltb q n)
-    (λ q k. rw (all, bit-full word-bits q, lt-ltb q word-bits k, lt-ltb q n (omega arith)))
-    (λ q. high q ∙ ltb-later q n l)
-
--- the marked numbers of m that the other has not
-pub outside-words : (m other after : Marks)
-    → ((q : ℕ) → bit (after .low) q ≡ (bit (m .low) q && not (bit (other .low) q)))
-    → ((q : ℕ) → bit (after .high) q ≡ (bit (m .high) q && not (bit (other .high) q)))
-    → (q : ℕ) → marked after q ≡ (marked m q && not (marked other q))
-outside-words m other after low high =
-    by-words after (λ q. marked m q && not (marked other q))
-    (λ q k. rw (marked-low m k, marked-low other k) (low q))
-    (λ q. rw (marked-later m q, marked-later other q) (high q))
-
--- ---- the lowest number that is not marked
-
--- what the complement of the low word has is not marked
-free-low : (m : Marks) → m .low < 2 ^ word-bits → {q : ℕ} → q < word-bits → bit (2 ^ word-bits - 1 - m .low) q ≡ not (marked m q)
-free-low m h {q} l = rw (marked-low m l) (bit-not word-bits (m .low) h l)
-
-free-high : (m : Marks) → m .high < 2 ^ word-bits → {q : ℕ} → q < word-bits
-    → bit (2 ^ word-bits - 1 - m .high) q ≡ not (marked m (word-bits + q))
-free-high m h {q} l = rw (marked-later m q) (bit-not word-bits (m .high) h l)
-
--- all numbers of the low word are marked where its complement has none
-none-free-low : (m : Marks) → m .low < 2 ^ word-bits → 2 ^ word-bits - 1 - m .low ≡ 0 → lowest-below word-bits (λ q. not (marked m q)) ≡ none
-none-free-low m h e =
-    lowest-below-none-intro word-bits (λ q. not (marked m q)) (λ q l. sym (free-low m h l) ∙ rw e (bit-of-zero q))
-
-pub lowest-free-low : (m : Marks) {i : ℕ} → m .low < 2 ^ word-bits → Lowest word-bits (bit (2 ^ word-bits - 1 - m .low)) i
-    → i ≡ Option·getD (lowest-below mark-limit (λ q. not (marked m q))) mark-limit
-lowest-free-low m {i} h w =
-    let found : lowest-below word-bits (λ q. not (marked m q)) ≡ some i =
-    lowest-below-intro word-bits (λ q. not (marked m q)) (lowest-ext (λ q l. free-low m h l) w) in
-    rw (lowest-below-more word-bits mark-limit (λ q. not (marked m q)) (omega arith) found)
-
-pub lowest-free-high : (m : Marks) {i : ℕ} → m .low < 2 ^ word-bits → m .high < 2 ^ word-bits → 2 ^ word-bits - 1 - m .low ≡ 0
-    → Lowest word-bits (bit (2 ^ word-bits - 1 - m .high)) i
-    → word-bits + i ≡ Option·getD (lowest-below mark-limit (λ q. not (marked m q))) mark-limit
-lowest-free-high m {i} h k e w =
-    let found : lowest-below word-bits (λ q. not (marked m (word-bits + q))) ≡ some i =
-    lowest-below-intro word-bits (λ q. not (marked m (word-bits + q))) (lowest-ext (λ q l. free-high m k l) w) in
-    rw (lowest-below-later word-bits word-bits (λ q. not (marked m q)) (none-free-low m h e) found)
-
-pub lowest-free-none : (m : Marks) → m .low < 2 ^ word-bits → m .high < 2 ^ word-bits → 2 ^ word-bits - 1 - m .low ≡ 0
-    → 2 ^ word-bits - 1 - m .high ≡ 0 → mark-limit ≡ Option·getD (lowest-below mark-limit (λ q. not (marked m q))) mark-limit
-lowest-free-none m h k e f = rw (lowest-below-none-intro mark-limit (λ q. not (marked m q)) all)
-  where
-    all : (q : ℕ) → q < mark-limit → not (marked m q) ≡ false
-    all q l =
-        ⊎-elim (λ a. sym (free-low m h a) ∙ rw e (bit-of-zero q))
-        (λ a.
-        rw (marked-high m {p = q} a)
-        (sym (bit-not word-bits (m .high) k {p = q - word-bits} (omega arith)) ∙ rw f (bit-of-zero (q - word-bits))))
-        (below-or-from q word-bits)
-
--- ---- a law of some marked number, word by word
-
-pub some-marked : (m : Marks) (f : ℕ → Bool)
-    → some-below mark-limit (λ i. marked m i && f i)
-    ≡ (some-below word-bits (λ i. bit (m .low) i && f i) || some-below word-bits (λ i. bit (m .high) i && f (word-bits + i)))
-some-marked m f =
-    some-below-add word-bits word-bits (λ i. marked m i && f i)
+-- every number of m is in the other just where each word's positions are
+pub within-words : (m other : Marks)
+    → every-below mark-limit (λ p. implies (marked m p) (marked other p))
+    ≡ (every-below word-bits (λ p. implies (bit (m .low) p) (bit (other .low) p))
+    && every-below word-bits (λ p. implies (bit (m .high) p) (bit (other .high) p)))
+within-words m other =
+    every-below-add word-bits word-bits (λ p. implies (marked m p) (marked other p))
     ∙ rw (
-      some-below-ext word-bits (λ i. marked m i && f i) (λ i. bit (m .low) i && f i) (λ i l. rw (marked-low m l)),
-      some-below-ext word-bits (λ i. marked m (word-bits + i) && f (word-bits + i)) (λ i. bit (m .high) i && f (word-bits + i))
-          (λ i l. rw (marked-later m i)),
+      every-below-ext word-bits (λ p. implies (marked m p) (marked other p)) (λ p. implies (bit (m .low) p) (bit (other .low) p))
+          (λ p l. rw (marked-low m l, marked-low other l)),
+      every-below-ext word-bits (λ p. implies (marked m (word-bits + p)) (marked other (word-bits + p)))
+          (λ p. implies (bit (m .high) p) (bit (other .high) p)) (λ p l. rw (marked-later m p, marked-later other p)),
     )

@@ -16,3 +16,7 @@ mark-limit = kernel-words * word-bits
 -- number p is position p of the low word, or that much past the low word of the high one
 abbrev pub marked : Marks → ℕ → Bool
 marked marks p = cond (ltb p word-bits) (bit (marks .low) p) (bit (marks .high) (p - word-bits))
+
+-- how many words a table has that marks numbers for each of as many
+abbrev pub table-words : ℕ
+table-words = mark-limit * kernel-words

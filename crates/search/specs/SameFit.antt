@@ -1,20 +1,20 @@
 -- A search asks only of grants of the kernel whether they fit: two kernels of one size, with the same fit below it and the same counts,
 -- are searched alike. A step asks of grant d below the size and of earlier ones, and of nothing else.
-use Prim.Native.Nat.{ℕ, zero, suc, max, _<_}
+use Prim.Native.Nat.{ℕ, zero, suc, _<_}
 use native.Mathlib.Nat.{le-step, le-refl}
 use native.Mathlib.Omega.{arith}
-use mathlib.Core.Path.{_≡_, refl, sym, ap, _∙_}
-use mathlib.Core.Bool.{Bool, false, So, _&&_, _||_, not, cond}
+use mathlib.Core.Path.{_≡_, refl, ap, _∙_}
+use mathlib.Core.Bool.{Bool, false, So, cond}
 use mathlib.Core.List.{List, [], _∷_}
 use mathlib.Core.Logic.{⊎-elim}
 use mathlib.Core.Option.{Option, none, some}
 use borrow.Author.Tests.{ltb-true}
-use lib.Dec.{eqb, leb, ltb}
+use lib.Dec.{ltb}
 use lib.ListN.{length}
 use Rattle.bits.specs.Truth.{passes-or-fails}
 use Rattle.bits.specs.LowestLaws.{lowest-below-ext}
 use Rattle.lists.specs.Placement.{used, joins}
-use Rattle.search.specs.Machine.{Kernel, State, Ran, depth, best-count, possible, choice, place, move, step, no-step, one-more, run, search, search-limit}
+use Rattle.search.specs.Machine.{Kernel, State, Ran, depth, possible, choice, move, step, no-step, one-more, run, search, search-limit}
 
 -- two kernels that no search tells apart
 pub record SameKernel (one other : Kernel) : Type 0 where

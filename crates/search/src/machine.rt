@@ -2,15 +2,16 @@
 use crate::KERNEL_LIMIT;
 use crate::Marks;
 use crate::TABLE_WORDS;
-use crate::choice;
+use crate::lent;
+use crate::members;
+use crate::moves;
 ghost use mathlib.Core.Path.{_≡_};
-ghost use Prim.Native.Nat.{_+_, _<_, _≤_};
-ghost use lib.Dec.{eqb};
+ghost use Prim.Native.Nat.{_<_, _≤_};
 ghost use Rattle.search.specs.Machine.{search-limit, step, run, search};
-ghost use Rattle.search.specs.Marks.{mark-limit};
-ghost use Rattle.search.specs.View.{kernel-given, view, view-ran, Stands, started, Placed, taken-back};
+ghost use Rattle.search.specs.View.{kernel-given, view, view-ran, Stands, started};
 
 // Depth d, next try t, classes in use, class count b of the best placement, finished or not, and which grants opened a class.
+#[repr(C)]
 pub struct Cursor {
     pub depth: usize,
     pub next: usize,
@@ -22,6 +23,7 @@ pub struct Cursor {
 
 // The state of the machine: a cursor, the classes of the grants placed, and the best placement. Which positions stand for a state is said by `Stands`;
 // whoever makes one otherwise than by `start` and the steps from there has to show it.
+#[repr(C)]
 pub struct Position {
     pub cursor: Cursor,
     pub classes: [u8; KERNEL_LIMIT],
@@ -32,59 +34,6 @@ pub struct Position {
 pub struct Ran {
     pub position: Position,
     pub steps: u32,
-}
-
-// Whether a number of classes plus singles equals w, with no sum that could wrap.
-fn reaches(count: usize, singles: usize, witness: usize) -> bool
-    ensures { λ r. ⌜ r ≡ eqb (count + singles) witness ⌝ }
-{
-    if witness < count {
-        return false;
-    }
-    witness - count == singles
-}
-
-impl Cursor {
-    // The next grant placed in a class.
-    fn placed(self, class: usize) -> Cursor
-        requires { ⌜ self .depth < mark-limit ⌝ }
-        requires { ⌜ class ≤ self .used ⌝ }
-        requires { ⌜ self .used < self .count ⌝ }
-        ensures { λ r. ⌜ Placed self class r ⌝ }
-    {
-        let d = self.depth;
-        let opened = self.opened;
-        let mut after = self;
-        after.depth = d + 1;
-        after.next = 0;
-        if class == self.used {
-            after.used = class + 1;
-            after.opened = opened.with(d);
-            return after;
-        }
-        after.opened = opened.without(d);
-        after
-    }
-
-    // The latest grant taken back, which was in a class.
-    fn taken_back(self, class: usize) -> Cursor
-        requires { ⌜ 0 < self .depth ⌝ }
-        requires { ⌜ self .depth ≤ mark-limit ⌝ }
-        requires { ⌜ class < mark-limit ⌝ }
-        requires { ⌜ 0 < self .used ⌝ }
-        ensures { λ r. ⌜ r ≡ taken-back self class ⌝ }
-    {
-        let d = self.depth - 1;
-        let opened = self.opened;
-        let mut after = self;
-        after.depth = d;
-        after.next = class + 1;
-        if opened.has(d) {
-            after.used = self.used - 1;
-            return after;
-        }
-        after
-    }
 }
 
 impl Position {
@@ -113,13 +62,13 @@ impl Position {
             next: 0,
             used: 0,
             count,
-            finished: reaches(count, singles, witness),
+            finished: moves::reaches(count, singles, witness),
             opened: Marks { low: 0, high: 0 },
         };
         Position::of(cursor, [0u8; KERNEL_LIMIT], first)
     }
 
-    // One step: it places one grant, takes one back, or closes the search.
+    // One step: it places one grant, takes one back, or closes the search. The members of each class are gathered for it.
     pub fn step(
         self,
         fit: &[u64; TABLE_WORDS],
@@ -133,30 +82,22 @@ impl Position {
     {
         let at = self.cursor;
         let mut classes = self.classes;
-        let best = self.best;
-        let d = at.depth;
-        let end = choice::class_end(d, size, at.used, at.count);
-        let class = choice::class_for(&classes, fit, d, at.next, end);
-        if class < end {
-            classes[d] = class as u8;
-            let mut placed = at.placed(class);
-            if d + 1 == size {
-                placed.count = placed.used;
-                placed.finished = reaches(placed.used, singles, witness);
-                return Position::of(placed, classes, classes);
-            }
-            return Position::of(placed, classes, best);
-        }
-        if d == 0 {
-            let mut closed = at;
-            closed.finished = true;
-            return Position::of(closed, classes, best);
-        }
-        let last = classes[d - 1] as usize;
-        Position::of(at.taken_back(last), classes, best)
+        let mut best = self.best;
+        let mut members = members::gathered(&classes, at.depth);
+        let after = moves::moved(
+            at,
+            &mut classes,
+            &mut best,
+            &mut members,
+            fit,
+            size,
+            singles,
+            witness,
+        );
+        Position::of(after, classes, best)
     }
 
-    // As many steps as the budget, or those left until finished if fewer.
+    // As many steps as the budget, or those left until finished if fewer. The cursor and the arrays are lent to each.
     pub fn run(
         self,
         fit: &[u64; TABLE_WORDS],
@@ -169,12 +110,25 @@ impl Position {
         ensures { λ r. ⌜ view-ran r size ≡ run (kernel-given (now (fit .entry)) size singles witness) budget (view self size) ⌝ }
         ensures { λ r. ⌜ Stands size (r .position) ⌝ }
     {
-        let mut position = self;
+        let mut at = self.cursor;
+        let mut classes = self.classes;
+        let mut best = self.best;
+        let mut members = members::gathered(&classes, at.depth);
         let mut steps = 0;
-        while steps < budget && !position.cursor.finished {
-            position = position.step(fit, size, singles, witness);
+        while steps < budget && !at.finished {
+            at = lent::advanced(
+                at,
+                &mut classes,
+                &mut best,
+                &mut members,
+                fit,
+                size,
+                singles,
+                witness,
+            );
             steps += 1;
         }
+        let position = Position::of(at, classes, best);
         Ran { position, steps }
     }
 

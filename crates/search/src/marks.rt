@@ -1,46 +1,28 @@
 // A set of numbers below KERNEL_LIMIT in two words: number p is position p of the low word, or position p - 64 of the high one.
-use crate::KERNEL_LIMIT;
 use bits::WORD_BITS;
 ghost use mathlib.Core.Path.{_≡_};
 ghost use mathlib.Core.Bool.{not, _&&_, _||_};
-ghost use mathlib.Core.Option.{Option·getD};
-ghost use Prim.Native.Nat.{ℕ, _<_, _≤_};
-ghost use lib.Dec.{eqb, ltb};
-ghost use Rattle.bits.specs.Below.{lowest-below};
+ghost use Prim.Native.Nat.{ℕ, _<_};
+ghost use lib.Dec.{eqb};
+ghost use Rattle.bits.specs.Below.{every-below};
+ghost use Rattle.bits.specs.Truth.{implies};
 ghost use Rattle.search.specs.Marks.{mark-limit, marked};
 
+#[repr(C)]
 pub struct Marks {
     pub low: u64,
     pub high: u64,
 }
 
 impl Marks {
-    // The numbers below n.
-    pub fn below(n: usize) -> Marks
-        requires { ⌜ n ≤ mark-limit ⌝ }
-        ensures { λ r. ⌜ ((q : ℕ) → marked r q ≡ ltb q n) ⌝ }
+    // Whether the other has every marked number.
+    pub fn within(self, other: Marks) -> bool
+        ensures { λ r. ⌜ r ≡ every-below mark-limit (λ p. implies (marked self p) (marked other p)) ⌝ }
     {
-        if n < WORD_BITS {
-            Marks {
-                low: bits::full(n),
-                high: 0,
-            }
-        } else {
-            Marks {
-                low: !0,
-                high: bits::full(n - WORD_BITS),
-            }
+        if !bits::within(self.low, other.low) {
+            return false;
         }
-    }
-
-    // The marked numbers that the other has not.
-    pub fn outside(self, other: Marks) -> Marks
-        ensures { λ r. ⌜ ((q : ℕ) → marked r q ≡ (marked self q && not (marked other q))) ⌝ }
-    {
-        Marks {
-            low: self.low & !other.low,
-            high: self.high & !other.high,
-        }
+        bits::within(self.high, other.high)
     }
 
     // Whether p is marked.
@@ -89,20 +71,5 @@ impl Marks {
                 high: bits::without(self.high, p - WORD_BITS),
             }
         }
-    }
-
-    // The lowest number that is not marked, or the limit where all are.
-    pub fn lowest_free(self) -> usize
-        ensures { λ r. ⌜ r ≡ Option·getD (lowest-below mark-limit (λ q. not (marked self q))) mark-limit ⌝ }
-    {
-        let low = !self.low;
-        if 0 < low {
-            return bits::lowest(low);
-        }
-        let high = !self.high;
-        if 0 < high {
-            return WORD_BITS + bits::lowest(high);
-        }
-        KERNEL_LIMIT
     }
 }

@@ -35,7 +35,7 @@ pub reached-searching : (text : Bytes) (given : ℕ) → Searching (sheet-of tex
 unfolding reached searched-on
 reached-searching text given = searching-on given (searching-start (sheet-of text))
 
-accepted-even : (text : Bytes) → So (accepted text) → Even (sheet-of text)
+pub accepted-even : (text : Bytes) → So (accepted text) → Even (sheet-of text)
 accepted-even text takes =
     let kept = accepted-keeps text takes in record { a-row-each = kept .a-row-each; even-rows = kept .even-rows }
 

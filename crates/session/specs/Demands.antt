@@ -47,8 +47,8 @@ pub record Demand1 : Type 0 where
       → Judged (check-causes sheet book) (answer .number) (answer ≡ check-refused (answer .number))
 
 -- demand 2: a sheet is accepted exactly when it keeps the rules, and is then read as the sheet it is; the checker accepts a book,
--- whoever wrote it, exactly when form, counts, product and witness are right, reads what it says and answers its counts.
--- The session's own books: they multiply to the sheet (see `Believed`, of demand 3)
+-- whoever wrote it, exactly when form, counts, product and witness are right, reads what it says and answers its counts; and the two
+-- matrices of each book that a writing brings out multiply to the sheet of the last accepted load, cell for cell
 pub record Demand2 : Type 0 where
   pub accepts-sheets : (text : Bytes) → (load-answer text .number ≡ 0) ↔ ((sheet : Sheet) × Keeps text sheet)
   pub reads-sheets : (text : Bytes) (sheet : Sheet) → Keeps text sheet → sheet-of text ≡ sheet
@@ -57,6 +57,10 @@ pub record Demand2 : Type 0 where
   pub reads-books : (text book : Bytes) → check text book .number ≡ 0 → Right (sheet-of text) book (said (sheet-of text) book)
   pub answers-counts : (text book : Bytes) (sheet : Sheet) (says : Said) → Keeps text sheet → Right sheet book says
       → check text book ≡ confirmed says
+  pub own-books : (buffer : Bytes) (written : Written) (earlier : List Event) (session : Session)
+      → Led (record { call = write buffer; outcome = written } ∷ earlier) session → written .answer .number ≡ 0
+      → (text : Bytes) × (last-accepted (calls earlier) ≡ some text)
+      × Multiplies (said (sheet-of text) (brought-out written) .roles) (sheet-of text)
 
 -- what every book owes that was brought out for the sheet of the last accepted load
 pub record Believed (text book : Bytes) : Type 0 where

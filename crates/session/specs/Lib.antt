@@ -16,5 +16,17 @@ pub mod PlacedOnce
 pub mod Demand2
 pub mod Said
 pub mod Prepared
+pub mod Preparing
 pub mod Held
+pub mod Anew
+pub mod Loading
 pub mod Counted
+pub mod ClassesCopied
+pub mod TableKernel
+pub mod MovedOn
+pub mod CountsHeld
+pub mod SearchedHeld
+pub mod CodeSequence
+pub mod BestHeld
+pub mod BookHeld
+pub mod WritesHeld

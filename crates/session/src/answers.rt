@@ -14,6 +14,7 @@ ghost use Rattle.session.specs.Said.{load-said, search-said, write-said}
 ghost use Rattle.session.specs.Prepared.{PreparedFor};
 
 // A load's counts: users, permissions, grants, the kernel's size k and the witness's count w.
+#[repr(C)]
 pub struct LoadAnswer {
     pub number: usize,
     pub users: usize,
@@ -39,6 +40,7 @@ pub struct SearchAnswer {
 }
 
 // A writing's byte count.
+#[repr(C)]
 pub struct WriteAnswer {
     pub number: usize,
     pub count: usize,

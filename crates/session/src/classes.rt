@@ -25,6 +25,13 @@ pub fn narrowed(classes: &[u16; GRANT_LIMIT], size: usize) -> [u8; KERNEL_LIMIT]
     narrow
 }
 
+// A class number of one byte in two.
+fn wider(class: u8) -> u16
+    ensures { λ r. ⌜ r ≡ class ⌝ }
+{
+    class as u16
+}
+
 // The classes that a position has, as the first cover has them.
 pub fn widened(classes: &[u8; KERNEL_LIMIT]) -> [u16; GRANT_LIMIT]
     ensures { λ r. ⌜ ((n : ℕ) → n ≤ search-limit → latest-first r n ≡ placed-of (now (classes .entry)) n) ⌝ }
@@ -32,7 +39,7 @@ pub fn widened(classes: &[u8; KERNEL_LIMIT]) -> [u16; GRANT_LIMIT]
     let mut wide = [0u16; GRANT_LIMIT];
     let mut i = 0;
     while i < KERNEL_LIMIT {
-        wide[i] = classes[i] as u16;
+        wide[i] = wider(classes[i]);
         i += 1;
     }
     wide

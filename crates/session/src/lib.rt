@@ -25,6 +25,7 @@ pub use writing::Written;
 
 // Whether a sheet was accepted, its bytes, what was found of it, and where the search stands. The fields are the session's own: what it stands for
 // is its `view`, and which values come from the calls is said by `Sound`.
+#[repr(C)]
 pub struct Session {
     loaded: bool,
     length: usize,

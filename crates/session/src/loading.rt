@@ -18,6 +18,7 @@ ghost use Rattle.session.specs.Said.{load-said};
 ghost use Rattle.session.specs.Held.{view, Holds, Sound};
 
 // The session after a load, and what the load answers.
+#[repr(C)]
 pub struct Loaded {
     pub session: Session,
     pub answer: LoadAnswer,

@@ -21,6 +21,7 @@ ghost use Rattle.grants.specs.WitnessRows.{Witnessed};
 ghost use Rattle.session.specs.Prepared.{PreparedFor};
 
 // Where the names stand, the cells, the reduction, the kernel in order, the witness, the first cover and the fit table.
+#[repr(C)]
 pub struct Prepared {
     pub layout: Layout,
     pub rows: [u64; CELL_WORDS],

@@ -19,6 +19,7 @@ ghost use Rattle.session.specs.Said.{write-said};
 ghost use Rattle.session.specs.Held.{text-in, size-in, state-in, view, Holds, Sound};
 
 // The session after a writing, and what the writing answers.
+#[repr(C)]
 pub struct Written {
     pub session: Session,
     pub answer: WriteAnswer,

@@ -18,6 +18,7 @@ ghost use Rattle.sheet.specs.Refusal.{refusal};
 ghost use Rattle.sheet.specs.NamesAt.{name-number};
 ghost use Rattle.sheet.specs.LaidOut.{LaidOut, found-user, found-permission};
 
+#[repr(C)]
 pub struct Layout {
     pub users: usize,
     pub permissions: usize,

@@ -13,6 +13,7 @@ ghost use Rattle.sheet.specs.PlacesLaws.{HasRoom};
 ghost use Rattle.sheet.specs.UserPlaces.{UserPlaces};
 
 // Name i is the bytes of the sheet from `from[i]` up to `to[i]`. There is room for as many names as there can be users.
+#[repr(C)]
 pub struct Places {
     pub from: [usize; USER_LIMIT],
     pub to: [usize; USER_LIMIT],

@@ -1,27 +1,45 @@
--- `Position::run`: at each turn the run is the steps made and the run of the budget left (`Running`), which one step more keeps. The measure is the
--- budget left. The loop ends when there is none, or when the position is finished.
+-- `Position::run`: at each turn the run is the steps made and the run of the budget left (`Running`), which one step more keeps, and all is ready for the next
+-- step. The measure is the budget left. The loop ends when there is none, or when the cursor is finished.
 use Prim.Native.Nat.{_-_}
+use mathlib.Core.Path.{_≡_}
+use mathlib.Core.Logic.{⊎-elim}
 use native.Mathlib.Omega.{arith}
+use borrow.Author.Needs.{needs}
 use borrow.Author.Tests.{not-true, not-false}
+use lib.ListN.{length}
+use Rattle.search.specs.Marks.{mark-limit}
 use Rattle.search.specs.View.{kernel-given, view}
+use Rattle.search.specs.Lent.{at-position, Ready}
+use Rattle.search.specs.Moves.{depth-le-limit, class-below-limit}
 use Rattle.search.specs.Running.{Running, running-none, running-more, running-spent, running-finished}
 use Rattle.search.proofs.machine.Position.run.Statement.{statement}
 use Rattle.search.proofs.machine.Position.run.Tie as tie
 
 abbrev Inv-loop : tie.InvT-loop
-Inv-loop fit size singles witness budget position₀ steps₀ position steps =
-    Running (kernel-given fit size singles witness) budget (view position₀ size) position steps
+Inv-loop fit size singles witness budget at₀ classes₀ best₀ members₀ steps₀ at classes best members steps =
+    Running (kernel-given fit size singles witness) budget (view (at-position at₀ classes₀ best₀) size) (at-position at classes best) steps
+    × Ready size at classes best members
 
 abbrev μ-loop : tie.MeasureT-loop
-μ-loop fit size singles witness budget position₀ steps₀ position steps = budget - steps
+μ-loop fit size singles witness budget at₀ classes₀ best₀ members₀ steps₀ at classes best members steps = budget - steps
+
+gathered-requires : tie.Need-gathered-requires Inv-loop μ-loop
+gathered-requires c κs = let s = c .before .before .before .before .pre in (depth-le-limit s, class-below-limit s)
+
+-- the array has room for every grant's class
+whole-array : (c : tie.Start Inv-loop μ-loop) → length (c .args .self .classes) ≡ mark-limit
+whole-array c = search needs
 
 loop-holds : tie.Need-loop-holds Inv-loop μ-loop
 loop-holds c =
-    let a = c .args in
-    running-none (kernel-given (a .fit .now) (a .size) (a .singles) (a .witness)) (a .budget) (a .self) (c .pre)
+    let start = c .before .before .before .before .before in
+    let a = start .args in (
+      running-none (kernel-given (a .fit .now) (a .size) (a .singles) (a .witness)) (a .budget) (a .self) (start .pre),
+      record { stands = start .pre; classes-sized = whole-array start; gathered = c .gathered .ensures },
+    )
 
-step-requires : tie.Need-step-requires Inv-loop μ-loop
-step-requires c κs = c .before .before .before .loop .inv .stands
+advanced-requires : tie.Need-advanced-requires Inv-loop μ-loop
+advanced-requires c κs = c .before .before .before .before .before .before .loop .inv .1
 
 add-steps : tie.Need-add-steps Inv-loop μ-loop
 add-steps c = omega arith
@@ -31,30 +49,31 @@ loop-less c = omega arith
 
 loop-again : tie.Need-loop-again Inv-loop μ-loop
 loop-again c =
-    let a = c .before .before .before .before .before .args in
-    let loop = c .before .before .before .before .loop in
-    running-more (kernel-given (a .fit .now) (a .size) (a .singles) (a .witness)) (a .budget) (view (a .self) (a .size)) (loop .inv)
-    (c .step .result) (c .before .before .before .loop-test .taken) (not-true (loop .position .cursor .finished) (c .before .if1 .taken))
-    (c .step .ensures .0) (c .step .ensures .1)
+    let a = c .before .before .before .before .before .before .before .before .before .before .before .before .before .args in
+    let loop = c .before .before .before .before .before .before .before .loop in
+    let moved = c .advanced .ensures in (
+      running-more (kernel-given (a .fit .now) (a .size) (a .singles) (a .witness)) (a .budget) (view (a .self) (a .size)) (loop .inv .0)
+          (at-position (c .advanced .result) (c .advanced .last .1 .0) (c .advanced .last .1 .1 .0)) (c .before .before .before .before .before .before .loop-test .taken)
+          (not-true (loop .at .finished) (c .before .before .before .before .if1 .taken)) (moved .stepped) (moved .ready .stands),
+      moved .ready,
+    )
+
+of-requires : tie.Need-of-requires Inv-loop μ-loop
+of-requires c κs = search needs
 
 returns : tie.Need-returns Inv-loop μ-loop
 returns c =
-    let a = c .before .before .before .before .args in
-    let loop = c .before .before .before .loop in (
-      running-finished (kernel-given (a .fit .now) (a .size) (a .singles) (a .witness)) (a .budget) (view (a .self) (a .size)) (loop .inv)
-          (not-false (loop .position .cursor .finished) (c .if1 .left)),
-      loop .inv .stands,
-    )
-
-returns-2 : tie.Need-returns-2 Inv-loop μ-loop
-returns-2 c =
-    let a = c .before .before .args in
-    let loop = c .before .loop in (
-      running-spent (kernel-given (a .fit .now) (a .size) (a .singles) (a .witness)) (a .budget) (view (a .self) (a .size)) (loop .inv)
-          (c .loop-test .left),
-      loop .inv .stands,
+    let a = c .before .before .before .before .before .before .before .before .args in
+    let kernel = kernel-given (a .fit .now) (a .size) (a .singles) (a .witness) in
+    let from = view (a .self) (a .size) in
+    let loop = c .before .before .loop in
+    rw (c .of .ensures) (
+      ⊎-elim (λ other. running-finished kernel (a .budget) from (loop .inv .0) (not-false (loop .at .finished) (other .2 .left)))
+          (λ spent. running-spent kernel (a .budget) from (loop .inv .0) (spent .left)) (c .before .loop-test .came),
+      loop .inv .1 .stands,
     )
 
 pub run-spec : {M : Type 1} → statement M
 run-spec =
-    tie.close (tie.spec Inv-loop μ-loop loop-holds step-requires add-steps loop-less loop-again returns returns-2)
+    tie.close
+    (tie.spec Inv-loop μ-loop gathered-requires loop-holds advanced-requires add-steps loop-less loop-again of-requires returns)

@@ -1,0 +1,56 @@
+-- `gathered`: no grant is placed at first, and each turn puts the next one in its class (`Gathered`). The measure is how many are left.
+use Prim.Native.Nat.{_-_, _≤_, _<_}
+use mathlib.Core.Path.{_≡_, refl}
+use native.Mathlib.Numerals.{add-one}
+use native.Mathlib.Omega.{arith}
+use lib.ListN.{getD}
+use Rattle.search.specs.Marks.{mark-limit}
+use Rattle.search.specs.Gathered.{Gathered, gathered-none, gathered-more}
+use Rattle.search.proofs.members.gathered.Statement.{statement}
+use Rattle.search.proofs.members.gathered.Tie as tie
+
+abbrev Inv-loop : tie.InvT-loop
+Inv-loop classes depth members₀ i₀ members i = (i ≤ depth) × Gathered classes i members
+
+abbrev μ-loop : tie.MeasureT-loop
+μ-loop classes depth members₀ i₀ members i = depth - i
+
+loop-holds : tie.Need-loop-holds Inv-loop μ-loop
+loop-holds c = (omega arith, gathered-none (c .args .classes .now))
+
+element-copy-out-put-in : tie.Need-element-copy-out-put-in Inv-loop μ-loop
+element-copy-out-put-in c = omega arith
+
+-- the class of the grant to put in
+class-within : (c : tie.After-put-in-arg Inv-loop μ-loop)
+    → getD (c .before .before .before .before .args .classes .now) (c .before .before .before .loop .i) 0 < mark-limit
+class-within c = c .before .before .before .before .pre .1 (c .before .before .before .loop .i) (omega arith)
+
+cast-put-in : tie.Need-cast-put-in Inv-loop μ-loop
+cast-put-in c = omega (arith, class-within c)
+
+put-in-requires : tie.Need-put-in-requires Inv-loop μ-loop
+put-in-requires c κs = (c .before .before .before .loop .inv .1 .sized, (class-within c, omega arith))
+
+add-i : tie.Need-add-i Inv-loop μ-loop
+add-i c = omega arith
+
+loop-less : tie.Need-loop-less Inv-loop μ-loop
+loop-less c = omega arith
+
+loop-again : tie.Need-loop-again Inv-loop μ-loop
+loop-again c =
+    let i = c .before .before .before .before .loop .i in (
+      omega arith,
+      rw (add-one i) (gathered-more (c .before .before .before .before .loop .inv .1) (c .put-in .ensures) (λ q l. refl) refl),
+    )
+
+returns : tie.Need-returns Inv-loop μ-loop
+returns c =
+    let all : c .before .loop .i ≡ c .before .before .args .depth = omega arith in
+    rw all at (c .before .loop .inv .1)
+
+pub gathered-spec : {M : Type 1} → statement M
+gathered-spec =
+    tie.close
+    (tie.spec Inv-loop μ-loop loop-holds element-copy-out-put-in cast-put-in put-in-requires add-i loop-less loop-again returns)

@@ -1,0 +1,48 @@
+-- `put_in`: the word that has the grant's bit of the class is changed at that bit, and no other word is.
+use Prim.Native.Nat.{_+_, _*_, _/_, _<_}
+use mathlib.Core.Bool.{_||_, or-false}
+use native.Mathlib.Omega.{arith}
+use borrow.Author.Needs.{needs}
+use lib.ListN.{length}
+use Rattle.bits.specs.Bit.{word-bits}
+use Rattle.search.specs.Gathered.{word-changed}
+use Rattle.search.specs.Marks.{kernel-words}
+use Rattle.search.proofs.members.put_in.Statement.{statement}
+use Rattle.search.proofs.members.put_in.Tie as tie
+
+mul-at : tie.Need-mul-at
+mul-at c = search needs
+
+add-at : tie.Need-add-at
+add-at c = search needs
+
+mul-with : tie.Need-mul-with
+mul-with c = search needs
+
+element-copy-out-with : tie.Need-element-copy-out-with
+element-copy-out-with c = search needs
+
+with-requires : tie.Need-with-requires
+with-requires c κs = search needs
+
+mul-members : tie.Need-mul-members
+mul-members c = search needs
+
+element-write-members : tie.Need-element-write-members
+element-write-members c = search needs
+
+-- the table has a word for the grant in the class
+word-there : (c : tie.Start)
+    → c .args .class * kernel-words + c .args .grant / word-bits < length (c .args .members .now)
+word-there c = omega arith
+
+returns : tie.Need-returns
+returns c =
+    let a = c .before .before .args in
+    word-changed _||_ or-false (a .members .now) (a .class) (a .grant) (c .with .result) (c .before .before .pre .1 .1)
+    (word-there (c .before .before)) (c .with .ensures)
+
+pub put-in-spec : {M : Type 1} → statement M
+put-in-spec =
+    tie.close
+    (tie.spec mul-at add-at mul-with element-copy-out-with with-requires mul-members element-write-members returns)

@@ -1,0 +1,132 @@
+-- One step over lent arrays: what it asks of them, and where it leads.
+use Prim.Native.Nat.{ℕ, suc, _+_, _-_, _≤_, _<_}
+use mathlib.Core.Path.{_≡_, _∙_}
+use mathlib.Core.Bool.{Bool, true}
+use mathlib.Core.List.{List}
+use mathlib.Core.Option.{Option·getD}
+use native.Mathlib.Omega.{arith}
+use lib.Dec.{eqb}
+use lib.ListN.{length, getD, set, length-set}
+use lib.Seq.{getD-set-same, getD-set-other}
+use Rattle.bits.specs.Below.{lowest-below}
+use Rattle.bits.specs.LowestLaws.{lowest-below-ext}
+use Rattle.search.specs.declared.machine.Cursor.{Cursor}
+use Rattle.search.specs.declared.machine.Position.{Position}
+use Rattle.search.specs.Machine.{step}
+use Rattle.search.specs.Marks.{mark-limit}
+use Rattle.search.specs.View.{kernel-given, view, Stands, class-end, joinable, Placed, taken-back}
+use Rattle.search.specs.Gathered.{Gathered, Joined, Left, gathered-more, gathered-fewer}
+use Rattle.search.specs.ChoiceLaws.{open-to, open-joinable}
+use Rattle.search.specs.Moves.{Looked, depth-le-limit, room-below-limit, closes, takes-back, places, improves}
+
+-- a cursor and its two arrays as one position
+abbrev pub at-position : Cursor → List ℕ → List ℕ → Position
+at-position cursor classes best = record { cursor = cursor; classes = classes; best = best }
+
+-- the position stands, and each class's members are gathered
+pub record Ready (size : ℕ) (at : Cursor) (classes best members : List ℕ) : Type 0 where
+  pub stands : Stands size (at-position at classes best)
+  pub classes-sized : length classes ≡ mark-limit
+  pub gathered : Gathered classes (at .depth) members
+
+-- the view moved as the machine does in one step, and all is ready for the next
+pub record Moved (table : List ℕ) (size singles witness : ℕ) (at : Cursor) (classes best : List ℕ) (after : Cursor) (classes′ best′ members′ : List ℕ)
+    : Type 0 where
+  pub stepped :
+      view (at-position after classes′ best′) size ≡ step (kernel-given table size singles witness) (view (at-position at classes best) size)
+  pub ready : Ready size after classes′ best′ members′
+
+-- the four ways that a step goes, over a table of members from which a class was looked for
+module _ (table : List ℕ) (size singles witness : ℕ) {at : Cursor} {classes best members : List ℕ} (r : Ready size at classes best members) {end class : ℕ}
+    (ends : end ≡ class-end (at .depth) size (at .used) (at .count))
+    (finds : class ≡ Option·getD (lowest-below end (open-to table members (at .depth) (at .next))) end) where
+  looked : Looked table size (at-position at classes best) end class
+  looked =
+      record {
+        ends = ends;
+        finds =
+            finds
+            ∙ rw (lowest-below-ext end (open-to table members (at .depth) (at .next)) (joinable table classes (at .depth) (at .next))
+            (λ c l. open-joinable table (at .depth) (at .next) (depth-le-limit (r .stands)) (r .gathered) c));
+      }
+
+  -- no class is found and no grant is placed
+  pub closed : end ≤ class → at .depth ≡ 0
+      → Moved table size singles witness at classes best
+      (record { depth = at .depth; next = at .next; used = at .used; count = at .count; finished = true; opened = at .opened })
+      classes best members
+  closed l e =
+      let f = closes table size singles witness (at-position at classes best) (r .stands) looked l e in
+      record {
+        stepped = f .0;
+        ready = record { stands = f .1; classes-sized = r .classes-sized; gathered = r .gathered };
+      }
+
+  -- no class is found: the latest grant is taken back, and leaves its class
+  pub took-back : end ≤ class → 0 < at .depth → (after : Cursor) (left : List ℕ)
+      → after ≡ taken-back at (getD classes (at .depth - 1) 0) → Left members (getD classes (at .depth - 1) 0) (at .depth - 1) left
+      → Moved table size singles witness at classes best after classes best left
+  took-back l pos after left e leaves =
+      let f = takes-back table size singles witness (at-position at classes best) (r .stands) looked l pos after e in
+      record {
+        stepped = f .0;
+        ready =
+            record {
+              stands = f .1;
+              classes-sized = r .classes-sized;
+              gathered = rw e (gathered-fewer (rw latest at (r .gathered)) leaves);
+            };
+      }
+    where
+      latest : at .depth ≡ suc (at .depth - 1)
+      latest = omega arith
+
+  -- the next grant is placed in the class found, and joins it
+  module _ (l : class < end) (after : Cursor) (placed : Placed at class after) (joined : List ℕ) (joins : Joined members class (at .depth) joined) where
+    stored : at .depth < length classes
+    stored = omega (arith, room-below-limit (r .stands) end ends (omega arith), r .classes-sized)
+
+    gathered-after : Gathered (set classes (at .depth) class) (after .depth) joined
+    gathered-after =
+        rw (placed .depth)
+        (gathered-more (r .gathered) joins (λ i k. getD-set-other classes (at .depth) i class 0 (λ e. omega arith))
+        (getD-set-same classes (at .depth) class 0 stored))
+
+    pub put : (suc (at .depth) ≡ size → ⊥)
+        → Moved table size singles witness at classes best after (set classes (at .depth) class) best joined
+    put not-whole =
+        let f = places table size singles witness (at-position at classes best) (r .stands) looked l stored after placed not-whole in
+        record {
+          stepped = f .0;
+          ready =
+              record {
+                stands = f .1;
+                classes-sized = length-set classes (at .depth) class ∙ r .classes-sized;
+                gathered = gathered-after;
+              };
+        }
+
+    -- all grants are placed, and the placement is the best one
+    pub put-last : suc (at .depth) ≡ size → (finished : Bool) → finished ≡ eqb (after .used + singles) witness
+        → Moved table size singles witness at classes best
+        (record {
+          depth = after .depth;
+          next = after .next;
+          used = after .used;
+          count = after .used;
+          finished = finished;
+          opened = after .opened;
+        })
+        (set classes (at .depth) class) (set classes (at .depth) class) joined
+    put-last whole finished e =
+        let f =
+        improves table size singles witness (at-position at classes best) (r .stands) looked l stored after placed whole finished e in
+        record {
+          stepped = f .0;
+          ready =
+              record {
+                stands = f .1;
+                classes-sized = length-set classes (at .depth) class ∙ r .classes-sized;
+                gathered = gathered-after;
+              };
+        }

@@ -1,0 +1,53 @@
+// The search's own position moved forward: the small struct of depth, next try and best count is lent to one thin step function. Both functions are proved
+// by hand, and all that they do is what `moved` does.
+use crate::Cursor;
+use crate::KERNEL_LIMIT;
+use crate::TABLE_WORDS;
+use crate::moves;
+ghost use Rattle.search.specs.Lent.{Ready, Moved};
+
+// One step: the lent cursor is moved forward.
+pub fn advance<'s, 'a>(
+    at: &'s mut Cursor,
+    classes: &'a mut [u8; KERNEL_LIMIT],
+    best: &'a mut [u8; KERNEL_LIMIT],
+    members: &'a mut [u64; TABLE_WORDS],
+    fit: &'a [u64; TABLE_WORDS],
+    size: usize,
+    singles: usize,
+    witness: usize,
+)
+    requires { ⌜ Ready size (now at) (now classes) (now best) (now members) ⌝ }
+    ensures { λ _. ⌜ Moved (now (fit .entry)) size singles witness (now (at .entry)) (now (classes .entry)) (now (best .entry)) (now (at .exit)) (now (classes .exit)) (now (best .exit)) (now (members .exit)) ⌝ }
+{
+    let after = moves::moved(*at, classes, best, members, fit, size, singles, witness);
+    *at = after;
+}
+
+// The same with the cursor in a local of its own, so that whoever calls this lends no struct.
+pub fn advanced<'a>(
+    at: Cursor,
+    classes: &'a mut [u8; KERNEL_LIMIT],
+    best: &'a mut [u8; KERNEL_LIMIT],
+    members: &'a mut [u64; TABLE_WORDS],
+    fit: &'a [u64; TABLE_WORDS],
+    size: usize,
+    singles: usize,
+    witness: usize,
+) -> Cursor
+    requires { ⌜ Ready size at (now classes) (now best) (now members) ⌝ }
+    ensures { λ r. ⌜ Moved (now (fit .entry)) size singles witness at (now (classes .entry)) (now (best .entry)) r (now (classes .exit)) (now (best .exit)) (now (members .exit)) ⌝ }
+{
+    let mut place = at;
+    advance(
+        &mut place,
+        classes,
+        best,
+        members,
+        fit,
+        size,
+        singles,
+        witness,
+    );
+    place
+}

@@ -1,0 +1,104 @@
+// What a step does, over a cursor by value and lent arrays: the next grant is placed, the latest is taken back, or the search is closed.
+use crate::Cursor;
+use crate::KERNEL_LIMIT;
+use crate::TABLE_WORDS;
+use crate::choice;
+use crate::members;
+ghost use mathlib.Core.Path.{_≡_};
+ghost use Prim.Native.Nat.{_+_, _<_, _≤_};
+ghost use lib.Dec.{eqb};
+ghost use Rattle.search.specs.Lent.{Ready, Moved};
+ghost use Rattle.search.specs.Marks.{mark-limit};
+ghost use Rattle.search.specs.View.{Placed, taken-back};
+
+// Whether a number of classes plus singles equals w, with no sum that could wrap.
+pub fn reaches(count: usize, singles: usize, witness: usize) -> bool
+    ensures { λ r. ⌜ r ≡ eqb (count + singles) witness ⌝ }
+{
+    if witness < count {
+        return false;
+    }
+    witness - count == singles
+}
+
+impl Cursor {
+    // The next grant placed in a class.
+    fn placed(self, class: usize) -> Cursor
+        requires { ⌜ self .depth < mark-limit ⌝ }
+        requires { ⌜ class ≤ self .used ⌝ }
+        requires { ⌜ self .used < self .count ⌝ }
+        ensures { λ r. ⌜ Placed self class r ⌝ }
+    {
+        let d = self.depth;
+        let opened = self.opened;
+        let mut after = self;
+        after.depth = d + 1;
+        after.next = 0;
+        if class == self.used {
+            after.used = class + 1;
+            after.opened = opened.with(d);
+            return after;
+        }
+        after.opened = opened.without(d);
+        after
+    }
+
+    // The latest grant taken back, which was in a class.
+    fn taken_back(self, class: usize) -> Cursor
+        requires { ⌜ 0 < self .depth ⌝ }
+        requires { ⌜ self .depth ≤ mark-limit ⌝ }
+        requires { ⌜ class < mark-limit ⌝ }
+        requires { ⌜ 0 < self .used ⌝ }
+        ensures { λ r. ⌜ r ≡ taken-back self class ⌝ }
+    {
+        let d = self.depth - 1;
+        let opened = self.opened;
+        let mut after = self;
+        after.depth = d;
+        after.next = class + 1;
+        if opened.has(d) {
+            after.used = self.used - 1;
+            return after;
+        }
+        after
+    }
+}
+
+// One step: the cursor that it leads to. The classes, the best placement and the members of each class are then as that cursor has them.
+pub fn moved<'a>(
+    at: Cursor,
+    classes: &'a mut [u8; KERNEL_LIMIT],
+    best: &'a mut [u8; KERNEL_LIMIT],
+    members: &'a mut [u64; TABLE_WORDS],
+    fit: &'a [u64; TABLE_WORDS],
+    size: usize,
+    singles: usize,
+    witness: usize,
+) -> Cursor
+    requires { ⌜ Ready size at (now classes) (now best) (now members) ⌝ }
+    ensures { λ r. ⌜ Moved (now (fit .entry)) size singles witness at (now (classes .entry)) (now (best .entry)) r (now (classes .exit)) (now (best .exit)) (now (members .exit)) ⌝ }
+{
+    let d = at.depth;
+    let end = choice::class_end(d, size, at.used, at.count);
+    let class = choice::class_for(members, fit, d, at.next, end);
+    if class < end {
+        classes[d] = class as u8;
+        members::put_in(members, class, d);
+        let mut placed = at.placed(class);
+        if d + 1 == size {
+            placed.count = placed.used;
+            placed.finished = reaches(placed.used, singles, witness);
+            *best = *classes;
+            return placed;
+        }
+        return placed;
+    }
+    if d == 0 {
+        let mut closed = at;
+        closed.finished = true;
+        return closed;
+    }
+    let last = classes[d - 1] as usize;
+    members::take_out(members, last, d - 1);
+    at.taken_back(last)
+}

@@ -1,0 +1,48 @@
+-- `session::Session::anew`: the sheet is accepted, so it is short enough to be kept whole and its first cover has classes of one byte where it can be
+-- searched; the session is then one made anew from it.
+use native.Mathlib.Omega.{arith}
+use mathlib.Core.Path.{_≡_, refl}
+use borrow.Author.Needs.{needs}
+use lib.ListN.{length}
+use Rattle.sheet.specs.Limits.{sheet-limit}
+use Rattle.session.specs.Anew.{first-class-below, held-of, Anew, view-anew, holds-anew}
+use Rattle.session.specs.Loading.{unrefused-short}
+use Rattle.session.proofs.Session.anew.Statement.{statement}
+use Rattle.session.proofs.Session.anew.Tie as tie
+
+room : (c : tie.After-copied) → length (c .copied .result) ≡ sheet-limit
+unfolding sheet-limit
+room c = search needs
+
+copied-requires : tie.Need-copied-requires
+copied-requires c κs = unrefused-short (c .before .args .s .now) (c .before .pre)
+
+prepare-requires : tie.Need-prepare-requires
+prepare-requires c κs = search needs
+
+narrowed-requires : tie.Need-narrowed-requires
+narrowed-requires c κs = λ searched i l. omega (arith, first-class-below (c .before .before .prepare .ensures) i l)
+
+start-requires : tie.Need-start-requires
+start-requires c κs = search needs
+
+returns : tie.Need-returns
+returns c =
+    let at-prepared = c .before .before .before .before in
+    let at-copied = at-prepared .before in
+    let text = at-copied .before .before .args .s .now in
+    let made : Anew text (held-of text (at-copied .copied .result) (at-prepared .prepare .result) (c .start .result)) =
+    record {
+      accepts = refl;
+      whole = omega (arith, room at-copied, unrefused-short text (at-copied .before .before .pre));
+      kept = at-copied .copied .ensures;
+      found = at-prepared .prepare .ensures;
+      first = c .before .narrowed .result;
+      same = c .before .narrowed .ensures;
+      starts = c .start .ensures;
+    } in
+    (view-anew made, holds-anew made)
+
+pub anew-spec : {M : Type 1} → statement M
+anew-spec =
+    tie.close (tie.spec copied-requires prepare-requires narrowed-requires start-requires returns)

@@ -1,0 +1,17 @@
+-- `Session::ran`: the search of the table's kernel is that of the sheet's, and above the limit it makes no step (`ran-in`).
+use borrow.Author.Needs.{needs}
+use Rattle.session.specs.MovedOn.{ran-in}
+use Rattle.session.proofs.Session.ran.Statement.{statement}
+use Rattle.session.proofs.Session.ran.Tie as tie
+
+search-requires : tie.Need-search-requires
+search-requires c κs = search needs
+
+returns : tie.Need-returns
+returns c =
+    let e = c .search .ensures in
+    let start = c .before .before .before .before in
+    ran-in (start .pre) (start .args .budget) (c .search .result) (e .0) (e .1 .0) (e .1 .1)
+
+pub ran-spec : {M : Type 1} → statement M
+ran-spec = tie.close (tie.spec search-requires returns)

@@ -1,0 +1,44 @@
+-- `Session::search`: without a sheet it is refused and the session stays. With one, its position is moved on as the machine moves, and the answer has
+-- the steps made and the counts there (`searches-held`); what the session holds is kept (`ran`).
+use mathlib.Core.Path.{refl, ap}
+use borrow.Author.Needs.{needs}
+use borrow.Author.Tests.{not-true, not-false}
+use Rattle.session.specs.Session.{SearchAnswer}
+use Rattle.session.specs.Said.{search-said}
+use Rattle.session.specs.SearchedHeld.{searches-nothing, searches-held}
+use Rattle.session.proofs.Session.search.Statement.{statement}
+use Rattle.session.proofs.Session.search.Tie as tie
+
+refused-requires : tie.Need-refused-requires
+refused-requires c κs = search needs
+
+returns : tie.Need-returns
+returns c =
+    let start = c .before .before .before in
+    let a = start .args in (
+      searches-nothing (a .self) (not-true (a .self .loaded) (c .before .if1 .taken)) (a .budget) (search-said (c .refused .result)) (c .refused .ensures),
+      (start .pre, λ n. refl),
+    )
+
+ran-requires : tie.Need-ran-requires
+ran-requires c κs =
+    let start = c .before .before in start .pre .held (not-false (start .args .self .loaded) (c .if1 .left))
+
+counts-of-requires : tie.Need-counts-of-requires
+counts-of-requires c κs = search needs
+
+found-requires : tie.Need-found-requires
+found-requires c κs = search needs
+
+returns-2 : tie.Need-returns-2
+returns-2 c =
+    let after = c .before .before .before in
+    let loads = not-false (after .before .before .before .args .self .loaded) (after .before .if1 .left) in
+    let on = after .ran .ensures in (
+      searches-held on loads (c .before .counts-of .ensures) (search-said (c .found .result)) (c .found .ensures),
+      (record { held = λ p. on .holds }, λ n. absurd (n (ap (λ (a : SearchAnswer). a .number) (c .found .ensures)))),
+    )
+
+pub search-spec : {M : Type 1} → statement M
+search-spec =
+    tie.close (tie.spec refused-requires returns ran-requires counts-of-requires found-requires returns-2)

@@ -1,0 +1,66 @@
+-- The best placement of a session with a sheet: where the kernel can be searched it is the position's, and else the first cover, which no search changes.
+-- Its classes are counted in the position, and with it the arrays that the session keeps are what the sheet's roles are found from.
+use Prim.Native.Nat.{ℕ, _≤_, _<_}
+use native.Mathlib.Omega.{arith}
+use mathlib.Core.Path.{_≡_, sym, ap, _∙_}
+use mathlib.Core.List.{List}
+use borrow.Author.Tests.{lt-leb}
+use Rattle.lists.specs.LatestFirst.{latest-first}
+use Rattle.sheet.specs.Limits.{permission-limit, grant-limit}
+use Rattle.sheet.specs.Sheet.{sheet-of}
+use Rattle.sheet.specs.Rows.{row-bits}
+use Rattle.sheet.specs.AcceptedFacts.{accepted-lawful}
+use Rattle.grants.specs.Cover.{first-best}
+use Rattle.grants.specs.CoverPlaced.{Placed}
+use Rattle.search.specs.Machine.{State, search-limit}
+use Rattle.search.specs.View.{placed-of}
+use Rattle.roles.specs.Roles.{roles-of, role-count, start-of}
+use Rattle.roles.specs.RolesInput.{Belongs}
+use Rattle.roles.specs.ReducedBelongs.{reduced-belongs}
+use Rattle.book.specs.LaidLaws.{few-users}
+use Rattle.checker.specs.RoleLimit.{permissions-fit-a-row}
+use Rattle.session.specs.Held.{text-in, size-in, state-in, Holds}
+use Rattle.session.specs.MovedOn.{state-within}
+use Rattle.session.specs.CountsHeld.{roles-held, few-roles-held}
+use Rattle.session.specs.declared.Session.{Session as Held}
+
+-- the state is the start where the kernel is too great to be searched, and its best placement is the first cover
+best-above : (s : Held) → search-limit < size-in s → state-in s .best ≡ first-best (sheet-of (text-in s))
+unfolding start-of
+best-above s l = rw (lt-leb (size-in s) search-limit l)
+
+-- the best placement as an array, with its class count
+abbrev pub BestIn : Held → List ℕ → Type 0
+BestIn s classes = Placed (state-in s .best) classes (size-in s) (s .position .cursor .count)
+
+-- the sheet's roles are found from these arrays and that one
+abbrev pub BelongsIn : Held → List ℕ → Type 0
+BelongsIn s classes =
+    Belongs (s .prepared .rows) (s .prepared .layout .users) (s .prepared .kernel .cells) (size-in s) classes (s .position .cursor .count)
+    (s .prepared .reduced .removed) (s .prepared .reduced .partner) (s .prepared .reduced .count) (sheet-of (text-in s)) (state-in s .best)
+
+module _ {s : Held} (h : Holds s) where
+  -- the first cover
+  pub first-is-best : search-limit < size-in s → BestIn s (s .prepared .first .classes)
+  first-is-best l = record { so-far = h .prepared .first .so-far ∙ sym (best-above s l); in-use = h .counted }
+
+  -- the position's, copied
+  pub copy-is-best : size-in s ≤ search-limit → {classes : List ℕ}
+      → ((n : ℕ) → n ≤ search-limit → latest-first classes n ≡ placed-of (s .position .best) n) → BestIn s classes
+  copy-is-best l same =
+      record { so-far = same (size-in s) l ∙ sym (ap (λ (st : State). st .best) (state-within s l)); in-use = h .counted }
+
+  -- no more classes than roles
+  few-classes : s .position .cursor .count ≤ grant-limit
+  unfolding permission-limit grant-limit
+  few-classes = omega (arith, few-roles-held h)
+
+  few-roles : roles-of (sheet-of (text-in s)) (state-in s .best) .count ≤ row-bits
+  unfolding role-count
+  few-roles = omega (arith, roles-held h, few-roles-held h, permissions-fit-a-row)
+
+  pub best-belongs : {classes : List ℕ} → BestIn s classes → BelongsIn s classes
+  best-belongs placed =
+      let found = h .prepared in
+      reduced-belongs (found .shown) (few-users (found .laid)) (accepted-lawful (text-in s) (found .laid .accepts) .few-grants)
+      (s .prepared .reduced) (s .prepared .kernel) (found .reduced) (found .listed) (found .room) placed few-classes few-roles

@@ -1,0 +1,65 @@
+-- The counts where a session's search stands: the best placement's classes and the singles together are the roles, which are no more than permissions; with
+-- the witness's count beside them, state and bound are what the definitions say.
+use Prim.Native.Nat.{ℕ, _+_, _≤_}
+use native.Mathlib.Omega.{arith}
+use mathlib.Core.Path.{_≡_, ap, _∙_}
+use mathlib.Core.Bool.{Bool}
+use lib.ListN.{length}
+use Rattle.sheet.specs.Limits.{permission-limit}
+use Rattle.sheet.specs.Sheet.{sheet-of}
+use Rattle.sheet.specs.AcceptedFacts.{accepted-lawful}
+use Rattle.grants.specs.Witness.{witness}
+use Rattle.roles.specs.Roles.{standing-of, bound-of, role-count, standing, bound}
+use Rattle.roles.specs.StandingCases.{standing-case}
+use Rattle.book.specs.declared.counts.Counts.{Counts}
+use Rattle.minimality.specs.StateBound.{state-counted, state-le-permissions}
+use Rattle.session.specs.Believed.{accepted-even}
+use Rattle.session.specs.Held.{text-in, state-in, Holds}
+use Rattle.session.specs.Counted.{CountsIn}
+use Rattle.session.specs.declared.Session.{Session as Held}
+
+-- the best placement's classes and the singles
+abbrev pub roles-in : Held → ℕ
+roles-in s = s .position .cursor .count + s .prepared .reduced .singles
+
+module _ {s : Held} (h : Holds s) where
+  pub roles-held : roles-in s ≡ role-count (sheet-of (text-in s)) (state-in s)
+  roles-held =
+      let single = h .prepared .reduced .single-count (sheet-of (text-in s)) (h .prepared .shown) in
+      omega (arith, h .counted, single, state-counted (sheet-of (text-in s)) (state-in s) (h .searching))
+
+  -- never more than permissions
+  pub few-roles-held : roles-in s ≤ permission-limit
+  few-roles-held =
+      let accepts = h .prepared .laid .accepts in
+      omega (
+        arith,
+        roles-held,
+        state-le-permissions (sheet-of (text-in s)) (state-in s) (h .searching) (accepted-even (text-in s) accepts),
+        accepted-lawful (text-in s) accepts .few-permissions,
+      )
+
+  pub standing-held : standing-of (roles-in s) (s .prepared .witness .count) (s .position .cursor .finished)
+      ≡ standing (sheet-of (text-in s)) (state-in s)
+  unfolding standing
+  standing-held =
+      let sheet = sheet-of (text-in s) in
+      ap (λ (n : ℕ). standing-of n (s .prepared .witness .count) (s .position .cursor .finished)) roles-held
+      ∙ ap (λ (w : ℕ). standing-of (role-count sheet (state-in s)) w (s .position .cursor .finished)) (h .prepared .witness .counted)
+      ∙ ap (λ (b : Bool). standing-of (role-count sheet (state-in s)) (length (witness sheet)) b) (h .finished)
+
+  pub bound-held : bound-of (standing (sheet-of (text-in s)) (state-in s)) (roles-in s) (s .prepared .witness .count)
+      ≡ bound (sheet-of (text-in s)) (state-in s)
+  unfolding bound
+  bound-held = rw (roles-held, h .prepared .witness .counted)
+
+  -- counts made of these are the session's
+  pub counts-held : (counts : Counts) → counts .roles ≡ roles-in s
+      → standing-case (counts .standing) ≡ standing-of (roles-in s) (s .prepared .witness .count) (s .position .cursor .finished)
+      → counts .bound ≡ bound-of (standing-case (counts .standing)) (roles-in s) (s .prepared .witness .count) → CountsIn s counts
+  counts-held counts roles stands bounds =
+      record {
+        roles = roles ∙ roles-held;
+        bound = bounds ∙ rw (stands ∙ standing-held) bound-held;
+        standing = stands ∙ standing-held;
+      }
