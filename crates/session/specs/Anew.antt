@@ -45,17 +45,17 @@ module _ {text : Bytes} {p : Prepared} (found : PreparedFor text p) where
       )
 
   -- its class count is that of the machine's start
-  pub first-counted : p .first .used ≡ best-count (start-of (sheet-of text))
+  first-counted : p .first .used ≡ best-count (start-of (sheet-of text))
   unfolding start-of
   first-counted = found .first .in-use
 
   -- and finishes the search where the machine's start is finished
-  pub first-finishes : eqb (p .first .used + p .reduced .singles) (p .witness .count) ≡ start-of (sheet-of text) .finished
+  first-finishes : eqb (p .first .used + p .reduced .singles) (p .witness .count) ≡ start-of (sheet-of text) .finished
   unfolding start-of kernel-of
   first-finishes = rw (found .first .in-use, found .reduced .single-count (sheet-of text) (found .shown), found .witness .counted)
 
   -- the position before the first step, with the first cover as its best placement
-  pub started-at : (first : List ℕ) → placed-of first (p .kernel .size) ≡ latest-first (p .first .classes) (p .kernel .size)
+  started-at : (first : List ℕ) → placed-of first (p .kernel .size) ≡ latest-first (p .first .classes) (p .kernel .size)
       → position.view (started first (p .first .used) (p .reduced .singles) (p .witness .count)) (p .kernel .size) ≡ start-of (sheet-of text)
   unfolding start-of
   started-at first e = rw (e, found .first .so-far, first-finishes)

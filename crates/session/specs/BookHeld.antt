@@ -43,8 +43,8 @@ module _ {s : Held} (h : Holds s) where
   room-for-permissions = let laid = h .prepared .laid in omega (arith, permissions-fit laid, laid .permission-total)
 
   -- the witness's cells are cells of grants
-  pub witness-granted : GrantCells (s .prepared .witness .cells) (sheet-of (text-in s))
-  witness-granted = part-granted (h .prepared .shown) room-for-permissions (h .prepared .witness .part)
+  pub witness-cells-granted : GrantCells (s .prepared .witness .cells) (sheet-of (text-in s))
+  witness-cells-granted = part-granted (h .prepared .shown) room-for-permissions (h .prepared .witness .part)
 
   module _ {counts : Counts} (counted : CountsIn s counts) where
     -- a role has a place in a row of words

@@ -1,4 +1,4 @@
--- What a session of the code stands for, and which of its values come from the calls: the parts kept beside the sheet's bytes are what follows from
+-- What a session of the code stands for, and what its values keep from call to call: the parts kept beside the sheet's bytes are what follows from
 -- them, and the position is one that searches of the sheet come to. Assumes nothing.
 use Prim.Native.Nat.{ℕ, _≤_}
 use mathlib.Core.Path.{_≡_}
@@ -41,6 +41,6 @@ pub record Holds (s : Held) : Type 0 where
   pub counted : s .position .cursor .count ≡ best-count (state-in s)
   pub finished : s .position .cursor .finished ≡ state-in s .finished
 
--- a session that came from the calls
+-- what every session that came from the calls keeps: with no sheet nothing, with one all of this
 pub record Sound (s : Held) : Type 0 where
   pub held : So (s .loaded) → Holds s

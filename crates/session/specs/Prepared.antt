@@ -15,7 +15,7 @@ use Rattle.grants.specs.CoverPlaced.{Placed}
 use Rattle.grants.specs.TableWords.{Table}
 use Rattle.session.specs.declared.prepared.Prepared.{Prepared}
 
--- the text is an accepted sheet, and this was found of it
+-- the text is an accepted sheet (`laid` says so), and this was found of it
 pub record PreparedFor (text : Bytes) (p : Prepared) : Type 0 where
   pub laid : LaidOut text (p .layout)
   pub shown : Shown (p .rows) (p .layout .users) (sheet-of text)

@@ -1,8 +1,9 @@
 // A session: loads, searches and writings.
 //
-// A session is a value: a call takes one and hands back the next, with its answer. Each call says its whole answer, the session after it and
-// every lent byte, by the records `Loads`, `Searches` and `Writes` of specs/Session.antt, which the sequence of demand 3 is made of. It asks
-// only that the session came from these calls (`Sound`), which `fresh` establishes and each call keeps.
+// A session is a value: a call takes one and hands back the next, with its answer; a copy that is kept goes on as a sequence of its own. Each call
+// says its whole answer, the session after it and, of a writing, every byte of the lent buffer, by the records `Loads`, `Searches` and `Writes` of
+// specs/Session.antt, which the sequence of demand 3 is made of; a sheet is lent to be read only. A call asks only that the session came from
+// these calls (`Sound`), which `fresh` establishes and each call keeps.
 mod answers;
 mod classes;
 mod counts;

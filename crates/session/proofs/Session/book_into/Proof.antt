@@ -3,7 +3,7 @@
 use mathlib.Core.Path.{sym}
 use borrow.Author.Needs.{needs}
 use lib.Seq.{length-take-le}
-use Rattle.session.specs.BookHeld.{witness-granted, room-for-roles, book-held}
+use Rattle.session.specs.BookHeld.{witness-cells-granted, room-for-roles, book-held}
 use Rattle.session.proofs.Session.book_into.Statement.{statement}
 use Rattle.session.proofs.Session.book_into.Tie as tie
 
@@ -25,7 +25,7 @@ write-if-room-requires : tie.Need-write-if-room-requires
 write-if-room-requires c κs =
     let counted = c .before .before .before .before .before .before .before .before .before .before .before in
     let holds = counted .before .before .pre in
-    (holds .prepared .laid, room-for-roles holds (counted .counts-of .ensures), witness-granted holds)
+    (holds .prepared .laid, room-for-roles holds (counted .counts-of .ensures), witness-cells-granted holds)
 
 same-length : tie.Need-same-length
 same-length c = search needs

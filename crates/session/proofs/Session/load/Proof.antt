@@ -1,6 +1,7 @@
 -- `session::Session::load`: the judge's number decides. A refused sheet is answered by it and leaves the session; of an accepted one the session is made
 -- anew, and its counts are those found of the bytes that it keeps.
-use mathlib.Core.Path.{_≡_, refl, sym, ap, _∙_}
+use native.Mathlib.Omega.{arith}
+use mathlib.Core.Path.{_≡_, refl, ap, _∙_}
 use borrow.Author.Needs.{needs}
 use Rattle.sheet.specs.Text.{Bytes}
 use Rattle.sheet.specs.Sheet.{sheet-of}
@@ -21,7 +22,7 @@ refused-requires c κs = search needs
 returns : tie.Need-returns
 returns c =
     let at-judged = c .before .before in
-    (refused-loads _ _ (at-judged .judge .ensures) (c .before .if1 .taken) (c .refused .ensures), (at-judged .before .before .pre, λ _. refl))
+    (refused-loads _ _ (at-judged .judge .ensures) (λ z. omega arith) (c .refused .ensures), (at-judged .before .before .pre, λ _. refl))
 
 anew-requires : tie.Need-anew-requires
 anew-requires c κs = search needs
@@ -42,7 +43,7 @@ returns-2 : tie.Need-returns-2
 returns-2 c =
     let at-anew = c .before .before in
     let at-judged = at-anew .before .before in (
-      accepted-loads _ _ (sym (at-judged .judge .ensures) ∙ at-anew .before .if1 .left) (said c) (at-anew .anew .ensures .0),
+      accepted-loads _ _ (omega (arith, at-judged .judge .ensures)) (said c) (at-anew .anew .ensures .0),
       (record { held = λ _. at-anew .anew .ensures .1 }, λ refused. absurd (refused (ap (λ (a : LoadAnswer). a .number) (said c)))),
     )
 
