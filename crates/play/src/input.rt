@@ -46,11 +46,11 @@ fn skip_line() {
 }
 
 // Reads a line to the front of the buffer. The last line may lack its line feed.
-pub fn read_line(line: &mut [u8; LINE_LIMIT]) -> LineRead
+pub fn read_line(line: &mut [u8]) -> LineRead
     ensures { λ r. ⌜ Counts (r .count) (now (line .exit)) ⌝ }
 {
     let mut count = 0;
-    while count < LINE_LIMIT {
+    while count < line.len() {
         let Input::Byte(b) = next_byte() else {
             return LineRead {
                 ended: count == 0,

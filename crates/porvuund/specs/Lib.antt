@@ -5,3 +5,4 @@ pub mod Output
 pub mod Front
 pub mod Lines
 pub mod CheckOutput
+pub mod SearchNumbers

@@ -3,6 +3,7 @@ mod budget;
 mod calls;
 mod lines;
 mod output;
+mod sessions;
 
 pub use budget::BudgetRead;
 pub use budget::budget_of;
@@ -15,3 +16,9 @@ pub use output::CHECK_BUFFER;
 pub use output::PROGRAM_BUFFER;
 pub use output::book_output;
 pub use output::check_output;
+pub use sessions::SearchNumbers;
+pub use sessions::SearchedNumbers;
+pub use sessions::porvuund_fresh;
+pub use sessions::porvuund_load;
+pub use sessions::porvuund_search;
+pub use sessions::porvuund_write;
