@@ -1,0 +1,3 @@
+-- What the program's own functions compute.
+pub mod Adler
+pub mod Space

@@ -1,0 +1,79 @@
+// The calls of a script. Each hands back the session after it, which came from the calls if the one before did.
+use crate::say;
+use crate::space::SPACE_LIMIT;
+use crate::space::patterned;
+use checker::BOOK_LIMIT;
+use porvuund::BudgetRead;
+use session::Session;
+use sheet::SHEET_LIMIT;
+ghost use Rattle.session.specs.Held.{Sound};
+
+// One byte more than a sheet and a book have, by which longer ones are known.
+const SHEET_BUFFER: usize = SHEET_LIMIT + 1;
+
+const BOOK_BUFFER: usize = BOOK_LIMIT + 1;
+
+pub fn load(session: Session, path: &[u8]) -> Session
+    requires { ⌜ Sound session ⌝ }
+    ensures { λ r. ⌜ Sound r ⌝ }
+{
+    let mut text = [0u8; SHEET_BUFFER];
+    let read = files::read_file(path, &mut text);
+    if !read.readable {
+        say::no_call();
+        return session;
+    }
+    let count = read.count;
+    let loaded = session.load(&text[..count]);
+    let answer = loaded.answer;
+    say::loaded(answer);
+    loaded.session
+}
+
+pub fn search(session: Session, word: &[u8]) -> Session
+    requires { ⌜ Sound session ⌝ }
+    ensures { λ r. ⌜ Sound r ⌝ }
+{
+    let BudgetRead::Number(budget) = porvuund::read_budget(word) else {
+        say::no_call();
+        return session;
+    };
+    let searched = session.search(budget);
+    let answer = searched.answer;
+    say::searched(answer);
+    searched.session
+}
+
+pub fn write(session: Session, word: &[u8]) -> Session
+    requires { ⌜ Sound session ⌝ }
+    ensures { λ r. ⌜ Sound r ⌝ }
+{
+    let BudgetRead::Number(n) = porvuund::read_budget(word) else {
+        say::no_call();
+        return session;
+    };
+    let length = n as usize;
+    if SPACE_LIMIT < length {
+        say::no_call();
+        return session;
+    }
+    let mut space = patterned();
+    let written = session.write(&mut space[..length]);
+    let answer = written.answer;
+    say::written(answer, &space[..length]);
+    written.session
+}
+
+pub fn check<'a>(sheet_path: &'a [u8], book_path: &'a [u8]) {
+    let mut sheet = [0u8; SHEET_BUFFER];
+    let first = files::read_file(sheet_path, &mut sheet);
+    let mut book = [0u8; BOOK_BUFFER];
+    let second = files::read_file(book_path, &mut book);
+    if !first.readable || !second.readable {
+        say::no_call();
+        return;
+    }
+    let sheet_length = first.count;
+    let book_length = second.count;
+    say::checked(checker::check(&sheet[..sheet_length], &book[..book_length]));
+}

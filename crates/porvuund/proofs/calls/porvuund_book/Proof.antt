@@ -1,0 +1,56 @@
+-- `calls::porvuund_book`: each call takes the session that the one before left, and a load's number is the sheet's.
+use borrow.Author.Needs.{needs}
+use Prim.Native.Nat.{ℕ}
+use mathlib.Core.Path.{_≡_, sym, _∙_}
+use Rattle.sheet.specs.Refusal.{refusal}
+use Rattle.porvuund.specs.OneShot.{loaded-number, refused-by-load, written-after}
+use Rattle.porvuund.proofs.calls.porvuund_book.Statement.{statement}
+use Rattle.porvuund.proofs.calls.porvuund_book.Tie as tie
+
+abbrev start : tie.After-load → tie.Start
+start c = c .before .before .before .before
+
+sheet-number : (c : tie.After-load) → c .load .result .answer .number ≡ refusal (start c .args .sheet .now)
+sheet-number c = loaded-number (start c .args .sheet .now) (c .load .ensures .0)
+
+fresh-requires : tie.Need-fresh-requires
+fresh-requires c κs = search needs
+
+load-requires : tie.Need-load-requires
+load-requires c κs = search needs
+
+returns : tie.Need-returns
+returns c =
+    let l = c .before in
+    let s = start l in
+    refused-by-load (s .args .sheet .now) (s .args .budget) (s .args .out .now) (l .load .result .answer .number) (sheet-number l) (c .if1 .taken)
+
+search-requires : tie.Need-search-requires
+search-requires c κs = search needs
+
+write-requires : tie.Need-write-requires
+write-requires c κs = search needs
+
+same-length : tie.Need-same-length
+same-length c = search needs
+
+returns-2 : tie.Need-returns-2
+returns-2 c =
+    let w = c .before .before in
+    let f = w .before .before .before in
+    let l = f .before .before .before in
+    let s = start l in
+    written-after (s .args .sheet .now) (s .args .budget) (s .args .out .now) (sym (sheet-number l) ∙ f .before .before .if1 .left)
+    (l .before .fresh .ensures .0) (l .load .ensures .0) (f .search .ensures .0) (w .write .ensures .0)
+
+pub porvuund-book-spec : {M : Type 1} → statement M
+porvuund-book-spec =
+    tie.close
+    (tie.spec
+    fresh-requires
+    load-requires
+    returns
+    search-requires
+    write-requires
+    same-length
+    returns-2)

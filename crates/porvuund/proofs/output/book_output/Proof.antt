@@ -1,0 +1,56 @@
+-- `output::book_output`: the call leaves the book at the front of the buffer, or leaves the buffer for the number.
+use borrow.Author.Needs.{needs}
+use native.Mathlib.Omega.{arith}
+use mathlib.Core.Path.{_≡_, sym}
+use mathlib.Core.List.{[], _∷_}
+use lib.ListN.{length}
+use Rattle.checker.specs.Form.{book-limit}
+use Rattle.book.specs.Written.{Written, written-as}
+use Rattle.session.specs.Program.{program-buffer, budget-of}
+use Rattle.porvuund.specs.OneShot.{Books, book-said}
+use Rattle.porvuund.specs.Output.{output-written, output-refused}
+use Rattle.porvuund.specs.Lines.{number-line-length}
+use Rattle.porvuund.proofs.output.book_output.Statement.{statement}
+use Rattle.porvuund.proofs.output.book_output.Tie as tie
+
+room : (c : tie.After-porvuund-book-arg) → length (c .before .before .before .before .args .out .now) ≡ program-buffer
+unfolding program-buffer book-limit
+room c = search needs
+
+abbrev start : tie.After-porvuund-book → tie.Start
+start c = c .before .before .before .before .before
+
+books : (c : tie.After-porvuund-book)
+    → let s = start c in
+    Books (s .args .sheet .now) (budget-of (s .args .word .now ∷ [])) (s .args .out .now) (book-said (c .porvuund-book .result)) (c .porvuund-book .last .1 .1 .0)
+books c = rw (c .before .before .budget-of .ensures) at (c .porvuund-book .ensures)
+
+budget-of-requires : tie.Need-budget-of-requires
+budget-of-requires c κs = search needs
+
+porvuund-book-requires : tie.Need-porvuund-book-requires
+porvuund-book-requires c κs = search needs
+
+returns : tie.Need-returns
+returns c =
+    let b = c .before .before in
+    let s = start b in
+    output-written (s .args .sheet .now) (s .args .word .now) (s .args .out .now) (room (b .before)) (books b) (c .if1 .taken)
+
+put-number-line-requires : tie.Need-put-number-line-requires
+put-number-line-requires c κs =
+    let h : length (c .before .before .before .porvuund-book .last .1 .1 .0) ≡ 65_536 = search needs in
+    omega (arith, number-line-length (c .before .before .before .porvuund-book .result .number) (c .before .before .struct-known .given .0 .fits))
+
+returns-2 : tie.Need-returns-2
+returns-2 c =
+    let e = c .before .before in
+    let b = e .before .before in
+    let s = start b in
+    let refused = output-refused (s .args .sheet .now) (s .args .word .now) (s .args .out .now) (room (b .before)) (books b) (e .if1 .left) in
+    written-as (sym (refused .0)) (rw (refused .1) at (c .put-number-line .ensures))
+
+pub book-output-spec : {M : Type 1} → statement M
+book-output-spec =
+    tie.close
+    (tie.spec budget-of-requires porvuund-book-requires returns put-number-line-requires returns-2)

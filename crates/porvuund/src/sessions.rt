@@ -1,0 +1,94 @@
+// A session held by another language: each function is the session's own call of that name. Other languages keep what `Sound` asks by handing back
+// only sessions that these functions gave.
+use roles::Standing;
+use session::Loaded;
+use session::Named;
+use session::Session;
+use session::Written;
+ghost use mathlib.Core.Path.{_≡_};
+ghost use mathlib.Core.Logic.{_≢_};
+ghost use Rattle.session.specs.Session.{fresh, Loads, Writes};
+ghost use Rattle.session.specs.Said.{load-said, write-said, state-said};
+ghost use Rattle.session.specs.Held.{view, Sound};
+ghost use Rattle.porvuund.specs.SearchNumbers.{state-number, SearchesAs};
+
+// What a search answers, with a number for its state: 1 witnessed, 2 searched, 3 open, and 0 for none.
+#[repr(C)]
+pub struct SearchNumbers {
+    pub number: usize,
+    pub steps: u32,
+    pub state: u32,
+    pub roles: usize,
+    pub bound: usize,
+}
+
+// The session after a search, and what the search answers.
+#[repr(C)]
+pub struct SearchedNumbers {
+    pub session: Session,
+    pub answer: SearchNumbers,
+}
+
+// The number of a state.
+fn number_of(named: Named) -> u32
+    ensures { λ r. ⌜ r ≡ state-number (state-said named) ⌝ }
+{
+    match named {
+        Named::Nothing => 0,
+        Named::State(standing) => match standing {
+            Standing::Witnessed => 1,
+            Standing::Searched => 2,
+            Standing::Open => 3,
+        },
+    }
+}
+
+#[no_mangle]
+pub extern "C" fn porvuund_fresh() -> Session
+    ensures { λ r. ⌜ view r ≡ fresh ⌝ }
+    ensures { λ r. ⌜ Sound r ⌝ }
+{
+    Session::fresh()
+}
+
+#[no_mangle]
+pub extern "C" fn porvuund_load(session: Session, sheet: &[u8]) -> Loaded
+    requires { ⌜ Sound session ⌝ }
+    ensures { λ r. ⌜ Loads (view session) (now (sheet .entry)) (load-said (r .answer)) (view (r .session)) ⌝ }
+    ensures { λ r. ⌜ Sound (r .session) ⌝ }
+    ensures { λ r. ⌜ (r .answer .number ≢ 0 → r .session ≡ session) ⌝ }
+{
+    session.load(sheet)
+}
+
+#[no_mangle]
+pub extern "C" fn porvuund_search(session: Session, budget: u32) -> SearchedNumbers
+    requires { ⌜ Sound session ⌝ }
+    ensures { λ r. ⌜ SearchesAs (view session) budget (r .answer) (view (r .session)) ⌝ }
+    ensures { λ r. ⌜ Sound (r .session) ⌝ }
+    ensures { λ r. ⌜ (r .answer .number ≢ 0 → r .session ≡ session) ⌝ }
+{
+    let searched = session.search(budget);
+    let after = searched.session;
+    let answer = searched.answer;
+    let named = answer.state;
+    SearchedNumbers {
+        session: after,
+        answer: SearchNumbers {
+            number: answer.number,
+            steps: answer.steps,
+            state: number_of(named),
+            roles: answer.roles,
+            bound: answer.bound,
+        },
+    }
+}
+
+#[no_mangle]
+pub extern "C" fn porvuund_write(session: Session, out: &mut [u8]) -> Written
+    requires { ⌜ Sound session ⌝ }
+    ensures { λ r. ⌜ Writes (view session) (now (out .entry)) (write-said (r .answer)) (now (out .exit)) (view (r .session)) ⌝ }
+    ensures { λ r. ⌜ r .session ≡ session ⌝ }
+{
+    session.write(out)
+}

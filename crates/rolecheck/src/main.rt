@@ -1,0 +1,39 @@
+// The checker as a program: `rolecheck SHEETFILE BOOKFILE` prints the book's roles and witness lines with a comma between, or the number of the
+// refusal, and a line feed. What it prints is `check-output` (porvuund, CheckOutput); what is here only reads and writes. Where a file cannot be
+// read it prints nothing, and standard error says why.
+use checker::BOOK_LIMIT;
+use files::FileRead;
+use libc::PATH_MAX;
+use libc::STDOUT_FILENO;
+use porvuund::CHECK_BUFFER;
+use sheet::SHEET_LIMIT;
+ghost use Rattle.io.specs.Counts.{Counts};
+
+// One byte more than a sheet and a book have, by which longer ones are known.
+const SHEET_BUFFER: usize = SHEET_LIMIT + 1;
+
+const BOOK_BUFFER: usize = BOOK_LIMIT + 1;
+
+// Reads the file that an argument names.
+fn read_argument(i: usize, buf: &mut [u8]) -> FileRead
+    ensures { λ r. ⌜ Counts (r .count) (now (buf .exit)) ⌝ }
+{
+    let mut path = [0u8; PATH_MAX];
+    let length = os::arg(i, &mut path);
+    files::read_file(&path[..length], buf)
+}
+
+fn main() {
+    let mut sheet = [0u8; SHEET_BUFFER];
+    let first = read_argument(1, &mut sheet);
+    let mut book = [0u8; BOOK_BUFFER];
+    let second = read_argument(2, &mut book);
+    if !first.readable || !second.readable {
+        return;
+    }
+    let sheet_length = first.count;
+    let book_length = second.count;
+    let mut out = [0u8; CHECK_BUFFER];
+    let count = porvuund::check_output(&sheet[..sheet_length], &book[..book_length], &mut out);
+    io::write_all(STDOUT_FILENO, &out[..count]);
+}
