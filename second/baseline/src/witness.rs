@@ -1,0 +1,161 @@
+//! The witness: partner counts of the kernel grants are kept up to date as grants are closed to choice.
+
+use second::limits::{GRANTS, PERMISSIONS, USERS};
+
+use crate::kernel::Kernel;
+use crate::reduction::Reduction;
+use crate::sets::{Users, ones};
+use crate::sheet::{Cell, Sheet, permission_of, user_of};
+
+/// The count of a grant that is closed to choice.
+const CLOSED: i16 = i16::MAX;
+
+/// The most grants that no two of which fit: each needs a role of its own.
+const MOST: usize = PERMISSIONS;
+
+/// The witness in grant order, and room to find it.
+#[derive(Clone, Debug)]
+pub struct Witness {
+    pub count: usize,
+    cells: [Cell; MOST],
+    /// How many open grants fit each kernel grant, itself among them.
+    partners: [i16; GRANTS],
+    /// The grants open to choice by user.
+    open: [u64; USERS],
+    /// The grants that were closed last, by user.
+    closed: [u64; USERS],
+}
+
+impl Witness {
+    pub fn none() -> Witness {
+        Witness { count: 0, cells: [0; MOST], partners: [0; GRANTS], open: [0; USERS], closed: [0; USERS] }
+    }
+
+    pub fn cells(&self) -> &[Cell] {
+        &self.cells[..self.count]
+    }
+
+    /// Takes from the kernel, adds the singles and sorts.
+    pub fn find(&mut self, sheet: &Sheet, reduction: &Reduction, kernel: &Kernel) {
+        self.count = 0;
+        if kernel.count > 0 {
+            self.open = reduction.rows;
+            self.count_partners(sheet, reduction, kernel);
+            while let Some(number) = self.fewest(kernel.count) {
+                self.take(sheet, kernel, number);
+            }
+        }
+        for (removed, partner) in reduction.removed.iter().zip(&reduction.partner).take(reduction.count) {
+            if removed == partner {
+                self.add(*removed);
+            }
+        }
+        self.cells[..self.count].sort_unstable();
+    }
+
+    fn add(&mut self, cell: Cell) {
+        self.cells[self.count] = cell;
+        self.count += 1;
+    }
+
+    fn count_partners(&mut self, sheet: &Sheet, reduction: &Reduction, kernel: &Kernel) {
+        let mut number = 0;
+        while number < kernel.count {
+            let user = user_of(kernel.cells[number]);
+            let row = sheet.rows[user];
+            let near = ones(row).fold(Users::NONE, |all, place| all.or(reduction.columns[place]));
+            let fitting = Fitting::of(row, near, &self.open);
+            for permission in ones(self.open[user]) {
+                self.partners[number] = fitting.count(sheet.columns[permission]);
+                number += 1;
+            }
+        }
+    }
+
+    /// The lowest of the open grants with the fewest partners.
+    fn fewest(&self, count: usize) -> Option<usize> {
+        let partners = &self.partners[..count];
+        let fewest = partners.iter().copied().fold(CLOSED, i16::min);
+        if fewest == CLOSED { None } else { partners.iter().position(|own| *own == fewest) }
+    }
+
+    /// Takes a grant and closes it and its partners to choice.
+    fn take(&mut self, sheet: &Sheet, kernel: &Kernel, number: usize) {
+        let taken = kernel.cells[number];
+        self.add(taken);
+        let row = sheet.rows[user_of(taken)];
+        let mut users = Users::NONE;
+        let mut pairs = 0;
+        for user in sheet.columns[permission_of(taken)].iter() {
+            let closed = self.open[user] & row;
+            self.closed[user] = closed;
+            self.open[user] &= !closed;
+            if closed != 0 {
+                users.add(user);
+            }
+            for permission in ones(closed) {
+                let partners = &mut self.partners[kernel.number(user, permission)];
+                pairs += *partners as usize;
+                *partners = CLOSED;
+            }
+        }
+        if pairs <= 2 * kernel.count {
+            self.discount_pairs(sheet, kernel, users);
+        } else {
+            self.discount_rows(sheet, kernel, users);
+        }
+    }
+
+    /// Takes the closed grants off the counts of the open ones, one pair after another.
+    fn discount_pairs(&mut self, sheet: &Sheet, kernel: &Kernel, users: Users) {
+        for user in users.iter() {
+            for permission in ones(self.closed[user]) {
+                for other in sheet.columns[permission].iter() {
+                    for partner in ones(self.open[other] & sheet.rows[user]) {
+                        self.partners[kernel.number(other, partner)] -= 1;
+                    }
+                }
+            }
+        }
+    }
+
+    /// Takes the closed grants off the counts of the open ones, one user after another.
+    fn discount_rows(&mut self, sheet: &Sheet, kernel: &Kernel, users: Users) {
+        for user in 0..sheet.users.count() {
+            if self.open[user] != 0 {
+                let fitting = Fitting::of(sheet.rows[user], users, &self.closed);
+                for permission in ones(self.open[user]) {
+                    let count = fitting.count(sheet.columns[permission]);
+                    self.partners[kernel.number(user, permission)] -= count;
+                }
+            }
+        }
+    }
+}
+
+/// How many grants of each user are in one row, with the users who have any.
+struct Fitting {
+    users: Users,
+    counts: [u8; USERS],
+}
+
+impl Fitting {
+    #[inline]
+    fn of(row: u64, users: Users, grants: &[u64; USERS]) -> Fitting {
+        let mut fitting = Fitting { users: Users::NONE, counts: [0; USERS] };
+        for user in users.iter() {
+            let common = grants[user] & row;
+            if common != 0 {
+                fitting.users.add(user);
+                fitting.counts[user] = common.count_ones() as u8;
+            }
+        }
+        fitting
+    }
+
+    /// The grants of the users of a column.
+    #[inline]
+    fn count(&self, column: Users) -> i16 {
+        self.users.and(column).iter().map(|user| i16::from(self.counts[user])).sum()
+    }
+}
