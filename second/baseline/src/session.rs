@@ -1,10 +1,13 @@
 //! The session, changed in place.
 
+use second::checker::CheckAnswer;
+use second::implementation::Implementation;
 use second::refusal::Refusal;
 use second::roles::State;
 use second::session::{LoadAnswer, SearchAnswer};
 
 use crate::book::{Counts, book_length, write_book};
+use crate::checker;
 use crate::cover::Placement;
 use crate::kernel::Kernel;
 use crate::machine::Machine;
@@ -32,8 +35,8 @@ struct Room {
     machine: Machine,
 }
 
-impl Session {
-    pub fn fresh() -> Session {
+impl Implementation for Session {
+    fn fresh() -> Session {
         let room = Room {
             sheets: [Sheet::empty(), Sheet::empty()],
             accepted: 0,
@@ -46,7 +49,7 @@ impl Session {
         Session { is_loaded: false, room: Box::new(room) }
     }
 
-    pub fn load(&mut self, sheet: &[u8]) -> Result<LoadAnswer, Refusal> {
+    fn load(&mut self, sheet: &[u8]) -> Result<LoadAnswer, Refusal> {
         let other = 1 - self.room.accepted;
         self.room.sheets[other].read(sheet)?;
         self.room.accepted = other;
@@ -55,7 +58,7 @@ impl Session {
         Ok(self.room.load_answer())
     }
 
-    pub fn search(&mut self, budget: u32) -> Result<SearchAnswer, Refusal> {
+    fn search(&mut self, budget: u32) -> Result<SearchAnswer, Refusal> {
         if !self.is_loaded {
             return Err(Refusal::NoSheet);
         }
@@ -65,7 +68,7 @@ impl Session {
         Ok(SearchAnswer { steps, roles, bound, state })
     }
 
-    pub fn write(&self, buffer: &mut [u8]) -> Result<usize, Refusal> {
+    fn write(&mut self, buffer: &mut [u8]) -> Result<usize, Refusal> {
         if !self.is_loaded {
             return Err(Refusal::NoSheet);
         }
@@ -76,6 +79,10 @@ impl Session {
         let matrices = Matrices::of(sheet, &room.kernel, &room.best);
         write_book(book, sheet, &counts, &matrices, witness);
         Ok(length)
+    }
+
+    fn check(sheet: &[u8], book: &[u8]) -> Result<CheckAnswer, Refusal> {
+        checker::check(sheet, book)
     }
 }
 

@@ -2,6 +2,7 @@
 //! the same bytes in the lent buffers.
 
 use second::checker::{CheckAnswer, check};
+use second::implementation::Implementation;
 use second::refusal::Refusal;
 use second::roles::State;
 use second::script::{Call, lent_buffer};
@@ -24,15 +25,6 @@ const SMALL_BUDGET: u32 = 100_000;
 
 /// Steps for larger sheets.
 const LARGE_BUDGET: u32 = 2_000;
-
-/// A session of the other implementation, and its checker.
-pub trait Implementation {
-    fn fresh() -> Self;
-    fn load(&mut self, sheet: &[u8]) -> Result<LoadAnswer, Refusal>;
-    fn search(&mut self, budget: u32) -> Result<SearchAnswer, Refusal>;
-    fn write(&mut self, buffer: &mut [u8]) -> Result<usize, Refusal>;
-    fn check(sheet: &[u8], book: &[u8]) -> Result<CheckAnswer, Refusal>;
-}
 
 /// A session of each implementation, given the same calls.
 pub struct Pair<Other> {
