@@ -146,11 +146,9 @@ impl Reduction {
 #[inline]
 fn lowest_apart(sheet: &Sheet, user: usize, candidates: u64, users: Users) -> Option<Cell> {
     let mut left = candidates;
-    for other in users.iter() {
+    users.any(|other| {
         left &= !sheet.rows[other];
-        if left == 0 {
-            return None;
-        }
-    }
+        left == 0
+    });
     ones(left).next().map(|permission| cell(user, permission))
 }

@@ -74,6 +74,17 @@ impl Users {
     }
 
     #[inline]
+    pub fn xor(self, other: Users) -> Users {
+        self.merged(other, |own, its| own ^ its)
+    }
+
+    /// How many users a set has whose numbers are below 64 times this one.
+    #[inline]
+    pub fn count(self, words: usize) -> u32 {
+        self.0[..words].iter().map(|word| word.count_ones()).sum()
+    }
+
+    #[inline]
     fn merged(self, other: Users, merge: impl Fn(u64, u64) -> u64) -> Users {
         Users(std::array::from_fn(|index| merge(self.0[index], other.0[index])))
     }
@@ -88,6 +99,19 @@ impl Users {
     #[inline]
     pub fn is_empty(self) -> bool {
         self.0.iter().fold(0, |all, word| all | word) == 0
+    }
+
+    /// Whether the condition holds for one of the users, asked in rising order.
+    #[inline(always)]
+    pub fn any(self, mut condition: impl FnMut(usize) -> bool) -> bool {
+        for (index, word) in self.0.into_iter().enumerate() {
+            for place in ones(word) {
+                if condition(index * WORD_BITS + place) {
+                    return true;
+                }
+            }
+        }
+        false
     }
 
     /// The users in rising order.

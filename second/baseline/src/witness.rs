@@ -4,7 +4,7 @@ use second::limits::{GRANTS, PERMISSIONS, USERS};
 
 use crate::kernel::Kernel;
 use crate::reduction::Reduction;
-use crate::sets::{Users, ones};
+use crate::sets::{Users, WORD_BITS, ones};
 use crate::sheet::{Cell, Sheet, permission_of, user_of};
 
 /// The count of a grant that is closed to choice.
@@ -12,6 +12,9 @@ const CLOSED: i16 = i16::MAX;
 
 /// The most grants that no two of which fit: each needs a role of its own.
 const MOST: usize = PERMISSIONS;
+
+/// From this many pairs for each grant on, counting by rows is faster than counting pairs.
+const MANY_PAIRS: usize = 2;
 
 /// The witness in grant order, and room to find it.
 #[derive(Clone, Debug)]
@@ -62,21 +65,30 @@ impl Witness {
         let mut number = 0;
         while number < kernel.count {
             let user = user_of(kernel.cells[number]);
-            let row = sheet.rows[user];
-            let near = ones(row).fold(Users::NONE, |all, place| all.or(reduction.columns[place]));
-            let fitting = Fitting::of(row, near, &self.open);
+            let counted = Counted::of(sheet.rows[user], &reduction.columns, sheet.users.count());
             for permission in ones(self.open[user]) {
-                self.partners[number] = fitting.count(sheet.columns[permission]);
+                self.partners[number] = counted.sum(sheet.columns[permission]);
                 number += 1;
             }
         }
     }
 
-    /// The lowest of the open grants with the fewest partners.
+    /// The lowest of the open grants with the fewest partners, found piece by piece.
     fn fewest(&self, count: usize) -> Option<usize> {
-        let partners = &self.partners[..count];
-        let fewest = partners.iter().copied().fold(CLOSED, i16::min);
-        if fewest == CLOSED { None } else { partners.iter().position(|own| *own == fewest) }
+        const PIECE: usize = 64;
+        let mut fewest = CLOSED;
+        let mut piece = 0;
+        for (index, partners) in self.partners[..count].chunks(PIECE).enumerate() {
+            let lowest = partners.iter().copied().fold(CLOSED, i16::min);
+            if lowest < fewest {
+                (fewest, piece) = (lowest, index);
+            }
+        }
+        if fewest == CLOSED {
+            return None;
+        }
+        let place = self.partners[piece * PIECE..].iter().position(|own| *own == fewest)?;
+        Some(piece * PIECE + place)
     }
 
     /// Takes a grant and closes it and its partners to choice.
@@ -86,7 +98,7 @@ impl Witness {
         let row = sheet.rows[user_of(taken)];
         let mut users = Users::NONE;
         let mut pairs = 0;
-        for user in sheet.columns[permission_of(taken)].iter() {
+        sheet.columns[permission_of(taken)].iter().for_each(|user| {
             let closed = self.open[user] & row;
             self.closed[user] = closed;
             self.open[user] &= !closed;
@@ -98,8 +110,8 @@ impl Witness {
                 pairs += *partners as usize;
                 *partners = CLOSED;
             }
-        }
-        if pairs <= 2 * kernel.count {
+        });
+        if pairs <= MANY_PAIRS * kernel.count {
             self.discount_pairs(sheet, kernel, users);
         } else {
             self.discount_rows(sheet, kernel, users);
@@ -108,24 +120,25 @@ impl Witness {
 
     /// Takes the closed grants off the counts of the open ones, one pair after another.
     fn discount_pairs(&mut self, sheet: &Sheet, kernel: &Kernel, users: Users) {
-        for user in users.iter() {
+        users.iter().for_each(|user| {
+            let row = sheet.rows[user];
             for permission in ones(self.closed[user]) {
-                for other in sheet.columns[permission].iter() {
-                    for partner in ones(self.open[other] & sheet.rows[user]) {
+                sheet.columns[permission].iter().for_each(|other| {
+                    for partner in ones(self.open[other] & row) {
                         self.partners[kernel.number(other, partner)] -= 1;
                     }
-                }
+                });
             }
-        }
+        });
     }
 
     /// Takes the closed grants off the counts of the open ones, one user after another.
     fn discount_rows(&mut self, sheet: &Sheet, kernel: &Kernel, users: Users) {
         for user in 0..sheet.users.count() {
             if self.open[user] != 0 {
-                let fitting = Fitting::of(sheet.rows[user], users, &self.closed);
+                let listed = Listed::of(sheet.rows[user], users, &self.closed);
                 for permission in ones(self.open[user]) {
-                    let count = fitting.count(sheet.columns[permission]);
+                    let count = listed.sum(sheet.columns[permission]);
                     self.partners[kernel.number(user, permission)] -= count;
                 }
             }
@@ -133,29 +146,68 @@ impl Witness {
     }
 }
 
-/// How many grants of each user are in one row, with the users who have any.
-struct Fitting {
-    users: Users,
-    counts: [u8; USERS],
+/// How many grants of each user are in one row, bit by bit: the users whose number has that bit.
+struct Counted {
+    bits: [Users; COUNT_BITS],
+    used: usize,
+    words: usize,
 }
 
-impl Fitting {
+/// Bits of the number of grants that a user can have.
+const COUNT_BITS: usize = PERMISSIONS.ilog2() as usize + 1;
+
+impl Counted {
+    /// Adds the columns of the row, carrying over.
     #[inline]
-    fn of(row: u64, users: Users, grants: &[u64; USERS]) -> Fitting {
-        let mut fitting = Fitting { users: Users::NONE, counts: [0; USERS] };
-        for user in users.iter() {
-            let common = grants[user] & row;
-            if common != 0 {
-                fitting.users.add(user);
-                fitting.counts[user] = common.count_ones() as u8;
+    fn of(row: u64, columns: &[Users; PERMISSIONS], users: usize) -> Counted {
+        let words = users.div_ceil(WORD_BITS);
+        let mut counted = Counted { bits: [Users::NONE; COUNT_BITS], used: 0, words };
+        for permission in ones(row) {
+            let mut carried = columns[permission];
+            let mut index = 0;
+            while !carried.is_empty() {
+                let bit = &mut counted.bits[index];
+                let both = bit.and(carried);
+                *bit = bit.xor(carried);
+                carried = both;
+                index += 1;
             }
+            counted.used = counted.used.max(index);
         }
-        fitting
+        counted
     }
 
     /// The grants of the users of a column.
     #[inline]
-    fn count(&self, column: Users) -> i16 {
+    fn sum(&self, column: Users) -> i16 {
+        let bits = self.bits[..self.used].iter().enumerate();
+        bits.map(|(index, users)| (users.and(column).count(self.words) as i16) << index).sum()
+    }
+}
+
+/// How many grants of each user are in one row, with the users who have any.
+struct Listed {
+    users: Users,
+    counts: [u8; USERS],
+}
+
+impl Listed {
+    #[inline]
+    fn of(row: u64, users: Users, grants: &[u64; USERS]) -> Listed {
+        let mut listed = Listed { users: Users::NONE, counts: [0; USERS] };
+        users.iter().for_each(|user| {
+            let common = grants[user] & row;
+            if common != 0 {
+                listed.users.add(user);
+                listed.counts[user] = common.count_ones() as u8;
+            }
+        });
+        listed
+    }
+
+    /// The grants of the users of a column.
+    #[inline]
+    fn sum(&self, column: Users) -> i16 {
         self.users.and(column).iter().map(|user| i16::from(self.counts[user])).sum()
     }
 }
