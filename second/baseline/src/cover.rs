@@ -5,7 +5,7 @@ use second::limits::{GRANTS, PERMISSIONS, USERS};
 
 use crate::kernel::Kernel;
 use crate::sets::{one, ones};
-use crate::sheet::{Cell, Sheet, permission_of, user_of};
+use crate::sheet::{Sheet, permission_of, user_of};
 
 /// A class for each kernel grant by number. There are never more than permissions.
 #[derive(Clone, Debug)]
@@ -19,18 +19,13 @@ impl Placement {
         Placement { count: 0, classes: [0; GRANTS] }
     }
 
-    /// The grouping with the fewest classes, the earlier on a tie. The first one is given up once it has more
-    /// classes than one of the others.
+    /// The grouping with the fewest classes, the earlier on a tie. Grouping by fit never needs more classes than
+    /// there are users: any two grants of one user fit, so that of a user's grants that can join no earlier class
+    /// one opens a class and the others join it. So grouping by user is never the best.
     pub fn find_first_best(&mut self, sheet: &Sheet, kernel: &Kernel) {
-        let by_permission = key_count::<PERMISSIONS>(kernel, permission_of);
-        let by_user = key_count::<USERS>(kernel, user_of);
-        if self.group_by_fit(sheet, kernel, by_permission.min(by_user)).is_some() {
-            return;
-        }
-        if by_permission <= by_user {
-            self.group_by_key::<PERMISSIONS>(kernel, permission_of);
-        } else {
-            self.group_by_key::<USERS>(kernel, user_of);
+        let permissions = kernel.cells().iter().fold(0, |all, cell| all | one(permission_of(*cell)));
+        if self.group_by_fit(sheet, kernel, permissions.count_ones() as usize).is_none() {
+            self.group_by_permission(kernel);
         }
     }
 
@@ -61,22 +56,16 @@ impl Placement {
         Some(())
     }
 
-    fn group_by_key<const KEYS: usize>(&mut self, kernel: &Kernel, key_of: impl Fn(Cell) -> usize) {
-        let mut class_of = [None; KEYS];
+    fn group_by_permission(&mut self, kernel: &Kernel) {
+        let mut class_of = [None; PERMISSIONS];
         self.count = 0;
         for (class, cell) in self.classes.iter_mut().zip(kernel.cells()) {
-            *class = *class_of[key_of(*cell)].get_or_insert_with(|| {
+            *class = *class_of[permission_of(*cell)].get_or_insert_with(|| {
                 self.count += 1;
                 (self.count - 1) as u8
             });
         }
     }
-}
-
-fn key_count<const KEYS: usize>(kernel: &Kernel, key_of: impl Fn(Cell) -> usize) -> usize {
-    let mut seen = [false; KEYS];
-    kernel.cells().iter().for_each(|cell| seen[key_of(*cell)] = true);
-    seen.into_iter().filter(|seen| *seen).count()
 }
 
 /// Sets of classes, a bit for each.
