@@ -49,8 +49,7 @@ impl Kernel {
 
     fn take_removals_back(&mut self, reduction: &Reduction) {
         let mut next = self.count as u16;
-        let removals = reduction.removed.iter().zip(&reduction.partner).take(reduction.count);
-        for (removed, partner) in removals.rev() {
+        for (removed, partner) in reduction.removals().rev() {
             self.roots[usize::from(*removed)] = if removed == partner {
                 next += 1;
                 next - 1

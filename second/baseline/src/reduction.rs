@@ -13,11 +13,11 @@ use crate::sheet::{Cell, Sheet, cell, user_of};
 /// The removals in order, and what remains.
 #[derive(Clone, Debug)]
 pub struct Reduction {
-    pub count: usize,
+    count: usize,
     pub single_count: usize,
-    pub removed: [Cell; GRANTS],
+    removed: [Cell; GRANTS],
     /// What each removed grant was tied to; a single has itself.
-    pub partner: [Cell; GRANTS],
+    partner: [Cell; GRANTS],
     /// The remaining grants by user and by permission.
     pub rows: [u64; USERS],
     pub columns: [Users; PERMISSIONS],
@@ -43,6 +43,11 @@ impl Reduction {
             rows: [0; USERS],
             columns: [Users::NONE; PERMISSIONS],
         }
+    }
+
+    /// Each removed grant with its partner, in the order of removal.
+    pub fn removals(&self) -> impl DoubleEndedIterator<Item = (&Cell, &Cell)> {
+        self.removed[..self.count].iter().zip(&self.partner[..self.count])
     }
 
     /// Sweeps all grants of the sheet until a sweep removes nothing. What was visited behind the last removal

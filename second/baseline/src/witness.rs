@@ -48,7 +48,7 @@ impl Witness {
                 self.take(sheet, kernel, number);
             }
         }
-        for (removed, partner) in reduction.removed.iter().zip(&reduction.partner).take(reduction.count) {
+        for (removed, partner) in reduction.removals() {
             if removed == partner {
                 self.add(*removed);
             }
