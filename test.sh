@@ -27,7 +27,7 @@ tally "$status" $counts
 for program in rolebook rolecheck play; do
     [ -x "target/bin/$program" ] || rt check "$program"
 done
-rt staticlib proved
+rt staticlib porvuund
 
 if [ -f second/Cargo.toml ]; then
     (cd second && cargo test --offline --workspace --no-fail-fast 2>&1) | tee "$log/rust"
