@@ -130,7 +130,9 @@ fn print_refused_call(rounds: usize) {
 fn print_searches(rounds: usize) {
     print_heading("Search", "nanoseconds a step");
     for sheet in searched_sheets(STEPS) {
-        let steps = loaded::<Session>(&sheet).search(STEPS).expect("a sheet is loaded").steps;
+        let found = loaded::<Session>(&sheet).search(STEPS);
+        assert_eq!(loaded::<Library>(&sheet).search(STEPS), found, "{}", sheet.name);
+        let steps = found.expect("a sheet is loaded").steps;
         let calls = Pair { baseline: search::<Session>(&sheet), library: search::<Library>(&sheet) };
         let name = format!("{}, {steps} steps", sheet.name);
         print_row(&name, measure(rounds, calls).map(|time| time / f64::from(steps)));
