@@ -1,5 +1,5 @@
 //! The static library of the proved implementation. Nothing checks these declarations against its source, the
-//! crate `proved`: the functions have its names, and the structs have the fields of its structs in their order.
+//! crate `porvuund`: the functions have its names, and the structs have the fields of its structs in their order.
 
 use second::checker::CheckAnswer;
 use second::implementation::Implementation;
