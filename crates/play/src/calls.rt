@@ -44,6 +44,17 @@ pub fn search(session: Session, word: &[u8]) -> Session
     searched.session
 }
 
+// Writes into the lent bytes.
+fn write_into(session: Session, lent: &mut [u8]) -> Session
+    requires { ⌜ Sound session ⌝ }
+    ensures { λ r. ⌜ Sound r ⌝ }
+{
+    let written = session.write(lent);
+    let answer = written.answer;
+    say::written(answer, lent);
+    written.session
+}
+
 pub fn write(session: Session, word: &[u8]) -> Session
     requires { ⌜ Sound session ⌝ }
     ensures { λ r. ⌜ Sound r ⌝ }
@@ -58,10 +69,7 @@ pub fn write(session: Session, word: &[u8]) -> Session
         return session;
     }
     let mut space = patterned();
-    let written = session.write(&mut space[..length]);
-    let answer = written.answer;
-    say::written(answer, &space[..length]);
-    written.session
+    write_into(session, &mut space[..length])
 }
 
 pub fn check<'a>(sheet_path: &'a [u8], book_path: &'a [u8]) {

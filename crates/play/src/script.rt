@@ -2,13 +2,12 @@
 use crate::calls;
 use crate::say;
 use session::Session;
-ghost use Prim.Native.Nat.{_≤_};
-ghost use lib.ListN.{length};
+ghost use Rattle.io.specs.Counts.{Counts};
 ghost use Rattle.session.specs.Held.{Sound};
 
 // Where the first blank of a line stands, or where the line ends.
 fn first_blank(line: &[u8]) -> usize
-    ensures { λ r. ⌜ r ≤ length (now (line .entry)) ⌝ }
+    ensures { λ r. ⌜ Counts r (now (line .entry)) ⌝ }
 {
     let mut i = 0;
     while i < line.len() {
