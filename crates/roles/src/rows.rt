@@ -5,6 +5,7 @@ use grants::permission_of;
 use grants::user_of;
 use sheet::CELL_WORDS;
 use sheet::GRANT_LIMIT;
+use sheet::GrantNo;
 use sheet::PermissionNo;
 use sheet::ROW_WORDS;
 use sheet::RoleNo;
@@ -12,7 +13,7 @@ use sheet::UserNo;
 ghost use mathlib.Core.Path.{_≡_};
 ghost use mathlib.Core.Bool.{true};
 ghost use Prim.Native.Nat.{_<_, _≤_};
-ghost use lib.ListN.{length};
+ghost use lib.ListN.{length, getD};
 ghost use Rattle.sheet.specs.Limits.{grant-limit};
 ghost use Rattle.sheet.specs.Rows.{row-bits};
 ghost use Rattle.sheet.specs.CellAdded.{CellAdded};
@@ -46,10 +47,19 @@ fn give_permission(gives: &mut [u64], r: RoleNo, p: PermissionNo)
 }
 
 // A role by its number.
-fn role_of(number: u16) -> RoleNo
+fn role(number: u16) -> RoleNo
     ensures { λ r. ⌜ r .0 ≡ number ⌝ }
 {
     RoleNo(number as usize)
+}
+
+// The role of a grant, of those that each grant has by its number.
+fn role_of(roles: &[u16; GRANT_LIMIT], g: GrantNo) -> RoleNo
+    requires { ⌜ g .0 < grant-limit ⌝ }
+    ensures { λ r. ⌜ r .0 ≡ getD (now (roles .entry)) (g .0) 0 ⌝ }
+{
+    let i = g.0;
+    role(roles[i])
 }
 
 // Who has which role: each grant's user has its role.
@@ -64,7 +74,7 @@ pub fn user_rows<'a>(
     let mut has = [0; CELL_WORDS];
     let mut i = 0;
     while i < n {
-        give_role(&mut has, user_of(cells[i]), role_of(roles[i]));
+        give_role(&mut has, user_of(cells[i]), role_of(roles, GrantNo(i)));
         i += 1;
     }
     has
@@ -82,7 +92,11 @@ pub fn role_rows<'a>(
     let mut gives = [0; ROLE_WORDS];
     let mut i = 0;
     while i < n {
-        give_permission(&mut gives, role_of(roles[i]), permission_of(cells[i]));
+        give_permission(
+            &mut gives,
+            role_of(roles, GrantNo(i)),
+            permission_of(cells[i]),
+        );
         i += 1;
     }
     gives

@@ -33,16 +33,8 @@ slice-aggregate-give-permission : tie.Need-slice-aggregate-give-permission Inv-l
 unfolding user-limit row-bits row-words
 slice-aggregate-give-permission c = sym (c .before .before .loop .inv .1)
 
-mul-role-of : tie.Need-mul-role-of Inv-loop μ-loop
-unfolding grant-limit
-mul-role-of c = omega arith
-
-element-copy-out-role-of : tie.Need-element-copy-out-role-of Inv-loop μ-loop
-unfolding grant-limit
-element-copy-out-role-of c = omega arith
-
 role-of-requires : tie.Need-role-of-requires Inv-loop μ-loop
-role-of-requires c κs = tt
+role-of-requires c κs = omega (arith, c .before .before .before .pre .0)
 
 mul-permission-of : tie.Need-mul-permission-of Inv-loop μ-loop
 unfolding grant-limit
@@ -57,7 +49,7 @@ permission-of-requires c κs = tt
 
 give-permission-requires : tie.Need-give-permission-requires Inv-loop μ-loop
 give-permission-requires c κs =
-    let in-loop = c .before .before .before .before .before in
+    let in-loop = c .before .before .before .before in
     let it = getD (in-loop .before .before .args .cells .now) (in-loop .before .loop .i) 0 in
     let role = getD (in-loop .before .before .args .roles .now) (in-loop .before .loop .i) 0 in
     rw (c .permission-of .ensures, c .before .before .role-of .ensures, in-loop .before .loop .inv .1)
@@ -73,7 +65,7 @@ loop-less c = omega arith
 
 loop-again : tie.Need-loop-again Inv-loop μ-loop
 loop-again c =
-    let in-loop = c .before .before .before .before .before .before .before in
+    let in-loop = c .before .before .before .before .before .before in
     let a = in-loop .before .before .args in
     let inv = in-loop .before .loop .inv in
     let added =
@@ -93,8 +85,6 @@ role-rows-spec =
     μ-loop
     loop-holds
     slice-aggregate-give-permission
-    mul-role-of
-    element-copy-out-role-of
     role-of-requires
     mul-permission-of
     element-copy-out-permission-of

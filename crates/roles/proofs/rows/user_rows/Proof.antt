@@ -43,23 +43,15 @@ element-copy-out-user-of c = omega arith
 user-of-requires : tie.Need-user-of-requires Inv-loop μ-loop
 user-of-requires c κs = tt
 
-mul-role-of : tie.Need-mul-role-of Inv-loop μ-loop
-unfolding grant-limit
-mul-role-of c = omega arith
-
-element-copy-out-role-of : tie.Need-element-copy-out-role-of Inv-loop μ-loop
-unfolding grant-limit
-element-copy-out-role-of c = omega arith
-
 role-of-requires : tie.Need-role-of-requires Inv-loop μ-loop
-role-of-requires c κs = tt
+role-of-requires c κs = omega (arith, c .before .before .before .before .before .pre .0)
 
 give-role-requires : tie.Need-give-role-requires Inv-loop μ-loop
 give-role-requires c κs =
-    let in-loop = c .before .before .before .before .before in
+    let in-loop = c .before .before .before .before in
     let it = getD (in-loop .before .before .args .cells .now) (in-loop .before .loop .i) 0 in
     let role = getD (in-loop .before .before .args .roles .now) (in-loop .before .loop .i) 0 in
-    rw (c .role-of .ensures, c .before .before .user-of .ensures, in-loop .before .loop .inv .1)
+    rw (c .role-of .ensures, c .before .user-of .ensures, in-loop .before .loop .inv .1)
     (role-below in-loop, user-word-below it role (cell-below in-loop) (role-below in-loop))
 
 add-i : tie.Need-add-i Inv-loop μ-loop
@@ -72,10 +64,10 @@ loop-less c = omega arith
 
 loop-again : tie.Need-loop-again Inv-loop μ-loop
 loop-again c =
-    let in-loop = c .before .before .before .before .before .before .before in
+    let in-loop = c .before .before .before .before .before .before in
     let a = in-loop .before .before .args in
     let inv = in-loop .before .loop .inv in
-    let added = rw (c .before .before .role-of .ensures, c .before .before .before .before .user-of .ensures) at (c .before .give-role .ensures) in
+    let added = rw (c .before .before .role-of .ensures, c .before .before .before .user-of .ensures) at (c .before .give-role .ensures) in
     (omega arith, added .size ∙ inv .1, has-role-next (a .cells .now) (a .roles .now) (in-loop .before .loop .i) added (inv .2))
 
 returns : tie.Need-returns Inv-loop μ-loop
@@ -94,8 +86,6 @@ user-rows-spec =
     mul-user-of
     element-copy-out-user-of
     user-of-requires
-    mul-role-of
-    element-copy-out-role-of
     role-of-requires
     give-role-requires
     add-i
