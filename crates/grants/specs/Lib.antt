@@ -15,6 +15,7 @@ pub mod KernelFit
 pub mod CoverRelation
 pub mod CoverMarks
 pub mod CoverPlaced
+pub mod CoverKeys
 pub mod CoverArray
 pub mod TableWords
 pub mod TableLaws

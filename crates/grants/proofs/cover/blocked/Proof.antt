@@ -7,18 +7,18 @@ use mathlib.Core.Logic.{⊎-elim}
 use native.Mathlib.Numerals.{add-one}
 use borrow.Author.Tests.{not-true, not-false}
 use lib.ListN.{length, getD, length-set}
-use Rattle.grants.specs.CoverRelation.{related-at}
+use Rattle.grants.specs.CoverRelation.{fit-at-cells}
 use Rattle.grants.specs.CoverMarks.{Marks, no-marks, marks-kept, class-marked}
 use Rattle.sheet.specs.Limits.{grant-limit}
 use Rattle.grants.proofs.cover.blocked.Statement.{statement}
 use Rattle.grants.proofs.cover.blocked.Tie as tie
 
 abbrev Inv-loop : tie.InvT-loop
-Inv-loop rows cells by classes d cell marks₀ i₀ marks i =
-    (i ≤ d) × (length marks ≡ grant-limit) × Marks (related-at rows cells by) classes d i grant-limit marks
+Inv-loop rows cells classes d cell marks₀ i₀ marks i =
+    (i ≤ d) × (length marks ≡ grant-limit) × Marks (fit-at-cells rows cells) classes d i grant-limit marks
 
 abbrev μ-loop : tie.MeasureT-loop
-μ-loop rows cells by classes d cell marks₀ i₀ marks i = d - i
+μ-loop rows cells classes d cell marks₀ i₀ marks i = d - i
 
 mul-cell : tie.Need-mul-cell Inv-loop μ-loop
 mul-cell c = omega arith
@@ -30,14 +30,14 @@ loop-holds : tie.Need-loop-holds Inv-loop μ-loop
 unfolding grant-limit
 loop-holds c = (omega arith, refl, no-marks _ _ _ _)
 
-mul-are-related : tie.Need-mul-are-related Inv-loop μ-loop
-mul-are-related c = omega arith
+mul-cells-fit : tie.Need-mul-cells-fit Inv-loop μ-loop
+mul-cells-fit c = omega arith
 
-shared-slice-read-are-related : tie.Need-shared-slice-read-are-related Inv-loop μ-loop
-shared-slice-read-are-related c = omega arith
+shared-slice-read-cells-fit : tie.Need-shared-slice-read-cells-fit Inv-loop μ-loop
+shared-slice-read-cells-fit c = omega arith
 
-are-related-requires : tie.Need-are-related-requires Inv-loop μ-loop
-are-related-requires c κs = tt
+cells-fit-requires : tie.Need-cells-fit-requires Inv-loop μ-loop
+cells-fit-requires c κs = tt
 
 mul-c : tie.Need-mul-c Inv-loop μ-loop
 mul-c c = omega arith
@@ -72,8 +72,8 @@ loop-again : tie.Need-loop-again Inv-loop μ-loop
 loop-again c =
     let a = c .before .before .before .before .before .before .before .before .args in
     let l = c .before .before .before .before .loop in
-    let together = related-at (a .rows .now) (a .cells .now) (a .by) in
-    let told = c .before .are-related .ensures in
+    let together = fit-at-cells (a .rows .now) (a .cells .now) in
+    let told = c .before .cells-fit .ensures in
     let below = c .before .before .before .before .before .before .before .before .pre .1 (l .i) (c .before .before .before .loop-test .taken) in
     ⊎-elim
     (λ w. (
@@ -103,9 +103,9 @@ blocked-spec =
     mul-cell
     shared-slice-read-cell
     loop-holds
-    mul-are-related
-    shared-slice-read-are-related
-    are-related-requires
+    mul-cells-fit
+    shared-slice-read-cells-fit
+    cells-fit-requires
     mul-c
     element-copy-out-c
     cast-c

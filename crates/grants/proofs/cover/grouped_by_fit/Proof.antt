@@ -1,4 +1,4 @@
--- `grants::cover::grouped`: each grant in turn takes the class that the grouping gives it. A class is in use or the next one, so the count grows exactly where a
+-- `grants::cover::grouped_by_fit`: each grant in turn takes the class that the grouping gives it. A class is in use or the next one, so the count grows exactly where a
 -- new class opens, and every class is below the number of grants.
 use Prim.Native.Nat.{ℕ, suc, _-_, _≤_, max}
 use native.Mathlib.Omega.{arith}
@@ -8,18 +8,18 @@ use mathlib.Core.Bool.{Bool}
 use mathlib.Core.Logic.{⊎-elim}
 use lib.ListN.{length, length-set}
 use Rattle.lists.specs.Placement.{grouping}
-use Rattle.grants.specs.CoverRelation.{related-at}
+use Rattle.grants.specs.CoverRelation.{fit-at-cells}
 use Rattle.grants.specs.CoverPlaced.{Placed, none-placed, few-classes, taken-le, one-placed}
 use Rattle.sheet.specs.Limits.{grant-limit}
-use Rattle.grants.proofs.cover.grouped.Statement.{statement}
-use Rattle.grants.proofs.cover.grouped.Tie as tie
+use Rattle.grants.proofs.cover.grouped_by_fit.Statement.{statement}
+use Rattle.grants.proofs.cover.grouped_by_fit.Tie as tie
 
 abbrev Inv-loop : tie.InvT-loop
-Inv-loop rows cells by classes₀ count₀ d₀ classes count d =
-    (d ≤ length cells) × (length classes ≡ grant-limit) × Placed (grouping (related-at rows cells by) d) classes d count
+Inv-loop rows cells classes₀ count₀ d₀ classes count d =
+    (d ≤ length cells) × (length classes ≡ grant-limit) × Placed (grouping (fit-at-cells rows cells) d) classes d count
 
 abbrev μ-loop : tie.MeasureT-loop
-μ-loop rows cells by classes₀ count₀ d₀ classes count d = length cells - d
+μ-loop rows cells classes₀ count₀ d₀ classes count d = length cells - d
 
 loop-holds : tie.Need-loop-holds Inv-loop μ-loop
 unfolding grant-limit
@@ -30,7 +30,7 @@ class-for-requires c κs = ((c .before .loop-test .taken, omega arith), c .befor
 
 -- the relation that is grouped by
 together : (c : tie.After-class-for Inv-loop μ-loop) → ℕ → ℕ → Bool
-together c = let a = c .before .before .before .before .before .before .args in related-at (a .rows .now) (a .cells .now) (a .by)
+together c = let a = c .before .before .before .before .before .before .args in fit-at-cells (a .rows .now) (a .cells .now)
 
 -- the class taken is below the limit
 small : (c : tie.After-class-for Inv-loop μ-loop)
@@ -81,8 +81,8 @@ loop-again c =
 returns : tie.Need-returns Inv-loop μ-loop
 returns c = let e : c .before .loop .d ≡ length (c .before .before .before .before .args .cells .now) = omega arith in rw e at (c .before .loop .inv .2)
 
-pub grouped-spec : {M : Type 1} → statement M
-grouped-spec =
+pub grouped-by-fit-spec : {M : Type 1} → statement M
+grouped-by-fit-spec =
     tie.close
     (tie.spec
     Inv-loop
