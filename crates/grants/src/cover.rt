@@ -1,34 +1,41 @@
 // The first cover: three groupings of the kernel in grant order, and the first best.
 use crate::kernel::Kernel;
-use crate::kernel::cells_fit;
 use crate::kernel::permission_of;
 use crate::kernel::user_of;
+use bits::WORD_BITS;
 use sheet::CELL_WORDS;
 use sheet::GRANT_LIMIT;
+use sheet::ROW_WORDS;
 ghost use mathlib.Core.Path.{_≡_};
-ghost use mathlib.Core.Bool.{false, not};
+ghost use mathlib.Core.Bool.{true};
 ghost use mathlib.Core.List.{List, map};
 ghost use mathlib.Core.Option.{Option·getD};
 ghost use Prim.Native.Nat.{ℕ, suc, _<_, _≤_, _^_, max};
 ghost use lib.ListN.{length, getD, take};
-ghost use Rattle.bits.specs.Below.{lowest-below};
+ghost use Rattle.bits.specs.Below.{every-below, lowest-below};
 ghost use Rattle.lists.specs.KeyLaws.{by-key};
 ghost use Rattle.lists.specs.Placement.{grouping};
 ghost use Rattle.sheet.specs.Limits.{grant-limit};
+ghost use Rattle.sheet.specs.Rows.{row-bits};
 ghost use Rattle.sheet.specs.Sheet.{Sheet};
+ghost use Rattle.sheet.specs.CellAdded.{CellAdded};
 ghost use Rattle.grants.specs.Reduction.{kernel};
 ghost use Rattle.grants.specs.Cover.{fewer, best-grouping, first-best};
 ghost use Rattle.grants.specs.CellPlaces.{grant-of, Shown};
 ghost use Rattle.grants.specs.CoverRelation.{fit-at-cells, key-limit, key-of, key-at};
 ghost use Rattle.grants.specs.CoverKeys.{class-from};
-ghost use Rattle.grants.specs.CoverMarks.{Marks};
-ghost use Rattle.grants.specs.CoverPlaced.{next-class, Placed};
+ghost use Rattle.grants.specs.CoverMembers.{class-words, joinable};
+ghost use Rattle.grants.specs.CoverWords.{held-at, LacksAdded};
+ghost use Rattle.grants.specs.CoverPlaced.{Placed};
 
 // Room for each key: the permission and the user of a cell are below it.
 const KEY_LIMIT: usize = GRANT_LIMIT;
 
 // What the table has for a key with no class yet: no class has this number.
 const NO_CLASS: u16 = GRANT_LIMIT as u16;
+
+// A row of words for each class that there can be.
+const CLASS_WORDS: usize = GRANT_LIMIT * ROW_WORDS;
 
 // What the grants of a class have in common.
 enum Key {
@@ -94,38 +101,62 @@ fn grouped_by_key(cells: &[u16], by: Key) -> Placement
     }
 }
 
-// The classes that grant d cannot join: those with an earlier member that does not go together with it.
-fn blocked<'a>(
-    rows: &'a [u64],
-    cells: &'a [u16],
-    classes: &'a [u16; GRANT_LIMIT],
-    d: usize,
-) -> [bool; GRANT_LIMIT]
-    requires { ⌜ (d < length (now cells)) × (d < grant-limit) ⌝ }
-    requires { ⌜ ((i : ℕ) → i < d → getD (now classes) i 0 < grant-limit) ⌝ }
-    ensures { λ r. ⌜ Marks (fit-at-cells (now (rows .entry)) (now (cells .entry))) (now (classes .entry)) d d grant-limit r ⌝ }
+// Word i of the rows. Past them nobody holds anything.
+fn word_at(rows: &[u64], i: usize) -> u64
+    ensures { λ r. ⌜ r ≡ getD (now (rows .entry)) i 0 ⌝ }
 {
-    let cell = cells[d];
-    let mut marks = [false; GRANT_LIMIT];
-    let mut i = 0;
-    while i < d {
-        if !cells_fit(rows, cell, cells[i]) {
-            let c = classes[i] as usize;
-            marks[c] = true;
-        }
-        i += 1;
-    }
-    marks
+    if i < rows.len() { rows[i] } else { 0 }
 }
 
-// The lowest class below used that no mark blocks, else used itself.
-fn first_open(marks: &[bool; GRANT_LIMIT], used: usize) -> usize
+// Whether user u holds every permission that the members of class c ask.
+fn holds_asked<'a>(rows: &'a [u64], asked: &'a [u64; CLASS_WORDS], u: usize, c: usize) -> bool
+    requires { ⌜ (u < key-limit) × (c < grant-limit) ⌝ }
+    ensures { λ r. ⌜ r ≡ every-below row-bits (held-at (now (rows .entry)) (now (asked .entry)) u c) ⌝ }
+{
+    let mut j = 0;
+    while j < ROW_WORDS {
+        let held = word_at(rows, u * ROW_WORDS + j);
+        if !bits::within(asked[c * ROW_WORDS + j], held) {
+            return false;
+        }
+        j += 1;
+    }
+    true
+}
+
+// Whether the grant at a cell fits all members of class c.
+fn can_join<'a>(
+    rows: &'a [u64],
+    asked: &'a [u64; CLASS_WORDS],
+    lacked: &'a [u64; CLASS_WORDS],
+    cell: u16,
+    c: usize,
+) -> bool
+    requires { ⌜ c < grant-limit ⌝ }
+    ensures { λ r. ⌜ r ≡ joinable (now (rows .entry)) (now (asked .entry)) (now (lacked .entry)) cell c ⌝ }
+{
+    let p = key_of(cell, Key::Permission);
+    if bits::has(lacked[c * ROW_WORDS + p / WORD_BITS], p % WORD_BITS) {
+        false
+    } else {
+        holds_asked(rows, asked, key_of(cell, Key::User), c)
+    }
+}
+
+// The lowest class below used that the grant at a cell can join, else used itself.
+fn class_for<'a>(
+    rows: &'a [u64],
+    asked: &'a [u64; CLASS_WORDS],
+    lacked: &'a [u64; CLASS_WORDS],
+    cell: u16,
+    used: usize,
+) -> usize
     requires { ⌜ used ≤ grant-limit ⌝ }
-    ensures { λ r. ⌜ r ≡ Option·getD (lowest-below used (λ c. not (getD (now (marks .entry)) c false))) used ⌝ }
+    ensures { λ r. ⌜ r ≡ Option·getD (lowest-below used (joinable (now (rows .entry)) (now (asked .entry)) (now (lacked .entry)) cell)) used ⌝ }
 {
     let mut c = 0;
     while c < used {
-        if !marks[c] {
+        if can_join(rows, asked, lacked, cell, c) {
             return c;
         }
         c += 1;
@@ -133,20 +164,29 @@ fn first_open(marks: &[bool; GRANT_LIMIT], used: usize) -> usize
     c
 }
 
-// The class that grant d takes: the lowest that it can join, else a new one.
-fn class_for<'a>(
-    rows: &'a [u64],
-    cells: &'a [u16],
-    classes: &'a [u16; GRANT_LIMIT],
-    d: usize,
-    count: usize,
-) -> usize
-    requires { ⌜ (d < length (now cells)) × (d < grant-limit) ⌝ }
-    requires { ⌜ Placed (grouping (fit-at-cells (now rows) (now cells)) d) (now classes) d count ⌝ }
-    ensures { λ r. ⌜ r ≡ next-class (fit-at-cells (now (rows .entry)) (now (cells .entry))) d ⌝ }
+// Adds permission p to what class c asks.
+fn add_asked(asked: &mut [u64; CLASS_WORDS], c: usize, p: usize)
+    requires { ⌜ (c < grant-limit) × (p < row-bits) ⌝ }
+    requires { ⌜ length (now asked) ≡ class-words ⌝ }
+    ensures { λ _. ⌜ CellAdded (now (asked .entry)) (now (asked .exit)) c p true ⌝ }
 {
-    let marks = blocked(rows, cells, classes, d);
-    first_open(&marks, count)
+    let i = c * ROW_WORDS + p / WORD_BITS;
+    asked[i] = bits::with(asked[i], p % WORD_BITS);
+}
+
+// Adds to class c the permissions that user u lacks.
+fn add_lacked(rows: &[u64], lacked: &mut [u64; CLASS_WORDS], c: usize, u: usize)
+    requires { ⌜ (c < grant-limit) × (u < key-limit) ⌝ }
+    requires { ⌜ length (now lacked) ≡ class-words ⌝ }
+    ensures { λ _. ⌜ LacksAdded (now (rows .entry)) (now (lacked .entry)) (now (lacked .exit)) c u row-bits ⌝ }
+{
+    let mut j = 0;
+    while j < ROW_WORDS {
+        let held = word_at(rows, u * ROW_WORDS + j);
+        let i = c * ROW_WORDS + j;
+        lacked[i] = lacked[i] | !held;
+        j += 1;
+    }
 }
 
 // The grouping of the kernel by fit.
@@ -155,15 +195,18 @@ fn grouped_by_fit<'a>(rows: &'a [u64], cells: &'a [u16]) -> Placement
     ensures { λ r. ⌜ Placed (grouping (fit-at-cells (now (rows .entry)) (now (cells .entry))) (length (now (cells .entry))))
         (r .classes) (length (now (cells .entry))) (r .used) ⌝ }
 {
+    let mut asked = [0; CLASS_WORDS];
+    let mut lacked = [0; CLASS_WORDS];
     let mut classes = [0; GRANT_LIMIT];
     let mut count = 0;
     let mut d = 0;
     while d < cells.len() {
-        let c = class_for(rows, cells, &classes, d, count);
+        let cell = cells[d];
+        let c = class_for(rows, &asked, &lacked, cell, count);
+        add_asked(&mut asked, c, key_of(cell, Key::Permission));
+        add_lacked(rows, &mut lacked, c, key_of(cell, Key::User));
         classes[d] = c as u16;
-        if c == count {
-            count += 1;
-        }
+        count = counted(count, c as u16);
         d += 1;
     }
     Placement {
