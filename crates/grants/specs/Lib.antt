@@ -13,8 +13,10 @@ pub mod KernelArray
 pub mod KernelWalk
 pub mod KernelFit
 pub mod CoverRelation
-pub mod CoverMarks
 pub mod CoverPlaced
+pub mod CoverKeys
+pub mod CoverMembers
+pub mod CoverWords
 pub mod CoverArray
 pub mod TableWords
 pub mod TableLaws

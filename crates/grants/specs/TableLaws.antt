@@ -17,8 +17,7 @@ use Rattle.bits.specs.Bit.{bit, word-bits}
 use Rattle.bits.specs.BitLaws.{bit-of-zero}
 use Rattle.sheet.specs.Sheet.{Sheet}
 use Rattle.grants.specs.CellPlaces.{grant-of, Shown}
-use Rattle.grants.specs.declared.cover.Relation.the-variants.{Fit}
-use Rattle.grants.specs.CoverArray.{related-together}
+use Rattle.grants.specs.CoverArray.{fit-at-grants}
 use Rattle.grants.specs.TableWords.{table-row, table-limit, table-bit, fit-among, table-word, FirstBits, Table}
 
 -- ---- a word
@@ -96,5 +95,5 @@ module _ (rows cells words : List ℕ) (first : FirstWords rows cells (table-lim
         table-entry i j k l
         ∙ rw (length-map cells grant-of)
         (where-both (ltb i (length cells)) (ltb j (length cells)) (λ p q.
-        related-together shown cells Fit i j (ltb-true i (length cells) p) (ltb-true j (length cells) q)));
+        fit-at-grants shown cells i j (ltb-true i (length cells) p) (ltb-true j (length cells) q)));
   }

@@ -1,27 +1,51 @@
--- `grants::cover::class_for`: the marks are on the classes that the grant cannot join, so the lowest without a mark is the class that the grouping gives it.
-use Prim.Native.Nat.{_≤_}
-use native.Mathlib.Nat.{le-trans, le-of-lt, lt-of-lt-of-le}
-use mathlib.Core.Path.{_∙_}
-use Rattle.sheet.specs.Limits.{grant-limit}
-use Rattle.grants.specs.CoverPlaced.{few-classes, class-below, open-is-taken}
+-- `grants::cover::class_for`: no class passed can be joined, so the class at which the loop stops is the lowest that can, or none can.
+use Prim.Native.Nat.{ℕ, _-_, _≤_, _<_}
+use native.Mathlib.Omega.{arith}
+use mathlib.Core.Path.{_≡_, sym, _∙_}
+use mathlib.Core.Bool.{false}
+use borrow.Author.Count.{below-none, below-more}
+use Rattle.grants.specs.CoverMembers.{joinable, lowest-open, none-open}
 use Rattle.grants.proofs.cover.class_for.Statement.{statement}
 use Rattle.grants.proofs.cover.class_for.Tie as tie
 
-few : (c : tie.Start) → c .args .count ≤ grant-limit
-few c = let a = c .args in le-trans (few-classes _ (a .classes .now) (a .d) (a .count) (c .pre .1)) (le-of-lt (c .pre .0 .1))
+abbrev Inv-loop : tie.InvT-loop
+Inv-loop rows asked lacked cell used c₀ c = (c ≤ used) × ((i : ℕ) → i < c → joinable rows asked lacked cell i ≡ false)
 
-blocked-requires : tie.Need-blocked-requires
-blocked-requires c κs =
-    let s = c .before .before in
-    (s .pre .0, λ i l. lt-of-lt-of-le (class-below _ (s .args .classes .now) (s .args .d) (s .args .count) (s .pre .1) l) (few s))
+abbrev μ-loop : tie.MeasureT-loop
+μ-loop rows asked lacked cell used c₀ c = used - c
 
-first-open-requires : tie.Need-first-open-requires
-first-open-requires c κs = few (c .before .before .before .before)
+loop-holds : tie.Need-loop-holds Inv-loop μ-loop
+loop-holds c = (omega arith, below-none _)
 
-returns : tie.Need-returns
+can-join-requires : tie.Need-can-join-requires Inv-loop μ-loop
+can-join-requires c κs = omega arith
+
+returns : tie.Need-returns Inv-loop μ-loop
 returns c =
-    let s = c .before .before .before .before .before in
-    c .first-open .ensures ∙ open-is-taken _ (s .args .classes .now) (s .args .d) (s .args .count) (s .pre .1) grant-limit _ (few s) (c .before .before .blocked .ensures)
+    lowest-open _ _ (c .before .before .loop-test .taken) (sym (c .before .can-join .ensures) ∙ c .if1 .taken) (c .before .before .before .loop .inv .1)
+
+add-c : tie.Need-add-c Inv-loop μ-loop
+add-c c = omega arith
+
+loop-less : tie.Need-loop-less Inv-loop μ-loop
+loop-less c = omega arith
+
+loop-again : tie.Need-loop-again Inv-loop μ-loop
+loop-again c = (omega arith, below-more _ _ (c .before .before .before .loop .inv .1) (sym (c .before .can-join .ensures) ∙ c .if1 .left))
+
+returns-2 : tie.Need-returns-2 Inv-loop μ-loop
+returns-2 c = let e : c .before .loop .c ≡ c .before .before .before .args .used = omega arith in e ∙ none-open _ _ (rw e at (c .before .loop .inv .1))
 
 pub class-for-spec : {M : Type 1} → statement M
-class-for-spec = tie.close (tie.spec blocked-requires first-open-requires returns)
+class-for-spec =
+    tie.close
+    (tie.spec
+    Inv-loop
+    μ-loop
+    loop-holds
+    can-join-requires
+    returns
+    add-c
+    loop-less
+    loop-again
+    returns-2)
