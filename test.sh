@@ -1,5 +1,6 @@
 #!/usr/bin/env bash
-# Proves every crate, tries every must-fail edit, runs every program and compares its output, then runs the Rust tests.
+# Proves every crate, tries every must-fail edit, runs every program and compares its output, then runs the Rust tests, which hold the proved
+# programs and the proved library to the second implementation.
 # The last line counts all of them: 'N passed, M failed'. Exit status 0 only if M is 0 and every part ran to its end.
 set -uo pipefail
 cd "$(dirname "$0")" || exit 2
@@ -22,8 +23,14 @@ counts=$(tail -n 1 "$log/rattle" | sed -n 's/^\([0-9]*\) passed, \([0-9]*\) fail
 # shellcheck disable=SC2086
 tally "$status" $counts
 
+# rt ci leaves the programs; the library is made from what it proved. Where one of them is missing the Rust tests fail
+for program in rolebook rolecheck play; do
+    [ -x "target/bin/$program" ] || rt check "$program"
+done
+rt staticlib porvuund
+
 if [ -f second/Cargo.toml ]; then
-    (cd second && cargo test --offline 2>&1) | tee "$log/rust"
+    (cd second && cargo test --offline --workspace --no-fail-fast 2>&1) | tee "$log/rust"
     status=$?
     counts=$(awk '/^test result:/ { p += $4; f += $6 } END { print p + 0, f + 0 }' "$log/rust")
     [ "${counts%% *}" -gt 0 ] || status=1

@@ -4,12 +4,13 @@
 //! is an ordered set of such pairs. The modules follow the data: a `sheet` is read, its `grants` go through
 //! the `reduction`, give a `witness` and a first `cover`, the `machine` improves on that, `roles` and the
 //! `book` come out, and the `checker` judges any book. A `session` holds a sheet between calls; a `script` is
-//! a list of calls.
+//! a list of calls. What any other `implementation` has to offer to be compared is a trait.
 
 pub mod book;
 pub mod checker;
 pub mod cover;
 pub mod grants;
+pub mod implementation;
 pub mod limits;
 pub mod machine;
 pub mod reduction;

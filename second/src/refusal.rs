@@ -36,6 +36,30 @@ pub enum Refusal {
 }
 
 impl Refusal {
+    /// In the order of their numbers.
+    pub const ALL: [Refusal; 15] = [
+        Refusal::SheetLength,
+        Refusal::SheetBytes,
+        Refusal::FirstLine,
+        Refusal::UserLines,
+        Refusal::NameLength,
+        Refusal::FieldCount,
+        Refusal::FieldValue,
+        Refusal::NameTwice,
+        Refusal::GrantCount,
+        Refusal::NoSheet,
+        Refusal::BufferLength,
+        Refusal::BookForm,
+        Refusal::BookCounts,
+        Refusal::BookProduct,
+        Refusal::BookWitness,
+    ];
+
+    /// The cause that has this number.
+    pub fn with_number(number: usize) -> Option<Refusal> {
+        Refusal::ALL.into_iter().find(|refusal| refusal.number() as usize == number)
+    }
+
     /// The number that a refused call returns.
     pub fn number(self) -> u32 {
         self as u32

@@ -1,6 +1,10 @@
 // Books and sheets made in a lent buffer. Each function answers the place after what it put; what would stand past the buffer's end is dropped.
+use sheet::PERMISSION_LIMIT;
 ghost use Prim.Native.Nat.{_≤_};
 ghost use lib.ListN.{length};
+
+// The bytes of the cells of a user who holds every permission, and of the end of the line.
+const FULL_LINE: usize = 2 * PERMISSION_LIMIT + 1;
 
 // One byte.
 fn put_byte(out: &mut [u8], at: usize, b: u8) -> usize {
@@ -78,13 +82,13 @@ pub fn put_roles(out: &mut [u8], roles: usize) -> usize {
     put(out, witness, b"\n\nuser,permission\nbo,a\n")
 }
 
-// A sheet of 64 permissions and as many users as asked, who hold all of them.
+// A sheet of as many permissions as there can be, and as many users as asked, who hold all of them.
 pub fn put_full_sheet(out: &mut [u8], users: usize) -> usize {
-    let mut cells = [0u8; 129];
-    let end = put_times(&mut cells, 0, b",1", 64);
+    let mut cells = [0u8; FULL_LINE];
+    let end = put_times(&mut cells, 0, b",1", PERMISSION_LIMIT);
     put(&mut cells, end, b"\n");
     let names = put(out, 0, b"user");
-    let head = put_numbered(out, names, b",p", b"", 64);
+    let head = put_numbered(out, names, b",p", b"", PERMISSION_LIMIT);
     let lines = put(out, head, b"\n");
     put_numbered(out, lines, b"u", &cells, users)
 }

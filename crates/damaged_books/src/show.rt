@@ -115,7 +115,7 @@ pub fn show_damaged_sheet<'a>(what: &'a [u8], old: &'a [u8], new: &'a [u8]) {
     show_sheet(what, &space, n);
 }
 
-// Checks it against a sheet of 64 permissions and as many users as asked, who hold all of them.
+// Checks it against a sheet of as many users as asked, who hold as many permissions as there can be.
 pub fn show_full_sheet(what: &[u8], users: usize) {
     let mut space = [0u8; SPACE];
     let n = put_full_sheet(&mut space, users);

@@ -3,8 +3,10 @@
 //! Generators, all from seeds: `families` of sheets, sheets at the limits (`extremes`), sheets with a kernel
 //! of a given size (`kernels`), damaged sheets and books (`damage`), and sequences of `calls`. Answers from
 //! elsewhere: `brute` finds the smallest number of roles from the two matrices alone, and `restated` says the
-//! rules of document 01 a second time, in another way.
+//! rules of document 01 a second time, in another way. Any other implementation is held to the second one by
+//! `agreement`.
 
+pub mod agreement;
 pub mod book_draft;
 pub mod brute;
 pub mod calls;
@@ -17,3 +19,4 @@ pub mod kernels;
 pub mod paper;
 pub mod random;
 pub mod restated;
+pub mod tally;

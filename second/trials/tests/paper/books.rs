@@ -9,8 +9,9 @@ use trials::cases::cases;
 use trials::families;
 use trials::restated::form::verdict;
 use trials::restated::whole::Prepared;
+use trials::tally::Tally;
 
-use crate::support::{Tally, accepted, book, check_answer, loaded};
+use crate::support::{accepted, book, check_answer, loaded};
 
 #[test]
 fn books_are_byte_for_byte_those_of_the_restated_rules() {

@@ -6,8 +6,9 @@ use trials::damage;
 use trials::families;
 use trials::random::Random;
 use trials::restated::causes::lowest_cause;
+use trials::tally::Tally;
 
-use crate::support::{Tally, load_number};
+use crate::support::load_number;
 
 /// A sheet as fields of lines, so that anything can be put into it.
 type Fields = Vec<Vec<String>>;

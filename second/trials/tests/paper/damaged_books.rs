@@ -7,8 +7,9 @@ use trials::draft::Draft;
 use trials::extremes;
 use trials::families::{self, crown};
 use trials::restated::form::verdict;
+use trials::tally::Tally;
 
-use crate::support::{Tally, accepted, book, loaded};
+use crate::support::{accepted, book, loaded};
 
 /// The judgement of a damaged book, and of the second way to judge it.
 fn judge(draft: &Draft, damaged: impl AsRef<[u8]>) -> Result<(usize, usize), u32> {

@@ -11,8 +11,9 @@ use trials::calls::sequence;
 use trials::cases::cases;
 use trials::draft::Draft;
 use trials::restated::causes::lowest_cause;
+use trials::tally::Tally;
 
-use crate::support::{Tally, accepted, loaded};
+use crate::support::{accepted, loaded};
 
 /// The last accepted load and what was given since, found from the calls and never from the session.
 struct Known {

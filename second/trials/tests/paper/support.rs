@@ -1,8 +1,5 @@
 //! What several subjects need.
 
-use std::collections::BTreeMap;
-use std::fmt::Debug;
-
 use second::checker::{CheckAnswer, check};
 use second::grants::Grant;
 use second::roles::State;
@@ -20,24 +17,6 @@ pub const EXAMPLE_BOOK: &str = "roles,bound,state\n2,2,witnessed\n\nrole,rec,id,
 
 /// Steps after which a trial stops watching.
 pub const WATCHED_STEPS: u32 = 2_000;
-
-/// How often each outcome of a trial came up.
-#[derive(Debug, Default)]
-pub struct Tally<Outcome>(BTreeMap<Outcome, usize>);
-
-impl<Outcome: Ord + Debug> Tally<Outcome> {
-    pub fn note(&mut self, outcome: Outcome) {
-        *self.0.entry(outcome).or_default() += 1;
-    }
-
-    /// Each of these outcomes must have come up at least so often, or the trial means little.
-    pub fn expect(&self, outcomes: impl IntoIterator<Item = Outcome>, least: usize) {
-        for outcome in outcomes {
-            let count = self.0.get(&outcome).copied().unwrap_or(0);
-            assert!(count >= least, "{outcome:?} came up too seldom: {self:?}");
-        }
-    }
-}
 
 /// A session with this sheet, which must be acceptable.
 pub fn loaded(sheet: &[u8]) -> Session {

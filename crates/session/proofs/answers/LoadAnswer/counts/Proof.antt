@@ -4,7 +4,7 @@ use Rattle.session.proofs.answers.LoadAnswer.counts.Tie as tie
 
 returns : tie.Need-returns
 returns c text found =
-    rw (
+    cc (
       found .laid .user-total,
       found .laid .permission-total,
       found .laid .grant-total,

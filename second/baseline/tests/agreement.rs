@@ -1,0 +1,54 @@
+//! The baseline held to the second implementation: it would measure nothing if it did something else.
+
+use baseline::session::Session;
+use trials::agreement;
+
+#[test]
+fn books_of_small_sheets() {
+    agreement::books_agree::<Session>(8_000, 8);
+}
+
+#[test]
+fn books_of_middle_sheets() {
+    agreement::books_agree::<Session>(1_000, 16);
+}
+
+#[test]
+fn damaged_sheets() {
+    agreement::damaged_sheets_agree::<Session>(20_000);
+}
+
+#[test]
+fn checks() {
+    agreement::checks_agree::<Session>(10_000);
+}
+
+#[test]
+fn sequences() {
+    agreement::sequences_agree::<Session>(1_000, 30, 8);
+}
+
+#[test]
+fn smallest() {
+    agreement::roles_are_smallest::<Session>(1_000);
+}
+
+#[test]
+fn extremes() {
+    agreement::extremes_agree::<Session>();
+}
+
+#[test]
+fn random_large_sheets() {
+    agreement::random_large_sheets_agree::<Session>(40);
+}
+
+#[test]
+fn limits() {
+    agreement::limits_agree::<Session>();
+}
+
+#[test]
+fn kernels() {
+    agreement::kernels_agree::<Session>(4);
+}

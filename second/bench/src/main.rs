@@ -1,0 +1,140 @@
+//! Measures the proved library against the baseline in one run and prints the tables of docs/BENCHMARK.md.
+//!
+//! Both are given the same calls in turn, a round of the one and a round of the other, and the medians of the
+//! rounds are compared. An argument says how many rounds there are.
+
+mod clock;
+mod sheets;
+mod table;
+
+use std::hint::black_box;
+
+use baseline::session::Session;
+use compare::library::{Library, with_room};
+use second::implementation::Implementation;
+use second::limits::BOOK_BYTES;
+
+use crate::clock::{Pair, measure};
+use crate::sheets::{Sheet, searched_sheets, sheets};
+use crate::table::{print_heading, print_row};
+
+/// Rounds of each implementation unless an argument says otherwise.
+const ROUNDS: usize = 15;
+
+/// Steps of a search that is measured.
+const STEPS: u32 = 1_000_000;
+
+fn main() {
+    let rounds =
+        std::env::args().nth(1).map_or(ROUNDS, |text| text.parse().expect("the rounds are a number"));
+    with_room(move || {
+        print_sizes();
+        print_calls("Load", rounds, |sheet| Pair {
+            baseline: load::<Session>(sheet),
+            library: load::<Library>(sheet),
+        });
+        print_calls("Write", rounds, |sheet| Pair {
+            baseline: write::<Session>(sheet),
+            library: write::<Library>(sheet),
+        });
+        print_calls("Check", rounds, |sheet| Pair {
+            baseline: check::<Session>(sheet),
+            library: check::<Library>(sheet),
+        });
+        print_refused_call(rounds);
+        print_searches(rounds);
+    });
+}
+
+/// What is measured: a call that can be made again and again.
+type Call<'a> = Box<dyn FnMut() + 'a>;
+
+fn load<Kind: Implementation + 'static>(sheet: &Sheet) -> Call<'_> {
+    let mut session = Kind::fresh();
+    Box::new(move || {
+        black_box(session.load(black_box(&sheet.bytes)).expect("the sheet is acceptable"));
+    })
+}
+
+/// The buffer is as long as the longest book that is checked, and not cleared between the calls.
+fn write<Kind: Implementation + 'static>(sheet: &Sheet) -> Call<'_> {
+    let mut session = loaded::<Kind>(sheet);
+    let mut buffer = vec![0; BOOK_BYTES];
+    Box::new(move || {
+        black_box(session.write(black_box(&mut buffer)).expect("the buffer is long enough"));
+    })
+}
+
+fn check<Kind: Implementation + 'static>(sheet: &Sheet) -> Call<'_> {
+    let mut buffer = vec![0; BOOK_BYTES];
+    let length = loaded::<Kind>(sheet).write(&mut buffer).expect("the buffer is long enough");
+    buffer.truncate(length);
+    Box::new(move || {
+        black_box(Kind::check(black_box(&sheet.bytes), black_box(&buffer)).expect("the book is right"));
+    })
+}
+
+fn loaded<Kind: Implementation>(sheet: &Sheet) -> Kind {
+    let mut session = Kind::fresh();
+    session.load(&sheet.bytes).expect("the sheet is acceptable");
+    session
+}
+
+/// Steps of a search from the load on, which is not measured.
+fn search<Kind: Implementation + Clone + 'static>(sheet: &Sheet) -> Call<'_> {
+    let session = loaded::<Kind>(sheet);
+    Box::new(move || {
+        black_box(session.clone().search(STEPS).expect("a sheet is loaded"));
+    })
+}
+
+fn print_sizes() {
+    println!("| Sheet | Users | Permissions | Grants | k | w | Bytes |");
+    println!("|---|---:|---:|---:|---:|---:|---:|");
+    for sheet in sheets().iter().chain(&searched_sheets(STEPS)) {
+        let answer = Session::fresh().load(&sheet.bytes).expect("the sheet is acceptable");
+        println!(
+            "| {} | {} | {} | {} | {} | {} | {} |",
+            sheet.name,
+            answer.users,
+            answer.permissions,
+            answer.grants,
+            answer.kernel,
+            answer.witness,
+            sheet.bytes.len()
+        );
+    }
+}
+
+fn print_calls<'a>(title: &str, rounds: usize, calls: impl Fn(&Sheet) -> Pair<Call<'_>> + 'a) {
+    print_heading(title, "microseconds a call");
+    for sheet in sheets() {
+        let nanoseconds = measure(rounds, calls(&sheet));
+        print_row(&sheet.name, nanoseconds.map(|time| time / 1_000.0));
+    }
+}
+
+/// A search without a sheet: all that it does is to hand the session in and back.
+fn print_refused_call(rounds: usize) {
+    fn refused<Kind: Implementation + 'static>() -> Call<'static> {
+        let mut session = Kind::fresh();
+        Box::new(move || {
+            black_box(session.search(black_box(0)).expect_err("there is no sheet"));
+        })
+    }
+    print_heading("A refused search", "microseconds a call");
+    let calls = Pair { baseline: refused::<Session>(), library: refused::<Library>() };
+    print_row("none", measure(rounds, calls).map(|time| time / 1_000.0));
+}
+
+fn print_searches(rounds: usize) {
+    print_heading("Search", "nanoseconds a step");
+    for sheet in searched_sheets(STEPS) {
+        let found = loaded::<Session>(&sheet).search(STEPS);
+        assert_eq!(loaded::<Library>(&sheet).search(STEPS), found, "{}", sheet.name);
+        let steps = found.expect("a sheet is loaded").steps;
+        let calls = Pair { baseline: search::<Session>(&sheet), library: search::<Library>(&sheet) };
+        let name = format!("{}, {steps} steps", sheet.name);
+        print_row(&name, measure(rounds, calls).map(|time| time / f64::from(steps)));
+    }
+}

@@ -1,0 +1,90 @@
+//! The sheets that are measured.
+
+use baseline::session::Session;
+use second::implementation::Implementation;
+use trials::draft::Draft;
+use trials::extremes;
+use trials::families;
+use trials::paper::GRANTS;
+use trials::random::Random;
+
+pub struct Sheet {
+    pub name: String,
+    pub bytes: Vec<u8>,
+}
+
+fn sheet(name: &str, draft: &Draft) -> Sheet {
+    Sheet { name: name.to_string(), bytes: draft.bytes() }
+}
+
+/// The sheet of document 01's worked example.
+const WORKED: &str = "user,rec,id,map\nann,1,1,0\nbo,0,1,1\ncy,1,1,1\n";
+
+/// Sheets to load, write and check: a small one, and large ones with as many grants as there can be or nearly
+/// as many.
+pub fn sheets() -> Vec<Sheet> {
+    let mut random = Random::from_seed(1);
+    vec![
+        Sheet { name: "worked example".to_string(), bytes: WORKED.into() },
+        sheet("random, half full", &extremes::with_grants(&mut random, 64, 64, GRANTS)),
+        sheet("random, an eighth full", &extremes::with_grants(&mut random, 256, 64, GRANTS)),
+        sheet("band of 32", &families::band(64, 32)),
+        sheet("crown of 45", &families::crown(45)),
+        sheet("eight blocks", &families::blocks(&[(32, 8); 8])),
+        sheet("names of 16 bytes", &extremes::longest(&mut random)),
+    ]
+}
+
+/// Sheets to search, on which so many steps do not come to an end.
+pub fn searched_sheets(steps: u32) -> Vec<Sheet> {
+    let mut random = Random::from_seed(2);
+    let mut sheets: Vec<Sheet> =
+        [8, 9, 10].map(|size| sheet(&format!("crown of {size}"), &families::crown(size))).into();
+    for (size, side) in [(60, 13), (128, 20)] {
+        sheets.push(sheet(&format!("kernel of {size}"), &open_kernel(&mut random, size, side, steps)));
+    }
+    sheets
+}
+
+/// A random sheet with a kernel of this size that is still open after so many steps, with about so many users and
+/// permissions.
+fn open_kernel(random: &mut Random, size: usize, side: usize, steps: u32) -> Draft {
+    random.until_found(|random| {
+        let users = random.between(side - 3, side + 3);
+        let permissions = random.between(side - 3, side + 3);
+        let grants = size + random.between(0, 20);
+        let draft = extremes::with_grants(random, users, permissions, grants);
+        let mut session = Session::fresh();
+        let kernel = session.load(&draft.bytes()).expect("the sheet is acceptable").kernel;
+        (kernel == size && session.search(steps).is_ok_and(|answer| answer.steps == steps)).then_some(draft)
+    })
+}
+
+#[cfg(test)]
+mod tests {
+    use super::*;
+
+    /// What is measured is what the tables say.
+    #[test]
+    fn large_sheets_are_near_the_limit_of_grants() {
+        for sheet in &sheets()[1..] {
+            let answer = Session::fresh().load(&sheet.bytes).expect("the sheet is acceptable");
+            assert!(answer.grants > GRANTS * 9 / 10, "{}: {answer:?}", sheet.name);
+        }
+    }
+
+    #[test]
+    fn searched_sheets_stay_open_and_have_their_kernels() {
+        let steps = 100_000;
+        let kernels: Vec<usize> = searched_sheets(steps)
+            .iter()
+            .map(|sheet| {
+                let mut session = Session::fresh();
+                let kernel = session.load(&sheet.bytes).expect("the sheet is acceptable").kernel;
+                assert_eq!(session.search(steps).map(|answer| answer.steps), Ok(steps), "{}", sheet.name);
+                kernel
+            })
+            .collect();
+        assert_eq!(kernels, [56, 72, 90, 60, 128]);
+    }
+}

@@ -1,0 +1,128 @@
+//! The proved programs held to those of the second implementation.
+
+use std::path::PathBuf;
+
+use compare::programs::printed;
+use programs::{book_output, check_output};
+use second::script::answer_line;
+use second::session::Session;
+use trials::calls::{script, sequence};
+use trials::cases::cases;
+use trials::damage;
+use trials::draft::Draft;
+use trials::extremes;
+use trials::families;
+use trials::paper;
+use trials::random::Random;
+
+fn expected_book(sheet: &[u8], budget: u32) -> String {
+    String::from_utf8(book_output(sheet, budget)).expect("a book is plain text")
+}
+
+/// A folder of this test's own.
+fn folder(name: &str) -> PathBuf {
+    let folder = PathBuf::from(env!("CARGO_TARGET_TMPDIR")).join(name);
+    std::fs::create_dir_all(&folder).expect("the folder can be made");
+    folder
+}
+
+#[test]
+fn book_program_prints_the_same_books_and_refusals() {
+    cases(60, |random| {
+        let sheet = families::any(random, 12).bytes();
+        let budget = random.below(1_000) as u32;
+        let arguments = [budget.to_string()];
+        assert_eq!(printed("rolebook", &[&arguments[0]], &sheet), expected_book(&sheet, budget));
+        let damaged = damage::bytes(random, &sheet);
+        assert_eq!(printed("rolebook", &[], &damaged), expected_book(&damaged, 0));
+    });
+}
+
+#[test]
+fn book_program_takes_the_largest_sheets() {
+    let mut random = Random::from_seed(7);
+    let sheets = [
+        extremes::longest(&mut random).bytes(),
+        extremes::full(32, 64).bytes(),
+        families::crown(45).bytes(),
+        Draft::plain(256, 64, |_, _| false).bytes(),
+        extremes::of_bytes(paper::SHEET_BYTES),
+        extremes::of_bytes(paper::SHEET_BYTES + 1),
+        extremes::of_bytes(10 * paper::SHEET_BYTES),
+        Vec::new(),
+    ];
+    for sheet in sheets {
+        assert_eq!(printed("rolebook", &[], &sheet), expected_book(&sheet, 0));
+    }
+}
+
+/// The four-user sheet is closed with step 125.
+#[test]
+fn book_program_reads_its_budget() {
+    let sheet = families::crown(4).bytes();
+    let searched = expected_book(&sheet, 125);
+    let open = expected_book(&sheet, 0);
+    assert_ne!(searched, open);
+    for argument in ["125", "00125", "000000000000000000125", "126", "4294967295"] {
+        assert_eq!(printed("rolebook", &[argument], &sheet), searched, "{argument}");
+    }
+    for argument in ["", "0", "124", "+125", "-125", " 125", "125 ", "125.0", "0x125", "1e3", "4294967296"] {
+        assert_eq!(printed("rolebook", &[argument], &sheet), open, "{argument}");
+    }
+    assert_eq!(printed("rolebook", &["99999999999999999999"], &sheet), open);
+    assert_eq!(printed("rolebook", &["0", "125"], &sheet), open);
+    assert_eq!(printed("rolebook", &["125", "0"], &sheet), searched);
+}
+
+#[test]
+fn check_program_prints_the_same_judgements() {
+    let folder = folder("checked");
+    let (sheet_path, book_path) = (folder.join("sheet"), folder.join("book"));
+    let paths = [&sheet_path, &book_path].map(|path| path.to_str().expect("the path is plain text"));
+    cases(60, |random| {
+        let draft = families::any(random, 10);
+        let sheet = draft.bytes();
+        let book = book_output(&sheet, 0);
+        let damaged_sheet = damage::bytes(random, &sheet);
+        let damaged_book = damage::book(random, &draft, &book);
+        for (sheet, book) in [(&sheet, &book), (&sheet, &damaged_book), (&damaged_sheet, &book)] {
+            std::fs::write(&sheet_path, sheet).expect("the sheet can be written");
+            std::fs::write(&book_path, book).expect("the book can be written");
+            let found = printed("rolecheck", &paths, b"");
+            assert_eq!(found.as_bytes(), check_output(sheet, book), "{}", String::from_utf8_lossy(book));
+        }
+    });
+}
+
+#[test]
+fn check_program_refuses_books_that_are_too_long() {
+    let folder = folder("long");
+    let (sheet_path, book_path) = (folder.join("sheet"), folder.join("book"));
+    let paths = [&sheet_path, &book_path].map(|path| path.to_str().expect("the path is plain text"));
+    let sheet = families::crown(4).bytes();
+    let counted = |digits: usize| {
+        let text = expected_book(&sheet, 125);
+        text.replacen("\n4,4,", &format!("\n{},4,", "9".repeat(digits)), 1).into_bytes()
+    };
+    let rest = counted(0).len();
+    std::fs::write(&sheet_path, &sheet).expect("the sheet can be written");
+    for (bytes, expected) in [(paper::BOOK_BYTES, "13\n"), (paper::BOOK_BYTES + 1, "12\n")] {
+        let book = counted(bytes - rest);
+        assert_eq!(book.len(), bytes);
+        std::fs::write(&book_path, &book).expect("the book can be written");
+        assert_eq!(check_output(&sheet, &book), expected.as_bytes());
+        assert_eq!(printed("rolecheck", &paths, b""), expected);
+    }
+}
+
+#[test]
+fn play_program_answers_whole_sequences() {
+    let folder = folder("played");
+    cases(40, |random| {
+        let calls = sequence(random, 40, 8);
+        let mut session = Session::fresh();
+        let expected: String = calls.iter().map(|call| answer_line(&mut session, call) + "\n").collect();
+        let script = script(&calls, &folder).expect("the files can be written");
+        assert_eq!(printed("play", &[], script.as_bytes()), expected);
+    });
+}

@@ -1,0 +1,44 @@
+//! The calls of document 01 as any implementation answers them, so that implementations can be compared.
+
+use crate::checker::{self, CheckAnswer};
+use crate::refusal::Refusal;
+use crate::session::{LoadAnswer, SearchAnswer, Session};
+
+/// A session of an implementation, and its checker.
+pub trait Implementation {
+    fn fresh() -> Self;
+
+    /// Puts a sheet in place of the former one; the search starts anew.
+    fn load(&mut self, sheet: &[u8]) -> Result<LoadAnswer, Refusal>;
+
+    /// Moves the search forward by at most this many steps.
+    fn search(&mut self, budget: u32) -> Result<SearchAnswer, Refusal>;
+
+    /// Writes the book to the front of the buffer and gives its byte count.
+    fn write(&mut self, buffer: &mut [u8]) -> Result<usize, Refusal>;
+
+    /// Judges a book against a sheet.
+    fn check(sheet: &[u8], book: &[u8]) -> Result<CheckAnswer, Refusal>;
+}
+
+impl Implementation for Session {
+    fn fresh() -> Session {
+        Session::fresh()
+    }
+
+    fn load(&mut self, sheet: &[u8]) -> Result<LoadAnswer, Refusal> {
+        Session::load(self, sheet)
+    }
+
+    fn search(&mut self, budget: u32) -> Result<SearchAnswer, Refusal> {
+        Session::search(self, budget)
+    }
+
+    fn write(&mut self, buffer: &mut [u8]) -> Result<usize, Refusal> {
+        Session::write(self, buffer)
+    }
+
+    fn check(sheet: &[u8], book: &[u8]) -> Result<CheckAnswer, Refusal> {
+        checker::check(sheet, book)
+    }
+}

@@ -1,0 +1,292 @@
+//! Another implementation held to the second one: given the same calls, both must answer the same, and leave
+//! the same bytes in the lent buffers.
+
+use second::checker::{CheckAnswer, check};
+use second::implementation::Implementation;
+use second::refusal::Refusal;
+use second::roles::State;
+use second::script::{Call, lent_buffer};
+use second::session::{LoadAnswer, SearchAnswer, Session};
+
+use crate::brute;
+use crate::calls::sequence;
+use crate::cases::cases;
+use crate::damage;
+use crate::draft::Draft;
+use crate::extremes;
+use crate::families;
+use crate::kernels::with_kernel;
+use crate::paper;
+use crate::random::Random;
+use crate::tally::Tally;
+
+/// Steps within which nearly all small sheets are finished.
+const SMALL_BUDGET: u32 = 100_000;
+
+/// Steps for larger sheets.
+const LARGE_BUDGET: u32 = 2_000;
+
+/// A session of each implementation, given the same calls.
+pub struct Pair<Other> {
+    second: Session,
+    other: Other,
+}
+
+impl<Other: Implementation> Pair<Other> {
+    pub fn fresh() -> Self {
+        Pair { second: Session::fresh(), other: Other::fresh() }
+    }
+
+    /// Sessions with this sheet, which must be acceptable.
+    pub fn loaded(draft: &Draft) -> Self {
+        let mut pair = Pair::fresh();
+        pair.load(&draft.bytes()).expect("the sheet is acceptable");
+        pair
+    }
+
+    pub fn load(&mut self, sheet: &[u8]) -> Result<LoadAnswer, Refusal> {
+        let expected = self.second.load(sheet);
+        assert_eq!(self.other.load(sheet), expected, "{}", String::from_utf8_lossy(sheet));
+        expected
+    }
+
+    pub fn search(&mut self, budget: u32) -> Result<SearchAnswer, Refusal> {
+        let expected = self.second.search(budget);
+        assert_eq!(self.other.search(budget), expected, "{:?}", self.second.accepted());
+        expected
+    }
+
+    /// A writing into a buffer of this length; the buffers are then compared whole.
+    pub fn write(&mut self, length: usize) -> Result<usize, Refusal> {
+        let mut expected_buffer = lent_buffer(length);
+        let expected = self.second.write(&mut expected_buffer);
+        let mut buffer = lent_buffer(length);
+        assert_eq!(self.other.write(&mut buffer), expected, "{:?}", self.second.accepted());
+        assert!(
+            buffer == expected_buffer,
+            "{}\nand not\n{}",
+            String::from_utf8_lossy(&buffer),
+            String::from_utf8_lossy(&expected_buffer)
+        );
+        expected
+    }
+
+    /// Writings of the book into buffers of its length, one byte shorter and some bytes longer. Gives the book.
+    pub fn book(&mut self) -> Vec<u8> {
+        let book = self.second.accepted().map(|accepted| accepted.book_bytes()).unwrap_or_default();
+        assert_eq!(self.write(book.len()), Ok(book.len()));
+        assert_eq!(self.write(book.len() - 1), Err(Refusal::BufferLength));
+        assert_eq!(self.write(book.len() + 100), Ok(book.len()));
+        book
+    }
+
+    /// Makes a call and gives its name and the number of the refusal, 0 if there is none.
+    fn call(&mut self, call: &Call) -> (&'static str, u32) {
+        let (name, refusal) = match call {
+            Call::Load(sheet) => ("load", self.load(sheet).err()),
+            Call::Search(budget) => ("search", self.search(*budget).err()),
+            Call::Write(length) => ("write", self.write(*length).err()),
+            Call::Check { sheet, book } => ("check", checked::<Other>(sheet, book).err()),
+        };
+        (name, refusal.map_or(0, Refusal::number))
+    }
+}
+
+/// The judgement of both checkers.
+pub fn checked<Other: Implementation>(sheet: &[u8], book: &[u8]) -> Result<CheckAnswer, Refusal> {
+    let expected = check(sheet, book);
+    let found = Other::check(sheet, book);
+    assert_eq!(found, expected, "{}\n{}", String::from_utf8_lossy(sheet), String::from_utf8_lossy(book));
+    expected
+}
+
+/// Loads, searches and books of sheets of all families with at most about so many users and permissions.
+pub fn books_agree<Other: Implementation>(count: u64, size: usize) {
+    let mut states = Tally::default();
+    cases(count, |random| {
+        let mut pair = Pair::<Other>::loaded(&families::any(random, size));
+        for budget in [0, 1, random.below(20) as u32, random.below(3_000) as u32] {
+            let answer = pair.search(budget).expect("a sheet is loaded");
+            states.note(answer.state.word());
+        }
+        pair.book();
+    });
+    states.expect(State::ALL.map(State::word), 5);
+}
+
+/// Loads of sheets with damaged bytes.
+pub fn damaged_sheets_agree<Other: Implementation>(count: u64) {
+    let mut numbers = Tally::default();
+    cases(count, |random| {
+        let sheet = families::any(random, 8).bytes();
+        let damaged = damage::bytes(random, &sheet);
+        numbers.note(Pair::<Other>::fresh().load(&damaged).err());
+    });
+    let refused = [
+        Refusal::SheetBytes,
+        Refusal::FirstLine,
+        Refusal::UserLines,
+        Refusal::NameLength,
+        Refusal::FieldCount,
+    ];
+    numbers.expect(refused.map(Some), 5);
+    numbers.expect([None, Some(Refusal::FieldValue), Some(Refusal::NameTwice)], 5);
+}
+
+/// Checks of good and of damaged books.
+pub fn checks_agree<Other: Implementation>(count: u64) {
+    let mut numbers = Tally::default();
+    cases(count, |random| {
+        let draft = families::any(random, 8);
+        let mut pair = Pair::<Other>::loaded(&draft);
+        pair.search(random.below(500) as u32).expect("a sheet is loaded");
+        let book = pair.book();
+        checked::<Other>(&draft.bytes(), &book).expect("a written book is accepted");
+        let damaged = match random.below(10) {
+            0..=6 => damage::book(random, &draft, &book),
+            _ => damage::bytes(random, &book),
+        };
+        numbers.note(checked::<Other>(&draft.bytes(), &damaged).err());
+        let sheet = damage::bytes(random, &draft.bytes());
+        checked::<Other>(&sheet, &book).ok();
+    });
+    let refused = [Refusal::BookForm, Refusal::BookCounts, Refusal::BookProduct, Refusal::BookWitness];
+    numbers.expect(refused.map(Some), 20);
+    numbers.expect([None], 20);
+}
+
+/// Whole sequences of calls, refused ones among them.
+pub fn sequences_agree<Other: Implementation>(count: u64, length: usize, size: usize) {
+    let mut seen = Tally::default();
+    cases(count, |random| {
+        let mut pair = Pair::<Other>::fresh();
+        for call in sequence(random, length, size) {
+            seen.note(pair.call(&call));
+        }
+    });
+    let outcomes: [(&str, &[u32]); 4] = [
+        ("load", &[0, 1, 2, 5, 6, 7, 8]),
+        ("search", &[0, 10]),
+        ("write", &[0, 10, 11]),
+        ("check", &[0, 12, 13, 14, 15]),
+    ];
+    for (call, numbers) in outcomes {
+        seen.expect(numbers.iter().map(|number| (call, *number)), 3);
+    }
+}
+
+/// Role counts against the smallest number of roles, found from the two matrices alone.
+pub fn roles_are_smallest<Other: Implementation>(count: u64) {
+    let mut states = Tally::default();
+    cases(count, |random| {
+        let (users, permissions) = (random.between(3, 6), random.between(3, 6));
+        let density = random.between(20, 90);
+        let draft = families::random(random, users, permissions, density);
+        let smallest = brute::smallest(&draft.held);
+        let mut pair = Pair::<Other>::loaded(&draft);
+        for budget in [0, random.below(50) as u32, SMALL_BUDGET] {
+            let answer = pair.search(budget).expect("a sheet is loaded");
+            assert!(answer.bound <= smallest && smallest <= answer.roles, "{smallest} {answer:?} {draft:?}");
+            let is_settled = answer.state != State::Open;
+            assert!(!is_settled || answer.roles == smallest, "{smallest} {answer:?} {draft:?}");
+            states.note(answer.state.word());
+        }
+        pair.book();
+    });
+    states.expect(State::ALL.map(State::word), 5);
+}
+
+/// Sheets as large as there can be, searched and written, with their books checked.
+pub fn large_sheets_agree<Other: Implementation>(drafts: &[Draft]) {
+    for draft in drafts {
+        let mut pair = Pair::<Other>::loaded(draft);
+        pair.search(LARGE_BUDGET).expect("a sheet is loaded");
+        let book = pair.book();
+        checked::<Other>(&draft.bytes(), &book).expect("a written book is accepted");
+    }
+}
+
+/// Sheets at the limits.
+pub fn extremes_agree<Other: Implementation>() {
+    let mut random = Random::from_seed(5);
+    let base = families::random(&mut random, 16, 16, 30);
+    let wide = families::turned(&families::with_copied_users(&mut random, &base, 16));
+    large_sheets_agree::<Other>(&[
+        extremes::longest(&mut random),
+        extremes::full(32, 64),
+        extremes::full(256, 8),
+        extremes::with_grants(&mut random, 64, 64, paper::GRANTS),
+        extremes::with_grants(&mut random, 256, 32, paper::GRANTS),
+        families::crown(45),
+        families::band(64, 5),
+        families::band(64, 20),
+        families::band(64, 32),
+        families::staircase(63),
+        families::star(256, 64),
+        families::blocks(&[(4, 1); 64]),
+        families::blocks(&[(32, 8); 8]),
+        families::with_copied_users(&mut random, &wide, 60),
+        Draft::plain(256, 64, |_, _| false),
+    ]);
+}
+
+/// Random sheets between the small ones and the limits.
+pub fn random_large_sheets_agree<Other: Implementation>(count: u64) {
+    cases(count, |random| {
+        let users = random.between(20, 100);
+        let permissions = random.between(15, 64);
+        let grants = random.between(100, 900.min(users * permissions / 2));
+        let draft = extremes::with_grants(random, users, permissions, grants).renamed(random);
+        large_sheets_agree::<Other>(&[draft]);
+    });
+}
+
+/// Each limit passes, and one more is refused.
+pub fn limits_agree<Other: Implementation>() {
+    let mut random = Random::from_seed(6);
+    let named = |bytes| extremes::with_name_bytes(extremes::full(2, 2), bytes).bytes();
+    let sized = |users, permissions| Draft::plain(users, permissions, |_, _| false).bytes();
+    let mut granted = |count| extremes::with_grants(&mut random, 256, 64, count).bytes();
+    let outcomes = [
+        (named(paper::NAME_BYTES), None),
+        (named(paper::NAME_BYTES + 1), Some(Refusal::NameLength)),
+        (sized(paper::USERS, paper::PERMISSIONS), None),
+        (sized(paper::USERS, paper::PERMISSIONS + 1), Some(Refusal::FirstLine)),
+        (sized(paper::USERS + 1, paper::PERMISSIONS), Some(Refusal::UserLines)),
+        (granted(paper::GRANTS), None),
+        (granted(paper::GRANTS + 1), Some(Refusal::GrantCount)),
+        (extremes::of_bytes(paper::SHEET_BYTES), Some(Refusal::NameLength)),
+        (extremes::of_bytes(paper::SHEET_BYTES + 1), Some(Refusal::SheetLength)),
+        (Vec::new(), Some(Refusal::SheetBytes)),
+    ];
+    for (sheet, expected) in outcomes {
+        assert_eq!(Pair::<Other>::fresh().load(&sheet).err(), expected);
+    }
+}
+
+/// Kernels of 127 and 128 grants are searched, one of 129 is not.
+pub fn kernels_agree<Other: Implementation>(count: u64) {
+    cases(count, |random| {
+        for size in [127, paper::SEARCHED_KERNEL, 129] {
+            let draft = unfinished_kernel::<Other>(random, size);
+            let mut pair = Pair::<Other>::loaded(&draft);
+            let steps = [10_000, 20_000]
+                .map(|budget| pair.search(budget).expect("a sheet is loaded").steps)
+                .into_iter()
+                .sum::<u32>();
+            assert_eq!(steps > 0, size <= paper::SEARCHED_KERNEL);
+            let book = pair.book();
+            checked::<Other>(&draft.bytes(), &book).expect("a written book is accepted");
+        }
+    });
+}
+
+/// A sheet with a kernel of this size that the first cover does not finish.
+fn unfinished_kernel<Other: Implementation>(random: &mut Random, size: usize) -> Draft {
+    random.until_found(|random| {
+        let draft = with_kernel(random, size);
+        let mut pair = Pair::<Other>::loaded(&draft);
+        let state = pair.search(0).expect("a sheet is loaded").state;
+        (state == State::Open).then_some(draft)
+    })
+}
