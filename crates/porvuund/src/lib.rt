@@ -1,4 +1,5 @@
-// One call for a whole task, over bytes: the book of a sheet, the check of a book, and what the two programs print.
+// The library for programs: what the book program and the check program print, a whole task in one call over bytes, and a session's calls for other
+// languages. `rt staticlib porvuund` writes its functions `porvuund_..` for Rust or C to link.
 mod budget;
 mod calls;
 mod lines;

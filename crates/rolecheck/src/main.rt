@@ -4,6 +4,7 @@
 use checker::BOOK_LIMIT;
 use files::FileRead;
 use libc::PATH_MAX;
+use libc::STDERR_FILENO;
 use libc::STDOUT_FILENO;
 use porvuund::CHECK_BUFFER;
 use sheet::SHEET_LIMIT;
@@ -23,7 +24,8 @@ fn read_argument(i: usize, buf: &mut [u8]) -> FileRead
     files::read_file(&path[..length], buf)
 }
 
-fn main() {
+// Prints the answer for the two files.
+fn print_answer() {
     let mut sheet = [0u8; SHEET_BUFFER];
     let first = read_argument(1, &mut sheet);
     let mut book = [0u8; BOOK_BUFFER];
@@ -36,4 +38,12 @@ fn main() {
     let mut out = [0u8; CHECK_BUFFER];
     let count = porvuund::check_output(&sheet[..sheet_length], &book[..book_length], &mut out);
     io::write_all(STDOUT_FILENO, &out[..count]);
+}
+
+fn main() {
+    if os::arg_count() == 3 {
+        print_answer();
+    } else {
+        io::write_all(STDERR_FILENO, b"use: rolecheck SHEETFILE BOOKFILE\n");
+    }
 }

@@ -1,8 +1,8 @@
--- `main`: the count of what is printed is within the buffer that holds it.
+-- `print_answer`: the count of what is printed is within the buffer that holds it.
 use borrow.Author.Needs.{needs}
 use Rattle.porvuund.specs.Front.{count-within, front-counted}
-use Rattle.rolecheck.proofs.main.Statement.{statement}
-use Rattle.rolecheck.proofs.main.Tie as tie
+use Rattle.rolecheck.proofs.print_answer.Statement.{statement}
+use Rattle.rolecheck.proofs.print_answer.Tie as tie
 
 slice-aggregate-read-argument : tie.Need-slice-aggregate-read-argument
 slice-aggregate-read-argument c = search needs
@@ -46,8 +46,8 @@ write-all-requires c κs = search needs
 returns-2 : tie.Need-returns-2
 returns-2 c = search needs
 
-pub main-spec : {M : Type 1} → statement M
-main-spec =
+pub print-answer-spec : {M : Type 1} → statement M
+print-answer-spec =
     tie.close
     (tie.spec
     slice-aggregate-read-argument
