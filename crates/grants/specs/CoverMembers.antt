@@ -14,7 +14,7 @@ use lib.Dec.{eqb}
 use lib.ListN.{length, getD, set, replicate, length-replicate, getD-replicate}
 use lib.Seq.{getD-set-same, getD-set-other}
 use Rattle.bits.specs.Truth.{passes-or-fails, not-both, fails-unless, same-truth, implies, implies-intro, implies-elim, not-passes, not-fails, and-intro, and-left, and-right}
-use Rattle.bits.specs.Below.{some-below, every-below, lowest-below}
+use Rattle.bits.specs.Below.{some-below, every-below, lowest-below, Found}
 use Rattle.bits.specs.BelowLaws.{some-below-intro, some-below-elim, some-below-ext, every-below-intro, every-below-elim}
 use Rattle.bits.specs.LowestLaws.{lowest-below-intro, lowest-below-none-intro}
 use Rattle.bits.specs.Bit.{word-bits}
@@ -26,6 +26,7 @@ use Rattle.sheet.specs.Limits.{grant-limit}
 use Rattle.sheet.specs.Rows.{row-words, row-bits, cell}
 use Rattle.sheet.specs.CellAdded.{CellAdded}
 use Rattle.sheet.specs.CellLaws.{word-of, word-below}
+use Rattle.grants.specs.CellPlaces.{grant-of, fit-in}
 use Rattle.grants.specs.CellPlaceLaws.{row-bits-pos}
 use Rattle.grants.specs.CoverRelation.{fit-at-cells}
 
@@ -121,67 +122,70 @@ module _ {rows cells classes : List ℕ} {d : ℕ} {asked lacked : List ℕ} (m 
         m .lacking .gathers c q below k
         ∙ some-below-intro d (λ j. eqb c (getD classes j 0) && lacks rows cells j q) l (and-intro (eqb c (getD classes i 0)) (lacks rows cells i q) s t)
 
-    module _ (u p : ℕ) (short : p < row-bits) where
-      -- user u holds what number i asks, and the user of number i holds p
-      abbrev Fitting : ℕ → Type 0
-      Fitting i = So (cell rows u (getD cells i 0 % row-bits) && cell rows (getD cells i 0 / row-bits) p)
+    -- and only that
+    asked-by : (q : ℕ) → q < row-bits → So (cell asked c q) → Found d (λ i. eqb c (getD classes i 0) && asks cells i q)
+    asked-by q k t = some-below-elim d (λ i. eqb c (getD classes i 0) && asks cells i q) (sym (m .asking .gathers c q below k) ∙ t)
 
-      -- user u holds all that is asked of the class
+    lacked-by : (q : ℕ) → q < row-bits → So (cell lacked c q) → Found d (λ i. eqb c (getD classes i 0) && lacks rows cells i q)
+    lacked-by q k t = some-below-elim d (λ i. eqb c (getD classes i 0) && lacks rows cells i q) (sym (m .lacking .gathers c q below k) ∙ t)
+
+    module _ (it : ℕ) where
+      -- the grant at the cell fits number i
+      abbrev Fits : ℕ → Type 0
+      Fits i = So (fit-in rows (grant-of it) (grant-of (getD cells i 0)))
+
+      -- its user holds q where the class asks it
       abbrev held : ℕ → Bool
-      held q = implies (cell asked c q) (cell rows u q)
+      held q = implies (cell asked c q) (cell rows (it / row-bits) q)
 
-      fitting-if : So (not (cell lacked c p)) → So (every-below row-bits held) → (i : ℕ) → i < d → So (eqb c (getD classes i 0)) → Fitting i
-      fitting-if free all i l s =
-          let k = mod-lt (getD cells i 0) row-bits-pos in
-          let t : So (asks cells i (getD cells i 0 % row-bits)) = eq-eqb (getD cells i 0 % row-bits) (getD cells i 0 % row-bits) refl in
-          and-intro (cell rows u (getD cells i 0 % row-bits)) (cell rows (getD cells i 0 / row-bits) p)
-          (implies-elim (cell asked c (getD cells i 0 % row-bits)) (cell rows u (getD cells i 0 % row-bits))
-          (every-below-elim row-bits held all k) (asked-there i (getD cells i 0 % row-bits) l k s t))
-          (⊎-elim (λ h. h)
-          (λ f. absurd (not-both (lacked-there i p l short s (not-passes (cell rows (getD cells i 0 / row-bits) p) f)) (not-fails (cell lacked c p) free)))
-          (passes-or-fails (cell rows (getD cells i 0 / row-bits) p)))
+      joinable-fits : So (joinable rows asked lacked it c) → (i : ℕ) → i < d → So (eqb c (getD classes i 0)) → Fits i
+      joinable-fits e i l s =
+          let p = getD cells i 0 % row-bits in
+          let k : p < row-bits = mod-lt (getD cells i 0) row-bits-pos in
+          let there = cell rows (getD cells i 0 / row-bits) (it % row-bits) in
+          let none = not-fails (cell lacked c (it % row-bits)) (and-left (not (cell lacked c (it % row-bits))) (every-below row-bits held) e) in
+          let all = and-right (not (cell lacked c (it % row-bits))) (every-below row-bits held) e in
+          and-intro (cell rows (it / row-bits) p) there
+          (implies-elim (cell asked c p) (cell rows (it / row-bits) p) (every-below-elim row-bits held all k) (asked-there i p l k s (eq-eqb p p refl)))
+          (⊎-elim (λ h. h) (λ f. absurd (not-both (lacked-there i (it % row-bits) l (mod-lt it row-bits-pos) s (not-passes there f)) none))
+          (passes-or-fails there))
 
-      module _ (fitting : (i : ℕ) → i < d → So (eqb c (getD classes i 0)) → Fitting i) where
-        none-lacks : So (not (cell lacked c p))
-        none-lacks = not-passes (cell lacked c p) (fails-unless (cell lacked c p) (λ t.
-            let r = some-below-elim d (λ i. eqb c (getD classes i 0) && lacks rows cells i p) (sym (m .lacking .gathers c p below short) ∙ t) in
-            let s = and-left (eqb c (getD classes (r .place) 0)) (lacks rows cells (r .place) p) (r .holds) in
-            let f = and-right (eqb c (getD classes (r .place) 0)) (lacks rows cells (r .place) p) (r .holds) in
-            not-both
-            (and-right (cell rows u (getD cells (r .place) 0 % row-bits)) (cell rows (getD cells (r .place) 0 / row-bits) p)
-            (fitting (r .place) (r .within) s))
-            (not-fails (cell rows (getD cells (r .place) 0 / row-bits) p) f)))
+      module _ (fitting : (i : ℕ) → i < d → So (eqb c (getD classes i 0)) → Fits i) where
+        none-lacks : So (cell lacked c (it % row-bits)) → ⊥
+        none-lacks t =
+            let r = lacked-by (it % row-bits) (mod-lt it row-bits-pos) t in
+            let i = r .place in
+            let s = and-left (eqb c (getD classes i 0)) (lacks rows cells i (it % row-bits)) (r .holds) in
+            let f = and-right (eqb c (getD classes i 0)) (lacks rows cells i (it % row-bits)) (r .holds) in
+            let there = cell rows (getD cells i 0 / row-bits) (it % row-bits) in
+            not-both (and-right (cell rows (it / row-bits) (getD cells i 0 % row-bits)) there (fitting i (r .within) s)) (not-fails there f)
 
-        all-held : So (every-below row-bits held)
-        all-held = every-below-intro row-bits held (λ q k. implies-intro (cell asked c q) (cell rows u q) (λ t.
-            let r = some-below-elim d (λ i. eqb c (getD classes i 0) && asks cells i q) (sym (m .asking .gathers c q below k) ∙ t) in
-            let s = and-left (eqb c (getD classes (r .place) 0)) (asks cells (r .place) q) (r .holds) in
-            let a = and-right (eqb c (getD classes (r .place) 0)) (asks cells (r .place) q) (r .holds) in
-            rw (eqb-true q (getD cells (r .place) 0 % row-bits) a)
-            (and-left (cell rows u (getD cells (r .place) 0 % row-bits)) (cell rows (getD cells (r .place) 0 / row-bits) p)
-            (fitting (r .place) (r .within) s))))
+        all-held : (q : ℕ) → q < row-bits → So (cell asked c q) → So (cell rows (it / row-bits) q)
+        all-held q k t =
+            let r = asked-by q k t in
+            let i = r .place in
+            let s = and-left (eqb c (getD classes i 0)) (asks cells i q) (r .holds) in
+            let e = eqb-true q (getD cells i 0 % row-bits) (and-right (eqb c (getD classes i 0)) (asks cells i q) (r .holds)) in
+            rw e
+            (and-left (cell rows (it / row-bits) (getD cells i 0 % row-bits)) (cell rows (getD cells i 0 / row-bits) (it % row-bits))
+            (fitting i (r .within) s))
+
+        fits-joinable : So (joinable rows asked lacked it c)
+        fits-joinable =
+            and-intro (not (cell lacked c (it % row-bits))) (every-below row-bits held)
+            (not-passes (cell lacked c (it % row-bits)) (fails-unless (cell lacked c (it % row-bits)) none-lacks))
+            (every-below-intro row-bits held (λ q k. implies-intro (cell asked c q) (cell rows (it / row-bits) q) (all-held q k)))
 
     -- the next number fits all members of the class exactly if the words say so
     pub joinable-is-joins : joinable rows asked lacked (getD cells d 0) c ≡ joins (fit-at-cells rows cells) d (latest-first classes d) c
     joinable-is-joins =
-        same-truth (joinable rows asked lacked (getD cells d 0) c) (joins (fit-at-cells rows cells) d (latest-first classes d) c) join
-        (λ e. and-intro (not (cell lacked c (getD cells d 0 % row-bits))) (every-below row-bits (held (getD cells d 0 / row-bits) (getD cells d 0 % row-bits) short)) (none-lacks (getD cells d 0 / row-bits) (getD cells d 0 % row-bits) short (joined e)) (all-held (getD cells d 0 / row-bits) (getD cells d 0 % row-bits) short (joined e)))
-      where
-        short : getD cells d 0 % row-bits < row-bits
-        short = mod-lt (getD cells d 0) row-bits-pos
-
-        join : So (joinable rows asked lacked (getD cells d 0) c) → So (joins (fit-at-cells rows cells) d (latest-first classes d) c)
-        join e =
-            joins-intro (fit-at-cells rows cells) d (latest-first classes d) c (λ i k s.
-            let l : i < d = rw (latest-first-length classes d) at k in
-            fitting-if (getD cells d 0 / row-bits) (getD cells d 0 % row-bits) short (and-left (not (cell lacked c (getD cells d 0 % row-bits))) (every-below row-bits (held (getD cells d 0 / row-bits) (getD cells d 0 % row-bits) short)) e)
-            (and-right (not (cell lacked c (getD cells d 0 % row-bits))) (every-below row-bits (held (getD cells d 0 / row-bits) (getD cells d 0 % row-bits) short)) e) i l
-            (eq-eqb c (getD classes i 0) (sym s ∙ latest-first-class classes d l)))
-
-        joined : So (joins (fit-at-cells rows cells) d (latest-first classes d) c) → (i : ℕ) → i < d → So (eqb c (getD classes i 0)) → Fitting (getD cells d 0 / row-bits) (getD cells d 0 % row-bits) short i
-        joined e i l s =
-            joins-elim (fit-at-cells rows cells) d (latest-first classes d) c e (rw (latest-first-length classes d) l)
-            (latest-first-class classes d l ∙ sym (eqb-true c (getD classes i 0) s))
+        same-truth (joinable rows asked lacked (getD cells d 0) c) (joins (fit-at-cells rows cells) d (latest-first classes d) c)
+        (λ e. joins-intro (fit-at-cells rows cells) d (latest-first classes d) c (λ i k s.
+        let l : i < d = rw (latest-first-length classes d) at k in
+        joinable-fits (getD cells d 0) e i l (eq-eqb c (getD classes i 0) (sym s ∙ latest-first-class classes d l))))
+        (λ e. fits-joinable (getD cells d 0) (λ i l s.
+        joins-elim (fit-at-cells rows cells) d (latest-first classes d) c e (rw (latest-first-length classes d) l)
+        (latest-first-class classes d l ∙ sym (eqb-true c (getD classes i 0) s))))
 
 -- ---- the lowest class that can be joined
 

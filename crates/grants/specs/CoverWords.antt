@@ -88,7 +88,8 @@ module _ {rows words after : List ℕ} {c u j : ℕ} (added : LacksAdded rows wo
           let first : word-of c (j * word-bits) ≡ c * row-words + j = omega arith in
           let class : v ≡ c = one-user c v (j * word-bits) q (omega arith) k (rw first e) in
           let word : q / word-bits ≡ j = omega (arith, rw class at e) in
-          let before : cell after v q ≡ cell words v q = added .shows v q k ∙ rw (le-ltb q (j * word-bits) (omega arith), and-false (eqb v c), or-false (cell words v q)) in
+          let before : cell after v q ≡ cell words v q =
+          added .shows v q k ∙ rw (le-ltb q (j * word-bits) (omega arith), and-false (eqb v c), or-false (cell words v q)) in
           rw (
             class,
             word,

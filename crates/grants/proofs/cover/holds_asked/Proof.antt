@@ -84,7 +84,8 @@ loop-again c =
     let a = c .before .before .before .before .before .before .before .args in
     let at = c .before .before .before .before .before .loop in (
       omega arith,
-      every-next-word (held-at (a .rows .now) (a .asked .now) (a .u) (a .c)) (at .j) (at .inv .1) (sym (word-test (c .before)) ∙ not-false (c .before .within .result) (c .if1 .left)),
+      every-next-word (held-at (a .rows .now) (a .asked .now) (a .u) (a .c)) (at .j) (at .inv .1)
+          (sym (word-test (c .before)) ∙ not-false (c .before .within .result) (c .if1 .left)),
     )
 
 returns-2 : tie.Need-returns-2 Inv-loop μ-loop
