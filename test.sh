@@ -29,6 +29,27 @@ for program in rolebook rolecheck play; do
 done
 rt staticlib porvuund
 
+# the shell front for people: what it prints, and its exit status
+front() { # STATUS OUTPUT ARGUMENT..
+    local status=$1 output=$2 got
+    shift 2
+    got=$(./porvuund "$@" 2>>"$log/front"; echo "status $?")
+    if [ "$got" = "$output"$'\n'"status $status" ] || [ "$got" = "${output}status $status" ]; then
+        echo "porvuund $*: as expected"
+        tally 0 1 0
+    else
+        printf 'porvuund %s: expected %s and status %s, got %s\n' "$*" "$output" "$status" "$got"
+        tally 0 0 1
+    fi
+}
+printf 'user,a\nann,2\n' >"$log/broken sheet"
+front 0 "$(cat crates/rolecheck/data/roosts.book)" book examples/roosts.csv
+front 0 5,5 check examples/roosts.csv crates/rolecheck/data/roosts.book
+front 1 7 book "$log/broken sheet"
+front 1 12 check examples/roosts.csv examples/roosts.csv
+front 2 '' book "$log/no such sheet"
+front 2 '' book examples/roosts.csv many
+
 if [ -f second/Cargo.toml ]; then
     (cd second && cargo test --offline --workspace --no-fail-fast 2>&1) | tee "$log/rust"
     status=$?
