@@ -1,8 +1,9 @@
 // The remaining grant with the fewest partners, and what is left once it is taken.
 use crate::cell::CellNo;
 use crate::cell::ROW_BITS;
+use crate::column::PLACE_WORDS;
+use crate::column::partners_in_column;
 use crate::fit::fitting;
-use crate::fit::partners;
 use crate::kernel::next_cell;
 use sheet::CELL_WORDS;
 use sheet::ROW_WORDS;
@@ -12,6 +13,7 @@ ghost use Prim.Native.Nat.{ℕ, _≤_, _<_};
 ghost use Rattle.bits.specs.Bit.{bit};
 ghost use Rattle.sheet.specs.Limits.{user-limit};
 ghost use Rattle.grants.specs.CellPlaces.{cell-limit};
+ghost use Rattle.grants.specs.Columns.{Columns};
 ghost use Rattle.grants.specs.NearCells.{cells-of};
 ghost use Rattle.grants.specs.WitnessChoice.{better-of, Fewest};
 ghost use Rattle.grants.specs.WitnessWords.{MadeCells};
@@ -38,8 +40,13 @@ fn better(best: Choice, cell: CellNo, partners: usize) -> Choice
 }
 
 // The remaining grant with the fewest partners, the lowest on a tie.
-pub fn fewest<'a>(rows: &'a [u64; CELL_WORDS], left: &'a [u64; CELL_WORDS], users: usize) -> Choice
-    requires { ⌜ users ≤ user-limit ⌝ }
+pub fn fewest<'a>(
+    rows: &'a [u64; CELL_WORDS],
+    columns: &'a [u64; PLACE_WORDS],
+    left: &'a [u64; CELL_WORDS],
+    users: usize,
+) -> Choice
+    requires { ⌜ (users ≤ user-limit) × Columns (now rows) (now columns) ⌝ }
     ensures { λ r. ⌜ Fewest (now (rows .entry)) (now (left .entry)) users r ⌝ }
 {
     let mut best = Choice {
@@ -49,7 +56,7 @@ pub fn fewest<'a>(rows: &'a [u64; CELL_WORDS], left: &'a [u64; CELL_WORDS], user
     let mut n = next_cell(left, users, 0);
     while n < users * ROW_BITS {
         let cell = CellNo(n);
-        best = better(best, cell, partners(rows, left, users, cell));
+        best = better(best, cell, partners_in_column(rows, columns, left, cell));
         n = next_cell(left, users, n + 1);
     }
     best
