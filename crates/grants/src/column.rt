@@ -12,7 +12,6 @@ ghost use Rattle.bits.specs.Below.{sum-below};
 ghost use Rattle.bits.specs.Bit.{bit, word-bits};
 ghost use Rattle.lists.specs.Lists.{filter};
 ghost use Rattle.sheet.specs.Limits.{user-limit};
-ghost use Rattle.sheet.specs.Rows.{row-words, row-bits};
 ghost use Rattle.sheet.specs.Sheet.{Sheet};
 ghost use Rattle.grants.specs.Fit.{fits};
 ghost use Rattle.grants.specs.CellSets.{cell-grants};

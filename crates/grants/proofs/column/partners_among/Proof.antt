@@ -1,5 +1,4 @@
 -- `grants::column::partners_among`: the positions of w are the words still to be counted. The lowest is counted next, and dropped.
-use borrow.Author.Needs.{needs}
 use Prim.Native.Nat.{_+_, _≤_}
 use native.Mathlib.Omega.{arith}
 use mathlib.Core.Path.{_≡_, _∙_}

@@ -1,7 +1,7 @@
 -- `grants::column::partners_in_column`: after j words of the column the sum is how many cells are near the grant in the words that it names so far. At the end
 -- these are all words in which a grant can fit it.
 use borrow.Author.Needs.{needs}
-use Prim.Native.Nat.{_*_, _+_, _%_, _-_, _≤_, _<_}
+use Prim.Native.Nat.{_+_, _*_, _%_, _-_, _≤_}
 use native.Mathlib.Nat.{mod-lt}
 use native.Mathlib.Omega.{arith}
 use mathlib.Core.Path.{_≡_, _∙_}
