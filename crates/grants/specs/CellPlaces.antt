@@ -50,4 +50,4 @@ pub record FittingWord (rows : List ℕ) (it i word : ℕ) : Type 0 where
 -- a count that ends once it reaches most: below that it is whole
 pub record CountedBelow (most whole count : ℕ) : Type 0 where
   pub below : count < most → count ≡ whole
-  pub reached : most ≤ count → most ≤ whole
+  pub not-more : count ≤ whole

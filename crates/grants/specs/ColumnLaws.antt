@@ -26,7 +26,7 @@ use Rattle.sheet.specs.Sheet.{Sheet}
 use Rattle.sheet.specs.Rows.{row-words, row-bits}
 use Rattle.grants.specs.Fit.{fits}
 use Rattle.grants.specs.CellSets.{cell-grants}
-use Rattle.grants.specs.CellPlaces.{cell-words, grant-of, marked, near, FittingWord, Shown, Part}
+use Rattle.grants.specs.CellPlaces.{cell-words, grant-of, marked, near, FittingWord, CountedBelow, Shown, Part}
 use Rattle.grants.specs.CellPlaceLaws.{row-words-pos, row-bits-pos, fit-by-word}
 use Rattle.grants.specs.FitWordLaws.{marked-in-word, near-word, near-count}
 use Rattle.grants.specs.Columns.{column-words, held-in, near-in-word, near-if, Columns}
@@ -108,6 +108,13 @@ module _ (rows left : List ℕ) (it : ℕ) where
 
   column-or-none : (i : ℕ) → near-if (held-in rows (it % row-bits) i) rows left it i ≡ near-in-word rows left it i
   column-or-none i = ⊎-elim (λ e. rw e) (λ e. rw e (sym (none-near i e))) (passes-or-fails (held-in rows (it % row-bits) i))
+
+-- a count that goes on where another ended
+pub counted-on : {most whole n r : ℕ} (more : ℕ) → CountedBelow most whole n → CountedBelow most (n + more) r → CountedBelow most (whole + more) r
+counted-on more first then = record {
+  below = λ l. let exact = then .below l in omega (arith, exact, first .below (omega (arith, exact)));
+  not-more = omega (arith, first .not-more, then .not-more);
+}
 
 -- ---- all words
 

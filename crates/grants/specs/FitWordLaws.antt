@@ -1,7 +1,7 @@
 -- Fit by the words. The rows say of any two cells what the sheet says of their grants. The word i of the cells near a grant is that of left and that of the
 -- fitting cells together, so the cells near it are counted word by word; and as many grants of the set fit it.
 use Prim.Native.Nat.{ℕ, _+_, _*_, _/_, _%_, _≤_, _<_}
-use native.Mathlib.Nat.{mod-lt, mul-assoc, le-trans}
+use native.Mathlib.Nat.{mod-lt, mul-assoc}
 use native.Mathlib.Omega.{arith}
 use mathlib.Core.Path.{_≡_, sym, ap, _∙_}
 use mathlib.Core.Bool.{Bool, _&&_}
@@ -70,7 +70,5 @@ module _ {rows : List ℕ} {users : ℕ} {sheet : Sheet} (shown : Shown rows use
       → CountedBelow most (length (filter (fits sheet (grant-of it)) (cell-grants sheet left))) (count-below (i * word-bits) (near rows left it))
   counted-below {left} part it most i l ended = record {
     below = λ k. ap (λ n. count-below (n * word-bits) (near rows left it)) (ended k) ∙ near-count part it;
-    reached = λ k.
-        rw (sym (near-count part it))
-        (le-trans k (count-below-more (i * word-bits) (users * row-words * word-bits) (near rows left it) (omega arith)));
+    not-more = rw (sym (near-count part it)) (count-below-more (i * word-bits) (users * row-words * word-bits) (near rows left it) (omega arith));
   }

@@ -35,7 +35,7 @@ one-of-two counted one = omega (arith, counted .below (omega arith))
 
 pub not-one-of-two : {whole count : ℕ} → CountedBelow 2 whole count → (count ≡ 1 → ⊥) → whole ≡ 1 → ⊥
 not-one-of-two {whole} {count} counted more one =
-    ⊎-elim (λ (l : count < 2). more (counted .below l ∙ one)) (λ (l : 2 ≤ count). omega (arith, counted .reached l)) (below-or-from count 2)
+    ⊎-elim (λ (l : count < 2). more (counted .below l ∙ one)) (λ (l : 2 ≤ count). omega (arith, counted .not-more)) (below-or-from count 2)
 
 module _ {rows : List ℕ} {users : ℕ} {sheet : Sheet} (shown : Shown rows users sheet) {left : List ℕ} (part : Part left rows)
     {it count : ℕ} (inside : it < cells-of users) (set : So (marked left it))

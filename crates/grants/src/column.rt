@@ -15,7 +15,7 @@ ghost use Rattle.sheet.specs.Limits.{user-limit};
 ghost use Rattle.sheet.specs.Sheet.{Sheet};
 ghost use Rattle.grants.specs.Fit.{fits};
 ghost use Rattle.grants.specs.CellSets.{cell-grants};
-ghost use Rattle.grants.specs.CellPlaces.{cell-words, cell-limit, grant-of, Shown, Part};
+ghost use Rattle.grants.specs.CellPlaces.{cell-words, cell-limit, grant-of, CountedBelow, Shown, Part};
 ghost use Rattle.grants.specs.TableWords.{FirstBits};
 ghost use Rattle.grants.specs.Columns.{place-limit, place-held, near-if, Columns};
 
@@ -68,20 +68,23 @@ pub fn columns_of(rows: &[u64; CELL_WORDS]) -> [u64; PLACE_WORDS]
     words
 }
 
-// How many grants of left fit the grant at a cell, in the words at the positions of some.
+// The count so far, and how many grants of left fit the grant at a cell in the words at the positions of some. The count ends once it reaches most.
 fn partners_among<'a>(
     rows: &'a [u64; CELL_WORDS],
     left: &'a [u64; CELL_WORDS],
     it: CellNo,
     from: usize,
     some: u64,
+    start: usize,
+    most: usize,
 ) -> usize
-    requires { ⌜ (it .0 < cell-limit) × (from + word-bits ≤ cell-words) ⌝ }
-    ensures { λ r. ⌜ r ≡ sum-below word-bits (λ (q : ℕ). near-if (bit some q) (now (rows .entry)) (now (left .entry)) (it .0) (from + q)) ⌝ }
+    requires { ⌜ (it .0 < cell-limit) × (from + word-bits ≤ cell-words) × (start ≤ cell-limit) ⌝ }
+    ensures { λ r. ⌜ CountedBelow most
+        (start + sum-below word-bits (λ (q : ℕ). near-if (bit some q) (now (rows .entry)) (now (left .entry)) (it .0) (from + q))) r ⌝ }
 {
-    let mut n = 0;
+    let mut n = start;
     let mut w = some;
-    while w != 0 {
+    while w != 0 && n < most {
         let i = from + bits::lowest(w);
         n += bits::count(left[i] & fitting(rows, it, i));
         w = bits::without_lowest(w);
@@ -89,22 +92,25 @@ fn partners_among<'a>(
     n
 }
 
-// How many grants of left fit the grant at a cell, itself among them where it is in left, counted in the words of its permission's column.
+// How many grants of left fit the grant at a cell, itself among them where it is in left, counted in the words of its permission's column. The count ends
+// once it reaches most.
 pub fn partners_in_column<'a>(
     rows: &'a [u64; CELL_WORDS],
     columns: &'a [u64; PLACE_WORDS],
     left: &'a [u64; CELL_WORDS],
     it: CellNo,
+    most: usize,
 ) -> usize
     requires { ⌜ (it .0 < cell-limit) × Columns (now rows) (now columns) ⌝ }
     ensures { λ r. ⌜ ((users : ℕ) (sheet : Sheet) → users ≤ user-limit → Shown (now (rows .entry)) users sheet → Part (now (left .entry)) (now (rows .entry))
-        → r ≡ length (filter (fits sheet (grant-of (it .0))) (cell-grants sheet (now (left .entry))))) ⌝ }
+        → CountedBelow most (length (filter (fits sheet (grant-of (it .0))) (cell-grants sheet (now (left .entry))))) r) ⌝ }
 {
     let p = it.0 % ROW_BITS;
     let mut n = 0;
     let mut j = 0;
     while j < COLUMN_WORDS {
-        n += partners_among(rows, left, it, j * WORD_BITS, columns[p * COLUMN_WORDS + j]);
+        let some = columns[p * COLUMN_WORDS + j];
+        n = partners_among(rows, left, it, j * WORD_BITS, some, n, most);
         j += 1;
     }
     n

@@ -2,6 +2,7 @@
 use Prim.Native.Nat.{_+_, _≤_}
 use native.Mathlib.Omega.{arith}
 use mathlib.Core.Path.{_≡_, _∙_}
+use borrow.Author.Tests.{ltb-false}
 use Rattle.bits.specs.Bit.{bit, word-bits}
 use Rattle.bits.specs.CountLaws.{count-below-le}
 use Rattle.sheet.specs.Limits.{user-limit}
@@ -12,11 +13,11 @@ use Rattle.grants.proofs.column.partners_among.Statement.{statement}
 use Rattle.grants.proofs.column.partners_among.Tie as tie
 
 abbrev Inv-loop : tie.InvT-loop
-Inv-loop rows left it from some n₀ w₀ n w =
-    n + word-sum (λ q. near-in-word rows left (it .0) (from + q)) w ≡ word-sum (λ q. near-in-word rows left (it .0) (from + q)) some
+Inv-loop rows left it from some start most n₀ w₀ n w =
+    n + word-sum (λ q. near-in-word rows left (it .0) (from + q)) w ≡ start + word-sum (λ q. near-in-word rows left (it .0) (from + q)) some
 
 abbrev μ-loop : tie.MeasureT-loop
-μ-loop rows left it from some n₀ w₀ n w = w
+μ-loop rows left it from some start most n₀ w₀ n w = w
 
 loop-holds : tie.Need-loop-holds Inv-loop μ-loop
 loop-holds c = omega arith
@@ -44,10 +45,11 @@ count-requires : tie.Need-count-requires Inv-loop μ-loop
 count-requires c κs = tt
 
 add-n : tie.Need-add-n Inv-loop μ-loop
+unfolding user-limit row-words
 add-n c =
-    let a = c .before .before .before .before .before .before .args in
+    let a = c .before .before .before .before .before .before .before .args in
     let few : c .count .result ≤ word-bits = rw (c .count .ensures) (count-below-le word-bits _) in
-    omega (arith, c .before .before .before .before .before .loop .inv, near-sum-le (a .rows .now) (a .left .now) (a .it .0) word-bits (bit (a .some)) (λ q. a .from + q))
+    omega (arith, c .before .before .before .before .before .before .loop .inv, near-sum-le (a .rows .now) (a .left .now) (a .it .0) word-bits (bit (a .some)) (λ q. a .from + q))
 
 without-lowest-requires : tie.Need-without-lowest-requires Inv-loop μ-loop
 without-lowest-requires c κs = omega arith
@@ -57,21 +59,28 @@ loop-less c = c .without-lowest .ensures .less
 
 loop-again : tie.Need-loop-again Inv-loop μ-loop
 loop-again c =
-    let a = c .before .before .before .before .before .before .before .args in
+    let a = c .before .before .before .before .before .before .before .before .args in
     let low = c .before .before .before .before .lowest in
     let counted = c .before .count .ensures ∙ near-word-count (a .rows .now) (a .left .now) (a .it .0) (a .from + low .result) (c .before .before .fitting .ensures) in
     omega (
       arith,
-      c .before .before .before .before .before .before .loop .inv,
+      c .before .before .before .before .before .before .before .loop .inv,
       counted,
       word-sum-dropped (λ q. near-in-word (a .rows .now) (a .left .now) (a .it .0) (a .from + q)) (low .ensures) (c .without-lowest .ensures),
     )
 
 returns : tie.Need-returns Inv-loop μ-loop
 returns c =
+    let at = c .before .before .loop in
+    record { below = λ l. absurd (omega (arith, ltb-false, l)); not-more = omega (arith, at .inv) }
+
+returns-2 : tie.Need-returns-2 Inv-loop μ-loop
+returns-2 c =
     let a = c .before .before .args in
     let none : c .before .loop .w ≡ 0 = c .loop-test .left in
-    omega (arith, rw none at (c .before .loop .inv), word-sum-of-none (λ q. near-in-word (a .rows .now) (a .left .now) (a .it .0) (a .from + q)))
+    let all = rw none at (c .before .loop .inv) in
+    let nothing = word-sum-of-none (λ q. near-in-word (a .rows .now) (a .left .now) (a .it .0) (a .from + q)) in
+    record { below = λ l. omega (arith, all, nothing); not-more = omega (arith, all, nothing) }
 
 pub partners-among-spec : {M : Type 1} → statement M
 partners-among-spec =
@@ -90,4 +99,5 @@ partners-among-spec =
     without-lowest-requires
     loop-less
     loop-again
-    returns)
+    returns
+    returns-2)

@@ -1,60 +1,56 @@
--- `grants::column::partners_in_column`: after j words of the column the sum is how many cells are near the grant in the words that it names so far. At the end
--- these are all words in which a grant can fit it.
-use borrow.Author.Needs.{needs}
-use Prim.Native.Nat.{_+_, _*_, _%_, _-_, _≤_}
+-- `grants::column::partners_in_column`: after j words of the column the cells near the grant are counted in the words that it names so far, or most are counted
+-- already. At the end these are all words in which a grant can fit it.
+use Prim.Native.Nat.{_*_, _%_, _-_, _≤_}
 use native.Mathlib.Nat.{mod-lt}
 use native.Mathlib.Omega.{arith}
-use mathlib.Core.Path.{_≡_, _∙_}
+use mathlib.Core.Path.{_≡_, refl}
 use Rattle.bits.specs.Below.{sum-below}
-use Rattle.bits.specs.Bit.{bit, word-bits}
+use Rattle.bits.specs.Bit.{word-bits}
 use Rattle.sheet.specs.Limits.{user-limit}
 use Rattle.sheet.specs.Rows.{row-words, row-bits}
+use Rattle.grants.specs.CellPlaces.{CountedBelow}
 use Rattle.grants.specs.CellPlaceLaws.{row-bits-pos}
 use Rattle.grants.specs.Columns.{column-words, held-in}
-use Rattle.grants.specs.ColumnLaws.{near-sum-le, column-sum, column-next-word, column-counts-all}
+use Rattle.grants.specs.ColumnLaws.{near-sum-le, column-sum, column-next-word, counted-on, column-counts-all}
 use Rattle.grants.proofs.column.partners_in_column.Statement.{statement}
 use Rattle.grants.proofs.column.partners_in_column.Tie as tie
 
 abbrev Inv-loop : tie.InvT-loop
-Inv-loop rows columns left it p n₀ j₀ n j =
-    (j ≤ column-words) × (n ≡ column-sum rows left (it .0) (it .0 % row-bits) (j * word-bits))
+Inv-loop rows columns left it most p n₀ j₀ n j =
+    (j ≤ column-words) × CountedBelow most (column-sum rows left (it .0) (it .0 % row-bits) (j * word-bits)) n
 
 abbrev μ-loop : tie.MeasureT-loop
-μ-loop rows columns left it p n₀ j₀ n j = column-words - j
+μ-loop rows columns left it most p n₀ j₀ n j = column-words - j
 
 loop-holds : tie.Need-loop-holds Inv-loop μ-loop
 unfolding sum-below
-loop-holds c = search needs
+loop-holds c = (omega arith, record { below = λ l. refl; not-more = omega arith })
+
+mul-some : tie.Need-mul-some Inv-loop μ-loop
+mul-some c = omega arith
+
+add-some : tie.Need-add-some Inv-loop μ-loop
+add-some c = omega arith
+
+mul-some-2 : tie.Need-mul-some-2 Inv-loop μ-loop
+mul-some-2 c = omega arith
+
+element-copy-out-some : tie.Need-element-copy-out-some Inv-loop μ-loop
+element-copy-out-some c = omega arith
 
 mul-partners-among : tie.Need-mul-partners-among Inv-loop μ-loop
 mul-partners-among c = omega arith
 
-mul-partners-among-2 : tie.Need-mul-partners-among-2 Inv-loop μ-loop
-mul-partners-among-2 c = omega arith
-
-add-partners-among : tie.Need-add-partners-among Inv-loop μ-loop
-add-partners-among c = omega arith
-
-mul-partners-among-3 : tie.Need-mul-partners-among-3 Inv-loop μ-loop
-mul-partners-among-3 c = omega arith
-
-element-copy-out-partners-among : tie.Need-element-copy-out-partners-among Inv-loop μ-loop
-element-copy-out-partners-among c = omega arith
-
 partners-among-requires : tie.Need-partners-among-requires Inv-loop μ-loop
 unfolding user-limit row-words
-partners-among-requires c κs = search needs
-
-add-n : tie.Need-add-n Inv-loop μ-loop
-unfolding user-limit row-words
-add-n c =
-    let a = c .before .before .before .before .before .args in
-    let at = c .before .before .before .loop in
-    let so-far : at .n ≤ at .j * word-bits * word-bits =
-    rw (at .inv .1) (near-sum-le (a .rows .now) (a .left .now) (a .it .0) (at .j * word-bits) (held-in (a .rows .now) (a .it .0 % row-bits)) (λ i. i)) in
-    let more : c .partners-among .result ≤ word-bits * word-bits =
-    rw (c .partners-among .ensures) (near-sum-le (a .rows .now) (a .left .now) (a .it .0) word-bits (bit _) (λ q. at .j * word-bits + q)) in
-    omega arith
+partners-among-requires c κs =
+    let a = c .before .before .before .before .args in
+    let at = c .before .before .loop in
+    omega (
+      arith,
+      at .inv .1 .not-more,
+      near-sum-le (a .rows .now) (a .left .now) (a .it .0) (at .j * word-bits) (held-in (a .rows .now) (a .it .0 % row-bits)) (λ i. i),
+    )
 
 add-j : tie.Need-add-j Inv-loop μ-loop
 add-j c = omega arith
@@ -71,7 +67,7 @@ loop-again c =
       omega arith,
       rw (column-next-word (a .rows .now) (a .left .now) (a .it .0) (a .columns .now) (c .before .before .before .before .before .pre .1) (a .it .0 % row-bits) (at .j)
           (mod-lt (a .it .0) row-bits-pos) (omega arith))
-          (omega (arith, at .inv .1, c .partners-among .ensures)),
+          (counted-on _ (at .inv .1) (c .partners-among .ensures)),
     )
 
 returns : tie.Need-returns Inv-loop μ-loop
@@ -80,7 +76,7 @@ returns c users sheet few shown part =
     let a = c .before .before .before .args in
     let at = c .before .loop in
     let end : at .j ≡ column-words = omega arith in
-    (rw end at (at .inv .1)) ∙ column-counts-all shown part (a .it .0) (omega arith)
+    rw (column-counts-all shown part (a .it .0) (omega arith)) at (rw end at (at .inv .1))
 
 pub partners-in-column-spec : {M : Type 1} → statement M
 partners-in-column-spec =
@@ -89,13 +85,12 @@ partners-in-column-spec =
     Inv-loop
     μ-loop
     loop-holds
+    mul-some
+    add-some
+    mul-some-2
+    element-copy-out-some
     mul-partners-among
-    mul-partners-among-2
-    add-partners-among
-    mul-partners-among-3
-    element-copy-out-partners-among
     partners-among-requires
-    add-n
     add-j
     loop-less
     loop-again

@@ -25,7 +25,7 @@ unfolding row-words
 returns c sheet shown part =
     let counted = c .partners-below .ensures sheet shown part in
     let few = near-count-le shown part (c .before .args .it .0) in
-    ⊎-elim (λ l. counted .below l) (λ l. absurd (omega (arith, few, counted .reached l))) (below-or-from (c .partners-below .result) _)
+    ⊎-elim (λ l. counted .below l) (λ l. absurd (omega (arith, few, counted .not-more, l))) (below-or-from (c .partners-below .result) _)
 
 pub partners-spec : {M : Type 1} → statement M
 partners-spec = tie.close (tie.spec mul-partners-below add-partners-below partners-below-requires returns)
