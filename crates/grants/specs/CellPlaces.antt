@@ -1,6 +1,6 @@
 -- Cells by number, row after row: the cell of user u and permission p has the number u * row-bits + p. Its bit is the bit n % word-bits of the word
 -- n / word-bits, whatever the words in a row, so a set of cells is searched and counted word by word. Of two grants the lower has the lower cell.
-use Prim.Native.Nat.{ℕ, _+_, _*_, _/_, _%_, _<_}
+use Prim.Native.Nat.{ℕ, _+_, _*_, _/_, _%_, _≤_, _<_}
 use mathlib.Core.Path.{_≡_}
 use mathlib.Core.Bool.{Bool, So, _&&_}
 use mathlib.Core.List.{List}
@@ -46,3 +46,8 @@ near rows left it n = marked left n && fit-in rows (grant-of it) (grant-of n)
 -- the word i of the cells whose grants fit that at the cell it
 pub record FittingWord (rows : List ℕ) (it i word : ℕ) : Type 0 where
   pub bits : (q : ℕ) → q < word-bits → bit word q ≡ fit-in rows (grant-of it) (grant-of (i * word-bits + q))
+
+-- a count that ends once it reaches most: below that it is whole
+pub record CountedBelow (most whole count : ℕ) : Type 0 where
+  pub below : count < most → count ≡ whole
+  pub not-more : count ≤ whole

@@ -28,6 +28,8 @@ pub mod WitnessTaken
 pub mod WitnessGreedy
 pub mod WitnessSingles
 pub mod WitnessRows
+pub mod Columns
+pub mod ColumnLaws
 pub mod CellSets
 pub mod CellPlaces
 pub mod CellPlaceLaws

@@ -1,9 +1,11 @@
 // The remaining grant with the fewest partners, and what is left once it is taken.
 use crate::cell::CellNo;
 use crate::cell::ROW_BITS;
+use crate::column::PLACE_WORDS;
+use crate::column::partners_in_column;
 use crate::fit::fitting;
-use crate::fit::partners;
 use crate::kernel::next_cell;
+use bits::WORD_BITS;
 use sheet::CELL_WORDS;
 use sheet::ROW_WORDS;
 ghost use mathlib.Core.Path.{_≡_};
@@ -12,8 +14,9 @@ ghost use Prim.Native.Nat.{ℕ, _≤_, _<_};
 ghost use Rattle.bits.specs.Bit.{bit};
 ghost use Rattle.sheet.specs.Limits.{user-limit};
 ghost use Rattle.grants.specs.CellPlaces.{cell-limit};
+ghost use Rattle.grants.specs.Columns.{Columns};
 ghost use Rattle.grants.specs.NearCells.{cells-of};
-ghost use Rattle.grants.specs.WitnessChoice.{better-of, Fewest};
+ghost use Rattle.grants.specs.WitnessChoice.{to-beat, better-of, Fewest};
 ghost use Rattle.grants.specs.WitnessWords.{MadeCells};
 ghost use Rattle.grants.specs.WitnessCells.{left-over};
 
@@ -21,6 +24,20 @@ ghost use Rattle.grants.specs.WitnessCells.{left-over};
 pub struct Choice {
     pub cell: CellNo,
     pub partners: usize,
+}
+
+// More than any count: as many grants fit as there are cells at most.
+const NO_COUNT: usize = CELL_WORDS * WORD_BITS + 1;
+
+// The count that a better choice is below: any where there is none yet.
+fn to_beat(best: Choice) -> usize
+    ensures { λ r. ⌜ r ≡ to-beat best ⌝ }
+{
+    if best.partners == 0 {
+        NO_COUNT
+    } else {
+        best.partners
+    }
 }
 
 // The choice so far, unless the grant at a cell has fewer partners.
@@ -38,8 +55,13 @@ fn better(best: Choice, cell: CellNo, partners: usize) -> Choice
 }
 
 // The remaining grant with the fewest partners, the lowest on a tie.
-pub fn fewest<'a>(rows: &'a [u64; CELL_WORDS], left: &'a [u64; CELL_WORDS], users: usize) -> Choice
-    requires { ⌜ users ≤ user-limit ⌝ }
+pub fn fewest<'a>(
+    rows: &'a [u64; CELL_WORDS],
+    columns: &'a [u64; PLACE_WORDS],
+    left: &'a [u64; CELL_WORDS],
+    users: usize,
+) -> Choice
+    requires { ⌜ (users ≤ user-limit) × Columns (now rows) (now columns) ⌝ }
     ensures { λ r. ⌜ Fewest (now (rows .entry)) (now (left .entry)) users r ⌝ }
 {
     let mut best = Choice {
@@ -49,7 +71,12 @@ pub fn fewest<'a>(rows: &'a [u64; CELL_WORDS], left: &'a [u64; CELL_WORDS], user
     let mut n = next_cell(left, users, 0);
     while n < users * ROW_BITS {
         let cell = CellNo(n);
-        best = better(best, cell, partners(rows, left, users, cell));
+        let most = to_beat(best);
+        best = better(
+            best,
+            cell,
+            partners_in_column(rows, columns, left, cell, most),
+        );
         n = next_cell(left, users, n + 1);
     }
     best

@@ -12,7 +12,7 @@ ghost use Rattle.sheet.specs.Limits.{user-limit};
 ghost use Rattle.sheet.specs.Sheet.{Sheet};
 ghost use Rattle.grants.specs.Fit.{fits};
 ghost use Rattle.grants.specs.CellSets.{cell-grants};
-ghost use Rattle.grants.specs.CellPlaces.{cell-words, cell-limit, grant-of, FittingWord, Shown, Part};
+ghost use Rattle.grants.specs.CellPlaces.{cell-words, cell-limit, grant-of, FittingWord, CountedBelow, Shown, Part};
 ghost use Rattle.grants.specs.NearCells.{dominates-in};
 
 // Word i of the cells that fit the grant at a cell.
@@ -30,7 +30,28 @@ pub fn fitting(rows: &[u64; CELL_WORDS], it: CellNo, i: usize) -> u64
     }
 }
 
-// How many grants of left fit the grant at a cell, itself among them where it is in left.
+// How many grants of left fit the grant at a cell, itself among them where it is in left. The count ends once it reaches most.
+pub fn partners_below<'a>(
+    rows: &'a [u64; CELL_WORDS],
+    left: &'a [u64; CELL_WORDS],
+    users: usize,
+    it: CellNo,
+    most: usize,
+) -> usize
+    requires { ⌜ (users ≤ user-limit) × (it .0 < cell-limit) ⌝ }
+    ensures { λ r. ⌜ ((sheet : Sheet) → Shown (now (rows .entry)) users sheet → Part (now (left .entry)) (now (rows .entry))
+        → CountedBelow most (length (filter (fits sheet (grant-of (it .0))) (cell-grants sheet (now (left .entry))))) r) ⌝ }
+{
+    let mut n = 0;
+    let mut i = 0;
+    while i < users * ROW_WORDS && n < most {
+        n += bits::count(left[i] & fitting(rows, it, i));
+        i += 1;
+    }
+    n
+}
+
+// The whole count.
 pub fn partners<'a>(
     rows: &'a [u64; CELL_WORDS],
     left: &'a [u64; CELL_WORDS],
@@ -41,13 +62,7 @@ pub fn partners<'a>(
     ensures { λ r. ⌜ ((sheet : Sheet) → Shown (now (rows .entry)) users sheet → Part (now (left .entry)) (now (rows .entry))
         → r ≡ length (filter (fits sheet (grant-of (it .0))) (cell-grants sheet (now (left .entry))))) ⌝ }
 {
-    let mut n = 0;
-    let mut i = 0;
-    while i < users * ROW_WORDS {
-        n += bits::count(left[i] & fitting(rows, it, i));
-        i += 1;
-    }
-    n
+    partners_below(rows, left, users, it, users * ROW_BITS + 1)
 }
 
 // Whether the grant at one cell dominates that at another: all grants of left that fit the other fit it.

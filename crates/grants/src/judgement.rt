@@ -2,7 +2,7 @@
 use crate::cell::CellNo;
 use crate::fit::dominates;
 use crate::fit::fitting;
-use crate::fit::partners;
+use crate::fit::partners_below;
 use bits::WORD_BITS;
 use sheet::CELL_WORDS;
 use sheet::ROW_WORDS;
@@ -103,7 +103,7 @@ pub fn judge<'a>(
     requires { ⌜ Judgeable (now rows) (now left) users (it .0) ⌝ }
     ensures { λ r. ⌜ Judged (now (rows .entry)) (now (left .entry)) users (it .0) r ⌝ }
 {
-    if partners(rows, left, users, it) == 1 {
+    if partners_below(rows, left, users, it, 2) == 1 {
         return Verdict::Single;
     }
     match tie(rows, left, users, it) {

@@ -1,6 +1,7 @@
 // Grants over rows of words: which fit, the reduction with its log, the witness and the first cover.
 mod cell;
 mod choice;
+mod column;
 mod cover;
 mod fit;
 mod judgement;

@@ -2,6 +2,7 @@
 use crate::cell::CellNo;
 use crate::choice::dropped;
 use crate::choice::fewest;
+use crate::column::columns_of;
 use crate::sets::counted;
 use crate::sets::joined;
 use crate::sets::with_cell;
@@ -28,11 +29,12 @@ fn chosen<'a>(
     ensures { λ r. ⌜ ((sheet : Sheet) → Shown (now (rows .entry)) users sheet → Part (now (kernel .entry)) (now (rows .entry))
         → Chosen sheet (now (rows .entry)) (now (kernel .entry)) r) ⌝ }
 {
+    let columns = columns_of(rows);
     let mut left = *kernel;
     let mut taken = [0; CELL_WORDS];
     let mut count = 0;
     while count < GRANT_LIMIT {
-        let best = fewest(rows, &left, users);
+        let best = fewest(rows, &columns, &left, users);
         let cell = best.cell;
         if best.partners == 0 {
             return taken;

@@ -9,10 +9,10 @@ use Rattle.grants.proofs.choice.fewest.Statement.{statement}
 use Rattle.grants.proofs.choice.fewest.Tie as tie
 
 abbrev Inv-loop : tie.InvT-loop
-Inv-loop rows left users best₀ n₀ best n = Walking rows left users best n
+Inv-loop rows columns left users best₀ n₀ best n = Walking rows left users best n
 
 abbrev μ-loop : tie.MeasureT-loop
-μ-loop rows left users best₀ n₀ best n = users * row-bits - n
+μ-loop rows columns left users best₀ n₀ best n = users * row-bits - n
 
 next-cell-requires : tie.Need-next-cell-requires Inv-loop μ-loop
 next-cell-requires c κs = omega arith
@@ -24,9 +24,12 @@ mul-loop : tie.Need-mul-loop Inv-loop μ-loop
 unfolding user-limit
 mul-loop c = omega arith
 
-partners-requires : tie.Need-partners-requires Inv-loop μ-loop
-unfolding row-words
-partners-requires c κs = omega arith
+partners-in-column-requires : tie.Need-partners-in-column-requires Inv-loop μ-loop
+unfolding user-limit row-words
+partners-in-column-requires c κs = (omega arith, c .before .before .before .before .pre .1)
+
+to-beat-requires : tie.Need-to-beat-requires Inv-loop μ-loop
+to-beat-requires c κs = tt
 
 better-requires : tie.Need-better-requires Inv-loop μ-loop
 better-requires c κs = search needs
@@ -45,10 +48,11 @@ loop-less c = omega (arith, c .next-cell2 .ensures .not-before)
 loop-again : tie.Need-loop-again Inv-loop μ-loop
 unfolding row-bits row-words
 loop-again c =
-    let at = c .before .before .before .before .loop in
+    let given = c .before .before .before .before .before .before .before .pre in
+    let at = c .before .before .before .before .before .loop in
     rw (c .before .better .ensures)
-    (walk-goes-on _ _ _ (at .best) (at .n) (at .inv) _ _ (c .before .before .before .loop-test .taken) (c .before .before .partners .ensures)
-    (c .next-cell2 .ensures))
+    (walk-goes-on _ _ _ (at .best) (at .n) (at .inv) _ _ (given .0) (c .before .before .before .before .loop-test .taken)
+    (λ sheet shown part. rw (c .before .before .before .to-beat .ensures) at (c .before .before .partners-in-column .ensures _ sheet (given .0) shown part)) (c .next-cell2 .ensures))
 
 returns : tie.Need-returns Inv-loop μ-loop
 unfolding row-bits row-words
@@ -63,7 +67,8 @@ fewest-spec =
     next-cell-requires
     loop-holds
     mul-loop
-    partners-requires
+    to-beat-requires
+    partners-in-column-requires
     better-requires
     add-next-cell
     next-cell-requires-2

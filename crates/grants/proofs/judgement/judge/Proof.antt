@@ -1,16 +1,17 @@
 -- `grants::judgement::judge`: a grant that is the only one of left to fit it is single; else the lowest cell that it dominates decides.
 use borrow.Author.Needs.{needs}
 use native.Mathlib.Omega.{arith}
+use mathlib.Core.Path.{refl}
 use Rattle.sheet.specs.Limits.{user-limit}
 use Rattle.sheet.specs.Rows.{row-words}
 use Rattle.grants.specs.ReductionVerdict.{LowestIn}
-use Rattle.grants.specs.ReductionVerdictLaws.{single-found, tie-found, no-tie-found, tie-is-other}
+use Rattle.grants.specs.ReductionVerdictLaws.{one-of-two, not-one-of-two, single-found, tie-found, no-tie-found, tie-is-other}
 use Rattle.grants.proofs.judgement.judge.Statement.{statement}
 use Rattle.grants.proofs.judgement.judge.Tie as tie
 
-partners-requires : tie.Need-partners-requires
+partners-below-requires : tie.Need-partners-below-requires
 unfolding user-limit row-words
-partners-requires c κs = omega arith
+partners-below-requires c κs = omega arith
 
 returns : tie.Need-returns
 returns c =
@@ -18,7 +19,8 @@ returns c =
     record {
       named = tt;
       right = λ sheet shown.
-          single-found shown (given .part) (given .within) (given .set) (c .before .partners .ensures sheet shown (given .part)) (c .if1 .taken);
+          single-found shown (given .part) (given .within) (given .set) refl
+          (one-of-two (c .before .partners-below .ensures sheet shown (given .part)) (c .if1 .taken));
     }
 
 tie-requires : tie.Need-tie-requires
@@ -40,7 +42,8 @@ returns-2 c =
     record {
       named = (low .within, tie-is-other (a .rows .now) (a .left .now) (a .users) (a .it .0) low);
       right = λ sheet shown.
-          tie-found shown (given .part) (given .within) (given .set) (judged .before .partners .ensures sheet shown (given .part)) (judged .if1 .left) low;
+          tie-found shown (given .part) (given .within) (given .set) refl
+          (not-one-of-two (judged .before .partners-below .ensures sheet shown (given .part)) (judged .if1 .left)) low;
     }
 
 returns-3 : tie.Need-returns-3
@@ -50,7 +53,8 @@ returns-3 c =
     record {
       named = tt;
       right = λ sheet shown.
-          no-tie-found shown (given .part) (given .within) (given .set) (judged .before .partners .ensures sheet shown (given .part)) (judged .if1 .left)
+          no-tie-found shown (given .part) (given .within) (given .set) refl
+          (not-one-of-two (judged .before .partners-below .ensures sheet shown (given .part)) (judged .if1 .left))
           (rw (c .enum-told .given .1) at (c .before .before .tie .ensures));
     }
 
@@ -58,7 +62,7 @@ pub judge-spec : {M : Type 1} → statement M
 judge-spec =
     tie.close
     (tie.spec
-    partners-requires
+    partners-below-requires
     returns
     tie-requires
     enum-known-other

@@ -17,12 +17,15 @@ use Rattle.grants.proofs.witness.chosen.Statement.{statement}
 use Rattle.grants.proofs.witness.chosen.Tie as tie
 
 abbrev Inv-loop : tie.InvT-loop
-Inv-loop rows kernel users left₀ taken₀ count₀ left taken count =
+Inv-loop rows kernel users columns left₀ taken₀ count₀ left taken count =
     (count ≤ grant-limit)
     × ((sheet : Sheet) → Shown rows users sheet → Part kernel rows → Greedy sheet rows kernel left taken (grant-limit - count))
 
 abbrev μ-loop : tie.MeasureT-loop
-μ-loop rows kernel users left₀ taken₀ count₀ left taken count = grant-limit - count
+μ-loop rows kernel users columns left₀ taken₀ count₀ left taken count = grant-limit - count
+
+columns-of-requires : tie.Need-columns-of-requires Inv-loop μ-loop
+columns-of-requires c κs = tt
 
 loop-holds : tie.Need-loop-holds Inv-loop μ-loop
 unfolding user-limit row-words
@@ -33,7 +36,7 @@ fewest-requires c κs = search needs
 
 returns : tie.Need-returns Inv-loop μ-loop
 returns c sheet shown part =
-    let at = c .before .before .before .before .before .before .loop in
+    let at = c .before .before .before .before .before .before .before .loop in
     let greedy = at .inv .1 sheet shown part in
     let found = c .before .before .before .fewest .ensures .is-fewest sheet shown (greedy .left-part) in
     greedy-ends sheet _ _ (at .left) (at .taken) _ greedy
@@ -69,9 +72,9 @@ loop-again : tie.Need-loop-again Inv-loop μ-loop
 unfolding grant-limit
 loop-again c =
     let turn = c .before .before .before in
-    let at = turn .before .before .before .before .before .before .loop in
+    let at = turn .before .before .before .before .before .before .before .loop in
     let fewest = turn .before .before .before .fewest in
-    let more = one-fewer (turn .before .before .before .before .before) in (
+    let more = one-fewer (turn .before .before .before .before .before .before) in (
       omega (arith, more),
       λ sheet shown part.
           let greedy = rw more at (at .inv .1 sheet shown part) in
@@ -93,6 +96,7 @@ chosen-spec =
     (tie.spec
     Inv-loop
     μ-loop
+    columns-of-requires
     loop-holds
     fewest-requires
     returns
