@@ -7,7 +7,7 @@ use crate::put::put_field;
 use sheet::Layout;
 use sheet::PermissionNo;
 use sheet::RoleNo;
-use sheet::permission_name;
+use sheet::permission_name_in;
 ghost use mathlib.Core.List.{List};
 ghost use Prim.Native.Nat.{ℕ, _+_, _*_, _≤_, _<_};
 ghost use lib.ListN.{length};
@@ -31,10 +31,13 @@ fn put_permission_fields(out: &mut [u8], s: &[u8], layout: Layout) -> usize
         (now (out .entry)) (now (out .exit)) r ⌝ }
 {
     let permissions = layout.permissions;
+    let places = layout.permission_places;
+    let from = places.from;
+    let to = places.to;
     let mut at = 0;
     let mut i = 0;
     while i < permissions {
-        let name = permission_name(s, layout, PermissionNo(i));
+        let name = permission_name_in(s, &from, &to, PermissionNo(i));
         at += put_field(&mut out[at..], name);
         i += 1;
     }
@@ -103,10 +106,13 @@ fn permission_fields_length(s: &[u8], layout: Layout) -> usize
     ensures { λ r. ⌜ Measured (listed (layout .permissions) (λ p. behind-comma (permission-name (sheet-of (now (s .entry))) p))) line-most r ⌝ }
 {
     let permissions = layout.permissions;
+    let places = layout.permission_places;
+    let from = places.from;
+    let to = places.to;
     let mut total = 0;
     let mut i = 0;
     while i < permissions {
-        let name = permission_name(s, layout, PermissionNo(i));
+        let name = permission_name_in(s, &from, &to, PermissionNo(i));
         total += 1 + name.len();
         i += 1;
     }

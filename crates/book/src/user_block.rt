@@ -4,16 +4,17 @@ use crate::names::put_role_fields;
 use crate::names::role_fields_length;
 use crate::put::put_bytes;
 use sheet::Layout;
+use sheet::USER_LIMIT;
 use sheet::UserNo;
-use sheet::user_name;
+use sheet::user_name_in;
 ghost use mathlib.Core.List.{List};
 ghost use Prim.Native.Nat.{ℕ, _+_, _*_, _≤_, _<_};
 ghost use lib.ListN.{length};
 ghost use Rattle.lists.specs.Listed.{listed};
 ghost use Rattle.sheet.specs.Text.{line-text, text-of};
-ghost use Rattle.sheet.specs.Sheet.{sheet-of};
+ghost use Rattle.sheet.specs.Sheet.{sheet-of, user-count};
 ghost use Rattle.sheet.specs.Rows.{row-words, row-bits};
-ghost use Rattle.sheet.specs.LaidOut.{LaidOut};
+ghost use Rattle.sheet.specs.LaidOut.{LaidOut, UsersAt};
 ghost use Rattle.book.specs.RowsSaid.{user-line, shown-users};
 ghost use Rattle.book.specs.ShownLaws.{users-heading};
 ghost use Rattle.book.specs.Measured.{Measured, block-most};
@@ -30,21 +31,22 @@ fn put_users_heading(out: &mut [u8], roles: usize) -> usize
     end + 1
 }
 
-// Writes the line of a user.
-fn put_user_line<'a>(
+// Writes the line of a user, whose name stands at one of the places.
+fn put_user_line<'a, 'b>(
     out: &mut [u8],
     s: &'a [u8],
-    layout: Layout,
+    from: &'b [usize; USER_LIMIT],
+    to: &'b [usize; USER_LIMIT],
     has: &'a [u64],
     user: UserNo,
     roles: usize,
 ) -> usize
-    requires { ⌜ LaidOut (now s) layout × (user .0 < layout .users) × (roles ≤ row-bits) × ((user .0 + 1) * row-words ≤ length (now has)) ⌝ }
+    requires { ⌜ UsersAt (now s) (now from) (now to) × (user .0 < user-count (sheet-of (now s))) × (roles ≤ row-bits) × ((user .0 + 1) * row-words ≤ length (now has)) ⌝ }
     requires { ⌜ length (line-text (user-line (sheet-of (now s)) (now has) roles (user .0))) ≤ length (now out) ⌝ }
     ensures { λ r. ⌜ Written (line-text (user-line (sheet-of (now (s .entry))) (now (has .entry)) roles (user .0))) (now (out .entry)) (now (out .exit)) r ⌝ }
 {
     let row = user.0;
-    let name = user_name(s, layout, user);
+    let name = user_name_in(s, from, to, user);
     let cells = put_bytes(out, name);
     let end = cells + put_cells(&mut out[cells..], has, row, roles);
     out[end] = b'\n';
@@ -65,10 +67,13 @@ fn put_user_lines<'a>(
         (now (out .entry)) (now (out .exit)) r ⌝ }
 {
     let users = layout.users;
+    let places = layout.user_places;
+    let from = places.from;
+    let to = places.to;
     let mut at = 0;
     let mut i = 0;
     while i < users {
-        at += put_user_line(&mut out[at..], s, layout, has, UserNo(i), roles);
+        at += put_user_line(&mut out[at..], s, &from, &to, has, UserNo(i), roles);
         i += 1;
     }
     at
@@ -96,10 +101,13 @@ fn user_lines_length(s: &[u8], layout: Layout, roles: usize) -> usize
     ensures { λ r. ⌜ ((has : List ℕ) → Measured (listed (layout .users) (λ u. line-text (user-line (sheet-of (now (s .entry))) has roles u))) block-most r) ⌝ }
 {
     let users = layout.users;
+    let places = layout.user_places;
+    let from = places.from;
+    let to = places.to;
     let mut total = 0;
     let mut i = 0;
     while i < users {
-        let name = user_name(s, layout, UserNo(i));
+        let name = user_name_in(s, &from, &to, UserNo(i));
         total += name.len() + 2 * roles + 1;
         i += 1;
     }

@@ -4,16 +4,17 @@ use crate::put::put_bytes;
 use crate::put::put_field;
 use sheet::Layout;
 use sheet::PermissionNo;
+use sheet::USER_LIMIT;
 use sheet::UserNo;
-use sheet::permission_name;
-use sheet::user_name;
+use sheet::permission_name_in;
+use sheet::user_name_in;
 ghost use Prim.Native.Nat.{_+_, _*_, _≤_, _<_};
 ghost use lib.ListN.{length};
 ghost use Rattle.lists.specs.Listed.{listed};
 ghost use Rattle.sheet.specs.Text.{text-of};
-ghost use Rattle.sheet.specs.Sheet.{sheet-of};
+ghost use Rattle.sheet.specs.Sheet.{sheet-of, user-count, permission-count};
 ghost use Rattle.sheet.specs.Rows.{row-words, cell};
-ghost use Rattle.sheet.specs.LaidOut.{LaidOut};
+ghost use Rattle.sheet.specs.LaidOut.{LaidOut, UsersAt, PermissionsAt};
 ghost use Rattle.grants.specs.CellSets.{cell-grants};
 ghost use Rattle.book.specs.Book.{witness-block};
 ghost use Rattle.book.specs.RowsSaid.{GrantCells};
@@ -22,19 +23,23 @@ ghost use Rattle.book.specs.Measured.{Measured, piece-most, line-most, b
 ghost use Rattle.book.specs.Written.{Written};
 
 // Writes the line of a grant.
-fn put_grant_line(
+fn put_grant_line<'a, 'b>(
     out: &mut [u8],
-    s: &[u8],
-    layout: Layout,
+    s: &'a [u8],
+    user_from: &'b [usize; USER_LIMIT],
+    user_to: &'b [usize; USER_LIMIT],
+    permission_from: &'b [usize; USER_LIMIT],
+    permission_to: &'b [usize; USER_LIMIT],
     user: UserNo,
     permission: PermissionNo,
 ) -> usize
-    requires { ⌜ LaidOut (now s) layout × (user .0 < layout .users) × (permission .0 < layout .permissions) ⌝ }
+    requires { ⌜ UsersAt (now s) (now «user_from») (now «user_to») × PermissionsAt (now s) (now «permission_from») (now «permission_to»)
+        × (user .0 < user-count (sheet-of (now s))) × (permission .0 < permission-count (sheet-of (now s))) ⌝ }
     requires { ⌜ length (cell-line (sheet-of (now s)) (user .0) (permission .0)) ≤ length (now out) ⌝ }
     ensures { λ r. ⌜ Written (cell-line (sheet-of (now (s .entry))) (user .0) (permission .0)) (now (out .entry)) (now (out .exit)) r ⌝ }
 {
-    let name = user_name(s, layout, user);
-    let held = permission_name(s, layout, permission);
+    let name = user_name_in(s, user_from, user_to, user);
+    let held = permission_name_in(s, permission_from, permission_to, permission);
     let field = put_bytes(out, name);
     let end = field + put_field(&mut out[field..], held);
     out[end] = b'\n';
@@ -42,45 +47,73 @@ fn put_grant_line(
 }
 
 // Writes the line of a cell that is set, and nothing for another.
-fn put_cell_line<'a>(
+fn put_cell_line<'a, 'b>(
     out: &mut [u8],
     s: &'a [u8],
-    layout: Layout,
+    user_from: &'b [usize; USER_LIMIT],
+    user_to: &'b [usize; USER_LIMIT],
+    permission_from: &'b [usize; USER_LIMIT],
+    permission_to: &'b [usize; USER_LIMIT],
     witness: &'a [u64],
     user: UserNo,
     permission: PermissionNo,
 ) -> usize
-    requires { ⌜ LaidOut (now s) layout × (user .0 < layout .users) × (permission .0 < layout .permissions)
-        × (layout .users * row-words ≤ length (now witness)) ⌝ }
+    requires { ⌜ UsersAt (now s) (now «user_from») (now «user_to») × PermissionsAt (now s) (now «permission_from») (now «permission_to»)
+        × (user .0 < user-count (sheet-of (now s))) × (permission .0 < permission-count (sheet-of (now s)))
+        × (user-count (sheet-of (now s)) * row-words ≤ length (now witness)) ⌝ }
     requires { ⌜ length (line-if (cell (now witness) (user .0) (permission .0)) (cell-line (sheet-of (now s)) (user .0) (permission .0)))
         ≤ length (now out) ⌝ }
     ensures { λ r. ⌜ Written (line-if (cell (now (witness .entry)) (user .0) (permission .0))
         (cell-line (sheet-of (now (s .entry))) (user .0) (permission .0))) (now (out .entry)) (now (out .exit)) r ⌝ }
 {
     if cell_at(witness, user.0, permission.0) {
-        return put_grant_line(out, s, layout, user, permission);
+        return put_grant_line(
+            out,
+            s,
+            user_from,
+            user_to,
+            permission_from,
+            permission_to,
+            user,
+            permission,
+        );
     }
     0
 }
 
 // Writes the lines of a user.
-fn put_witness_row<'a>(
+fn put_witness_row<'a, 'b>(
     out: &mut [u8],
     s: &'a [u8],
-    layout: Layout,
+    user_from: &'b [usize; USER_LIMIT],
+    user_to: &'b [usize; USER_LIMIT],
+    permission_from: &'b [usize; USER_LIMIT],
+    permission_to: &'b [usize; USER_LIMIT],
     witness: &'a [u64],
     user: UserNo,
+    permissions: usize,
 ) -> usize
-    requires { ⌜ LaidOut (now s) layout × (user .0 < layout .users) × (layout .users * row-words ≤ length (now witness)) ⌝ }
-    requires { ⌜ length (witness-row (sheet-of (now s)) (now witness) (layout .permissions) (user .0)) ≤ length (now out) ⌝ }
-    ensures { λ r. ⌜ Written (witness-row (sheet-of (now (s .entry))) (now (witness .entry)) (layout .permissions) (user .0))
+    requires { ⌜ UsersAt (now s) (now «user_from») (now «user_to») × PermissionsAt (now s) (now «permission_from») (now «permission_to»)
+        × (user .0 < user-count (sheet-of (now s))) × (permissions ≤ permission-count (sheet-of (now s)))
+        × (user-count (sheet-of (now s)) * row-words ≤ length (now witness)) ⌝ }
+    requires { ⌜ length (witness-row (sheet-of (now s)) (now witness) permissions (user .0)) ≤ length (now out) ⌝ }
+    ensures { λ r. ⌜ Written (witness-row (sheet-of (now (s .entry))) (now (witness .entry)) permissions (user .0))
         (now (out .entry)) (now (out .exit)) r ⌝ }
 {
-    let permissions = layout.permissions;
     let mut at = 0;
     let mut i = 0;
     while i < permissions {
-        at += put_cell_line(&mut out[at..], s, layout, witness, user, PermissionNo(i));
+        at += put_cell_line(
+            &mut out[at..],
+            s,
+            user_from,
+            user_to,
+            permission_from,
+            permission_to,
+            witness,
+            user,
+            PermissionNo(i),
+        );
         i += 1;
     }
     at
@@ -94,10 +127,27 @@ fn put_witness_rows<'a>(out: &mut [u8], s: &'a [u8], layout: Layout, witness: &'
         (now (out .entry)) (now (out .exit)) r ⌝ }
 {
     let users = layout.users;
+    let permissions = layout.permissions;
+    let user_places = layout.user_places;
+    let user_from = user_places.from;
+    let user_to = user_places.to;
+    let permission_places = layout.permission_places;
+    let permission_from = permission_places.from;
+    let permission_to = permission_places.to;
     let mut at = 0;
     let mut i = 0;
     while i < users {
-        at += put_witness_row(&mut out[at..], s, layout, witness, UserNo(i));
+        at += put_witness_row(
+            &mut out[at..],
+            s,
+            &user_from,
+            &user_to,
+            &permission_from,
+            &permission_to,
+            witness,
+            UserNo(i),
+            permissions,
+        );
         i += 1;
     }
     at
@@ -115,44 +165,84 @@ pub fn put_witness<'a>(out: &mut [u8], s: &'a [u8], layout: Layout, witness: &'a
 }
 
 // How long the line of a grant is.
-fn grant_line_length(s: &[u8], layout: Layout, user: UserNo, permission: PermissionNo) -> usize
-    requires { ⌜ LaidOut (now s) layout × (user .0 < layout .users) × (permission .0 < layout .permissions) ⌝ }
+fn grant_line_length<'a, 'b>(
+    s: &'a [u8],
+    user_from: &'b [usize; USER_LIMIT],
+    user_to: &'b [usize; USER_LIMIT],
+    permission_from: &'b [usize; USER_LIMIT],
+    permission_to: &'b [usize; USER_LIMIT],
+    user: UserNo,
+    permission: PermissionNo,
+) -> usize
+    requires { ⌜ UsersAt (now s) (now «user_from») (now «user_to») × PermissionsAt (now s) (now «permission_from») (now «permission_to»)
+        × (user .0 < user-count (sheet-of (now s))) × (permission .0 < permission-count (sheet-of (now s))) ⌝ }
     ensures { λ r. ⌜ Measured (cell-line (sheet-of (now (s .entry))) (user .0) (permission .0)) piece-most r ⌝ }
 {
-    let name = user_name(s, layout, user);
-    let held = permission_name(s, layout, permission);
+    let name = user_name_in(s, user_from, user_to, user);
+    let held = permission_name_in(s, permission_from, permission_to, permission);
     name.len() + held.len() + 2
 }
 
 // How long the line of a cell is, where it is set.
-fn cell_line_length<'a>(
+fn cell_line_length<'a, 'b>(
     s: &'a [u8],
-    layout: Layout,
+    user_from: &'b [usize; USER_LIMIT],
+    user_to: &'b [usize; USER_LIMIT],
+    permission_from: &'b [usize; USER_LIMIT],
+    permission_to: &'b [usize; USER_LIMIT],
     witness: &'a [u64],
     user: UserNo,
     permission: PermissionNo,
 ) -> usize
-    requires { ⌜ LaidOut (now s) layout × (user .0 < layout .users) × (permission .0 < layout .permissions)
-        × (layout .users * row-words ≤ length (now witness)) ⌝ }
+    requires { ⌜ UsersAt (now s) (now «user_from») (now «user_to») × PermissionsAt (now s) (now «permission_from») (now «permission_to»)
+        × (user .0 < user-count (sheet-of (now s))) × (permission .0 < permission-count (sheet-of (now s)))
+        × (user-count (sheet-of (now s)) * row-words ≤ length (now witness)) ⌝ }
     ensures { λ r. ⌜ Measured (line-if (cell (now (witness .entry)) (user .0) (permission .0))
         (cell-line (sheet-of (now (s .entry))) (user .0) (permission .0))) piece-most r ⌝ }
 {
     if cell_at(witness, user.0, permission.0) {
-        return grant_line_length(s, layout, user, permission);
+        return grant_line_length(
+            s,
+            user_from,
+            user_to,
+            permission_from,
+            permission_to,
+            user,
+            permission,
+        );
     }
     0
 }
 
 // How long the lines of a user are.
-fn witness_row_length<'a>(s: &'a [u8], layout: Layout, witness: &'a [u64], user: UserNo) -> usize
-    requires { ⌜ LaidOut (now s) layout × (user .0 < layout .users) × (layout .users * row-words ≤ length (now witness)) ⌝ }
-    ensures { λ r. ⌜ Measured (witness-row (sheet-of (now (s .entry))) (now (witness .entry)) (layout .permissions) (user .0)) line-most r ⌝ }
+fn witness_row_length<'a, 'b>(
+    s: &'a [u8],
+    user_from: &'b [usize; USER_LIMIT],
+    user_to: &'b [usize; USER_LIMIT],
+    permission_from: &'b [usize; USER_LIMIT],
+    permission_to: &'b [usize; USER_LIMIT],
+    witness: &'a [u64],
+    user: UserNo,
+    permissions: usize,
+) -> usize
+    requires { ⌜ UsersAt (now s) (now «user_from») (now «user_to») × PermissionsAt (now s) (now «permission_from») (now «permission_to»)
+        × (user .0 < user-count (sheet-of (now s))) × (permissions ≤ permission-count (sheet-of (now s)))
+        × (user-count (sheet-of (now s)) * row-words ≤ length (now witness)) ⌝ }
+    ensures { λ r. ⌜ Measured (witness-row (sheet-of (now (s .entry))) (now (witness .entry)) permissions (user .0)) line-most r ⌝ }
 {
-    let permissions = layout.permissions;
     let mut total = 0;
     let mut i = 0;
     while i < permissions {
-        total += cell_line_length(s, layout, witness, user, PermissionNo(i));
+        total += cell_line_length(
+            s,
+            user_from,
+            user_to,
+            permission_from,
+            permission_to,
+            witness,
+            user,
+            PermissionNo(i),
+        );
         i += 1;
     }
     total
@@ -164,10 +254,26 @@ fn witness_rows_length<'a>(s: &'a [u8], layout: Layout, witness: &'a [u64]) -> u
     ensures { λ r. ⌜ Measured (listed (layout .users) (witness-row (sheet-of (now (s .entry))) (now (witness .entry)) (layout .permissions))) block-most r ⌝ }
 {
     let users = layout.users;
+    let permissions = layout.permissions;
+    let user_places = layout.user_places;
+    let user_from = user_places.from;
+    let user_to = user_places.to;
+    let permission_places = layout.permission_places;
+    let permission_from = permission_places.from;
+    let permission_to = permission_places.to;
     let mut total = 0;
     let mut i = 0;
     while i < users {
-        total += witness_row_length(s, layout, witness, UserNo(i));
+        total += witness_row_length(
+            s,
+            &user_from,
+            &user_to,
+            &permission_from,
+            &permission_to,
+            witness,
+            UserNo(i),
+            permissions,
+        );
         i += 1;
     }
     total

@@ -56,13 +56,16 @@ pub fn expect_permissions<'a>(book: &'a [u8], at: usize, sheet: &'a [u8], layout
     ensures { λ r. ⌜ Expects (now (book .entry)) at (name-fields (sheet-of (now (sheet .entry)) .permissions)) r ⌝ }
 {
     let permissions = layout.permissions;
+    let places = layout.permission_places;
+    let from = places.from;
+    let to = places.to;
     let mut next = at;
     let mut p = 0;
     while p < permissions {
         let Step::On(start) = expect_byte(book, next, b',') else {
             return Step::Off;
         };
-        let name = sheet::permission_name(sheet, layout, PermissionNo(p));
+        let name = sheet::permission_name_in(sheet, &from, &to, PermissionNo(p));
         let Step::On(after) = expect(book, start, name) else {
             return Step::Off;
         };

@@ -5,12 +5,13 @@ use crate::cursor::expect_byte;
 use crate::line::read_line_cells;
 use crate::names::expect_roles;
 use sheet::Layout;
+use sheet::USER_LIMIT;
 use sheet::UserNo;
 ghost use Prim.Native.Nat.{_+_, _*_, _≤_, _<_};
 ghost use lib.ListN.{length};
-ghost use Rattle.sheet.specs.Sheet.{sheet-of};
+ghost use Rattle.sheet.specs.Sheet.{sheet-of, user-count};
 ghost use Rattle.sheet.specs.Rows.{row-words, row-bits};
-ghost use Rattle.sheet.specs.LaidOut.{LaidOut};
+ghost use Rattle.sheet.specs.LaidOut.{LaidOut, UsersAt};
 ghost use Rattle.book.specs.Book.{user-name};
 ghost use Rattle.checker.specs.Form.{role-limit};
 ghost use Rattle.checker.specs.Steps.{Expects};
@@ -34,21 +35,22 @@ fn users_heading(book: &[u8], at: usize, roles: usize) -> Step
     expect_byte(book, end, b'\n')
 }
 
-// Reads the line of a user into the user's row.
-fn user_line<'a>(
+// Reads the line of a user, whose name stands at one of the places, into the user's row.
+fn user_line<'a, 'b>(
     book: &'a [u8],
     at: usize,
     sheet: &'a [u8],
-    layout: Layout,
+    from: &'b [usize; USER_LIMIT],
+    to: &'b [usize; USER_LIMIT],
     has: &mut [u64],
     u: UserNo,
     roles: usize,
 ) -> Step
-    requires { ⌜ (at ≤ length (now book)) × LaidOut (now sheet) layout × (u .0 < layout .users) × (roles ≤ row-bits) ⌝ }
+    requires { ⌜ (at ≤ length (now book)) × UsersAt (now sheet) (now from) (now to) × (u .0 < user-count (sheet-of (now sheet))) × (roles ≤ row-bits) ⌝ }
     requires { ⌜ ((u .0 + 1) * row-words ≤ length (now has)) × Blank (now has) (u .0) ⌝ }
     ensures { λ r. ⌜ LineReads (now (book .entry)) at (user-name (sheet-of (now (sheet .entry))) (u .0)) (u .0) roles (now (has .entry)) (now (has .exit)) r ⌝ }
 {
-    let name = sheet::user_name(sheet, layout, u);
+    let name = sheet::user_name_in(sheet, from, to, u);
     let Step::On(cells) = expect(book, at, name) else {
         return Step::Off;
     };
@@ -70,10 +72,13 @@ fn user_lines<'a>(
     ensures { λ r. ⌜ UserLinesRead (sheet-of (now (sheet .entry))) (now (book .entry)) at roles (now (has .exit)) r ⌝ }
 {
     let users = layout.users;
+    let places = layout.user_places;
+    let from = places.from;
+    let to = places.to;
     let mut next = at;
     let mut u = 0;
     while u < users {
-        let Step::On(after) = user_line(book, next, sheet, layout, has, UserNo(u), roles) else {
+        let Step::On(after) = user_line(book, next, sheet, &from, &to, has, UserNo(u), roles) else {
             return Step::Off;
         };
         next = after;

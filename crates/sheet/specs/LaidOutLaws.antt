@@ -1,11 +1,11 @@
 -- What was read of an accepted sheet is its layout: its first line gives the permissions, the lines after it the users, and the limits leave room
 -- for the places of both. Assumes nothing.
-use Prim.Native.Nat.{_≤_}
+use Prim.Native.Nat.{ℕ, _≤_, _<_}
 use native.Mathlib.Omega.{arith}
 use mathlib.Core.Path.{_≡_, refl, sym, ap, _∙_}
 use mathlib.Core.Bool.{So}
-use mathlib.Core.List.{map, tail}
-use lib.ListN.{length, length-map}
+use mathlib.Core.List.{List, map, tail}
+use lib.ListN.{length, length-map, getD}
 use Rattle.sheet.specs.Limits.{permission-limit, user-limit}
 use Rattle.sheet.specs.Text.{Bytes}
 use Rattle.sheet.specs.Sheet.{first-field, sheet-of, user-count, permission-count}
@@ -21,7 +21,7 @@ use Rattle.sheet.specs.Places.{Placed}
 use Rattle.sheet.specs.UserPlaces.{UserPlaces}
 use Rattle.sheet.specs.NamesAt.{Inside, names-at}
 use Rattle.sheet.specs.NamesAtLaws.{placed-names, placed-inside}
-use Rattle.sheet.specs.LaidOut.{LaidOut}
+use Rattle.sheet.specs.LaidOut.{LaidOut, UsersAt, PermissionsAt}
 use Rattle.sheet.specs.declared.line.LineRead.{LineRead}
 use Rattle.sheet.specs.declared.body.Body.{Body}
 use Rattle.sheet.specs.declared.places.Places.{Places}
@@ -99,3 +99,23 @@ module _ (text : Bytes) (layout : Layout) (l : LaidOut text layout) where
       rw (l .permission-total)
       (placed-names (permission-count (sheet-of text)) text (layout .«permission_places») (sheet-of text .permissions) (l .permission-names)
       refl)
+
+  pub users-at : UsersAt text (layout .«user_places» .from) (layout .«user_places» .to)
+  users-at = record { accepts = l .accepts; names = l .user-names }
+
+  pub permissions-at : PermissionsAt text (layout .«permission_places» .from) (layout .«permission_places» .to)
+  permissions-at = record { accepts = l .accepts; names = l .permission-names }
+
+-- what a place is asked for before the part there is lent
+abbrev pub PartThere : Bytes → List ℕ → List ℕ → ℕ → Type 0
+PartThere text from to i = (i < user-limit) × (getD from i 0 ≤ getD to i 0) × (getD to i 0 ≤ length text)
+
+pub user-there : {text : Bytes} {from to : List ℕ} → UsersAt text from to → (u : ℕ) → u < user-count (sheet-of text) → PartThere text from to u
+user-there {text} at u h =
+    let few = accepted-lawful text (at .accepts) .few-users in (omega arith, at .names .each u h .forward, at .names .each u h .within)
+
+pub permission-there : {text : Bytes} {from to : List ℕ} → PermissionsAt text from to → (p : ℕ) → p < permission-count (sheet-of text)
+    → PartThere text from to p
+unfolding permission-limit user-limit
+permission-there {text} at p h =
+    let few = accepted-lawful text (at .accepts) .few-permissions in (omega arith, at .names .each p h .forward, at .names .each p h .within)

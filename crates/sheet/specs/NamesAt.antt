@@ -13,6 +13,10 @@ use Rattle.sheet.specs.declared.places.Places.{Places}
 use Rattle.sheet.specs.declared.lookup.Found.{Found}
 use Rattle.sheet.specs.declared.lookup.Found.the-variants.{At, Nothing}
 
+-- places, by the list of their first bytes and the list of the bytes after their last
+abbrev pub places-of : List ℕ → List ℕ → Places
+places-of from to = record { from = from; to = to }
+
 -- the first `count` places are parts of the text
 pub record Inside (text : Bytes) (places : Places) (count : ℕ) : Type 0 where
   pub few : count ≤ user-limit

@@ -1,9 +1,11 @@
 -- The names at places of a text, by their numbers; and what a search that passes them one by one finds. Assumes nothing.
-use Prim.Native.Nat.{ℕ, suc, _≤_, _<_}
+use Prim.Native.Nat.{ℕ, suc, _+_, _≤_, _<_}
 use native.Mathlib.Nat.{not-suc-le-zero}
+use native.Mathlib.Omega.{arith}
+use native.Mathlib.Numerals.{add-one}
 use mathlib.Core.Path.{_≡_, _∙_}
 use mathlib.Core.Logic.{⊎-elim}
-use mathlib.Core.Bool.{false, So, _||_}
+use mathlib.Core.Bool.{Bool, false, So, _||_}
 use mathlib.Core.List.{List, []}
 use mathlib.Core.Option.{none, some}
 use lib.ListN.{length, getD, drop, drop-of-length-le}
@@ -36,6 +38,11 @@ pub placed-inside : (n : ℕ) (text : Bytes) (places : Places) (names : List Byt
     → Inside text places n
 placed-inside n text places names p few =
     record { few = few; forward = λ i l. p .each i l .forward; within = λ i l. p .each i l .within }
+
+-- what a place of the first `count` is asked for before the part there is lent
+pub inside-part : {text : Bytes} {places : Places} {count : ℕ} → Inside text places count → (i : ℕ) → i < count
+    → (i < user-limit) × (getD (places .from) i 0 ≤ getD (places .to) i 0) × (getD (places .to) i 0 ≤ length text)
+inside-part inside i h = (omega (arith, inside .few), inside .forward i h, inside .within i h)
 
 -- no name before i equals the name looked for
 abbrev pub Unlike : Bytes → Places → ℕ → Bytes → ℕ → Type 0
@@ -78,8 +85,9 @@ names-past text places count i h =
     drop-of-length-le (names-at text places count) past
 
 -- whether one name stands again, and those after it
-pub repeats-from : (text : Bytes) (places : Places) (count i : ℕ) → i < count
-    → repeats same-name (drop i (names-at text places count))
-    ≡ (any (same-name (getD (names-at text places count) i [])) (drop (suc i) (names-at text places count))
-    || repeats same-name (drop (suc i) (names-at text places count)))
-repeats-from text places count i h = repeats-left (names-at text places count) i [] (rw (names-total text places count) h) same-name
+pub repeats-turn : (text : Bytes) (places : Places) (count i : ℕ) → i < count → {name : Bytes} → name ≡ name-there text places i
+    → {again : Bool} → again ≡ any (same-name name) (drop (i + 1) (names-at text places count))
+    → repeats same-name (drop i (names-at text places count)) ≡ (again || repeats same-name (drop (suc i) (names-at text places count)))
+repeats-turn text places count i h named stands =
+    rw (stands, add-one i, named, ← name-of text places count i h)
+    (repeats-left (names-at text places count) i [] (rw (names-total text places count) h) same-name)

@@ -1,9 +1,11 @@
 // The layout of an accepted sheet: its counts, and where its names stand.
 use crate::body::read_body;
+use crate::limits::USER_LIMIT;
 use crate::line::read_line;
 use crate::lookup::Found;
 use crate::lookup::find;
 use crate::lookup::name_at;
+use crate::lookup::part_at;
 use crate::numbers::PermissionNo;
 use crate::numbers::UserNo;
 use crate::places::Places;
@@ -13,10 +15,10 @@ ghost use mathlib.Core.Path.{_≡_};
 ghost use mathlib.Core.List.{[]};
 ghost use Prim.Native.Nat.{_<_};
 ghost use lib.ListN.{getD};
-ghost use Rattle.sheet.specs.Sheet.{sheet-of};
+ghost use Rattle.sheet.specs.Sheet.{sheet-of, user-count, permission-count};
 ghost use Rattle.sheet.specs.Refusal.{refusal};
 ghost use Rattle.sheet.specs.NamesAt.{name-number};
-ghost use Rattle.sheet.specs.LaidOut.{LaidOut, found-user, found-permission};
+ghost use Rattle.sheet.specs.LaidOut.{LaidOut, UsersAt, PermissionsAt, found-user, found-permission};
 
 #[repr(C)]
 pub struct Layout {
@@ -73,6 +75,32 @@ pub fn permission_name<'a>(s: &'a [u8], layout: Layout, p: PermissionNo) -> &'a 
 {
     let places = layout.permission_places;
     name_at(s, places, layout.permissions, p.0)
+}
+
+// The name of user u, with the users' places lent: a loop that asks for many names copies no layout.
+pub fn user_name_in<'a, 'b>(
+    s: &'a [u8],
+    from: &'b [usize; USER_LIMIT],
+    to: &'b [usize; USER_LIMIT],
+    u: UserNo,
+) -> &'a [u8]
+    requires { ⌜ UsersAt (now s) (now from) (now to) × (u .0 < user-count (sheet-of (now s))) ⌝ }
+    ensures { λ r. ⌜ now r ≡ getD (sheet-of (now (s .entry)) .users) (u .0) [] ⌝ }
+{
+    part_at(s, from, to, u.0)
+}
+
+// The name of permission p, with the permissions' places lent.
+pub fn permission_name_in<'a, 'b>(
+    s: &'a [u8],
+    from: &'b [usize; USER_LIMIT],
+    to: &'b [usize; USER_LIMIT],
+    p: PermissionNo,
+) -> &'a [u8]
+    requires { ⌜ PermissionsAt (now s) (now from) (now to) × (p .0 < permission-count (sheet-of (now s))) ⌝ }
+    ensures { λ r. ⌜ now r ≡ getD (sheet-of (now (s .entry)) .permissions) (p .0) [] ⌝ }
+{
+    part_at(s, from, to, p.0)
 }
 
 // The number of the user of this name.

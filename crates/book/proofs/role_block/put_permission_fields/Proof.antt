@@ -3,8 +3,10 @@ use borrow.Author.Needs.{needs}
 use Prim.Native.Nat.{_-_}
 use native.Mathlib.Omega.{arith}
 use mathlib.Core.Path.{ap, sym}
+use Rattle.sheet.specs.LaidOutLaws.{permissions-at}
 use Rattle.sheet.specs.Sheet.{sheet-of}
 use Rattle.book.specs.Book.{permission-name}
+use Rattle.book.specs.LaidLaws.{permission-counted}
 use Rattle.book.specs.LineLaws.{behind-comma}
 use Rattle.book.specs.ListedWritten.{Listing, listing-ends, listing-starts, part-ready, part-within, part-written}
 use Rattle.book.specs.Written.{fits-as, room-behind, within-buffer, written-as}
@@ -12,38 +14,40 @@ use Rattle.book.proofs.role_block.put_permission_fields.Statement.{stat
 use Rattle.book.proofs.role_block.put_permission_fields.Tie as tie
 
 abbrev Inv-loop : tie.InvT-loop
-Inv-loop out₀ s layout permissions at₀ i₀ out at i = Listing permissions (λ p. behind-comma (permission-name (sheet-of s) p)) i out₀ out at
+Inv-loop out₀ s permissions from to at₀ i₀ out at i = Listing permissions (λ p. behind-comma (permission-name (sheet-of s) p)) i out₀ out at
 
 abbrev μ-loop : tie.MeasureT-loop
-μ-loop out₀ s layout permissions at₀ i₀ out at i = permissions - i
+μ-loop out₀ s permissions from to at₀ i₀ out at i = permissions - i
 
 loop-holds : tie.Need-loop-holds Inv-loop μ-loop
-loop-holds c = listing-starts _ _ (c .before .before .pre .1)
+loop-holds c = listing-starts _ _ (c .before .before .before .before .before .pre .1)
 
-permission-name-requires : tie.Need-permission-name-requires Inv-loop μ-loop
-permission-name-requires c κs = (c .before .before .before .before .pre .0, c .loop-test .taken)
+permission-name-in-requires : tie.Need-permission-name-in-requires Inv-loop μ-loop
+permission-name-in-requires c κs =
+    let s = c .before .before .before .before .before .before .before .before .before in
+    (permissions-at (s .args .s .now) (s .args .layout) (s .pre .0), permission-counted (s .pre .0) (c .before .before .loop-test .taken))
 
 sub-put-field : tie.Need-sub-put-field Inv-loop μ-loop
-sub-put-field c = within-buffer (part-ready (c .before .before .loop .inv) (c .before .loop-test .taken))
+sub-put-field c = within-buffer (part-ready (c .before .before .before .before .loop .inv) (c .before .before .before .loop-test .taken))
 
 part-put-field-start : tie.Need-part-put-field-start Inv-loop μ-loop
-part-put-field-start c = within-buffer (part-ready (c .before .before .loop .inv) (c .before .loop-test .taken))
+part-put-field-start c = within-buffer (part-ready (c .before .before .before .before .loop .inv) (c .before .before .before .loop-test .taken))
 
 part-put-field-end : tie.Need-part-put-field-end Inv-loop μ-loop
 part-put-field-end c = search needs
 
 put-field-requires : tie.Need-put-field-requires Inv-loop μ-loop
 put-field-requires c κs =
-    fits-as (ap behind-comma (sym (c .before .permission-name .ensures)))
-    (room-behind (part-ready (c .before .before .before .loop .inv) (c .before .before .loop-test .taken)))
+    fits-as (ap behind-comma (sym (c .before .permission-name-in .ensures)))
+    (room-behind (part-ready (c .before .before .before .before .before .loop .inv) (c .before .before .before .before .loop-test .taken)))
 
 add-at : tie.Need-add-at Inv-loop μ-loop
 add-at c =
-    let a = (c .before .before .before .before .before) in
+    let a = (c .before .before .before .before .before .before .before) in
     omega (
       arith,
       part-within (a .before .loop .inv) (a .loop-test .taken)
-          (written-as (ap behind-comma (c .before .before .before .before .permission-name .ensures)) (c .before .before .put-field .ensures)),
+          (written-as (ap behind-comma (c .before .before .before .before .permission-name-in .ensures)) (c .before .before .put-field .ensures)),
     )
 
 add-i : tie.Need-add-i Inv-loop μ-loop
@@ -54,9 +58,9 @@ loop-less c = omega arith
 
 loop-again : tie.Need-loop-again Inv-loop μ-loop
 loop-again c =
-    let a = (c .before .before .before .before .before) in
+    let a = (c .before .before .before .before .before .before .before) in
     part-written (a .before .loop .inv) (a .loop-test .taken)
-    (written-as (ap behind-comma (c .before .before .before .before .permission-name .ensures)) (c .before .before .put-field .ensures))
+    (written-as (ap behind-comma (c .before .before .before .before .permission-name-in .ensures)) (c .before .before .put-field .ensures))
 
 same-length : tie.Need-same-length Inv-loop μ-loop
 same-length c = c .before .loop .inv .same-length
@@ -71,7 +75,7 @@ put-permission-fields-spec =
     Inv-loop
     μ-loop
     loop-holds
-    permission-name-requires
+    permission-name-in-requires
     sub-put-field
     part-put-field-start
     part-put-field-end

@@ -34,7 +34,7 @@ abbrev start : tie.After-put-bytes → tie.Start
 start c = c .before .before .before .before .before .before
 
 written : (c : tie.After-put-bytes) → Written (name (start c)) (start c .args .out .now) (c .put-bytes .last .0) (c .put-bytes .result)
-written c = written-as (c .before .before .user-name .ensures) (c .put-bytes .ensures)
+written c = written-as (c .before .before .user-name-in .ensures) (c .put-bytes .ensures)
 
 behind-first : (c : tie.After-put-bytes)
     → Ready (name (start c)) (fields (start c)) (start c .args .out .now) (c .put-bytes .last .0) (c .put-bytes .result)
@@ -48,11 +48,11 @@ behind-second c =
     let a = c .before .before .before .before in
     behind-fields (room (start a)) (written a) (c .put-cells .ensures)
 
-user-name-requires : tie.Need-user-name-requires
-user-name-requires c κs = search needs
+user-name-in-requires : tie.Need-user-name-in-requires
+user-name-in-requires c κs = search needs
 
 put-bytes-requires : tie.Need-put-bytes-requires
-put-bytes-requires c κs = fits-as (sym (c .before .user-name .ensures)) (name-fits (room (c .before .before .before .before .before)))
+put-bytes-requires c κs = fits-as (sym (c .before .user-name-in .ensures)) (name-fits (room (c .before .before .before .before .before)))
 
 sub-put-cells : tie.Need-sub-put-cells
 sub-put-cells c = within-buffer (behind-first (c .before .before))
@@ -87,7 +87,7 @@ pub put-user-line-spec : {M : Type 1} → statement M
 put-user-line-spec =
     tie.close
     (tie.spec
-    user-name-requires
+    user-name-in-requires
     put-bytes-requires
     sub-put-cells
     part-put-cells-start

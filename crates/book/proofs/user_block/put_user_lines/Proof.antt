@@ -2,9 +2,11 @@
 use borrow.Author.Needs.{needs}
 use Prim.Native.Nat.{_-_}
 use native.Mathlib.Omega.{arith}
+use Rattle.sheet.specs.LaidOutLaws.{users-at}
 use Rattle.sheet.specs.Rows.{row-words}
 use Rattle.sheet.specs.Sheet.{sheet-of}
 use Rattle.sheet.specs.Text.{line-text}
+use Rattle.book.specs.LaidLaws.{user-counted}
 use Rattle.book.specs.ListedWritten.{Listing, listing-ends, listing-starts, part-ready, part-within, part-written}
 use Rattle.book.specs.RowsSaid.{user-line}
 use Rattle.book.specs.Written.{room-behind, within-buffer}
@@ -12,13 +14,13 @@ use Rattle.book.proofs.user_block.put_user_lines.Statement.{statement}
 use Rattle.book.proofs.user_block.put_user_lines.Tie as tie
 
 abbrev Inv-loop : tie.InvT-loop
-Inv-loop out₀ s layout has roles users at₀ i₀ out at i = Listing users (λ u. line-text (user-line (sheet-of s) has roles u)) i out₀ out at
+Inv-loop out₀ s has roles users from to at₀ i₀ out at i = Listing users (λ u. line-text (user-line (sheet-of s) has roles u)) i out₀ out at
 
 abbrev μ-loop : tie.MeasureT-loop
-μ-loop out₀ s layout has roles users at₀ i₀ out at i = users - i
+μ-loop out₀ s has roles users from to at₀ i₀ out at i = users - i
 
 loop-holds : tie.Need-loop-holds Inv-loop μ-loop
-loop-holds c = listing-starts _ _ (c .before .before .before .pre .1)
+loop-holds c = listing-starts _ _ (c .before .before .before .before .before .before .pre .1)
 
 sub-put-user-line : tie.Need-sub-put-user-line Inv-loop μ-loop
 sub-put-user-line c = within-buffer (part-ready (c .before .loop .inv) (c .loop-test .taken))
@@ -32,15 +34,15 @@ part-put-user-line-end c = search needs
 put-user-line-requires : tie.Need-put-user-line-requires Inv-loop μ-loop
 unfolding row-words
 put-user-line-requires c κs =
-    let s = (c .before .before .before .before .before .before) in (
-      (s .pre .0 .0, c .before .loop-test .taken, s .pre .0 .1, omega arith),
+    let s = c .before .before .before .before .before .before .before .before .before .before .before in (
+      (users-at (s .args .s .now) (s .args .layout) (s .pre .0 .0), user-counted (s .pre .0 .0) (c .before .before .before .loop-test .taken), s .pre .0 .1, omega arith),
       room-behind
-          (part-ready (c .before .before .loop .inv) (c .before .loop-test .taken)),
+          (part-ready (c .before .before .before .before .loop .inv) (c .before .before .before .loop-test .taken)),
     )
 
 add-at : tie.Need-add-at Inv-loop μ-loop
 add-at c =
-    let a = (c .before .before .before .before) in
+    let a = (c .before .before .before .before .before .before) in
     omega (arith, part-within (a .before .loop .inv) (a .loop-test .taken) (c .before .before .put-user-line .ensures))
 
 add-i : tie.Need-add-i Inv-loop μ-loop
@@ -51,7 +53,7 @@ loop-less c = omega arith
 
 loop-again : tie.Need-loop-again Inv-loop μ-loop
 loop-again c =
-    let a = (c .before .before .before .before) in
+    let a = (c .before .before .before .before .before .before) in
     part-written (a .before .loop .inv) (a .loop-test .taken) (c .before .before .put-user-line .ensures)
 
 same-length : tie.Need-same-length Inv-loop μ-loop

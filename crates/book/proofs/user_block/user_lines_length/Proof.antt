@@ -4,11 +4,12 @@ use native.Mathlib.Omega.{arith}
 use mathlib.Core.List.{List, []}
 use mathlib.Core.Path.{ap, sym}
 use lib.ListN.{length}
+use Rattle.sheet.specs.LaidOutLaws.{users-at}
 use Rattle.sheet.specs.Limits.{name-limit, user-limit}
 use Rattle.sheet.specs.Rows.{row-bits, row-words}
 use Rattle.sheet.specs.Sheet.{sheet-of}
 use Rattle.sheet.specs.Text.{line-text}
-use Rattle.book.specs.LaidLaws.{few-users, user-name-short}
+use Rattle.book.specs.LaidLaws.{few-users, user-counted, user-name-short}
 use Rattle.book.specs.LengthsMeasured.{user-line-measured}
 use Rattle.book.specs.Measured.{Adding, adding-ends, adding-starts, line-most, measured-within, part-added}
 use Rattle.book.specs.RowsSaid.{user-line}
@@ -17,20 +18,22 @@ use Rattle.book.proofs.user_block.user_lines_length.Statement.{statemen
 use Rattle.book.proofs.user_block.user_lines_length.Tie as tie
 
 abbrev Inv-loop : tie.InvT-loop
-Inv-loop s layout roles users total₀ i₀ total i =
+Inv-loop s roles users from to total₀ i₀ total i =
     ((has : List ℕ) → Adding users (λ u. line-text (user-line (sheet-of s) has roles u)) line-most i total)
 
 abbrev μ-loop : tie.MeasureT-loop
-μ-loop s layout roles users total₀ i₀ total i = users - i
+μ-loop s roles users from to total₀ i₀ total i = users - i
 
-short : (c : tie.After-user-name Inv-loop μ-loop) → length (c .user-name .result .now) ≤ name-limit
-short c = fits-as (sym (c .user-name .ensures)) (user-name-short (c .before .before .before .before .pre .0) _ (c .before .loop-test .taken))
+short : (c : tie.After-user-name-in Inv-loop μ-loop) → length (c .user-name-in .result .now) ≤ name-limit
+short c = fits-as (sym (c .user-name-in .ensures)) (user-name-short (c .before .before .before .before .before .before .before .before .before .pre .0) _ (c .before .before .before .loop-test .taken))
 
 loop-holds : tie.Need-loop-holds Inv-loop μ-loop
 loop-holds c = λ has. adding-starts _ _ _
 
-user-name-requires : tie.Need-user-name-requires Inv-loop μ-loop
-user-name-requires c κs = (c .before .before .before .pre .0, c .loop-test .taken)
+user-name-in-requires : tie.Need-user-name-in-requires Inv-loop μ-loop
+user-name-in-requires c κs =
+    let s = c .before .before .before .before .before .before .before .before in
+    (users-at (s .args .s .now) (s .args .layout) (s .pre .0), user-counted (s .pre .0) (c .before .before .loop-test .taken))
 
 mul-total : tie.Need-mul-total Inv-loop μ-loop
 unfolding row-bits row-words
@@ -46,28 +49,28 @@ add-total-2 c = omega (arith, short c)
 
 add-total-3 : tie.Need-add-total-3 Inv-loop μ-loop
 unfolding row-bits row-words name-limit user-limit
-add-total-3 c = omega (arith, short c, c .before .before .loop .inv [] .small, few-users (c .before .before .before .before .pre .0))
+add-total-3 c = omega (arith, short c, c .before .before .before .before .loop .inv [] .small, few-users (c .before .before .before .before .before .before .before .before .before .pre .0))
 
 add-i : tie.Need-add-i Inv-loop μ-loop
 unfolding user-limit
-add-i c = omega (arith, few-users (c .before .before .before .before .pre .0))
+add-i c = omega (arith, few-users (c .before .before .before .before .before .before .before .before .before .pre .0))
 
 loop-less : tie.Need-loop-less Inv-loop μ-loop
 loop-less c = omega arith
 
 loop-again : tie.Need-loop-again Inv-loop μ-loop
 loop-again c =
-    let a = (c .before) in
+    let a = (c .before .before .before) in
     λ has. part-added (a .before .loop .inv has) (a .loop-test .taken)
-    (user-line-measured (sheet-of (c .before .before .before .before .args .s .now)) has (c .before .before .before .before .args .roles)
-    (c .before .before .loop .i) _ (c .before .before .before .before .pre .1)
-    (ap length (c .user-name .ensures)) (short c))
+    (user-line-measured (sheet-of (c .before .before .before .before .before .before .before .before .before .args .s .now)) has (c .before .before .before .before .before .before .before .before .before .args .roles)
+    (c .before .before .before .before .loop .i) _ (c .before .before .before .before .before .before .before .before .before .pre .1)
+    (ap length (c .user-name-in .ensures)) (short c))
 
 returns : tie.Need-returns Inv-loop μ-loop
 unfolding user-limit
 returns c =
     λ has. measured-within (adding-ends (c .before .loop .inv has) (c .loop-test .left))
-    (omega (arith, few-users (c .before .before .before .pre .0)))
+    (omega (arith, few-users (c .before .before .before .before .before .before .pre .0)))
 
 pub user-lines-length-spec : {M : Type 1} → statement M
 user-lines-length-spec =
@@ -76,7 +79,7 @@ user-lines-length-spec =
     Inv-loop
     μ-loop
     loop-holds
-    user-name-requires
+    user-name-in-requires
     mul-total
     add-total
     add-total-2

@@ -6,7 +6,7 @@ use mathlib.Core.Path.{_∙_, ap, refl, sym}
 use Rattle.sheet.specs.Rows.{row-words}
 use Rattle.sheet.specs.Sheet.{sheet-of}
 use Rattle.sheet.specs.Text.{Bytes}
-use Rattle.book.specs.LaidLaws.{permissions-fit}
+use Rattle.book.specs.LaidLaws.{placed-permissions-fit}
 use Rattle.book.specs.Measured.{measured-as}
 use Rattle.book.specs.WitnessText.{cell-line, line-if}
 use Rattle.book.proofs.witness_block.cell_line_length.Statement.{statement}
@@ -17,7 +17,7 @@ text s set = line-if set (cell-line (sheet-of (s .args .s .now)) (s .args .user 
 
 cell-at-requires : tie.Need-cell-at-requires
 unfolding row-words
-cell-at-requires c κs = (omega (arith, permissions-fit (c .before .before .pre .0)), omega arith)
+cell-at-requires c κs = (omega (arith, placed-permissions-fit (c .before .before .pre .1)), omega arith)
 
 grant-line-length-requires : tie.Need-grant-line-length-requires
 grant-line-length-requires c κs = search needs

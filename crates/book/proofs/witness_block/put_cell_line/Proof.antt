@@ -6,7 +6,7 @@ use mathlib.Core.Path.{_∙_, ap, sym}
 use Rattle.sheet.specs.Rows.{row-words}
 use Rattle.sheet.specs.Sheet.{sheet-of}
 use Rattle.sheet.specs.Text.{Bytes}
-use Rattle.book.specs.LaidLaws.{permissions-fit}
+use Rattle.book.specs.LaidLaws.{placed-permissions-fit}
 use Rattle.book.specs.WitnessText.{cell-line, line-if}
 use Rattle.book.specs.Written.{fits-as, nothing-written, written-as}
 use Rattle.book.proofs.witness_block.put_cell_line.Statement.{statement}
@@ -17,12 +17,12 @@ text s set = line-if set (cell-line (sheet-of (s .args .s .now)) (s .args .user 
 
 cell-at-requires : tie.Need-cell-at-requires
 unfolding row-words
-cell-at-requires c κs = (omega (arith, permissions-fit (c .before .before .before .pre .0 .0)), omega arith)
+cell-at-requires c κs = (omega (arith, placed-permissions-fit (c .before .before .before .pre .0 .1)), omega arith)
 
 put-grant-line-requires : tie.Need-put-grant-line-requires
 put-grant-line-requires c κs =
     let s = (c .before .before .before .before .before .before) in (
-      (s .pre .0 .0, s .pre .0 .1, s .pre .0 .2),
+      (s .pre .0 .0, s .pre .0 .1, s .pre .0 .2, s .pre .0 .3),
       fits-as (ap (text s) (sym (c .before .before .cell-at .ensures) ∙ c .before .if1 .taken))
           (s .pre .1),
     )

@@ -27,7 +27,7 @@ abbrev start : tie.After-put-bytes → tie.Start
 start c = c .before .before .before .before .before .before
 
 written : (c : tie.After-put-bytes) → Written (name (start c)) (start c .args .out .now) (c .put-bytes .last .0) (c .put-bytes .result)
-written c = written-as (c .before .before .before .user-name .ensures) (c .put-bytes .ensures)
+written c = written-as (c .before .before .before .user-name-in .ensures) (c .put-bytes .ensures)
 
 behind-first : (c : tie.After-put-bytes)
     → Ready (name (start c)) (fields (start c)) (start c .args .out .now) (c .put-bytes .last .0) (c .put-bytes .result)
@@ -40,16 +40,16 @@ behind-second : (c : tie.After-put-field)
 behind-second c =
     let a = c .before .before .before .before in
     behind-fields (room (start a)) (written a)
-    (written-as (ap behind-comma (c .before .before .before .before .before .before .permission-name .ensures)) (c .put-field .ensures))
+    (written-as (ap behind-comma (c .before .before .before .before .before .before .permission-name-in .ensures)) (c .put-field .ensures))
 
-user-name-requires : tie.Need-user-name-requires
-user-name-requires c κs = search needs
+user-name-in-requires : tie.Need-user-name-in-requires
+user-name-in-requires c κs = search needs
 
-permission-name-requires : tie.Need-permission-name-requires
-permission-name-requires c κs = search needs
+permission-name-in-requires : tie.Need-permission-name-in-requires
+permission-name-in-requires c κs = search needs
 
 put-bytes-requires : tie.Need-put-bytes-requires
-put-bytes-requires c κs = fits-as (sym (c .before .before .user-name .ensures)) (name-fits (room (c .before .before .before .before .before)))
+put-bytes-requires c κs = fits-as (sym (c .before .before .user-name-in .ensures)) (name-fits (room (c .before .before .before .before .before)))
 
 sub-put-field : tie.Need-sub-put-field
 sub-put-field c = within-buffer (behind-first (c .before .before))
@@ -62,7 +62,7 @@ part-put-field-end c = search needs
 
 put-field-requires : tie.Need-put-field-requires
 put-field-requires c κs =
-    fits-as (ap behind-comma (sym (c .before .before .before .before .before .permission-name .ensures)))
+    fits-as (ap behind-comma (sym (c .before .before .before .before .before .permission-name-in .ensures)))
     (room-behind (behind-first (c .before .before .before)))
 
 add-end : tie.Need-add-end
@@ -84,8 +84,8 @@ pub put-grant-line-spec : {M : Type 1} → statement M
 put-grant-line-spec =
     tie.close
     (tie.spec
-    user-name-requires
-    permission-name-requires
+    user-name-in-requires
+    permission-name-in-requires
     put-bytes-requires
     sub-put-field
     part-put-field-start

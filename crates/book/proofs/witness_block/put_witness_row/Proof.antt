@@ -11,11 +11,11 @@ use Rattle.book.proofs.witness_block.put_witness_row.Statement.{stateme
 use Rattle.book.proofs.witness_block.put_witness_row.Tie as tie
 
 abbrev Inv-loop : tie.InvT-loop
-Inv-loop out₀ s layout witness user permissions at₀ i₀ out at i =
+Inv-loop out₀ s «user_from» «user_to» «permission_from» «permission_to» witness user permissions at₀ i₀ out at i =
     Listing permissions (λ p. line-if (cell witness (user .0) p) (cell-line (sheet-of s) (user .0) p)) i out₀ out at
 
 abbrev μ-loop : tie.MeasureT-loop
-μ-loop out₀ s layout witness user permissions at₀ i₀ out at i = permissions - i
+μ-loop out₀ s «user_from» «user_to» «permission_from» «permission_to» witness user permissions at₀ i₀ out at i = permissions - i
 
 loop-holds : tie.Need-loop-holds Inv-loop μ-loop
 loop-holds c = listing-starts _ _ (c .before .before .before .pre .1)
@@ -32,7 +32,7 @@ part-put-cell-line-end c = search needs
 put-cell-line-requires : tie.Need-put-cell-line-requires Inv-loop μ-loop
 put-cell-line-requires c κs =
     let s = (c .before .before .before .before .before .before) in (
-      (s .pre .0 .0, s .pre .0 .1, c .before .loop-test .taken, s .pre .0 .2),
+      (s .pre .0 .0, s .pre .0 .1, s .pre .0 .2, omega (arith, c .before .loop-test .taken, s .pre .0 .3), s .pre .0 .4),
       room-behind
           (part-ready (c .before .before .loop .inv) (c .before .loop-test .taken)),
     )

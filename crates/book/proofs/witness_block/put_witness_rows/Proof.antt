@@ -2,7 +2,10 @@
 use borrow.Author.Needs.{needs}
 use Prim.Native.Nat.{_-_}
 use native.Mathlib.Omega.{arith}
+use Rattle.sheet.specs.LaidOutLaws.{permissions-at, users-at}
+use Rattle.sheet.specs.Rows.{row-words}
 use Rattle.sheet.specs.Sheet.{sheet-of}
+use Rattle.book.specs.LaidLaws.{user-counted}
 use Rattle.book.specs.ListedWritten.{Listing, listing-ends, listing-starts, part-ready, part-within, part-written}
 use Rattle.book.specs.WitnessText.{witness-row}
 use Rattle.book.specs.Written.{room-behind, within-buffer}
@@ -10,13 +13,13 @@ use Rattle.book.proofs.witness_block.put_witness_rows.Statement.{statem
 use Rattle.book.proofs.witness_block.put_witness_rows.Tie as tie
 
 abbrev Inv-loop : tie.InvT-loop
-Inv-loop out₀ s layout witness users at₀ i₀ out at i = Listing users (witness-row (sheet-of s) witness (layout .permissions)) i out₀ out at
+Inv-loop out₀ s witness users permissions «user_from» «user_to» «permission_from» «permission_to» at₀ i₀ out at i = Listing users (witness-row (sheet-of s) witness permissions) i out₀ out at
 
 abbrev μ-loop : tie.MeasureT-loop
-μ-loop out₀ s layout witness users at₀ i₀ out at i = users - i
+μ-loop out₀ s witness users permissions «user_from» «user_to» «permission_from» «permission_to» at₀ i₀ out at i = users - i
 
 loop-holds : tie.Need-loop-holds Inv-loop μ-loop
-loop-holds c = listing-starts _ _ (c .before .before .before .pre .1)
+loop-holds c = listing-starts _ _ (c .before .before .before .before .before .before .before .before .before .pre .1)
 
 sub-put-witness-row : tie.Need-sub-put-witness-row Inv-loop μ-loop
 sub-put-witness-row c = within-buffer (part-ready (c .before .loop .inv) (c .loop-test .taken))
@@ -28,16 +31,22 @@ part-put-witness-row-end : tie.Need-part-put-witness-row-end Inv-loop μ-loop
 part-put-witness-row-end c = search needs
 
 put-witness-row-requires : tie.Need-put-witness-row-requires Inv-loop μ-loop
+unfolding row-words
 put-witness-row-requires c κs =
-    let s = (c .before .before .before .before .before .before) in (
-      (s .pre .0 .0, c .before .loop-test .taken, s .pre .0 .1),
-      room-behind
-          (part-ready (c .before .before .loop .inv) (c .before .loop-test .taken)),
+    let s = c .before .before .before .before .before .before .before .before .before .before .before .before .before .before .before .before in (
+      (
+        users-at (s .args .s .now) (s .args .layout) (s .pre .0 .0),
+        permissions-at (s .args .s .now) (s .args .layout) (s .pre .0 .0),
+        user-counted (s .pre .0 .0) (c .before .before .before .before .before .loop-test .taken),
+        omega (arith, s .pre .0 .0 .permission-total),
+        omega (arith, s .pre .0 .0 .user-total, s .pre .0 .1),
+      ),
+      room-behind (part-ready (c .before .before .before .before .before .before .loop .inv) (c .before .before .before .before .before .loop-test .taken)),
     )
 
 add-at : tie.Need-add-at Inv-loop μ-loop
 add-at c =
-    let a = (c .before .before .before .before) in
+    let a = (c .before .before .before .before .before .before .before .before) in
     omega (arith, part-within (a .before .loop .inv) (a .loop-test .taken) (c .before .before .put-witness-row .ensures))
 
 add-i : tie.Need-add-i Inv-loop μ-loop
@@ -48,7 +57,7 @@ loop-less c = omega arith
 
 loop-again : tie.Need-loop-again Inv-loop μ-loop
 loop-again c =
-    let a = (c .before .before .before .before) in
+    let a = (c .before .before .before .before .before .before .before .before) in
     part-written (a .before .loop .inv) (a .loop-test .taken) (c .before .before .put-witness-row .ensures)
 
 same-length : tie.Need-same-length Inv-loop μ-loop

@@ -7,8 +7,8 @@ use Rattle.checker.specs.LineSteps.{no-name, name-then-cells}
 use Rattle.checker.proofs.users_block.user_line.Statement.{statement}
 use Rattle.checker.proofs.users_block.user_line.Tie as tie
 
-user-name-requires : tie.Need-user-name-requires
-user-name-requires c κs = (c .before .before .before .pre .0 .1, c .before .before .before .pre .0 .2)
+user-name-in-requires : tie.Need-user-name-in-requires
+user-name-in-requires c κs = (c .before .before .before .pre .0 .1, c .before .before .before .pre .0 .2)
 
 expect-requires : tie.Need-expect-requires
 expect-requires c κs = c .before .before .before .before .pre .0 .0
@@ -20,11 +20,11 @@ enum-told : tie.Need-enum-told
 enum-told c = search needs
 
 returns : tie.Need-returns
-returns c = no-name (c .before .before .before .before .before .before .before .args .roles) (rw (c .enum-told .given .1, c .before .before .before .user-name .ensures) at (c .before .before .expect .ensures))
+returns c = no-name (c .before .before .before .before .before .before .before .args .roles) (rw (c .enum-told .given .1, c .before .before .before .user-name-in .ensures) at (c .before .before .expect .ensures))
 
 name : (c : tie.After-known-told)
     → Reads (c .before .before .before .before .before .before .before .before .args .book .now) (c .before .before .before .before .before .before .before .before .args .at) (user-name (sheet-of (c .before .before .before .before .before .before .before .before .args .sheet .now)) (c .before .before .before .before .before .before .before .before .args .u .0)) (c .before .cells .given .0 .0)
-name c = rw (c .before .cells .given .1, c .before .before .before .before .user-name .ensures) at (c .before .before .before .expect .ensures)
+name c = rw (c .before .cells .given .1, c .before .before .before .before .user-name-in .ensures) at (c .before .before .before .expect .ensures)
 
 read-line-cells-requires : tie.Need-read-line-cells-requires
 read-line-cells-requires c κs = (name (c .before) .within, c .before .before .before .before .before .before .before .before .before .pre .0 .3, c .before .before .before .before .before .before .before .before .before .pre .1 .0, c .before .before .before .before .before .before .before .before .before .pre .1 .1)
@@ -41,7 +41,7 @@ pub user-line-spec : {M : Type 1} → statement M
 user-line-spec =
     tie.close
     (tie.spec
-    user-name-requires
+    user-name-in-requires
     expect-requires
     enum-known-cells
     enum-told

@@ -9,46 +9,47 @@ use lib.ListN.{drop}
 use Rattle.lists.specs.Lists.{repeats}
 use Rattle.sheet.specs.Text.{Bytes}
 use Rattle.sheet.specs.Refusal.{same-name}
-use Rattle.sheet.specs.NamesAt.{names-at}
-use Rattle.sheet.specs.NamesAtLaws.{names-past, repeats-from}
+use Rattle.sheet.specs.NamesAt.{places-of, names-at}
+use Rattle.sheet.specs.NamesAtLaws.{inside-part, names-past, repeats-turn}
 use Rattle.sheet.proofs.lookup.repeated.Statement.{statement}
 use Rattle.sheet.proofs.lookup.repeated.Tie as tie
 
 abbrev Inv-loop : tie.InvT-loop
-Inv-loop s places count i₀ i = repeats same-name (drop i (names-at s places count)) ≡ repeats same-name (names-at s places count)
+Inv-loop s count from to i₀ i =
+    repeats same-name (drop i (names-at s (places-of from to) count)) ≡ repeats same-name (names-at s (places-of from to) count)
 
 abbrev μ-loop : tie.MeasureT-loop
-μ-loop s places count i₀ i = count - i
+μ-loop s count from to i₀ i = count - i
 
 loop-holds : tie.Need-loop-holds Inv-loop μ-loop
 loop-holds c = refl
 
-name-at-requires : tie.Need-name-at-requires Inv-loop μ-loop
-name-at-requires c κs = (c .before .before .before .pre, c .loop-test .taken)
+part-at-requires : tie.Need-part-at-requires Inv-loop μ-loop
+part-at-requires c κs = inside-part (c .before .before .before .before .before .before .before .pre) (c .before .before .before .loop .i) (c .before .before .loop-test .taken)
 
 add-stands-from : tie.Need-add-stands-from Inv-loop μ-loop
 add-stands-from c = omega arith
 
 stands-from-requires : tie.Need-stands-from-requires Inv-loop μ-loop
-stands-from-requires c κs = c .before .before .before .before .pre
+stands-from-requires c κs = c .before .before .before .before .before .before .before .before .before .before .pre
 
 abbrev names-from : tie.In-loop Inv-loop μ-loop → ℕ → List Bytes
 names-from c i =
-    let args = c .before .before .before .args in
+    let args = c .before .before .before .before .before .args in
     drop i (names-at (args .s .now) (args .places) (args .count))
 
 -- whether the name that a turn looks at stands again, and those after it
 left : (c : tie.After-stands-from Inv-loop μ-loop)
-    → repeats same-name (names-from (c .before .before) (c .before .before .before .loop .i))
-    ≡ (c .stands-from .result || repeats same-name (names-from (c .before .before) (suc (c .before .before .before .loop .i))))
+    → repeats same-name (names-from (c .before .before .before .before .before .before) (c .before .before .before .before .before .before .before .loop .i))
+    ≡ (c .stands-from .result || repeats same-name (names-from (c .before .before .before .before .before .before) (suc (c .before .before .before .before .before .before .before .loop .i))))
 left c =
-    let args = c .before .before .before .before .before .args in
-    let i = c .before .before .before .loop .i in
-    let again = rw (c .before .name-at .ensures, add-one i) at (c .stands-from .ensures) in
-    rw again (repeats-from (args .s .now) (args .places) (args .count) i (c .before .before .loop-test .taken))
+    let args = c .before .before .before .before .before .before .before .before .before .before .before .args in
+    let i = c .before .before .before .before .before .before .before .loop .i in
+    repeats-turn (args .s .now) (args .places) (args .count) i (c .before .before .before .before .before .before .loop-test .taken) (c .before .before .before .part-at .ensures)
+    (c .stands-from .ensures)
 
 returns : tie.Need-returns Inv-loop μ-loop
-returns c = rw (left (c .before), c .if1 .taken) at (c .before .before .before .before .loop .inv)
+returns c = rw (left (c .before), c .if1 .taken) at (c .before .before .before .before .before .before .before .before .loop .inv)
 
 add-i : tie.Need-add-i Inv-loop μ-loop
 add-i c = omega arith
@@ -57,11 +58,11 @@ loop-less : tie.Need-loop-less Inv-loop μ-loop
 loop-less c = omega arith
 
 loop-again : tie.Need-loop-again Inv-loop μ-loop
-loop-again c = rw add-one (rw (left (c .before), c .if1 .left) at (c .before .before .before .before .loop .inv))
+loop-again c = rw add-one (rw (left (c .before), c .if1 .left) at (c .before .before .before .before .before .before .before .before .loop .inv))
 
 returns-2 : tie.Need-returns-2 Inv-loop μ-loop
 returns-2 c =
-    let args = c .before .before .before .args in
+    let args = c .before .before .before .before .before .args in
     rw (names-past (args .s .now) (args .places) (args .count) (c .before .loop .i) (c .loop-test .left)) at (c .before .loop .inv)
 
 pub repeated-spec : {M : Type 1} → statement M
@@ -71,7 +72,7 @@ repeated-spec =
     Inv-loop
     μ-loop
     loop-holds
-    name-at-requires
+    part-at-requires
     add-stands-from
     stands-from-requires
     returns

@@ -1,82 +1,55 @@
 -- `lookup::stands_from`: with no equal name before number i, the names from i on decide.
-use Prim.Native.Nat.{ℕ, suc, _-_, _<_}
+use Prim.Native.Nat.{ℕ, suc, _-_}
 use native.Mathlib.Omega.{arith}
 use native.Mathlib.Numerals.{add-one}
-use mathlib.Core.Path.{_≡_, refl, sym, _∙_}
+use mathlib.Core.Path.{_≡_, refl}
 use mathlib.Core.Bool.{_||_}
 use mathlib.Core.List.{List}
 use lib.ListN.{drop}
 use Rattle.lists.specs.Lists.{any}
-use Rattle.sheet.specs.Limits.{user-limit}
 use Rattle.sheet.specs.Text.{Bytes}
 use Rattle.sheet.specs.Refusal.{same-name}
-use Rattle.sheet.specs.NamesAt.{name-there, names-at}
-use Rattle.sheet.specs.NamesAtLaws.{names-left, names-past}
+use Rattle.sheet.specs.NamesAt.{places-of, names-at}
+use Rattle.sheet.specs.NamesAtLaws.{inside-part, names-left, names-past}
+use Rattle.sheet.specs.declared.places.Places.{Places}
 use Rattle.sheet.proofs.lookup.stands_from.Statement.{statement}
 use Rattle.sheet.proofs.lookup.stands_from.Tie as tie
 
 abbrev Inv-loop : tie.InvT-loop
-Inv-loop s count first name places i₀ i =
-    any (same-name name) (drop i (names-at s places count)) ≡ any (same-name name) (drop first (names-at s places count))
+Inv-loop s from to count first name i₀ i =
+    any (same-name name) (drop i (names-at s (places-of from to) count)) ≡ any (same-name name) (drop first (names-at s (places-of from to) count))
 
 abbrev μ-loop : tie.MeasureT-loop
-μ-loop s count first name places i₀ i = count - i
+μ-loop s from to count first name i₀ i = count - i
+
+abbrev places : tie.Start Inv-loop μ-loop → Places
+places start = places-of (start .args .from .now) (start .args .to .now)
 
 loop-holds : tie.Need-loop-holds Inv-loop μ-loop
 loop-holds c = refl
 
-below : (c : tie.In-loop Inv-loop μ-loop) → c .before .loop .i < user-limit
-below c = omega (arith, c .before .before .before .before .pre .few, c .loop-test .taken)
-
-abbrev sought : tie.In-loop Inv-loop μ-loop → Bytes
-sought c = c .before .before .before .before .args .name .now
-
-abbrev names-from : tie.In-loop Inv-loop μ-loop → ℕ → List Bytes
-names-from c i =
-    let args = c .before .before .before .before .args in
-    drop i (names-at (args .s .now) (args .t2) (args .count))
-
--- the name that a turn looks at, and those after it
-left : (c : tie.In-loop Inv-loop μ-loop) → any (same-name (sought c)) (names-from c (c .before .loop .i))
-    ≡ (same-name (sought c) (name-there (c .before .before .before .before .args .s .now) (c .before .before .before .before .args .t2) (c .before .loop .i))
-    || any (same-name (sought c)) (names-from c (suc (c .before .loop .i))))
-left c =
-    let args = c .before .before .before .before .args in
-    names-left (args .s .now) (args .t2) (args .count) (sought c) (c .before .loop .i) (c .loop-test .taken)
-
-mul-from : tie.Need-mul-from Inv-loop μ-loop
-unfolding user-limit
-mul-from c = omega (arith, below c)
-
-element-copy-out-from : tie.Need-element-copy-out-from Inv-loop μ-loop
-unfolding user-limit
-element-copy-out-from c = below c
-
-mul-to : tie.Need-mul-to Inv-loop μ-loop
-unfolding user-limit
-mul-to c = omega (arith, below (c .before))
-
-element-copy-out-to : tie.Need-element-copy-out-to Inv-loop μ-loop
-unfolding user-limit
-element-copy-out-to c = below (c .before)
-
-sub-same-name : tie.Need-sub-same-name Inv-loop μ-loop
-sub-same-name c = let turn = c .before .before in turn .before .before .before .before .pre .forward (turn .before .loop .i) (turn .loop-test .taken)
-
-part-same-name-start : tie.Need-part-same-name-start Inv-loop μ-loop
-part-same-name-start c = let turn = c .before .before in turn .before .before .before .before .pre .forward (turn .before .loop .i) (turn .loop-test .taken)
-
-part-same-name-end : tie.Need-part-same-name-end Inv-loop μ-loop
-part-same-name-end c = let turn = c .before .before in turn .before .before .before .before .pre .within (turn .before .loop .i) (turn .loop-test .taken)
+part-at-requires : tie.Need-part-at-requires Inv-loop μ-loop
+part-at-requires c κs = inside-part (c .before .before .before .before .pre) (c .before .loop .i) (c .loop-test .taken)
 
 same-name-requires : tie.Need-same-name-requires Inv-loop μ-loop
 same-name-requires c κs = tt
 
+abbrev names-from : tie.Start Inv-loop μ-loop → ℕ → List Bytes
+names-from start i = drop i (names-at (start .args .s .now) (places start) (start .args .count))
+
+-- whether the name that a turn looks at is equal, and those after it
+left : (c : tie.After-same-name Inv-loop μ-loop)
+    → let start = c .before .before .before .before .before .before in
+    any (same-name (start .args .name .now)) (names-from start (c .before .before .before .loop .i))
+    ≡ (c .same-name .result || any (same-name (start .args .name .now)) (names-from start (suc (c .before .before .before .loop .i))))
+left c =
+    let start = c .before .before .before .before .before .before in
+    rw (c .same-name .ensures, c .before .part-at .ensures)
+    (names-left (start .args .s .now) (places start) (start .args .count) (start .args .name .now) (c .before .before .before .loop .i)
+    (c .before .before .loop-test .taken))
+
 returns : tie.Need-returns Inv-loop μ-loop
-returns c =
-    let turn = c .before .before .before .before .before in
-    let same = sym (c .before .same-name .ensures) ∙ c .if1 .taken in
-    rw (left turn, same) at (turn .before .loop .inv)
+returns c = rw (left (c .before), c .if1 .taken) at (c .before .before .before .before .loop .inv)
 
 add-i : tie.Need-add-i Inv-loop μ-loop
 add-i c = omega arith
@@ -85,15 +58,12 @@ loop-less : tie.Need-loop-less Inv-loop μ-loop
 loop-less c = omega arith
 
 loop-again : tie.Need-loop-again Inv-loop μ-loop
-loop-again c =
-    let turn = c .before .before .before .before .before in
-    let other = sym (c .before .same-name .ensures) ∙ c .if1 .left in
-    rw add-one (rw (left turn, other) at (turn .before .loop .inv))
+loop-again c = rw add-one (rw (left (c .before), c .if1 .left) at (c .before .before .before .before .loop .inv))
 
 returns-2 : tie.Need-returns-2 Inv-loop μ-loop
 returns-2 c =
-    let args = c .before .before .before .before .args in
-    rw (names-past (args .s .now) (args .t2) (args .count) (c .before .loop .i) (c .loop-test .left)) at (c .before .loop .inv)
+    let start = c .before .before .before .before in
+    rw (names-past (start .args .s .now) (places start) (start .args .count) (c .before .loop .i) (c .loop-test .left)) at (c .before .loop .inv)
 
 pub stands-from-spec : {M : Type 1} → statement M
 stands-from-spec =
@@ -102,13 +72,7 @@ stands-from-spec =
     Inv-loop
     μ-loop
     loop-holds
-    mul-from
-    element-copy-out-from
-    mul-to
-    element-copy-out-to
-    sub-same-name
-    part-same-name-start
-    part-same-name-end
+    part-at-requires
     same-name-requires
     returns
     add-i
