@@ -51,20 +51,6 @@ pub fn partners_below<'a>(
     n
 }
 
-// The whole count.
-pub fn partners<'a>(
-    rows: &'a [u64; CELL_WORDS],
-    left: &'a [u64; CELL_WORDS],
-    users: usize,
-    it: CellNo,
-) -> usize
-    requires { ⌜ (users ≤ user-limit) × (it .0 < cell-limit) ⌝ }
-    ensures { λ r. ⌜ ((sheet : Sheet) → Shown (now (rows .entry)) users sheet → Part (now (left .entry)) (now (rows .entry))
-        → r ≡ length (filter (fits sheet (grant-of (it .0))) (cell-grants sheet (now (left .entry))))) ⌝ }
-{
-    partners_below(rows, left, users, it, users * ROW_BITS + 1)
-}
-
 // Whether the grant at one cell dominates that at another: all grants of left that fit the other fit it.
 pub fn dominates<'a>(
     rows: &'a [u64; CELL_WORDS],

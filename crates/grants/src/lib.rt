@@ -16,7 +16,6 @@ pub use cell::ROW_BITS;
 pub use cover::Placement;
 pub use cover::first_best;
 pub use fit::fitting;
-pub use fit::partners;
 pub use kernel::Kernel;
 pub use kernel::listed;
 pub use kernel::permission_of;
