@@ -12,13 +12,13 @@ use lib.ListN.{getD}
 use Rattle.bits.specs.Bit.{bit, word-bits}
 use Rattle.bits.specs.Truth.{implies, implies-intro, implies-elim, fails-unless, not-both, and-intro, and-left, and-right}
 use Rattle.bits.specs.Below.{every-below}
-use Rattle.bits.specs.BelowLaws.{every-below-ext, every-below-add, every-below-intro, every-below-elim}
+use Rattle.bits.specs.BelowLaws.{every-below-ext, every-below-add, every-below-mono, every-below-intro, every-below-elim}
 use Rattle.sheet.specs.Rows.{row-words, row-bits, cell}
 use Rattle.grants.specs.CellSets.{in-cells}
 use Rattle.grants.specs.CellPlaces.{grant-of, marked, fit-in, near, FittingWord, Part}
-use Rattle.grants.specs.CellPlaceLaws.{user-of-cell, cell-marked}
+use Rattle.grants.specs.CellPlaceLaws.{user-of-cell, cell-marked, fit-by-word}
 use Rattle.grants.specs.FitWordLaws.{marked-in-word, near-word}
-use Rattle.grants.specs.NearCells.{cells-of, dominates-in, tie-at}
+use Rattle.grants.specs.NearCells.{cells-of, dominates-in, tie-at, word-fits}
 
 -- ---- every cell, word by word
 
@@ -49,6 +49,28 @@ covered-word rows left it g i {fits-g} {fits-it} of-g of-it =
     every-below-ext word-bits (λ q. implies (bit (bitAnd (getD left i 0) fits-g) q) (bit fits-it q)) (λ q. covered-at rows left it g (i * word-bits + q))
     (λ q l. rw (near-word rows left g i of-g q l, of-it .bits q l))
 
+-- ---- a whole word
+
+-- what is not in the grant's own row does not fit it
+pub unless-in-own-row : (rows : List ℕ) (it i w : ℕ)
+    → every-below word-bits (λ q. implies (bit w q) (bit (getD rows (it / row-bits * row-words + i % row-words) 0) q)) ≡ false
+    → word-fits rows it i w ≡ false
+unless-in-own-row rows it i w fails =
+    fails-unless (word-fits rows it i w) (λ p. not-both
+    (every-below-mono word-bits (λ q. implies (bit w q) (fit-in rows (grant-of it) (grant-of (i * word-bits + q)))) (λ q. implies (bit w q) (own q)) (λ q l h.
+    implies-intro (bit w q) (own q) (λ m.
+    and-left (own q) (cell rows (i / row-words) (it % row-bits))
+    (sym (fit-by-word rows it i q l) ∙ implies-elim (bit w q) (fit-in rows (grant-of it) (grant-of (i * word-bits + q))) h m))) p) fails)
+  where
+    own : ℕ → Bool
+    own q = bit (getD rows (it / row-bits * row-words + i % row-words) 0) q
+
+pub within-fitting-word : (rows : List ℕ) (it i w : ℕ) {fits-it : ℕ} → FittingWord rows it i fits-it
+    → every-below word-bits (λ q. implies (bit w q) (bit fits-it q)) ≡ word-fits rows it i w
+within-fitting-word rows it i w {fits-it} of-it =
+    every-below-ext word-bits (λ q. implies (bit w q) (bit fits-it q)) (λ q. implies (bit w q) (fit-in rows (grant-of it) (grant-of (i * word-bits + q))))
+    (λ q l. rw (of-it .bits q l))
+
 -- ---- ties
 
 -- two cells of one word that are set fit: their grants have one user
@@ -62,13 +84,12 @@ one-row-fits rows i q r l k m n =
     (cell-marked rows (i * word-bits + r) ∙ n) (rw one-user at (cell-marked rows (i * word-bits + q) ∙ m)))
 
 -- a cell of left in word i is near each other one, so what dominates it fits them all
-pub unless-whole-word-fits : (rows left : List ℕ) (users it i : ℕ) {fits-it : ℕ} → Part left rows → i < users * row-words
-    → FittingWord rows it i fits-it → every-below word-bits (λ q. implies (bit (getD left i 0) q) (bit fits-it q)) ≡ false
+pub unless-whole-word-fits : (rows left : List ℕ) (users it i : ℕ) → Part left rows → i < users * row-words → word-fits rows it i (getD left i 0) ≡ false
     → (q : ℕ) → q < word-bits → tie-at rows left users it (i * word-bits + q) ≡ false
-unless-whole-word-fits rows left users it i {fits-it} part inside of-it fails q l =
+unless-whole-word-fits rows left users it i part inside fails q l =
     fails-unless (tie-at rows left users it (i * word-bits + q)) (λ p. not-both
-    (every-below-intro word-bits (λ r. implies (bit (getD left i 0) r) (bit fits-it r)) (λ r k.
-    implies-intro (bit (getD left i 0) r) (bit fits-it r) (λ m. of-it .bits r k ∙ fitting p r k (marked-in-word left i r k ∙ m)))) fails)
+    (every-below-intro word-bits (λ r. implies (bit (getD left i 0) r) (fit-in rows (grant-of it) (grant-of (at r)))) (λ r k.
+    implies-intro (bit (getD left i 0) r) (fit-in rows (grant-of it) (grant-of (at r))) (λ m. fitting p r k (marked-in-word left i r k ∙ m)))) fails)
   where
     at : ℕ → ℕ
     at r = i * word-bits + r

@@ -1,5 +1,6 @@
 // The judgement of one grant against those remaining.
 use crate::cell::CellNo;
+use crate::cell::ROW_BITS;
 use crate::fit::dominates;
 use crate::fit::fitting;
 use crate::fit::partners_below;
@@ -13,8 +14,8 @@ ghost use lib.Dec.{eqb};
 ghost use Rattle.bits.specs.Bit.{word-bits};
 ghost use Rattle.sheet.specs.Limits.{user-limit};
 ghost use Rattle.sheet.specs.Rows.{row-words};
-ghost use Rattle.grants.specs.CellPlaces.{cell-limit, Part};
-ghost use Rattle.grants.specs.NearCells.{cells-of, dominates-in, tie-at};
+ghost use Rattle.grants.specs.CellPlaces.{cell-words, cell-limit, Part};
+ghost use Rattle.grants.specs.NearCells.{cells-of, dominates-in, tie-at, word-fits};
 ghost use Rattle.grants.specs.ReductionVerdict.{FoundIn, Judgeable, Judged};
 
 // The cell that a grant is tied to, if there is one.
@@ -47,6 +48,18 @@ fn ties<'a>(
     dominates(rows, left, users, it, CellNo(other))
 }
 
+// Whether the cells of word i at the positions of w all fit the grant at a cell. Most words fail against the grant's own row already.
+fn all_fit(rows: &[u64; CELL_WORDS], it: CellNo, i: usize, w: u64) -> bool
+    requires { ⌜ (it .0 < cell-limit) × (i < cell-words) ⌝ }
+    ensures { λ r. ⌜ r ≡ word-fits (now (rows .entry)) (it .0) i w ⌝ }
+{
+    let own = rows[it.0 / ROW_BITS * ROW_WORDS + i % ROW_WORDS];
+    if !bits::within(w, own) {
+        return false;
+    }
+    bits::within(w, fitting(rows, it, i))
+}
+
 // The lowest cell of word i to which the grant at a cell is tied. There is none unless all grants of the word fit it.
 fn tie_in<'a>(
     rows: &'a [u64; CELL_WORDS],
@@ -59,7 +72,7 @@ fn tie_in<'a>(
     ensures { λ r. ⌜ FoundIn (tie-at (now (rows .entry)) (now (left .entry)) users (it .0)) (i * word-bits) ((i + 1) * word-bits) r ⌝ }
 {
     let mut w = left[i];
-    if !bits::within(w, fitting(rows, it, i)) {
+    if !all_fit(rows, it, i, w) {
         return Found::Nothing;
     }
     while w != 0 {

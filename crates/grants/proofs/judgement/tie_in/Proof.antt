@@ -33,23 +33,20 @@ element-copy-out-w : tie.Need-element-copy-out-w Inv-loop μ-loop
 unfolding user-limit row-words
 element-copy-out-w c = omega arith
 
-fitting-requires : tie.Need-fitting-requires Inv-loop μ-loop
+all-fit-requires : tie.Need-all-fit-requires Inv-loop μ-loop
 unfolding user-limit row-words
-fitting-requires c κs = search needs
-
-within-requires : tie.Need-within-requires Inv-loop μ-loop
-within-requires c κs = search needs
+all-fit-requires c κs = search needs
 
 returns : tie.Need-returns Inv-loop μ-loop
 returns c =
-    let a = c .before .before .before .before .args in
+    let a = c .before .before .before .args in
     none-in-word (a .i) (tie-at (a .rows .now) (a .left .now) (a .users) (a .it .0))
-    (unless-whole-word-fits (a .rows .now) (a .left .now) (a .users) (a .it .0) (a .i) (c .before .before .before .before .pre .3) (omega arith) (c .before .before .fitting .ensures)
-    (sym (c .before .within .ensures) ∙ not-true (c .before .within .result) (c .if1 .taken)))
+    (unless-whole-word-fits (a .rows .now) (a .left .now) (a .users) (a .it .0) (a .i) (c .before .before .before .pre .3) (omega arith)
+    (sym (c .before .all-fit .ensures) ∙ not-true (c .before .all-fit .result) (c .if1 .taken)))
 
 loop-holds : tie.Need-loop-holds Inv-loop μ-loop
 loop-holds c =
-    let a = c .before .before .before .before .args in all-untried (a .left .now) (tied (a .rows .now) (a .left .now) (a .users) (a .it .0)) (a .i)
+    let a = c .before .before .before .args in all-untried (a .left .now) (tied (a .rows .now) (a .left .now) (a .users) (a .it .0)) (a .i)
 
 mul-other : tie.Need-mul-other Inv-loop μ-loop
 unfolding user-limit row-words
@@ -68,7 +65,7 @@ ties-requires c κs = omega (arith, c .lowest .ensures .within)
 
 returns-2 : tie.Need-returns-2 Inv-loop μ-loop
 returns-2 c =
-    let a = c .before .before .before .before .before .before .before .before .before .args in
+    let a = c .before .before .before .before .before .before .before .before .args in
     lowest-untried (a .left .now) (tied (a .rows .now) (a .left .now) (a .users) (a .it .0)) (a .i) (c .before .before .before .before .loop .inv)
     (c .before .before .lowest .ensures) (sym (c .before .ties .ensures) ∙ c .if2 .taken)
 
@@ -80,13 +77,13 @@ loop-less c = c .without-lowest .ensures .less
 
 loop-again : tie.Need-loop-again Inv-loop μ-loop
 loop-again c =
-    let a = c .before .before .before .before .before .before .before .before .before .before .args in
+    let a = c .before .before .before .before .before .before .before .before .before .args in
     one-tried (a .left .now) (tied (a .rows .now) (a .left .now) (a .users) (a .it .0)) (a .i) (c .before .before .before .before .before .loop .inv)
     (c .before .before .before .lowest .ensures) (sym (c .before .before .ties .ensures) ∙ c .before .if2 .left) (c .without-lowest .ensures)
 
 returns-3 : tie.Need-returns-3 Inv-loop μ-loop
 returns-3 c =
-    let a = c .before .before .before .before .before .before .args in
+    let a = c .before .before .before .before .before .args in
     none-untried (a .left .now) (tied (a .rows .now) (a .left .now) (a .users) (a .it .0)) (a .i)
     (rw (c .loop-test .left) at (c .before .loop .inv))
 
@@ -98,8 +95,7 @@ tie-in-spec =
     μ-loop
     mul-w
     element-copy-out-w
-    fitting-requires
-    within-requires
+    all-fit-requires
     returns
     loop-holds
     mul-other
