@@ -3,8 +3,7 @@ use crate::build::build;
 use crate::build::fill;
 use libc::STDOUT_FILENO;
 use sheet::CELL_WORDS;
-ghost use mathlib.Core.Path.{_≡_};
-ghost use Rattle.sheet.specs.Refusal.{refusal};
+use sheet::SheetRead;
 
 // Judges a sheet of as many users, permissions and grants as asked.
 pub fn show_built(label: &[u8], users: usize, permissions: usize, grants: usize) {
@@ -30,23 +29,20 @@ fn show_front<'a>(label: &'a [u8], space: &'a [u8], n: usize) {
 // Writes what a sheet is, the number that is answered for it, and its counts where it is accepted.
 pub fn show<'a>(label: &'a [u8], s: &'a [u8]) {
     io::write_all(STDOUT_FILENO, label);
-    let number = sheet::judge(s);
-    figure(b": ", number);
-    if number == 0 {
-        counts(s);
+    let read = sheet::read(s);
+    figure(b": ", read.number);
+    if read.number == 0 {
+        counts(read);
     }
     io::write_all(STDOUT_FILENO, b"\n");
 }
 
 // Writes the counts of an accepted sheet, and how many bits its rows have.
-fn counts(s: &[u8])
-    requires { ⌜ refusal (now s) ≡ 0 ⌝ }
-{
-    let layout = sheet::lay_out(s);
-    figure(b", users ", layout.users);
-    figure(b", permissions ", layout.permissions);
-    figure(b", grants ", layout.grants);
-    let rows = sheet::rows_of(s, layout);
+fn counts(read: SheetRead) {
+    figure(b", users ", read.layout.users);
+    figure(b", permissions ", read.layout.permissions);
+    figure(b", grants ", read.layout.grants);
+    let rows = read.rows;
     figure(b", cells ", set_bits(&rows));
 }
 

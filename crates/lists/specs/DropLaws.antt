@@ -1,15 +1,15 @@
--- What is left of a list after its first n elements: where something is left, its first element is the n-th of the list, and tests go by that and
--- the rest. Assumes nothing.
+-- What is left of a list after its first n elements: where something is left, its first element is the n-th of the list, and whether all pass
+-- a test goes by that and the rest. Assumes nothing.
 use Prim.Native.Nat.{ℕ, suc, _≤_, _<_}
 use native.Mathlib.Nat.{add-zero}
 use native.Mathlib.Numerals.{add-one}
 use native.Mathlib.Omega.{arith}
 use mathlib.Core.Path.{_≡_, sym, ap, _∙_}
-use mathlib.Core.Bool.{Bool, _&&_, _||_}
+use mathlib.Core.Bool.{Bool, _&&_}
 use mathlib.Core.List.{List, [], _∷_}
 use lib.ListN.{length, getD, drop, length-drop}
 use lib.Seq.{drop-drop, getD-drop, drop-cons}
-use Rattle.lists.specs.Lists.{any, all, repeats}
+use Rattle.lists.specs.Lists.{all}
 
 module _ {A : Type 0} (l : List A) (n : ℕ) where
   pub left-below : (a : A) (rest : List A) → drop n l ≡ a ∷ rest → n < length l
@@ -29,12 +29,5 @@ module _ {A : Type 0} (l : List A) (n : ℕ) where
   none-left e = omega (arith, length-drop n l, ap length e)
 
 module _ {A : Type 0} (l : List A) (n : ℕ) (d : A) (h : n < length l) where
-  pub any-left : (test : A → Bool) → any test (drop n l) ≡ (test (getD l n d) || any test (drop (suc n) l))
-  any-left test = ap (any test) (drop-cons l n d h)
-
   pub all-left : (test : A → Bool) → all test (drop n l) ≡ (test (getD l n d) && all test (drop (suc n) l))
   all-left test = ap (all test) (drop-cons l n d h)
-
-  pub repeats-left : (same : A → A → Bool)
-      → repeats same (drop n l) ≡ (any (same (getD l n d)) (drop (suc n) l) || repeats same (drop (suc n) l))
-  repeats-left same = ap (repeats same) (drop-cons l n d h)

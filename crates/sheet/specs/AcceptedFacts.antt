@@ -1,15 +1,11 @@
 -- What an accepted sheet has, place by place: counts within the limits, a row for each user and a cell for each permission, and names that are
 -- not empty, hold neither comma nor line feed and stand in one place each. All of it is read off the rules. Assumes nothing.
 use Prim.Native.Nat.{ℕ, _≤_, _<_}
-use native.Mathlib.Nat.{not-suc-le-zero, eq-or-lt-of-le}
 use native.Mathlib.Omega.{arith}
-use mathlib.Core.Path.{_≡_, refl, sym}
-use mathlib.Core.Logic.{⊎-elim}
-use mathlib.Core.Bool.{false, So}
-use mathlib.Core.List.{List, [], _∷_}
+use mathlib.Core.Path.{_≡_}
+use mathlib.Core.Bool.{So}
+use mathlib.Core.List.{[]}
 use lib.ListN.{length, getD}
-use Rattle.bits.specs.BelowLaws.{below-or-from}
-use Rattle.lists.specs.Lists.{empty}
 use Rattle.lists.specs.TestLaws.{member-at}
 use Rattle.sheet.specs.Limits.{sheet-limit, permission-limit, user-limit, grant-limit}
 use Rattle.sheet.specs.Text.{Bytes}
@@ -17,7 +13,7 @@ use Rattle.sheet.specs.Sheet.{Sheet, sheet-of, user-count, permission-co
 use Rattle.sheet.specs.Refusal.{accepted}
 use Rattle.sheet.specs.Rules.{Name, Names, Keeps}
 use Rattle.sheet.specs.TextLaws.{Field}
-use Rattle.sheet.specs.KeepsLaws.{spelled-field}
+use Rattle.sheet.specs.WrittenLaws.{spelled-field}
 use Rattle.sheet.specs.Accepted.{accepted-keeps}
 
 -- ---- names
@@ -25,17 +21,6 @@ use Rattle.sheet.specs.Accepted.{accepted-keeps}
 -- a name is a field that a line can hold
 pub name-field : (name : Bytes) → Name name → Field name
 name-field name n = spelled-field name (n .spelled)
-
-pub name-not-empty : (name : Bytes) → Name name → empty name ≡ false
-name-not-empty [] n = absurd (not-suc-le-zero (n .some-byte))
-name-not-empty (b ∷ rest) n = refl
-
--- a name stands in one place
-pub name-place : (names : List Bytes) → Names names → (i j : ℕ) → i < length names → j < length names
-    → getD names i [] ≡ getD names j [] → i ≡ j
-name-place names n i j h k e =
-    ⊎-elim (λ l. absurd (n .distinct i j l k e))
-    (λ l. ⊎-elim (λ q. sym q) (λ m. absurd (n .distinct j i m h (sym e))) (eq-or-lt-of-le l)) (below-or-from i j)
 
 -- ---- sheets
 

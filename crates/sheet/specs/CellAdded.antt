@@ -1,7 +1,7 @@
--- What adding a cell or a row of cells to rows of words leaves. Assumes nothing.
+-- What adding a cell to rows of words leaves. Assumes nothing.
 use Prim.Native.Nat.{ℕ, suc, _*_, _≤_, _<_}
 use mathlib.Core.Path.{_≡_}
-use mathlib.Core.Bool.{Bool, false, _&&_, _||_}
+use mathlib.Core.Bool.{Bool, _&&_, _||_}
 use mathlib.Core.List.{List}
 use lib.Dec.{eqb}
 use lib.ListN.{length, getD}
@@ -11,10 +11,4 @@ use Rattle.sheet.specs.Rows.{row-words, row-bits, cell}
 pub record CellAdded (words after : List ℕ) (u p : ℕ) (yes : Bool) : Type 0 where
   pub size : length after ≡ length words
   pub shows : (v q : ℕ) → q < row-bits → cell after v q ≡ (cell words v q || (eqb v u && (eqb q p && yes)))
-  pub later : (i : ℕ) → suc u * row-words ≤ i → getD after i 0 ≡ getD words i 0
-
--- the cells of a row are added to those of user u; the words of later users stay
-pub record RowAdded (words after : List ℕ) (u : ℕ) (row : List Bool) : Type 0 where
-  pub size : length after ≡ length words
-  pub shows : (v q : ℕ) → q < row-bits → cell after v q ≡ (cell words v q || (eqb v u && getD row q false))
   pub later : (i : ℕ) → suc u * row-words ≤ i → getD after i 0 ≡ getD words i 0

@@ -4,7 +4,7 @@ use Prim.Native.Nat.{ℕ, suc, _+_, _*_, _/_, _%_, _≤_, _<_}
 use native.Mathlib.Nat.{mul-le-mul-right}
 use native.Mathlib.Omega.{arith}
 use mathlib.Core.Path.{_≡_, refl, ap}
-use mathlib.Core.Logic.{_⊎_, ⊎-elim}
+use mathlib.Core.Logic.{⊎-elim}
 use mathlib.Core.Bool.{true, false, _&&_, _||_, and-true, and-false, or-false}
 use mathlib.Core.List.{List}
 use borrow.Author.Tests.{eqb-true, eqb-false, eq-eqb}
@@ -28,9 +28,6 @@ word-in-row p h = omega arith
 -- the words of a user end before those of the next begin
 pub word-below : (n u p : ℕ) → u < n → p < row-bits → word-of u p < n * row-words
 word-below n u p l h = omega (arith, word-in-row p h, mul-le-mul-right row-words l)
-
-pub word-from : (u v p : ℕ) → u ≤ v → u * row-words ≤ word-of v p
-word-from u v p l = omega (arith, mul-le-mul-right row-words l)
 
 -- cells of one word are cells of one user
 pub one-user : (u v p q : ℕ) → p < row-bits → q < row-bits → word-of v q ≡ word-of u p → v ≡ u

@@ -40,15 +40,7 @@ rows-ordered u (row ∷ rows) =
 pub grants-ordered : (sheet : Sheet) → Ordered Before (grants sheet)
 grants-ordered sheet = rows-ordered 0 (sheet .rows)
 
-pub grants-rise : (sheet : Sheet) (i j : ℕ) (d : Grant) → i < j → j < length (grants sheet)
-    → Before (getD (grants sheet) i d) (getD (grants sheet) j d)
-grants-rise sheet i j d = ordered-places Before (grants sheet) (grants-ordered sheet) i j d
-
 -- grants in order are all different
 pub ordered-grants-differ : (l : List Grant) → Ordered Before l → (i j : ℕ) (d : Grant) → i < j → j < length l
     → same-grant (getD l i d) (getD l j d) ≡ false
 ordered-grants-differ l o i j d k m = before-differs (getD l i d) (getD l j d) (ordered-places Before l o i j d k m)
-
-pub grants-differ : (sheet : Sheet) (i j : ℕ) (d : Grant) → i < j → j < length (grants sheet)
-    → same-grant (getD (grants sheet) i d) (getD (grants sheet) j d) ≡ false
-grants-differ sheet = ordered-grants-differ (grants sheet) (grants-ordered sheet)

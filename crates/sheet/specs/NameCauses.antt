@@ -22,7 +22,7 @@ pub record Sized (name : Bytes) : Type 0 where
   pub some-byte : 1 ≤ length name
   pub short : length name ≤ name-limit
 
-sized-name : (name : Bytes) → So (name-length name) ↔ Sized name
+pub sized-name : (name : Bytes) → So (name-length name) ↔ Sized name
 unfolding name-length
 sized-name name = (
   λ p. record { some-byte = between-low 1 name-limit (length name) p; short = between-high 1 name-limit (length name) p },

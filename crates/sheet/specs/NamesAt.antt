@@ -23,6 +23,10 @@ pub record Inside (text : Bytes) (places : Places) (count : ℕ) : Type 0 where
   pub forward : (i : ℕ) → i < count → getD (places .from) i 0 ≤ getD (places .to) i 0
   pub within : (i : ℕ) → i < count → getD (places .to) i 0 ≤ length text
 
+-- what a place is asked for before the part there is lent
+abbrev pub PartThere : Bytes → List ℕ → List ℕ → ℕ → Type 0
+PartThere text from to i = (i < user-limit) × (getD from i 0 ≤ getD to i 0) × (getD to i 0 ≤ length text)
+
 -- what stands at one of the places
 abbrev pub name-there : Bytes → Places → ℕ → Bytes
 name-there text places i = part (getD (places .from) i 0) (getD (places .to) i 0) text

@@ -1,5 +1,8 @@
 // The bytes of a sheet.
 ghost use mathlib.Core.Path.{_≡_};
+ghost use mathlib.Core.Bool.{_&&_};
+ghost use lib.Dec.{eqb, ltb};
+ghost use lib.ListN.{length, getD};
 ghost use Rattle.sheet.specs.Text.{between, name-byte, allowed-byte};
 ghost use Rattle.sheet.specs.Fields.{separator};
 
@@ -28,7 +31,7 @@ fn is_between(low: u8, high: u8, b: u8) -> bool
 }
 
 // Whether b is a byte of a name.
-fn is_name_byte(b: u8) -> bool
+pub fn is_name_byte(b: u8) -> bool
     ensures { λ r. ⌜ r ≡ name-byte b ⌝ }
 {
     if is_between(b'A', b'Z', b) {
@@ -57,4 +60,11 @@ pub fn is_allowed(b: u8) -> bool
         return true;
     }
     is_separator(b)
+}
+
+// Whether this byte stands at a place of a text.
+pub fn stands_at(s: &[u8], at: usize, b: u8) -> bool
+    ensures { λ r. ⌜ r ≡ (ltb at (length (now (s .entry))) && eqb (getD (now (s .entry)) at 0) b) ⌝ }
+{
+    if at < s.len() { s[at] == b } else { false }
 }

@@ -1,24 +1,18 @@
 // The layout of an accepted sheet: its counts, and where its names stand.
-use crate::body::read_body;
 use crate::limits::USER_LIMIT;
-use crate::line::read_line;
 use crate::lookup::Found;
-use crate::lookup::find;
-use crate::lookup::name_at;
+use crate::lookup::find_from;
 use crate::lookup::part_at;
 use crate::numbers::PermissionNo;
 use crate::numbers::UserNo;
 use crate::places::Places;
-use crate::places::permission_places;
-use crate::places::user_places;
 ghost use mathlib.Core.Path.{_≡_};
 ghost use mathlib.Core.List.{[]};
 ghost use Prim.Native.Nat.{_<_};
 ghost use lib.ListN.{getD};
 ghost use Rattle.sheet.specs.Sheet.{sheet-of, user-count, permission-count};
-ghost use Rattle.sheet.specs.Refusal.{refusal};
 ghost use Rattle.sheet.specs.NamesAt.{name-number};
-ghost use Rattle.sheet.specs.LaidOut.{LaidOut, UsersAt, PermissionsAt, found-user, found-permission};
+ghost use Rattle.sheet.specs.LaidOut.{UsersAt, PermissionsAt, found-user, found-permission};
 
 #[repr(C)]
 pub struct Layout {
@@ -39,42 +33,6 @@ pub enum FoundUser {
 pub enum FoundPermission {
     At(PermissionNo),
     Nothing,
-}
-
-// The layout of an accepted sheet.
-pub fn lay_out(s: &[u8]) -> Layout
-    requires { ⌜ refusal (now s) ≡ 0 ⌝ }
-    ensures { λ r. ⌜ LaidOut (now (s .entry)) r ⌝ }
-{
-    let head = read_line(s, 0);
-    let body = read_body(s, head.next, head.cells.count);
-    let users = user_places(s, head.next);
-    let permissions = permission_places(s);
-    Layout {
-        users: body.users,
-        permissions: head.cells.count,
-        grants: body.ones,
-        user_places: users,
-        permission_places: permissions,
-    }
-}
-
-// The name of user u: the part of the sheet itself.
-pub fn user_name<'a>(s: &'a [u8], layout: Layout, u: UserNo) -> &'a [u8]
-    requires { ⌜ LaidOut (now s) layout × (u .0 < layout .users) ⌝ }
-    ensures { λ r. ⌜ now r ≡ getD (sheet-of (now (s .entry)) .users) (u .0) [] ⌝ }
-{
-    let places = layout.user_places;
-    name_at(s, places, layout.users, u.0)
-}
-
-// The name of permission p: the part of the sheet itself.
-pub fn permission_name<'a>(s: &'a [u8], layout: Layout, p: PermissionNo) -> &'a [u8]
-    requires { ⌜ LaidOut (now s) layout × (p .0 < layout .permissions) ⌝ }
-    ensures { λ r. ⌜ now r ≡ getD (sheet-of (now (s .entry)) .permissions) (p .0) [] ⌝ }
-{
-    let places = layout.permission_places;
-    name_at(s, places, layout.permissions, p.0)
 }
 
 // The name of user u, with the users' places lent: a loop that asks for many names copies no layout.
@@ -103,25 +61,38 @@ pub fn permission_name_in<'a, 'b>(
     part_at(s, from, to, p.0)
 }
 
-// The number of the user of this name.
-pub fn find_user<'a>(s: &'a [u8], layout: Layout, name: &'a [u8]) -> FoundUser
-    requires { ⌜ LaidOut (now s) layout ⌝ }
+// The number of the user of this name, with the users' places lent. The users from number `first` on are looked at first: a caller whose names rise
+// says the last number, and the answer is the same whatever it says.
+pub fn find_user_in<'a, 'b>(
+    s: &'a [u8],
+    from: &'b [usize; USER_LIMIT],
+    to: &'b [usize; USER_LIMIT],
+    users: usize,
+    first: usize,
+    name: &'a [u8],
+) -> FoundUser
+    requires { ⌜ UsersAt (now s) (now from) (now to) × (users ≡ user-count (sheet-of (now s))) ⌝ }
     ensures { λ r. ⌜ r ≡ found-user (name-number (sheet-of (now (s .entry)) .users) (now (name .entry))) ⌝ }
 {
-    let places = layout.user_places;
-    match find(s, places, layout.users, name) {
+    match find_from(s, from, to, users, first, name) {
         Found::At(i) => FoundUser::At(UserNo(i)),
         Found::Nothing => FoundUser::Nothing,
     }
 }
 
-// The number of the permission of this name.
-pub fn find_permission<'a>(s: &'a [u8], layout: Layout, name: &'a [u8]) -> FoundPermission
-    requires { ⌜ LaidOut (now s) layout ⌝ }
+// The number of the permission of this name, with the permissions' places lent. Those from number `first` on are looked at first.
+pub fn find_permission_in<'a, 'b>(
+    s: &'a [u8],
+    from: &'b [usize; USER_LIMIT],
+    to: &'b [usize; USER_LIMIT],
+    permissions: usize,
+    first: usize,
+    name: &'a [u8],
+) -> FoundPermission
+    requires { ⌜ PermissionsAt (now s) (now from) (now to) × (permissions ≡ permission-count (sheet-of (now s))) ⌝ }
     ensures { λ r. ⌜ r ≡ found-permission (name-number (sheet-of (now (s .entry)) .permissions) (now (name .entry))) ⌝ }
 {
-    let places = layout.permission_places;
-    match find(s, places, layout.permissions, name) {
+    match find_from(s, from, to, permissions, first, name) {
         Found::At(i) => FoundPermission::At(PermissionNo(i)),
         Found::Nothing => FoundPermission::Nothing,
     }

@@ -1,31 +1,23 @@
 // Names at their places in a sheet: one by its number, the number of one, and whether one stands twice.
+use crate::buckets::repeated_in;
 use crate::limits::USER_LIMIT;
 use crate::names::same_name;
 use crate::places::Places;
 ghost use mathlib.Core.Path.{_≡_};
-ghost use mathlib.Core.List.{[]};
 ghost use Prim.Native.Nat.{_≤_, _<_};
-ghost use lib.ListN.{length, getD, drop};
-ghost use Rattle.lists.specs.Lists.{any, repeats};
+ghost use lib.ListN.{length, getD};
+ghost use Rattle.lists.specs.Lists.{repeats};
 ghost use Rattle.sheet.specs.Limits.{user-limit};
 ghost use Rattle.sheet.specs.Refusal.{same-name};
 ghost use Rattle.sheet.specs.Places.{part};
+ghost use Rattle.sheet.specs.RepeatsLaws.{Apart};
+ghost use Rattle.sheet.specs.FoundBetween.{FoundBetween};
 ghost use Rattle.sheet.specs.NamesAt.{Inside, places-of, names-at, name-number, found};
 
 // What looking for a name finds.
 pub enum Found {
     At(usize),
     Nothing,
-}
-
-// Name i of the first `count`: the part of the sheet itself.
-pub fn name_at<'a>(s: &'a [u8], places: Places, count: usize, i: usize) -> &'a [u8]
-    requires { ⌜ Inside (now s) places count × (i < count) ⌝ }
-    ensures { λ r. ⌜ now r ≡ getD (names-at (now (s .entry)) places count) i [] ⌝ }
-{
-    let from = places.from[i];
-    let to = places.to[i];
-    &s[from..to]
 }
 
 // What stands at place i: the part of the sheet itself. The places are lent, so that no loop copies them.
@@ -43,16 +35,21 @@ pub fn part_at<'a, 'b>(
     &s[start..end]
 }
 
-// The lowest number of a name among the first `count`.
-pub fn find<'a>(s: &'a [u8], places: Places, count: usize, name: &'a [u8]) -> Found
-    requires { ⌜ Inside (now s) places count ⌝ }
-    ensures { λ r. ⌜ r ≡ found (name-number (names-at (now (s .entry)) places count) (now (name .entry))) ⌝ }
+// The number of a name among the names from number `low` up to `high`.
+fn find_between<'a, 'b>(
+    s: &'a [u8],
+    from: &'b [usize; USER_LIMIT],
+    to: &'b [usize; USER_LIMIT],
+    low: usize,
+    high: usize,
+    name: &'a [u8],
+) -> Found
+    requires { ⌜ Inside (now s) (places-of (now from) (now to)) high ⌝ }
+    ensures { λ r. ⌜ FoundBetween (now (s .entry)) (places-of (now (from .entry)) (now (to .entry))) (now (name .entry)) low high r ⌝ }
 {
-    let mut i = 0;
-    while i < count {
-        let from = places.from[i];
-        let to = places.to[i];
-        if same_name(name, &s[from..to]) {
+    let mut i = low;
+    while i < high {
+        if same_name(name, part_at(s, from, to, i)) {
             return Found::At(i);
         }
         i += 1;
@@ -60,27 +57,24 @@ pub fn find<'a>(s: &'a [u8], places: Places, count: usize, name: &'a [u8]) -> Fo
     Found::Nothing
 }
 
-// Whether a name equals one of the first `count` names from number `first` on.
-fn stands_from<'a, 'b>(
+// The number of a name among the first `count`, no two of which are equal: those from `first` on are looked at first.
+pub fn find_from<'a, 'b>(
     s: &'a [u8],
     from: &'b [usize; USER_LIMIT],
     to: &'b [usize; USER_LIMIT],
     count: usize,
     first: usize,
     name: &'a [u8],
-) -> bool
-    requires { ⌜ Inside (now s) (places-of (now from) (now to)) count ⌝ }
-    ensures { λ r. ⌜ r ≡ any (same-name (now (name .entry)))
-        (drop first (names-at (now (s .entry)) (places-of (now (from .entry)) (now (to .entry))) count)) ⌝ }
+) -> Found
+    requires { ⌜ Inside (now s) (places-of (now from) (now to)) count × Apart (now s) (places-of (now from) (now to)) count ⌝ }
+    ensures { λ r. ⌜ r ≡ found (name-number (names-at (now (s .entry)) (places-of (now (from .entry)) (now (to .entry))) count) (now (name .entry))) ⌝ }
 {
-    let mut i = first;
-    while i < count {
-        if same_name(name, part_at(s, from, to, i)) {
-            return true;
-        }
-        i += 1;
+    let late = find_between(s, from, to, first, count, name);
+    if let Found::At(i) = late {
+        return Found::At(i);
     }
-    false
+    let end = if first < count { first } else { count };
+    find_between(s, from, to, 0, end, name)
 }
 
 // Whether two of the first `count` names are equal.
@@ -88,15 +82,5 @@ pub fn repeated(s: &[u8], places: Places, count: usize) -> bool
     requires { ⌜ Inside (now s) places count ⌝ }
     ensures { λ r. ⌜ r ≡ repeats same-name (names-at (now (s .entry)) places count) ⌝ }
 {
-    let from = places.from;
-    let to = places.to;
-    let mut i = 0;
-    while i < count {
-        let name = part_at(s, &from, &to, i);
-        if stands_from(s, &from, &to, count, i + 1, name) {
-            return true;
-        }
-        i += 1;
-    }
-    false
+    repeated_in(s, &places.from, &places.to, count)
 }

@@ -1,0 +1,68 @@
+-- `spelled::has_name_bytes`: where the bytes before i are of a name, those from i on decide.
+use Prim.Native.Nat.{_-_, _≤_}
+use native.Mathlib.Omega.{arith}
+use native.Mathlib.Numerals.{add-one}
+use mathlib.Core.Path.{_≡_, refl, sym, _∙_}
+use borrow.Author.Tests.{not-true, not-false}
+use lib.ListN.{length, drop, drop-of-length-le}
+use Rattle.lists.specs.Lists.{all}
+use Rattle.lists.specs.DropLaws.{all-left}
+use Rattle.sheet.specs.Text.{name-byte}
+use Rattle.sheet.proofs.spelled.has_name_bytes.Statement.{statement}
+use Rattle.sheet.proofs.spelled.has_name_bytes.Tie as tie
+
+abbrev Inv-loop : tie.InvT-loop
+Inv-loop s i₀ i = all name-byte (drop i s) ≡ all name-byte s
+
+abbrev μ-loop : tie.MeasureT-loop
+μ-loop s i₀ i = length s - i
+
+loop-holds : tie.Need-loop-holds Inv-loop μ-loop
+loop-holds c = refl
+
+shared-slice-read-is-name-byte : tie.Need-shared-slice-read-is-name-byte Inv-loop μ-loop
+shared-slice-read-is-name-byte c = omega arith
+
+is-name-byte-requires : tie.Need-is-name-byte-requires Inv-loop μ-loop
+is-name-byte-requires c κs = tt
+
+returns : tie.Need-returns Inv-loop μ-loop
+returns c =
+    let turn = c .before .before .before in
+    let refused = sym (c .before .is-name-byte .ensures) ∙ not-true _ (c .if1 .taken) in
+    rw (all-left (turn .before .before .before .args .field .now) (turn .before .loop .i) 0 (turn .loop-test .taken) name-byte, refused) at
+    (turn .before .loop .inv)
+
+add-i : tie.Need-add-i Inv-loop μ-loop
+add-i c = omega arith
+
+loop-less : tie.Need-loop-less Inv-loop μ-loop
+loop-less c = omega arith
+
+loop-again : tie.Need-loop-again Inv-loop μ-loop
+loop-again c =
+    let turn = c .before .before .before in
+    let passed = sym (c .before .is-name-byte .ensures) ∙ not-false _ (c .if1 .left) in
+    rw add-one
+    (rw (all-left (turn .before .before .before .args .field .now) (turn .before .loop .i) 0 (turn .loop-test .taken) name-byte, passed) at
+    (turn .before .loop .inv))
+
+returns-2 : tie.Need-returns-2 Inv-loop μ-loop
+returns-2 c =
+    let past : length (c .before .before .before .args .field .now) ≤ c .before .loop .i = omega arith in
+    rw (drop-of-length-le (c .before .before .before .args .field .now) past) at (c .before .loop .inv)
+
+pub has-name-bytes-spec : {M : Type 1} → statement M
+has-name-bytes-spec =
+    tie.close
+    (tie.spec
+    Inv-loop
+    μ-loop
+    loop-holds
+    shared-slice-read-is-name-byte
+    is-name-byte-requires
+    returns
+    add-i
+    loop-less
+    loop-again
+    returns-2)

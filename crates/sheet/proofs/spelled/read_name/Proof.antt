@@ -1,0 +1,42 @@
+-- `spelled::read_name`: the field at a place within the text starts there and ends within the text.
+use borrow.Author.Needs.{needs}
+use native.Mathlib.Omega.{arith}
+use mathlib.Core.Path.{_∙_, ap}
+use Rattle.sheet.specs.FieldLaws.{FieldStep, field-step}
+use Rattle.sheet.specs.Spelled.{field-ends}
+use Rattle.sheet.specs.declared.cursor.FieldRead.{FieldRead}
+use Rattle.sheet.proofs.spelled.read_name.Statement.{statement}
+use Rattle.sheet.proofs.spelled.read_name.Tie as tie
+
+field-requires : tie.Need-field-requires
+field-requires c κs = tt
+
+-- the field that is read
+read : (c : tie.After-field) → FieldStep (c .before .before .args .s .now) (c .before .before .args .at) (c .field .result)
+read c =
+    let start = c .before .before in
+    rw (c .field .ensures) (field-step (start .args .s .now) (start .args .at) (start .pre))
+
+sub-is-name : tie.Need-sub-is-name
+sub-is-name c = omega (arith, read c)
+
+part-is-name-start : tie.Need-part-is-name-start
+part-is-name-start c = omega (arith, read c)
+
+part-is-name-end : tie.Need-part-is-name-end
+part-is-name-end c = omega (arith, read c)
+
+is-name-requires : tie.Need-is-name-requires
+is-name-requires c κs = search needs
+
+returns : tie.Need-returns
+returns c =
+    let start = c .before .before .before .before in
+    record {
+      ends = ap (λ (f : FieldRead). f .to) (c .before .before .field .ensures) ∙ field-ends (start .args .s .now) (start .args .at) (start .pre);
+      judged = c .is-name .ensures;
+    }
+
+pub read-name-spec : {M : Type 1} → statement M
+read-name-spec =
+    tie.close (tie.spec field-requires sub-is-name part-is-name-start part-is-name-end is-name-requires returns)

@@ -1,0 +1,57 @@
+-- The lines of users one after the other, their names at noted places and their cells in words. Assumes nothing.
+use Prim.Native.Nat.{ℕ, _*_, _≤_, _<_}
+use mathlib.Core.Path.{_≡_}
+use mathlib.Core.Bool.{Bool, So}
+use mathlib.Core.List.{List, _++_, List·Memᴰ}
+use lib.ListN.{length, getD, drop}
+use Rattle.bits.specs.Below.{count-below, sum-below}
+use Rattle.bits.specs.Bit.{bit, word-bits}
+use Rattle.lists.specs.Lists.{list-of}
+use Rattle.sheet.specs.Limits.{user-limit}
+use Rattle.sheet.specs.Text.{Bytes, Line, text-of}
+use Rattle.sheet.specs.Rules.{Name, user-lines}
+use Rattle.sheet.specs.Rows.{row-words}
+use Rattle.sheet.specs.Stands.{Stands}
+use Rattle.sheet.specs.UserLine.{UserAt, line-of}
+use Rattle.sheet.specs.declared.user_lines.UserLines.{UserLines}
+
+-- there is room for as many users as there can be, and no word has a position yet
+pub record Room (from to words : List ℕ) : Type 0 where
+  pub from-room : length from ≡ user-limit
+  pub to-room : length to ≡ user-limit
+  pub words-room : length words ≡ user-limit * row-words
+  pub blank : (i : ℕ) → getD words i 0 ≡ 0
+
+-- line u, by where its name stands and by its word
+abbrev pub line-at : Bytes → ℕ → List ℕ → List ℕ → List ℕ → ℕ → Line
+line-at text width from to words u = line-of text width (getD from u 0) (getD to u 0) (getD words u 0)
+
+-- the first n lines
+abbrev pub lines-at : Bytes → ℕ → List ℕ → List ℕ → List ℕ → ℕ → List Line
+lines-at text width from to words n = list-of n (line-at text width from to words)
+
+-- how many cells of the first n lines are `1`
+abbrev pub ones-at : List ℕ → ℕ → ℕ
+ones-at words n = sum-below n (λ u. count-below word-bits (bit (getD words u 0)))
+
+-- the first n lines stand in the text from `start` up to `at`, and their names and words are noted
+pub record LinesRead (text : Bytes) (start width : ℕ) (from to words : List ℕ) (n ones at : ℕ) : Type 0 where
+  pub few : n ≤ user-limit
+  pub each : (u : ℕ) → u < n → UserAt text width (getD from u 0) (getD to u 0) (getD words u 0)
+  pub stands : Stands text start (text-of (lines-at text width from to words n)) at
+  pub starts : (u : ℕ) → u < n → drop (getD from u 0) text ≡ text-of (drop u (lines-at text width from to words n)) ++ drop at text
+  pub beyond : (i : ℕ) → n ≤ i → getD words i 0 ≡ 0
+  pub counted : ones ≡ ones-at words n
+
+-- names and rows such as the lines of users have
+pub record Fit (width : ℕ) (names : List Bytes) (rows : List (List Bool)) : Type 0 where
+  pub few : length names ≤ user-limit
+  pub as-many : length rows ≡ length names
+  pub each : (name : Bytes) → List·Memᴰ name names → Name name
+  pub even : (row : List Bool) → List·Memᴰ row rows → length row ≡ width
+
+-- what reading the lines of the users up to the end of the text gives
+pub record UserLinesRead (text : Bytes) (start width : ℕ) (from to words : List ℕ) (r : UserLines) : Type 0 where
+  pub good : So (r .good) → LinesRead text start width from to words (r .users) (r .grants) (length text)
+  pub found : (names : List Bytes) (rows : List (List Bool)) → Fit width names rows → drop start text ≡ text-of (user-lines names rows)
+      → So (r .good)
