@@ -1,20 +1,18 @@
 -- What a caller with a sheet that keeps the rules has: its rows show it, of as many users as it has, and can be reduced. The sheet's limits are those that
 -- the words have room for, and as many cells are set as it has grants.
 use Prim.Native.Nat.{ℕ, _≤_, _<_}
-use native.Mathlib.Nat.{lt-of-lt-of-le}
 use native.Mathlib.Omega.{arith}
-use mathlib.Core.Path.{_≡_, sym, ap, _∙_}
+use mathlib.Core.Path.{sym, ap, _∙_}
 use mathlib.Core.Bool.{So}
 use mathlib.Core.List.{List, []}
 use lib.Dec.{lit≤}
 use lib.ListN.{length, getD}
 use Rattle.sheet.specs.Limits.{permission-limit}
-use Rattle.sheet.specs.Sheet.{Sheet, user-count, permission-count, holds, grants}
+use Rattle.sheet.specs.Sheet.{Sheet, user-count, holds}
 use Rattle.sheet.specs.GrantLaws.{yes-within, held-user-below}
 use Rattle.sheet.specs.Rows.{row-words, row-bits, RowsOf}
 use Rattle.sheet.specs.AcceptedFacts.{Lawful}
 use Rattle.grants.specs.CellPlaces.{Shown}
-use Rattle.grants.specs.ReductionWork.{remaining-cells}
 use Rattle.grants.specs.ReductionWorkLaws.{part-all}
 use Rattle.grants.specs.ReductionSettleLaws.{all-remain, remaining-count}
 use Rattle.grants.specs.ReductionResult.{Reducible}

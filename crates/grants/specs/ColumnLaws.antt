@@ -59,6 +59,17 @@ word-sum-dropped g {w} {q} {rest} low dropped =
 pub word-sum-of-none : (g : ℕ → ℕ) → word-sum g 0 ≡ 0
 word-sum-of-none g = sum-below-none word-bits (λ q. cond (bit 0 q) (g q) 0) (λ q l. rw (bit-of-zero q))
 
+-- ---- the positions of a column
+
+pub column-position : (rows columns : List ℕ) → Columns rows columns → (p j q : ℕ) → p < row-bits → j < column-words → q < word-bits
+    → bit (getD columns (p * column-words + j) 0) q ≡ held-in rows p (j * word-bits + q)
+unfolding user-limit row-words row-bits
+column-position rows columns made p j q k l m =
+    let n = (p * column-words + j) * word-bits + q in
+    let permission : n / cell-words ≡ p = omega arith in
+    let word : n % cell-words ≡ j * word-bits + q = omega arith in
+    sym (marked-in-word columns (p * column-words + j) q m) ∙ made .inside n (omega arith) ∙ rw (permission, word)
+
 -- ---- the cells of a word near a grant
 
 module _ (rows left : List ℕ) (it : ℕ) where
@@ -78,15 +89,6 @@ module _ (rows left : List ℕ) (it : ℕ) where
   abbrev pub column-sum : ℕ → ℕ → ℕ
   column-sum p n = sum-below n (λ i. near-if (held-in rows p i) rows left it i)
 
-  column-position : (columns : List ℕ) → Columns rows columns → (p j q : ℕ) → p < row-bits → j < column-words → q < word-bits
-      → bit (getD columns (p * column-words + j) 0) q ≡ held-in rows p (j * word-bits + q)
-  unfolding user-limit row-words row-bits
-  column-position columns made p j q k l m =
-      let n = (p * column-words + j) * word-bits + q in
-      let permission : n / cell-words ≡ p = omega arith in
-      let word : n % cell-words ≡ j * word-bits + q = omega arith in
-      sym (marked-in-word columns (p * column-words + j) q m) ∙ made .inside n (omega arith) ∙ rw (permission, word)
-
   pub column-next-word : (columns : List ℕ) → Columns rows columns → (p j : ℕ) → p < row-bits → j < column-words
       → column-sum p ((j + 1) * word-bits)
       ≡ column-sum p (j * word-bits) + word-sum (λ q. near-in-word rows left it (j * word-bits + q)) (getD columns (p * column-words + j) 0)
@@ -96,7 +98,7 @@ module _ (rows left : List ℕ) (it : ℕ) where
       (ap (λ n. column-sum p (j * word-bits) + n)
       (sum-below-ext word-bits (λ q. near-if (held-in rows p (j * word-bits + q)) rows left it (j * word-bits + q))
       (λ q. near-if (bit (getD columns (p * column-words + j) 0) q) rows left it (j * word-bits + q))
-      (λ q m. rw (column-position columns made p j q k l m))))
+      (λ q m. rw (column-position rows columns made p j q k l m))))
 
   -- a word that is not in the column has no cell near the grant
   none-near : (i : ℕ) → held-in rows (it % row-bits) i ≡ false → near-in-word rows left it i ≡ 0

@@ -1,5 +1,5 @@
--- A grouping by key through a table: the table has the class of every key that an earlier number has, and of no other. So a number takes the class of its key
--- where an earlier number has that key, and else the next one, as the grouping by key does.
+-- A grouping by key, as by permission, through a table: the table has the class of every key that an earlier number has, and of no other. So a number takes the
+-- class of its key where an earlier number has that key, and else the next one, as the grouping by key does.
 use Prim.Native.Nat.{ℕ, suc, _+_, _≤_, _<_, max}
 use native.Mathlib.Nat.{le-refl, le-step, lt-suc-self, not-suc-le-zero}
 use native.Mathlib.Numerals.{add-one}
@@ -19,10 +19,10 @@ use Rattle.lists.specs.Classing.{class-in}
 use Rattle.lists.specs.GrownLaws.{grown-used-le}
 use Rattle.lists.specs.PlacementLaws.{class-below-used}
 use Rattle.lists.specs.GroupingLaws.{grouping-length, grouping-grown}
-use Rattle.lists.specs.KeyLaws.{same-key, has-key, by-key}
+use Rattle.lists.specs.KeyLaws.{same-key, has-key, by-key, grouping-used-le}
 use Rattle.lists.specs.KeyStep.{next-class, keyed-next, keyed-before, next-class-known, next-class-new}
 use Rattle.sheet.specs.Limits.{grant-limit}
-use Rattle.grants.specs.CoverRelation.{key-limit}
+use Rattle.sheet.specs.Rows.{row-bits}
 use Rattle.grants.specs.CoverPlaced.{Placed, none-placed, few-classes, one-placed}
 
 -- what the table has for a key with no class yet: no class has this number
@@ -36,12 +36,12 @@ class-from table count k = cond (eqb (getD table k 0) no-class) count (getD tabl
 -- the first i numbers have their classes, and the table has the classes of their keys
 pub record Keyed (key : ℕ → ℕ) (i : ℕ) (table classes : List ℕ) (count : ℕ) : Type 0 where
   pub room : length classes ≡ grant-limit
-  pub wide : length table ≡ key-limit
+  pub wide : length table ≡ row-bits
   pub placed : Placed (by-key key i) classes i count
   pub named : (j : ℕ) → j < i → getD table (key j) 0 ≡ class-in (by-key key i) j
-  pub unnamed : (k : ℕ) → k < key-limit → has-key key i k ≡ false → getD table k 0 ≡ no-class
+  pub unnamed : (k : ℕ) → k < row-bits → has-key key i k ≡ false → getD table k 0 ≡ no-class
 
-pub none-keyed : (key : ℕ → ℕ) (n m : ℕ) → n ≡ grant-limit → m ≡ key-limit → Keyed key 0 (replicate m no-class) (replicate n 0) 0
+pub none-keyed : (key : ℕ → ℕ) (n m : ℕ) → n ≡ grant-limit → m ≡ row-bits → Keyed key 0 (replicate m no-class) (replicate n 0) 0
 none-keyed key n m room wide =
     record {
       room = length-replicate n 0 ∙ room;
@@ -58,8 +58,13 @@ keyed-used-le key i = rw (grouping-length (same-key key) i) at (grown-used-le (b
 pub keyed-count-le : {key : ℕ → ℕ} {i : ℕ} {table classes : List ℕ} {count : ℕ} → Keyed key i table classes count → count ≤ i
 keyed-count-le {key} {i} {classes} {count} so-far = few-classes (same-key key) classes i count (so-far .placed)
 
+-- and no more than there can be keys
+pub keyed-count-below : {key : ℕ → ℕ} {i : ℕ} {table classes : List ℕ} {count : ℕ} → Keyed key i table classes count
+    → ((j : ℕ) → j < i → key j < row-bits) → count ≤ row-bits
+keyed-count-below {key} {i} so-far within = rw (so-far .placed .in-use) (grouping-used-le key i row-bits within)
+
 module _ {key : ℕ → ℕ} {i : ℕ} {table classes : List ℕ} {count : ℕ} (so-far : Keyed key i table classes count) (room : i < grant-limit)
-    (fits : key i < key-limit) where
+    (fits : key i < row-bits) where
   -- a key that has a class
   known-class : (j : ℕ) → j < i → key i ≡ key j → (getD table (key i) 0 ≡ next-class key i) × (next-class key i < no-class)
   known-class j l e =

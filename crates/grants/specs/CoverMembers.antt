@@ -6,23 +6,20 @@ use native.Mathlib.Numerals.{add-one}
 use native.Mathlib.Omega.{arith}
 use mathlib.Core.Path.{_≡_, refl, sym, _∙_}
 use mathlib.Core.Logic.{⊎-elim}
-use mathlib.Core.Bool.{Bool, true, false, So, not, _&&_, _||_, or-comm, and-true}
+use mathlib.Core.Bool.{Bool, true, So, not, _&&_, _||_, or-comm, and-true}
 use mathlib.Core.List.{List}
-use mathlib.Core.Option.{Option·getD}
 use borrow.Author.Tests.{eqb-true, eq-eqb}
 use lib.Dec.{eqb}
 use lib.ListN.{length, getD, set, replicate, length-replicate, getD-replicate}
 use lib.Seq.{getD-set-same, getD-set-other}
 use Rattle.bits.specs.Truth.{passes-or-fails, not-both, fails-unless, same-truth, implies, implies-intro, implies-elim, not-passes, not-fails, and-intro, and-left, and-right}
-use Rattle.bits.specs.Below.{some-below, every-below, lowest-below, Found}
+use Rattle.bits.specs.Below.{some-below, every-below, Found}
 use Rattle.bits.specs.BelowLaws.{some-below-intro, some-below-elim, some-below-ext, every-below-intro, every-below-elim}
-use Rattle.bits.specs.LowestLaws.{lowest-below-intro, lowest-below-none-intro}
 use Rattle.bits.specs.Bit.{word-bits}
 use Rattle.bits.specs.BitLaws.{bit-of-zero}
 use Rattle.lists.specs.Placement.{joins}
 use Rattle.lists.specs.PlacementLaws.{joins-intro, joins-elim}
 use Rattle.lists.specs.LatestFirst.{latest-first, latest-first-length, latest-first-class}
-use Rattle.sheet.specs.Limits.{grant-limit}
 use Rattle.sheet.specs.Rows.{row-words, row-bits, cell}
 use Rattle.sheet.specs.CellAdded.{CellAdded}
 use Rattle.sheet.specs.CellLaws.{word-of, word-below}
@@ -30,9 +27,9 @@ use Rattle.grants.specs.CellPlaces.{grant-of, fit-in}
 use Rattle.grants.specs.CellPlaceLaws.{row-bits-pos}
 use Rattle.grants.specs.CoverRelation.{fit-at-cells}
 
--- a row of words for each class that there can be
+-- a row of words for each class: as many classes as permissions
 abbrev pub class-words : ℕ
-class-words = grant-limit * row-words
+class-words = row-bits * row-words
 
 -- the user of the grant at a cell holds all that the members of a class ask, and none of them lacks its permission
 abbrev pub joinable : List ℕ → List ℕ → List ℕ → ℕ → ℕ → Bool
@@ -44,7 +41,7 @@ joinable rows asked lacked it c =
 -- the bit q of class c is set exactly if one of the first d numbers is in class c and has q
 pub record Gathered (has : ℕ → ℕ → Bool) (classes : List ℕ) (d : ℕ) (words : List ℕ) : Type 0 where
   pub size : length words ≡ class-words
-  pub gathers : (c q : ℕ) → c < grant-limit → q < row-bits → cell words c q ≡ some-below d (λ i. eqb c (getD classes i 0) && has i q)
+  pub gathers : (c q : ℕ) → c < row-bits → q < row-bits → cell words c q ≡ some-below d (λ i. eqb c (getD classes i 0) && has i q)
 
 module _ (has : ℕ → ℕ → Bool) (classes : List ℕ) where
   -- at first the classes have nothing
@@ -52,7 +49,7 @@ module _ (has : ℕ → ℕ → Bool) (classes : List ℕ) where
   unfolding some-below
   none-gathered n e = record {
     size = length-replicate n 0 ∙ e;
-    gathers = λ c q l k. rw (getD-replicate {A = ℕ} n (word-of c q) 0 0 (rw e (word-below grant-limit c q l k))) (bit-of-zero (q % word-bits));
+    gathers = λ c q l k. rw (getD-replicate {A = ℕ} n (word-of c q) 0 0 (rw e (word-below row-bits c q l k))) (bit-of-zero (q % word-bits));
   }
 
   -- what the next number has is added to its class
@@ -110,7 +107,7 @@ module _ {rows cells classes : List ℕ} {d : ℕ} {asked lacked : List ℕ} (m 
 
   -- ---- who can join a class
 
-  module _ (c : ℕ) (below : c < grant-limit) where
+  module _ (c : ℕ) (below : c < row-bits) where
     -- what a member asks or lacks is in the words
     asked-there : (i q : ℕ) → i < d → q < row-bits → So (eqb c (getD classes i 0)) → So (asks cells i q) → So (cell asked c q)
     asked-there i q l k s t =
@@ -186,12 +183,3 @@ module _ {rows cells classes : List ℕ} {d : ℕ} {asked lacked : List ℕ} (m 
         (λ e. fits-joinable (getD cells d 0) (λ i l s.
         joins-elim (fit-at-cells rows cells) d (latest-first classes d) c e (rw (latest-first-length classes d) l)
         (latest-first-class classes d l ∙ sym (eqb-true c (getD classes i 0) s))))
-
--- ---- the lowest class that can be joined
-
-module _ (count : ℕ) (free : ℕ → Bool) where
-  pub lowest-open : {c : ℕ} → c < count → So (free c) → ((i : ℕ) → i < c → free i ≡ false) → c ≡ Option·getD (lowest-below count free) count
-  lowest-open l p h = rw (lowest-below-intro count free (record { within = l; holds = p; first = h }))
-
-  pub none-open : ((i : ℕ) → i < count → free i ≡ false) → count ≡ Option·getD (lowest-below count free) count
-  none-open h = rw (lowest-below-none-intro count free h)

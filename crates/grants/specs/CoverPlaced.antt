@@ -1,15 +1,14 @@
 -- A grouping in the making: the classes of the first numbers stand in an array, with their count. Each next number takes the class that the grouping
 -- gives it, so the array holds the grouping of one number more. There are never more classes than numbers, which bounds each class.
 use Prim.Native.Nat.{ℕ, suc, _≤_, _<_, max}
-use mathlib.Core.Path.{_≡_, refl, ap}
+use native.Mathlib.Omega.{arith}
+use mathlib.Core.Path.{_≡_, refl}
+use mathlib.Core.Logic.{_⊎_, ⊎-elim}
 use mathlib.Core.Bool.{Bool}
 use mathlib.Core.List.{List, []}
-use mathlib.Core.Option.{Option·getD}
 use borrow.Author.Tests.{le-leb, lt-leb}
 use lib.ListN.{length, set}
-use Rattle.bits.specs.Below.{lowest-below}
-use Rattle.bits.specs.LowestLaws.{lowest-below-ext}
-use Rattle.lists.specs.Placement.{used, joins, grouping}
+use Rattle.lists.specs.Placement.{used, grouping}
 use Rattle.lists.specs.GrownLaws.{grown-used-le}
 use Rattle.lists.specs.GroupingLaws.{class-taken, grouping-length, grouping-grown}
 use Rattle.lists.specs.LatestFirst.{latest-first, latest-first-next}
@@ -34,13 +33,6 @@ module _ (together : ℕ → ℕ → Bool) (classes : List ℕ) (d count : ℕ) 
   few-classes =
       rw (p .in-use) (rw (grouping-length together d) at (grown-used-le (grouping together d) (grouping-grown together d)))
 
-  -- the lowest class that can be joined is the one taken
-  pub lowest-is-taken : (free : ℕ → Bool) → ((c : ℕ) → c < count → free c ≡ joins together d (latest-first classes d) c)
-      → Option·getD (lowest-below count free) count ≡ next-class together d
-  lowest-is-taken free same =
-      rw (← p .in-use, ← p .so-far)
-      (ap (λ found. Option·getD found count) (lowest-below-ext count free (joins together d (latest-first classes d)) same))
-
   -- the class taken is in use or the next one
   pub taken-le : {c : ℕ} → c ≡ next-class together d → c ≤ count
   taken-le e = rw (e, p .in-use) (grouping-grown together (suc d) .0)
@@ -53,9 +45,17 @@ module _ (together : ℕ → ℕ → Bool) (classes : List ℕ) (d count : ℕ) 
 
 -- ---- the one of two with fewer classes
 
-module _ (p q : List ℕ) (n : ℕ) {s t : List ℕ} {a b : ℕ} (sooner : Placed p s n a) (later : Placed q t n b) where
+-- a placement, or one that was given up since it has more classes than another, as the count says
+abbrev pub PlacedOrMore : List ℕ → List ℕ → ℕ → ℕ → ℕ → Type 0
+PlacedOrMore placement classes d count most = Placed placement classes d count ⊎ ((most < count) × (most < used placement))
+
+module _ (p q : List ℕ) (n : ℕ) {s t : List ℕ} {a b : ℕ} (sooner : PlacedOrMore p s n a b) (later : Placed q t n b) where
   pub sooner-is-fewer : a ≤ b → Placed (fewer p q) s n a
-  sooner-is-fewer l = rw (le-leb (used p) (used q) (rw (sooner .in-use, later .in-use) at l)) sooner
+  sooner-is-fewer l = ⊎-elim placed (λ more. absurd (omega (arith, more .0))) sooner
+    where
+      placed : Placed p s n a → Placed (fewer p q) s n a
+      placed whole = rw (le-leb (used p) (used q) (rw (whole .in-use, later .in-use) at l)) whole
 
   pub later-is-fewer : b < a → Placed (fewer p q) t n b
-  later-is-fewer l = rw (lt-leb (used p) (used q) (rw (sooner .in-use, later .in-use) at l)) later
+  later-is-fewer l =
+      rw (lt-leb (used p) (used q) (⊎-elim (λ whole. rw (whole .in-use, later .in-use) at l) (λ more. rw (later .in-use) at (more .1)) sooner)) later

@@ -1,6 +1,6 @@
 -- Fit by the words. The rows say of any two cells what the sheet says of their grants. The word i of the cells near a grant is that of left and that of the
 -- fitting cells together, so the cells near it are counted word by word; and as many grants of the set fit it.
-use Prim.Native.Nat.{ℕ, _+_, _*_, _/_, _%_, _≤_, _<_}
+use Prim.Native.Nat.{ℕ, _+_, _*_, _/_, _%_, _<_}
 use native.Mathlib.Nat.{mod-lt, mul-assoc}
 use native.Mathlib.Omega.{arith}
 use mathlib.Core.Path.{_≡_, sym, ap, _∙_}
@@ -10,7 +10,7 @@ use lib.Arith.{digits-div, digits-mod}
 use lib.Bits.{bitAnd}
 use lib.ListN.{length, getD}
 use Rattle.bits.specs.Below.{count-below}
-use Rattle.bits.specs.CountLaws.{count-below-le, count-below-more, count-below-ext, count-below-add}
+use Rattle.bits.specs.CountLaws.{count-below-ext, count-below-add}
 use Rattle.bits.specs.Bit.{bit, word-bits}
 use Rattle.bits.specs.BitLaws.{bit-and}
 use Rattle.lists.specs.Lists.{filter}
@@ -18,7 +18,7 @@ use Rattle.sheet.specs.Sheet.{Sheet}
 use Rattle.sheet.specs.Rows.{row-words, row-bits}
 use Rattle.grants.specs.Fit.{fits}
 use Rattle.grants.specs.CellSets.{cell-grants}
-use Rattle.grants.specs.CellPlaces.{grant-of, marked, fit-in, near, FittingWord, CountedBelow, Shown, Part}
+use Rattle.grants.specs.CellPlaces.{grant-of, marked, fit-in, near, FittingWord, Shown, Part}
 use Rattle.grants.specs.CellPlaceLaws.{row-bits-pos}
 use Rattle.grants.specs.CellListLaws.{passing-grants-count}
 
@@ -58,17 +58,3 @@ module _ {rows : List ℕ} {users : ℕ} {sheet : Sheet} (shown : Shown rows use
       (count-below-ext (users * row-bits) (near rows left it) (λ n. marked left n && fits sheet (grant-of it) (grant-of n))
       (λ n l. rw (fits-in-rows it n))
       ∙ sym (passing-grants-count shown part (fits sheet (grant-of it))))
-
-  -- no more of them than there are cells
-  pub near-count-le : {left : List ℕ} → Part left rows → (it : ℕ)
-      → length (filter (fits sheet (grant-of it)) (cell-grants sheet left)) ≤ users * row-words * word-bits
-  near-count-le {left} part it = rw (sym (near-count part it)) (count-below-le (users * row-words * word-bits) (near rows left it))
-
-  -- counted in the first words until most are counted or there are no more words
-  pub counted-below : {left : List ℕ} → Part left rows → (it most i : ℕ) → i ≤ users * row-words
-      → (count-below (i * word-bits) (near rows left it) < most → i ≡ users * row-words)
-      → CountedBelow most (length (filter (fits sheet (grant-of it)) (cell-grants sheet left))) (count-below (i * word-bits) (near rows left it))
-  counted-below {left} part it most i l ended = record {
-    below = λ k. ap (λ n. count-below (n * word-bits) (near rows left it)) (ended k) ∙ near-count part it;
-    not-more = rw (sym (near-count part it)) (count-below-more (i * word-bits) (users * row-words * word-bits) (near rows left it) (omega arith));
-  }

@@ -2,18 +2,16 @@
 -- word. None is set between there and the next one.
 use Prim.Native.Nat.{ℕ, _+_, _-_, _*_, _/_, _%_, _^_, _≤_, _<_}
 use native.Mathlib.Nat.{le-refl}
-use native.Mathlib.Numerals.{add-one}
 use native.Mathlib.Omega.{arith}
 use mathlib.Core.Path.{_≡_, sym, ap, _∙_}
 use mathlib.Core.Logic.{⊎-elim}
 use mathlib.Core.Bool.{Bool, false, So}
-use mathlib.Core.List.{List, [], _∷_, _++_}
+use mathlib.Core.List.{List}
 use lib.ListN.{getD}
 use Rattle.bits.specs.Below.{Lowest}
 use Rattle.bits.specs.BelowLaws.{below-or-from}
 use Rattle.bits.specs.Bit.{bit, word-bits}
 use Rattle.bits.specs.BitLaws.{bit-of-zero, bit-shift, bit-within}
-use Rattle.lists.specs.PassingBelow.{passing-below, passing-until, passing-next}
 use Rattle.grants.specs.CellPlaces.{marked}
 
 -- no number from one place up to another passes
@@ -75,16 +73,3 @@ module _ (words : List ℕ) (from n p : ℕ) (next : NextFrom (bit (getD words (
         let position : (n / word-bits * word-bits + p) % word-bits ≡ p = omega arith in
         rw (word, position) (next .passes m);
   }
-
--- ---- the cells passed
-
-module _ (test : ℕ → Bool) (end next : ℕ) where
-  -- before the first there is none
-  pub none-passed : NextFrom test 0 end next → passing-below next test ≡ []
-  unfolding passing-below
-  none-passed step = passing-until 0 next test (step .not-before) (step .skipped)
-
-  -- from one to the next
-  pub one-passed : (n : ℕ) → So (test n) → NextFrom test (n + 1) end next → passing-below next test ≡ passing-below n test ++ n ∷ []
-  one-passed n p step =
-      passing-until (n + 1) next test (step .not-before) (step .skipped) ∙ rw (add-one n) (passing-next n test p)

@@ -1,10 +1,10 @@
 -- Domination as the rows say it: all cells of left that are near g fit the judged cell. Both grants are held, so each fits itself, and "are it or fit it"
 -- is to fit it. The lowest other cell of left that is dominated is what the judged grant is tied to.
-use Prim.Native.Nat.{ℕ, _+_, _*_}
+use Prim.Native.Nat.{ℕ, _*_}
 use mathlib.Core.Bool.{Bool, not, _&&_}
 use mathlib.Core.List.{List}
 use lib.Dec.{eqb}
-use Rattle.bits.specs.Bit.{bit, word-bits}
+use Rattle.bits.specs.Bit.{word-bits}
 use Rattle.bits.specs.Truth.{implies}
 use Rattle.bits.specs.Below.{every-below}
 use Rattle.sheet.specs.Rows.{row-words}
@@ -19,10 +19,10 @@ abbrev pub dominates-in : List ℕ → List ℕ → ℕ → ℕ → ℕ → Bool
 dominates-in rows left users it g =
     every-below (cells-of users) (λ n. implies (near rows left g n) (fit-in rows (grant-of it) (grant-of n)))
 
--- the cells of word i at the positions of w all fit the cell it
-abbrev pub word-fits : List ℕ → ℕ → ℕ → ℕ → Bool
-word-fits rows it i w = every-below word-bits (λ q. implies (bit w q) (fit-in rows (grant-of it) (grant-of (i * word-bits + q))))
+-- g is another cell, and the cell it dominates it
+abbrev pub tie-test : List ℕ → List ℕ → ℕ → ℕ → ℕ → Bool
+tie-test rows left users it g = not (eqb g it) && dominates-in rows left users it g
 
--- n is another cell of left, and the cell it dominates it
+-- n is a cell of left to which the cell it is tied
 abbrev pub tie-at : List ℕ → List ℕ → ℕ → ℕ → ℕ → Bool
-tie-at rows left users it n = marked left n && (not (eqb n it) && dominates-in rows left users it n)
+tie-at rows left users it n = marked left n && tie-test rows left users it n

@@ -1,33 +1,30 @@
 -- The search for the lowest tie in a word, and from word to word. The positions not yet tried are those of a word w: they are cells of left, and every
--- other cell of the word is known to fail. So the lowest position of w, where it passes, is the lowest cell of all, and where it fails it is dropped.
-use Prim.Native.Nat.{ℕ, _+_, _-_, _*_, _≤_, _<_}
+-- other cell of the word is known to fail. So the lowest position of w, where it passes, is the lowest cell of all.
+use Prim.Native.Nat.{ℕ, _+_, _-_, _*_, _/_, _≤_, _<_}
 use native.Mathlib.Nat.{add-sub-of-le}
 use native.Mathlib.Omega.{arith}
-use mathlib.Core.Path.{_≡_, sym, _∙_}
+use mathlib.Core.Path.{_≡_, _∙_}
 use mathlib.Core.Logic.{⊎-elim}
-use mathlib.Core.Bool.{Bool, false, So, not, _&&_, and-false, and-true}
+use mathlib.Core.Bool.{Bool, false, So, not}
 use mathlib.Core.List.{List}
-use borrow.Author.Tests.{eqb-true}
+use borrow.Author.Tests.{ne-eqb}
 use lib.Dec.{eqb}
 use lib.ListN.{getD}
 use Rattle.bits.specs.Bit.{bit, word-bits}
 use Rattle.bits.specs.BitLaws.{bit-of-zero}
-use Rattle.bits.specs.Truth.{passes-or-fails, and-intro, and-left}
+use Rattle.bits.specs.Truth.{not-both, and-intro}
 use Rattle.bits.specs.Below.{Lowest}
 use Rattle.bits.specs.BelowLaws.{below-or-from}
-use Rattle.bits.specs.Word.{LowestDropped}
 use Rattle.grants.specs.CellPlaces.{marked}
 use Rattle.grants.specs.FitWordLaws.{marked-in-word}
+use Rattle.grants.specs.NearCells.{dominates-in, tie-test, tie-at}
 use Rattle.grants.specs.ReductionVerdict.{LowestIn, NoneIn}
 
--- a cell of left that passes
-abbrev pub passing-cell : List ℕ → (ℕ → Bool) → ℕ → Bool
-passing-cell left test n = marked left n && test n
-
 -- the cells of word i still to be tried are at the positions of w
-pub record Untried (left : List ℕ) (test : ℕ → Bool) (i w : ℕ) : Type 0 where
+pub record Untried (rows left : List ℕ) (users it i w : ℕ) : Type 0 where
   pub set : (q : ℕ) → q < word-bits → So (bit w q) → So (marked left (i * word-bits + q))
-  pub tried : (q : ℕ) → q < word-bits → bit w q ≡ false → passing-cell left test (i * word-bits + q) ≡ false
+  pub other : (q : ℕ) → q < word-bits → So (bit w q) → So (not (eqb (i * word-bits + q) it))
+  pub tried : (q : ℕ) → q < word-bits → bit w q ≡ false → tie-at rows left users it (i * word-bits + q) ≡ false
 
 -- what holds of each position of a word holds of its cells
 pub each-cell : (P : ℕ → Type 0) (i m : ℕ) → ((q : ℕ) → q < word-bits → P (i * word-bits + q)) → i * word-bits ≤ m → m < (i + 1) * word-bits → P m
@@ -38,41 +35,47 @@ pub none-in-word : (i : ℕ) (passes : ℕ → Bool) → ((q : ℕ) → q < word
     → NoneIn passes (i * word-bits) ((i + 1) * word-bits)
 none-in-word i passes h = record { fails = λ m from to. each-cell (λ n. passes n ≡ false) i m h from to }
 
-module _ (left : List ℕ) (test : ℕ → Bool) (i : ℕ) where
-  pub all-untried : Untried left test i (getD left i 0)
-  all-untried =
+module _ (rows left : List ℕ) (users it i : ℕ) where
+  -- all cells of left in another word than the judged one's
+  pub all-untried : (i ≡ it / word-bits → ⊥) → Untried rows left users it i (getD left i 0)
+  all-untried apart =
       record {
         set = λ q l p. marked-in-word left i q l ∙ p;
+        other = λ q l p. rw (ne-eqb (i * word-bits + q) it (λ e. apart (omega (arith, e, l))));
         tried = λ q l e. rw (marked-in-word left i q l ∙ e);
       }
 
-  pub lowest-untried : {w q : ℕ} → Untried left test i w → Lowest word-bits (bit w) q → So (test (i * word-bits + q))
-      → LowestIn (passing-cell left test) (i * word-bits) ((i + 1) * word-bits) (i * word-bits + q)
+  -- where none is tied, none need be tried
+  pub all-tried : ((q : ℕ) → q < word-bits → tie-at rows left users it (i * word-bits + q) ≡ false) → Untried rows left users it i 0
+  all-tried fails =
+      record {
+        set = λ q l p. absurd (not-both p (bit-of-zero q));
+        other = λ q l p. absurd (not-both p (bit-of-zero q));
+        tried = λ q l e. fails q l;
+      }
+
+  pub lowest-untried : {w q : ℕ} → Untried rows left users it i w → Lowest word-bits (bit w) q → So (dominates-in rows left users it (i * word-bits + q))
+      → LowestIn (tie-at rows left users it) (i * word-bits) ((i + 1) * word-bits) (i * word-bits + q)
   lowest-untried {w} {q} u low p =
       record {
         begun = omega arith;
         within = omega (arith, low .within);
-        holds = and-intro (marked left (i * word-bits + q)) (test (i * word-bits + q)) (u .set q (low .within) (low .holds)) p;
-        first = λ m from before. each-cell (λ n. n < i * word-bits + q → passing-cell left test n ≡ false) i m
+        holds = and-intro (marked left (i * word-bits + q)) (tie-test rows left users it (i * word-bits + q)) (u .set q (low .within) (low .holds))
+            (and-intro (not (eqb (i * word-bits + q) it)) (dominates-in rows left users it (i * word-bits + q)) (u .other q (low .within) (low .holds)) p);
+        first = λ m from before. each-cell (λ n. n < i * word-bits + q → tie-at rows left users it n ≡ false) i m
             (λ r k less. u .tried r k (low .first r (omega arith))) from (omega (arith, low .within)) before;
       }
 
-  pub one-tried : {w q rest : ℕ} → Untried left test i w → Lowest word-bits (bit w) q → test (i * word-bits + q) ≡ false → LowestDropped w rest
-      → Untried left test i rest
-  one-tried {w} {q} {rest} u low fails dropped =
-      record {
-        set = λ r l p. u .set r l (and-left (bit w r) (not (eqb r q)) (sym (dropped .others low r) ∙ p));
-        tried = λ r l e. ⊎-elim (λ same. rw (eqb-true r q same, fails) (and-false (marked left (i * word-bits + q))))
-            (λ other. u .tried r l (without r other e)) (passes-or-fails (eqb r q));
-      }
-    where
-      without : (r : ℕ) → eqb r q ≡ false → bit rest r ≡ false → bit w r ≡ false
-      without r other e = sym (and-true (bit w r)) ∙ (rw other at (sym (dropped .others low r) ∙ e))
-
-  pub none-untried : Untried left test i 0 → NoneIn (passing-cell left test) (i * word-bits) ((i + 1) * word-bits)
-  none-untried u = none-in-word i (passing-cell left test) (λ q l. u .tried q l (bit-of-zero q))
+  pub none-untried : Untried rows left users it i 0 → NoneIn (tie-at rows left users it) (i * word-bits) ((i + 1) * word-bits)
+  none-untried u = none-in-word i (tie-at rows left users it) (λ q l. u .tried q l (bit-of-zero q))
 
 -- ---- from word to word
+
+-- what no word has, none of their cells has
+pub none-in-words : {test : ℕ → Bool} (from to : ℕ) → ((i : ℕ) → from ≤ i → i < to → NoneIn test (i * word-bits) ((i + 1) * word-bits))
+    → NoneIn test (from * word-bits) (to * word-bits)
+none-in-words from to each =
+    record { fails = λ m begun within. each (m / word-bits) (omega arith) (omega arith) .fails m (omega arith) (omega arith) }
 
 pub none-then-none : {test : ℕ → Bool} {from middle to : ℕ} → NoneIn test from middle → NoneIn test middle to → NoneIn test from to
 none-then-none {middle} earlier later =

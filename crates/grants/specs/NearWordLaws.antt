@@ -3,22 +3,22 @@
 use Prim.Native.Nat.{ℕ, _+_, _*_, _/_, _%_, _<_}
 use native.Mathlib.Omega.{arith}
 use mathlib.Core.Path.{_≡_, sym, ap, _∙_}
-use mathlib.Core.Bool.{Bool, false, So, not, _&&_}
+use mathlib.Core.Bool.{Bool, false, So, not}
 use mathlib.Core.List.{List}
 use lib.Arith.{digits-lt, digits-div}
 use lib.Dec.{eqb}
-use lib.Bits.{bitAnd}
 use lib.ListN.{getD}
 use Rattle.bits.specs.Bit.{bit, word-bits}
 use Rattle.bits.specs.Truth.{implies, implies-intro, implies-elim, fails-unless, not-both, and-intro, and-left, and-right}
 use Rattle.bits.specs.Below.{every-below}
-use Rattle.bits.specs.BelowLaws.{every-below-ext, every-below-add, every-below-mono, every-below-intro, every-below-elim}
+use Rattle.bits.specs.BelowLaws.{every-below-add, every-below-intro, every-below-elim}
 use Rattle.sheet.specs.Rows.{row-words, row-bits, cell}
 use Rattle.grants.specs.CellSets.{in-cells}
-use Rattle.grants.specs.CellPlaces.{grant-of, marked, fit-in, near, FittingWord, Part}
+use Rattle.grants.specs.CellPlaces.{grant-of, marked, fit-in, near, Part}
 use Rattle.grants.specs.CellPlaceLaws.{user-of-cell, cell-marked, fit-by-word}
-use Rattle.grants.specs.FitWordLaws.{marked-in-word, near-word}
-use Rattle.grants.specs.NearCells.{cells-of, dominates-in, tie-at, word-fits}
+use Rattle.grants.specs.FitWordLaws.{marked-in-word}
+use Rattle.grants.specs.Columns.{held-in}
+use Rattle.grants.specs.NearCells.{cells-of, dominates-in, tie-test, tie-at}
 
 -- ---- every cell, word by word
 
@@ -42,39 +42,10 @@ every-word-fails f i n l e =
 abbrev pub covered-at : List ℕ → List ℕ → ℕ → ℕ → ℕ → Bool
 covered-at rows left it g n = implies (near rows left g n) (fit-in rows (grant-of it) (grant-of n))
 
--- the cells of word i near g are within those that fit it
-pub covered-word : (rows left : List ℕ) (it g i : ℕ) {fits-g fits-it : ℕ} → FittingWord rows g i fits-g → FittingWord rows it i fits-it
-    → every-below word-bits (λ q. implies (bit (bitAnd (getD left i 0) fits-g) q) (bit fits-it q)) ≡ every-in-word (covered-at rows left it g) i
-covered-word rows left it g i {fits-g} {fits-it} of-g of-it =
-    every-below-ext word-bits (λ q. implies (bit (bitAnd (getD left i 0) fits-g) q) (bit fits-it q)) (λ q. covered-at rows left it g (i * word-bits + q))
-    (λ q l. rw (near-word rows left g i of-g q l, of-it .bits q l))
-
--- ---- a whole word
-
--- what is not in the grant's own row does not fit it
-pub unless-in-own-row : (rows : List ℕ) (it i w : ℕ)
-    → every-below word-bits (λ q. implies (bit w q) (bit (getD rows (it / row-bits * row-words + i % row-words) 0) q)) ≡ false
-    → word-fits rows it i w ≡ false
-unless-in-own-row rows it i w fails =
-    fails-unless (word-fits rows it i w) (λ p. not-both
-    (every-below-mono word-bits (λ q. implies (bit w q) (fit-in rows (grant-of it) (grant-of (i * word-bits + q)))) (λ q. implies (bit w q) (own q)) (λ q l h.
-    implies-intro (bit w q) (own q) (λ m.
-    and-left (own q) (cell rows (i / row-words) (it % row-bits))
-    (sym (fit-by-word rows it i q l) ∙ implies-elim (bit w q) (fit-in rows (grant-of it) (grant-of (i * word-bits + q))) h m))) p) fails)
-  where
-    own : ℕ → Bool
-    own q = bit (getD rows (it / row-bits * row-words + i % row-words) 0) q
-
-pub within-fitting-word : (rows : List ℕ) (it i w : ℕ) {fits-it : ℕ} → FittingWord rows it i fits-it
-    → every-below word-bits (λ q. implies (bit w q) (bit fits-it q)) ≡ word-fits rows it i w
-within-fitting-word rows it i w {fits-it} of-it =
-    every-below-ext word-bits (λ q. implies (bit w q) (bit fits-it q)) (λ q. implies (bit w q) (fit-in rows (grant-of it) (grant-of (i * word-bits + q))))
-    (λ q l. rw (of-it .bits q l))
-
 -- ---- ties
 
 -- two cells of one word that are set fit: their grants have one user
-one-row-fits : (rows : List ℕ) (i q r : ℕ) → q < word-bits → r < word-bits → So (marked rows (i * word-bits + q)) → So (marked rows (i * word-bits + r))
+pub one-row-fits : (rows : List ℕ) (i q r : ℕ) → q < word-bits → r < word-bits → So (marked rows (i * word-bits + q)) → So (marked rows (i * word-bits + r))
     → So (fit-in rows (grant-of (i * word-bits + q)) (grant-of (i * word-bits + r)))
 one-row-fits rows i q r l k m n =
     let one-user : (i * word-bits + q) / row-bits ≡ (i * word-bits + r) / row-bits =
@@ -83,28 +54,42 @@ one-row-fits rows i q r l k m n =
     (and-intro (in-cells rows (grant-of (i * word-bits + r))) (cell rows ((i * word-bits + r) / row-bits) ((i * word-bits + q) % row-bits))
     (cell-marked rows (i * word-bits + r) ∙ n) (rw one-user at (cell-marked rows (i * word-bits + q) ∙ m)))
 
--- a cell of left in word i is near each other one, so what dominates it fits them all
-pub unless-whole-word-fits : (rows left : List ℕ) (users it i : ℕ) → Part left rows → i < users * row-words → word-fits rows it i (getD left i 0) ≡ false
-    → (q : ℕ) → q < word-bits → tie-at rows left users it (i * word-bits + q) ≡ false
-unless-whole-word-fits rows left users it i part inside fails q l =
-    fails-unless (tie-at rows left users it (i * word-bits + q)) (λ p. not-both
-    (every-below-intro word-bits (λ r. implies (bit (getD left i 0) r) (fit-in rows (grant-of it) (grant-of (at r)))) (λ r k.
-    implies-intro (bit (getD left i 0) r) (fit-in rows (grant-of it) (grant-of (at r))) (λ m. fitting p r k (marked-in-word left i r k ∙ m)))) fails)
-  where
-    at : ℕ → ℕ
-    at r = i * word-bits + r
+module _ (rows left : List ℕ) (users it i : ℕ) (part : Part left rows) (inside : i < users * row-words) where
+  -- a cell of left in word i is near each other one, so what dominates it fits them all
+  tied-fits : {q r : ℕ} → q < word-bits → So (tie-at rows left users it (i * word-bits + q)) → r < word-bits → So (marked left (i * word-bits + r))
+      → So (fit-in rows (grant-of it) (grant-of (i * word-bits + r)))
+  tied-fits {q} {r} l p k m =
+      implies-elim (near rows left at-q at-r) (fit-in rows (grant-of it) (grant-of at-r))
+      (every-below-elim (cells-of users) (covered-at rows left it at-q) dominated (digits-lt inside k))
+      (and-intro (marked left at-r) (fit-in rows (grant-of at-q) (grant-of at-r)) m (one-row-fits rows i q r l k (part .held at-q set) (part .held at-r m)))
+    where
+      at-q : ℕ
+      at-q = i * word-bits + q
 
-    held : So (tie-at rows left users it (at q)) → So (marked rows (at q))
-    held p = part .held (at q) (and-left (marked left (at q)) (not (eqb (at q) it) && dominates-in rows left users it (at q)) p)
+      at-r : ℕ
+      at-r = i * word-bits + r
 
-    dominated : So (tie-at rows left users it (at q)) → So (dominates-in rows left users it (at q))
-    dominated p =
-        and-right (not (eqb (at q) it)) (dominates-in rows left users it (at q))
-        (and-right (marked left (at q)) (not (eqb (at q) it) && dominates-in rows left users it (at q)) p)
+      set : So (marked left at-q)
+      set = and-left (marked left at-q) (tie-test rows left users it at-q) p
 
-    fitting : So (tie-at rows left users it (at q)) → (r : ℕ) → r < word-bits → So (marked left (at r))
-        → So (fit-in rows (grant-of it) (grant-of (at r)))
-    fitting p r k m =
-        implies-elim (near rows left (at q) (at r)) (fit-in rows (grant-of it) (grant-of (at r)))
-        (every-below-elim (cells-of users) (covered-at rows left it (at q)) (dominated p) (digits-lt inside k))
-        (and-intro (marked left (at r)) (fit-in rows (grant-of (at q)) (grant-of (at r))) m (one-row-fits rows i q r l k (held p) (part .held (at r) m)))
+      dominated : So (dominates-in rows left users it at-q)
+      dominated = and-right (not (eqb at-q it)) (dominates-in rows left users it at-q) (and-right (marked left at-q) (tie-test rows left users it at-q) p)
+
+  -- they fit it only if they are in its row
+  pub unless-in-own-row : every-below word-bits (λ r. implies (bit (getD left i 0) r) (bit (getD rows (it / row-bits * row-words + i % row-words) 0) r)) ≡ false
+      → (q : ℕ) → q < word-bits → tie-at rows left users it (i * word-bits + q) ≡ false
+  unless-in-own-row fails q l =
+      fails-unless (tie-at rows left users it (i * word-bits + q)) (λ p. not-both
+      (every-below-intro word-bits (λ r. implies (bit (getD left i 0) r) (own r)) (λ r k. implies-intro (bit (getD left i 0) r) (own r) (λ m.
+      and-left (own r) (cell rows (i / row-words) (it % row-bits))
+      (sym (fit-by-word rows it i r k) ∙ tied-fits l p k (marked-in-word left i r k ∙ m))))) fails)
+    where
+      own : ℕ → Bool
+      own r = bit (getD rows (it / row-bits * row-words + i % row-words) 0) r
+
+  -- and only if their user holds its permission
+  pub unless-held : held-in rows (it % row-bits) i ≡ false → (q : ℕ) → q < word-bits → tie-at rows left users it (i * word-bits + q) ≡ false
+  unless-held fails q l =
+      fails-unless (tie-at rows left users it (i * word-bits + q)) (λ p. not-both
+      (and-right (bit (getD rows (it / row-bits * row-words + i % row-words) 0) q) (held-in rows (it % row-bits) i)
+      (sym (fit-by-word rows it i q l) ∙ tied-fits l p l (and-left (marked left (i * word-bits + q)) (tie-test rows left users it (i * word-bits + q)) p))) fails)

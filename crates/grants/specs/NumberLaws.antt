@@ -7,8 +7,8 @@ use mathlib.Core.List.{List, List·Memᴰ}
 use lib.ListN.{length}
 use Rattle.lists.specs.TestLaws.{member-at, place-of}
 use Rattle.lists.specs.Ordered.{Ordered}
-use Rattle.sheet.specs.Sheet.{Sheet, Grant, same-grant, grants}
-use Rattle.sheet.specs.GrantOrderLaws.{Before, grants-ordered, ordered-grants-differ}
+use Rattle.sheet.specs.Sheet.{Grant, same-grant}
+use Rattle.sheet.specs.GrantOrderLaws.{Before, ordered-grants-differ}
 use Rattle.grants.specs.Cover.{grant-at}
 
 pub grant-at-member : (l : List Grant) (i : ℕ) → i < length l → List·Memᴰ (grant-at l i) l
@@ -31,6 +31,3 @@ Different l = (i j : ℕ) → i < j → j < length l → same-grant (grant-at l 
 
 pub ordered-different : (l : List Grant) → Ordered Before l → Different l
 ordered-different l o i j = ordered-grants-differ l o i j (record { user = 0; permission = 0 })
-
-pub grants-different : (sheet : Sheet) → Different (grants sheet)
-grants-different sheet = ordered-different (grants sheet) (grants-ordered sheet)

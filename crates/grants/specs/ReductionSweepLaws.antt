@@ -32,6 +32,11 @@ lowest-cell-first i {w} {q} {rest} low dropped =
 
 -- ---- within a word
 
+-- a word without cells
+pub swept-empty : {rows : List ℕ} {users : ℕ} {start : Work} (i : ℕ) → Ready rows users start → getD (start .left) i 0 ≡ 0
+    → Visited rows users (word-cells i (getD (start .left) i 0)) start start
+swept-empty i ready empty = rw (empty, no-cells i) (none-visited ready)
+
 -- the cells at the positions of w remain and are still to be visited, after which the whole word was
 pub record Sweeping (rows : List ℕ) (users i : ℕ) (whole : List ℕ) (start now : Work) (w : ℕ) : Type 0 where
   pub ready : Ready rows users now

@@ -1,22 +1,21 @@
 -- The verdict from what the code finds: a grant of left that only it itself fits is single; else it is tied to the grant at the lowest cell that it dominates, and
 -- stays where there is none.
-use Prim.Native.Nat.{ℕ, _+_, _≤_, _<_}
+use Prim.Native.Nat.{ℕ, _+_, _<_}
 use native.Mathlib.Omega.{arith}
 use mathlib.Core.Path.{_≡_, refl, sym, _∙_}
-use mathlib.Core.Logic.{_≢_, ⊎-elim}
+use mathlib.Core.Logic.{_≢_}
 use mathlib.Core.Bool.{true, false, So, not, _&&_}
 use mathlib.Core.List.{List, [], _∷_}
 use borrow.Author.Tests.{eq-eqb}
 use lib.Dec.{eqb}
 use lib.ListN.{length}
-use Rattle.bits.specs.BelowLaws.{below-or-from}
 use Rattle.bits.specs.Truth.{not-both, not-fails, and-left, and-right}
 use Rattle.lists.specs.Lists.{empty, filter}
 use Rattle.sheet.specs.Sheet.{Sheet}
 use Rattle.grants.specs.Fit.{fits, partners}
 use Rattle.grants.specs.Reduction.{stays, is-single, is-tied, verdict}
 use Rattle.grants.specs.CellSets.{cell-grants}
-use Rattle.grants.specs.CellPlaces.{grant-of, marked, CountedBelow, Shown, Part}
+use Rattle.grants.specs.CellPlaces.{grant-of, marked, Shown, Part}
 use Rattle.grants.specs.NearCells.{cells-of, dominates-in, tie-at}
 use Rattle.grants.specs.NearLaws.{row-cells, partners-one-fewer, tied-by-cell, untied-by-cell}
 use Rattle.grants.specs.ReductionVerdict.{LowestIn, NoneIn}
@@ -28,14 +27,6 @@ empty-if-none (a ∷ l) e = absurd (omega arith)
 not-empty-if-some : {A : Type 0} (l : List A) → (length l ≡ 0 → ⊥) → empty l ≡ false
 not-empty-if-some [] e = absurd (e refl)
 not-empty-if-some (a ∷ l) e = refl
-
--- a count that ends at 2 tells whether the whole is 1
-pub one-of-two : {whole count : ℕ} → CountedBelow 2 whole count → count ≡ 1 → whole ≡ 1
-one-of-two counted one = omega (arith, counted .below (omega arith))
-
-pub not-one-of-two : {whole count : ℕ} → CountedBelow 2 whole count → (count ≡ 1 → ⊥) → whole ≡ 1 → ⊥
-not-one-of-two {whole} {count} counted more one =
-    ⊎-elim (λ (l : count < 2). more (counted .below l ∙ one)) (λ (l : 2 ≤ count). omega (arith, counted .not-more)) (below-or-from count 2)
 
 module _ {rows : List ℕ} {users : ℕ} {sheet : Sheet} (shown : Shown rows users sheet) {left : List ℕ} (part : Part left rows)
     {it count : ℕ} (inside : it < cells-of users) (set : So (marked left it))

@@ -14,7 +14,7 @@ use Rattle.sheet.specs.Limits.{user-limit}
 use Rattle.sheet.specs.Rows.{row-words}
 use Rattle.sheet.specs.Sheet.{Sheet}
 use Rattle.grants.specs.Fit.{without}
-use Rattle.grants.specs.Reduction.{Reduction, stays, carry-out, visit}
+use Rattle.grants.specs.Reduction.{Reduction, carry-out, visit}
 use Rattle.grants.specs.CellSets.{cell-grants}
 use Rattle.grants.specs.CellPlaces.{cell-limit, grant-of, marked, Shown, Part}
 use Rattle.grants.specs.NearCells.{cells-of}

@@ -55,9 +55,6 @@ module _ (test : ℕ → Bool) (count word : ℕ) (first : FirstBits test count 
 pub record FirstWords (rows cells : List ℕ) (t : ℕ) (words : List ℕ) : Type 0 where
   pub word : (s : ℕ) → s < t → FirstBits (table-word rows cells s) word-bits (getD words s 0)
 
-pub no-words : (rows cells words : List ℕ) → FirstWords rows cells 0 words
-no-words rows cells words = record { word = λ s l. absurd (omega arith) }
-
 pub word-put-in : (rows cells : List ℕ) (t : ℕ) (words : List ℕ) (w : ℕ) → FirstWords rows cells t words → t < length words
     → FirstBits (table-word rows cells t) word-bits w → FirstWords rows cells (t + 1) (set words t w)
 word-put-in rows cells t words w first inside here = record { word = λ s l. ⊎-elim (earlier s) (latest s l) (below-or-from s t) }
@@ -75,10 +72,6 @@ where-both : (a b : Bool) {c d : Bool} → (So a → So b → c ≡ d) → (a &&
 where-both true true h = h refl refl
 where-both true false h = refl
 where-both false b h = refl
-
-table-row-pos : 0 < table-row
-unfolding table-row
-table-row-pos = lit< tt
 
 module _ (rows cells words : List ℕ) (first : FirstWords rows cells (table-limit * table-row) words) where
   pub table-entry : (i j : ℕ) → i < table-limit → j < table-limit → table-bit words i j ≡ fit-among rows cells i j

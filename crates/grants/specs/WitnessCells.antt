@@ -5,10 +5,12 @@ use mathlib.Core.Bool.{Bool, not, _&&_, _||_}
 use mathlib.Core.List.{List}
 use lib.Bits.{bitOr}
 use lib.ListN.{getD}
+use Rattle.bits.specs.Truth.{and-left}
 use Rattle.bits.specs.Bit.{bit, word-bits}
 use Rattle.bits.specs.BitLaws.{bit-or}
-use Rattle.grants.specs.CellPlaces.{grant-of, marked, fit-in, FittingWord}
+use Rattle.grants.specs.CellPlaces.{grant-of, marked, fit-in, FittingWord, Part}
 use Rattle.grants.specs.FitWordLaws.{marked-in-word}
+use Rattle.grants.specs.WitnessWords.{MadeCells, made-part}
 
 -- the cell is set in left, and its grant does not fit that at the cell it
 abbrev pub left-over : List ℕ → List ℕ → ℕ → ℕ → Bool
@@ -19,6 +21,11 @@ pub left-over-word : (rows left : List ℕ) (it i word fit : ℕ) → FittingWor
     → ((q : ℕ) → bit word q ≡ (bit (getD left i 0) q && not (bit fit q)))
     → (q : ℕ) → q < word-bits → bit word q ≡ left-over rows left it (i * word-bits + q)
 left-over-word rows left it i word fit fitting says q l = rw (marked-in-word left i q l, ← fitting .bits q l) (says q)
+
+-- what is left over is part of left
+pub left-over-part : (rows left : List ℕ) (it end : ℕ) (rest : List ℕ) → MadeCells (left-over rows left it) end rest → Part rest left
+left-over-part rows left it end rest made =
+    made-part (left-over rows left it) end rest left made (λ n. and-left (marked left n) (not (fit-in rows (grant-of it) (grant-of n))))
 
 -- the cell is set in one of two
 abbrev pub either : List ℕ → List ℕ → ℕ → Bool

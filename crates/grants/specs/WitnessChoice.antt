@@ -18,7 +18,7 @@ use Rattle.grants.specs.declared.choice.Choice.{Choice}
 use Rattle.grants.specs.Fit.{partners}
 use Rattle.grants.specs.Witness.{fewest-partners}
 use Rattle.grants.specs.CellSets.{cell-grants}
-use Rattle.grants.specs.CellPlaces.{cell-limit, grant-of, marked, CountedBelow, Shown, Part}
+use Rattle.grants.specs.CellPlaces.{grant-of, marked, Shown, Part}
 
 -- the grant that a choice names
 abbrev pub choice-of : Choice → Option Grant
@@ -30,10 +30,6 @@ choose cell count = record { cell = record { 0 = cell }; partners = count }
 
 abbrev pub no-choice : Choice
 no-choice = choose 0 0
-
--- the count that a better choice is below
-abbrev pub to-beat : Choice → ℕ
-to-beat best = cond (eqb (best .partners) 0) (cell-limit + 1) (best .partners)
 
 -- the choice so far, unless the grant at a cell has fewer partners
 abbrev pub better-of : Choice → ℕ → ℕ → Choice
@@ -61,11 +57,10 @@ pub none-seen : (measure : Grant → ℕ) → Least measure [] (no-choice)
 none-seen measure = record { first = refl; counted = λ l. absurd (omega arith) }
 
 module _ (measure : Grant → ℕ) (seen : List Grant) (best : Choice) (so-far : Least measure seen best) (n count : ℕ)
-    (e : CountedBelow (to-beat best) (measure (grant-of n) + 1) count) (few : measure (grant-of n) < cell-limit) where
+    (exact : count ≡ measure (grant-of n) + 1) where
   -- the grant at the cell is taken
-  found-better : count ≡ measure (grant-of n) + 1 → or-lesser measure (least measure seen) (grant-of n) ≡ grant-of n
-      → Least measure (seen ++ grant-of n ∷ []) (choose n count)
-  found-better exact h = record {
+  found-better : or-lesser measure (least measure seen) (grant-of n) ≡ grant-of n → Least measure (seen ++ grant-of n ∷ []) (choose n count)
+  found-better h = record {
     first = least-last measure seen (grant-of n) ∙ rw (h, ne-eqb count 0 (omega arith));
     counted = λ l. exact;
   }
@@ -79,17 +74,12 @@ module _ (measure : Grant → ℕ) (seen : List Grant) (best : Choice) (so-far :
     where
       split : So (eqb (best .partners) 0) ⊎ (eqb (best .partners) 0 ≡ false) → So (ltb count (best .partners)) ⊎ (ltb count (best .partners) ≡ false)
           → Least measure (seen ++ grant-of n ∷ []) (better-of best n count)
-      split (inl p) q =
-          let any : CountedBelow (cell-limit + 1) (measure (grant-of n) + 1) count = rw p at e in
-          rw p (found-better (any .below (omega (arith, any .not-more))) (rw (so-far .first, p)))
+      split (inl p) q = rw p (found-better (rw (so-far .first, p)))
       split (inr p) (inl q) =
           let h = some-so-far p in
-          let fewer : CountedBelow (best .partners) (measure (grant-of n) + 1) count = rw p at e in
-          let exact = fewer .below (ltb-true count (best .partners) q) in
-          rw (p, q) (found-better exact (rw (
+          rw (p, q) (found-better (rw (
             h .0,
-            lt-leb (measure (grant-of (best .cell .0))) (measure (grant-of n))
-                (omega (arith, h .1, exact, ltb-true count (best .partners) q)),
+            lt-leb (measure (grant-of (best .cell .0))) (measure (grant-of n)) (omega (arith, h .1, ltb-true count (best .partners) q)),
           )))
       split (inr p) (inr q) =
           let h = some-so-far p in
@@ -99,7 +89,7 @@ module _ (measure : Grant → ℕ) (seen : List Grant) (best : Choice) (so-far :
                   h .0,
                   p,
                   le-leb (measure (grant-of (best .cell .0))) (measure (grant-of n))
-                      (omega (arith, h .1, e .not-more, ltb-false count (best .partners) q)),
+                      (omega (arith, h .1, ltb-false count (best .partners) q)),
                 );
             counted = so-far .counted;
           })

@@ -27,7 +27,7 @@ pub record MadeCells (test : ℕ → Bool) (end : ℕ) (words : List ℕ) : Type
   pub inside : (n : ℕ) → n < end → marked words n ≡ test n
   pub outside : (n : ℕ) → end ≤ n → marked words n ≡ false
 
-getD-zeros : (count s : ℕ) → getD {A = ℕ} (replicate count 0) s 0 ≡ 0
+pub getD-zeros : (count s : ℕ) → getD {A = ℕ} (replicate count 0) s 0 ≡ 0
 getD-zeros count s =
     ⊎-elim (λ l. getD-replicate count s 0 0 l) (λ l. List·getD-eq-default (replicate count 0) 0 (rw (length-replicate {A = ℕ} count 0) l)) (below-or-from s count)
 

@@ -1,47 +1,33 @@
 // The remaining grant with the fewest partners, and what is left once it is taken.
 use crate::cell::CellNo;
-use crate::cell::ROW_BITS;
-use crate::column::PLACE_WORDS;
-use crate::column::partners_in_column;
+use crate::counts::CELL_LIMIT;
 use crate::fit::fitting;
-use crate::kernel::next_cell;
 use bits::WORD_BITS;
 use sheet::CELL_WORDS;
 use sheet::ROW_WORDS;
 ghost use mathlib.Core.Path.{_≡_};
 ghost use mathlib.Core.Bool.{not, _&&_};
-ghost use Prim.Native.Nat.{ℕ, _≤_, _<_};
-ghost use Rattle.bits.specs.Bit.{bit};
+ghost use mathlib.Core.List.{List};
+ghost use Prim.Native.Nat.{ℕ, _+_, _*_, _≤_, _<_};
+ghost use Rattle.bits.specs.Bit.{bit, word-bits};
 ghost use Rattle.sheet.specs.Limits.{user-limit};
-ghost use Rattle.grants.specs.CellPlaces.{cell-limit};
-ghost use Rattle.grants.specs.Columns.{Columns};
+ghost use Rattle.sheet.specs.Rows.{row-words};
+ghost use Rattle.grants.specs.CellPlaces.{cell-words, cell-limit};
+ghost use Rattle.grants.specs.Counts.{Counted};
 ghost use Rattle.grants.specs.NearCells.{cells-of};
-ghost use Rattle.grants.specs.WitnessChoice.{to-beat, better-of, Fewest};
+ghost use Rattle.grants.specs.WitnessWalk.{Walked};
+ghost use Rattle.grants.specs.WitnessChoice.{better-of, Fewest};
 ghost use Rattle.grants.specs.WitnessWords.{MadeCells};
 ghost use Rattle.grants.specs.WitnessCells.{left-over};
 
 // A grant by its cell, and how many remaining grants fit it, itself among them: none at all where there is no grant.
 pub struct Choice {
     pub cell: CellNo,
-    pub partners: usize,
-}
-
-// More than any count: as many grants fit as there are cells at most.
-const NO_COUNT: usize = CELL_WORDS * WORD_BITS + 1;
-
-// The count that a better choice is below: any where there is none yet.
-fn to_beat(best: Choice) -> usize
-    ensures { λ r. ⌜ r ≡ to-beat best ⌝ }
-{
-    if best.partners == 0 {
-        NO_COUNT
-    } else {
-        best.partners
-    }
+    pub partners: u16,
 }
 
 // The choice so far, unless the grant at a cell has fewer partners.
-fn better(best: Choice, cell: CellNo, partners: usize) -> Choice
+fn better(best: Choice, cell: CellNo, partners: u16) -> Choice
     ensures { λ r. ⌜ r ≡ better-of best (cell .0) partners ⌝ }
 {
     if best.partners == 0 {
@@ -54,36 +40,52 @@ fn better(best: Choice, cell: CellNo, partners: usize) -> Choice
     }
 }
 
+// The choice so far, unless a grant of word i has fewer partners, by the counts of the grants that fit.
+fn better_in_word<'a>(
+    best: Choice,
+    left: &'a [u64; CELL_WORDS],
+    counts: &'a [u16; CELL_LIMIT],
+    i: usize,
+) -> Choice
+    requires { ⌜ i < cell-words ⌝ }
+    ensures { λ r. ⌜ ((rows : List ℕ) (users : ℕ) → users ≤ user-limit → i < users * row-words → Counted rows (now (left .entry)) users (now (counts .entry))
+        → Walked rows (now (left .entry)) users best (i * word-bits) → Walked rows (now (left .entry)) users r ((i + 1) * word-bits)) ⌝ }
+{
+    let from = i * WORD_BITS;
+    let mut it = best;
+    let mut w = left[i];
+    while w != 0 {
+        let n = from + bits::lowest(w);
+        it = better(it, CellNo(n), counts[n]);
+        w = bits::without_lowest(w);
+    }
+    it
+}
+
 // The remaining grant with the fewest partners, the lowest on a tie.
 pub fn fewest<'a>(
-    rows: &'a [u64; CELL_WORDS],
-    columns: &'a [u64; PLACE_WORDS],
     left: &'a [u64; CELL_WORDS],
+    counts: &'a [u16; CELL_LIMIT],
     users: usize,
 ) -> Choice
-    requires { ⌜ (users ≤ user-limit) × Columns (now rows) (now columns) ⌝ }
-    ensures { λ r. ⌜ Fewest (now (rows .entry)) (now (left .entry)) users r ⌝ }
+    requires { ⌜ users ≤ user-limit ⌝ }
+    ensures { λ r. ⌜ ((rows : List ℕ) → Counted rows (now (left .entry)) users (now (counts .entry))
+        → Fewest rows (now (left .entry)) users r) ⌝ }
 {
     let mut best = Choice {
         cell: CellNo(0),
         partners: 0,
     };
-    let mut n = next_cell(left, users, 0);
-    while n < users * ROW_BITS {
-        let cell = CellNo(n);
-        let most = to_beat(best);
-        best = better(
-            best,
-            cell,
-            partners_in_column(rows, columns, left, cell, most),
-        );
-        n = next_cell(left, users, n + 1);
+    let mut i = 0;
+    while i < users * ROW_WORDS {
+        best = better_in_word(best, left, counts, i);
+        i += 1;
     }
     best
 }
 
 // The positions of a word that another has not.
-fn less(word: u64, other: u64) -> u64
+pub fn less(word: u64, other: u64) -> u64
     ensures { λ r. ⌜ ((q : ℕ) → bit r q ≡ (bit word q && not (bit other q))) ⌝ }
 {
     word & !other

@@ -6,6 +6,7 @@ use bits::WORD_BITS;
 use sheet::CELL_WORDS;
 use sheet::ROW_WORDS;
 ghost use mathlib.Core.Path.{_≡_};
+ghost use mathlib.Core.List.{List};
 ghost use Prim.Native.Nat.{ℕ, _+_, _*_, _≤_, _<_};
 ghost use lib.ListN.{length};
 ghost use Rattle.bits.specs.Below.{sum-below};
@@ -13,11 +14,13 @@ ghost use Rattle.bits.specs.Bit.{bit, word-bits};
 ghost use Rattle.lists.specs.Lists.{filter};
 ghost use Rattle.sheet.specs.Limits.{user-limit};
 ghost use Rattle.sheet.specs.Sheet.{Sheet};
+ghost use Rattle.sheet.specs.Rows.{row-bits};
 ghost use Rattle.grants.specs.Fit.{fits};
 ghost use Rattle.grants.specs.CellSets.{cell-grants};
 ghost use Rattle.grants.specs.CellPlaces.{cell-words, cell-limit, grant-of, CountedBelow, Shown, Part};
-ghost use Rattle.grants.specs.TableWords.{FirstBits};
-ghost use Rattle.grants.specs.Columns.{place-limit, place-held, near-if, Columns};
+ghost use Rattle.grants.specs.Columns.{column-words, near-if, Columns};
+ghost use Rattle.grants.specs.ColumnsMade.{PutIn};
+ghost use Rattle.grants.specs.ColumnUnion.{Reaches};
 
 // The words of a permission: a position for each word of the rows.
 pub const COLUMN_WORDS: usize = CELL_WORDS / WORD_BITS;
@@ -25,47 +28,44 @@ pub const COLUMN_WORDS: usize = CELL_WORDS / WORD_BITS;
 // The words of all permissions.
 pub const PLACE_WORDS: usize = ROW_BITS * COLUMN_WORDS;
 
-// Whether the user of word n % CELL_WORDS holds the permission n / CELL_WORDS.
-fn is_held(rows: &[u64; CELL_WORDS], n: usize) -> bool
-    requires { ⌜ n < place-limit ⌝ }
-    ensures { λ r. ⌜ r ≡ place-held (now (rows .entry)) n ⌝ }
+// Puts word i of the rows into the columns of the permissions at the positions of a word.
+fn put_in_columns(columns: &mut [u64; PLACE_WORDS], i: usize, some: u64)
+    requires { ⌜ (i < cell-words) × (length (now columns) ≡ row-bits * column-words) ⌝ }
+    ensures { λ r. ⌜ PutIn i some (now (columns .entry)) (now (columns .exit)) ⌝ }
 {
-    let p = n / CELL_WORDS;
-    let i = n % CELL_WORDS;
-    bits::has(
-        rows[i / ROW_WORDS * ROW_WORDS + p / WORD_BITS],
-        p % WORD_BITS,
-    )
-}
-
-// Word t of the columns.
-fn column_word(rows: &[u64; CELL_WORDS], t: usize) -> u64
-    requires { ⌜ t * word-bits < place-limit ⌝ }
-    ensures { λ r. ⌜ FirstBits (λ (q : ℕ). place-held (now (rows .entry)) (t * word-bits + q)) word-bits r ⌝ }
-{
-    let from = t * WORD_BITS;
-    let mut word = 0;
-    let mut q = 0;
-    while q < WORD_BITS {
-        if is_held(rows, from + q) {
-            word = bits::with(word, q);
-        }
-        q += 1;
+    let mut w = some;
+    while w != 0 {
+        let t = bits::lowest(w) * COLUMN_WORDS + i / WORD_BITS;
+        columns[t] = bits::with(columns[t], i % WORD_BITS);
+        w = bits::without_lowest(w);
     }
-    word
 }
 
-// For each permission the words of the users who hold it.
+// For each permission the words of the users who hold it. A row is one word.
 pub fn columns_of(rows: &[u64; CELL_WORDS]) -> [u64; PLACE_WORDS]
     ensures { λ r. ⌜ Columns (now (rows .entry)) r ⌝ }
 {
-    let mut words = [0; PLACE_WORDS];
-    let mut t = 0;
-    while t < PLACE_WORDS {
-        words[t] = column_word(rows, t);
-        t += 1;
+    let mut columns = [0; PLACE_WORDS];
+    let mut i = 0;
+    while i < CELL_WORDS {
+        put_in_columns(&mut columns, i, rows[i]);
+        i += 1;
     }
-    words
+    columns
+}
+
+// Word j of the columns of the permissions at the positions of a word, all together.
+pub fn union_of(columns: &[u64; PLACE_WORDS], word: u64, j: usize) -> u64
+    requires { ⌜ j < column-words ⌝ }
+    ensures { λ r. ⌜ ((rows : List ℕ) → Columns rows (now (columns .entry)) → Reaches rows word j r) ⌝ }
+{
+    let mut some = 0;
+    let mut w = word;
+    while w != 0 {
+        some = some | columns[bits::lowest(w) * COLUMN_WORDS + j];
+        w = bits::without_lowest(w);
+    }
+    some
 }
 
 // The count so far, and how many grants of left fit the grant at a cell in the words at the positions of some. The count ends once it reaches most.

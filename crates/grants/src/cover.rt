@@ -1,4 +1,5 @@
-// The first cover: three groupings of the kernel in grant order, and the first best.
+// The first cover: the first best of the groupings of the kernel in grant order.
+use crate::cell::ROW_BITS;
 use crate::kernel::Kernel;
 use crate::kernel::permission_of;
 use crate::kernel::user_of;
@@ -9,39 +10,35 @@ use sheet::ROW_WORDS;
 ghost use mathlib.Core.Path.{_≡_};
 ghost use mathlib.Core.Bool.{true};
 ghost use mathlib.Core.List.{List, map};
-ghost use mathlib.Core.Option.{Option·getD};
 ghost use Prim.Native.Nat.{ℕ, suc, _<_, _≤_, _^_, max};
 ghost use lib.ListN.{length, getD, take};
-ghost use Rattle.bits.specs.Below.{every-below, lowest-below};
+ghost use Rattle.bits.specs.Bit.{word-bits};
+ghost use Rattle.bits.specs.Below.{every-below};
 ghost use Rattle.lists.specs.KeyLaws.{by-key};
 ghost use Rattle.lists.specs.Placement.{grouping};
 ghost use Rattle.sheet.specs.Limits.{grant-limit};
-ghost use Rattle.sheet.specs.Rows.{row-bits};
+ghost use Rattle.sheet.specs.Rows.{row-words, row-bits, cell};
 ghost use Rattle.sheet.specs.Sheet.{Sheet};
 ghost use Rattle.sheet.specs.CellAdded.{CellAdded};
 ghost use Rattle.grants.specs.Reduction.{kernel};
-ghost use Rattle.grants.specs.Cover.{fewer, best-grouping, first-best};
+ghost use Rattle.grants.specs.Cover.{fewer, first-best};
 ghost use Rattle.grants.specs.CellPlaces.{grant-of, Shown};
-ghost use Rattle.grants.specs.CoverRelation.{fit-at-cells, key-limit, key-of, key-at};
+ghost use Rattle.grants.specs.CoverRelation.{fit-at-cells, permission-at-cell, HeldCells, user-room};
 ghost use Rattle.grants.specs.CoverKeys.{class-from};
-ghost use Rattle.grants.specs.CoverMembers.{class-words, joinable};
+ghost use Rattle.grants.specs.CoverMembers.{class-words};
 ghost use Rattle.grants.specs.CoverWords.{held-at, LacksAdded};
-ghost use Rattle.grants.specs.CoverPlaced.{Placed};
+ghost use Rattle.grants.specs.CoverFree.{free, free-in-word, FirstBelow};
+ghost use Rattle.grants.specs.CoverAllowed.{AllowedTo};
+ghost use Rattle.grants.specs.CoverPlaced.{Placed, PlacedOrMore};
 
-// Room for each key: the permission and the user of a cell are below it.
-const KEY_LIMIT: usize = GRANT_LIMIT;
-
-// What the table has for a key with no class yet: no class has this number.
+// What the table has for a permission with no class yet: no class has this number.
 const NO_CLASS: u16 = GRANT_LIMIT as u16;
 
-// A row of words for each class that there can be.
-const CLASS_WORDS: usize = GRANT_LIMIT * ROW_WORDS;
+// As many classes as permissions: a grouping with more is not the best.
+const CLASS_LIMIT: usize = ROW_BITS;
 
-// What the grants of a class have in common.
-enum Key {
-    Permission,
-    User,
-}
+// A row of words for each class.
+const CLASS_WORDS: usize = CLASS_LIMIT * ROW_WORDS;
 
 // A placement of the kernel: the class of each grant by its number, and how many classes there are.
 #[repr(C)]
@@ -50,22 +47,12 @@ pub struct Placement {
     pub used: usize,
 }
 
-// The key of the grant at a cell.
-fn key_of(cell: u16, by: Key) -> usize
-    ensures { λ r. ⌜ (r ≡ key-of by cell) × (r < key-limit) ⌝ }
+// The class of a permission: the one that the table has, else the next one.
+fn class_of_permission(table: &[u16; ROW_BITS], count: usize, p: usize) -> u16
+    requires { ⌜ (count < 2 ^ 16) × (p < row-bits) ⌝ }
+    ensures { λ r. ⌜ r ≡ class-from (now (table .entry)) count p ⌝ }
 {
-    match by {
-        Key::Permission => permission_of(cell).0,
-        Key::User => user_of(cell).0,
-    }
-}
-
-// The class of a key: the one that the table has, else the next one.
-fn class_of_key(table: &[u16; KEY_LIMIT], count: usize, key: usize) -> u16
-    requires { ⌜ (count < 2 ^ 16) × (key < key-limit) ⌝ }
-    ensures { λ r. ⌜ r ≡ class-from (now (table .entry)) count key ⌝ }
-{
-    let c = table[key];
+    let c = table[p];
     if c == NO_CLASS { count as u16 } else { c }
 }
 
@@ -77,20 +64,20 @@ fn counted(count: usize, c: u16) -> usize
     if count < next { next } else { count }
 }
 
-// The grouping of the kernel by a key.
-fn grouped_by_key(cells: &[u16], by: Key) -> Placement
+// The grouping of the kernel by permission.
+fn grouped_by_permission(cells: &[u16]) -> Placement
     requires { ⌜ length (now cells) ≤ grant-limit ⌝ }
-    ensures { λ r. ⌜ Placed (by-key (key-at (now (cells .entry)) by) (length (now (cells .entry))))
+    ensures { λ r. ⌜ (r .used ≤ row-bits) × Placed (by-key (permission-at-cell (now (cells .entry))) (length (now (cells .entry))))
         (r .classes) (length (now (cells .entry))) (r .used) ⌝ }
 {
-    let mut table = [NO_CLASS; KEY_LIMIT];
+    let mut table = [NO_CLASS; ROW_BITS];
     let mut classes = [0; GRANT_LIMIT];
     let mut count = 0;
     let mut d = 0;
     while d < cells.len() {
-        let key = key_of(cells[d], by);
-        let c = class_of_key(&table, count, key);
-        table[key] = c;
+        let p = permission_of(cells[d]).0;
+        let c = class_of_permission(&table, count, p);
+        table[p] = c;
         classes[d] = c;
         count = counted(count, c);
         d += 1;
@@ -110,7 +97,7 @@ fn word_at(rows: &[u64], i: usize) -> u64
 
 // Whether user u holds every permission that the members of class c ask.
 fn holds_asked<'a>(rows: &'a [u64], asked: &'a [u64; CLASS_WORDS], u: usize, c: usize) -> bool
-    requires { ⌜ (u < key-limit) × (c < grant-limit) ⌝ }
+    requires { ⌜ (u < user-room) × (c < row-bits) ⌝ }
     ensures { λ r. ⌜ r ≡ every-below row-bits (held-at (now (rows .entry)) (now (asked .entry)) u c) ⌝ }
 {
     let mut j = 0;
@@ -124,49 +111,99 @@ fn holds_asked<'a>(rows: &'a [u64], asked: &'a [u64; CLASS_WORDS], u: usize, c: 
     true
 }
 
-// Whether the grant at a cell fits all members of class c.
-fn can_join<'a>(
-    rows: &'a [u64],
-    asked: &'a [u64; CLASS_WORDS],
-    lacked: &'a [u64; CLASS_WORDS],
-    cell: u16,
-    c: usize,
-) -> bool
-    requires { ⌜ c < grant-limit ⌝ }
-    ensures { λ r. ⌜ r ≡ joinable (now (rows .entry)) (now (asked .entry)) (now (lacked .entry)) cell c ⌝ }
+// Puts class c in a set of classes if told so.
+fn put_if(allowed: &mut [u64; ROW_WORDS], c: usize, yes: bool)
+    requires { ⌜ (c < row-bits) × (length (now allowed) ≡ row-words) ⌝ }
+    ensures { λ _. ⌜ CellAdded (now (allowed .entry)) (now (allowed .exit)) 0 c yes ⌝ }
 {
-    let p = key_of(cell, Key::Permission);
-    if bits::has(lacked[c * ROW_WORDS + p / WORD_BITS], p % WORD_BITS) {
-        false
-    } else {
-        holds_asked(rows, asked, key_of(cell, Key::User), c)
+    if yes {
+        let i = c / WORD_BITS;
+        allowed[i] = bits::with(allowed[i], c % WORD_BITS);
     }
 }
 
-// The lowest class below used that the grant at a cell can join, else used itself.
-fn class_for<'a>(
+// Of the classes below most, those whose members ask only what user u holds.
+fn allowed_to<'a>(
     rows: &'a [u64],
     asked: &'a [u64; CLASS_WORDS],
-    lacked: &'a [u64; CLASS_WORDS],
-    cell: u16,
-    used: usize,
-) -> usize
-    requires { ⌜ used ≤ grant-limit ⌝ }
-    ensures { λ r. ⌜ r ≡ Option·getD (lowest-below used (joinable (now (rows .entry)) (now (asked .entry)) (now (lacked .entry)) cell)) used ⌝ }
+    u: usize,
+    most: usize,
+) -> [u64; ROW_WORDS]
+    requires { ⌜ (u < user-room) × (most ≤ row-bits) ⌝ }
+    ensures { λ r. ⌜ AllowedTo (now (rows .entry)) (now (asked .entry)) u most r ⌝ }
 {
+    let mut allowed = [0; ROW_WORDS];
     let mut c = 0;
-    while c < used {
-        if can_join(rows, asked, lacked, cell, c) {
-            return c;
-        }
+    while c < most {
+        let yes = holds_asked(rows, asked, u, c);
+        put_if(&mut allowed, c, yes);
         c += 1;
     }
-    c
+    allowed
+}
+
+// The classes allowed to user v: those allowed to user u where they are one.
+fn allowed_next<'a>(
+    rows: &'a [u64],
+    asked: &'a [u64; CLASS_WORDS],
+    allowed: [u64; ROW_WORDS],
+    u: usize,
+    v: usize,
+    most: usize,
+) -> [u64; ROW_WORDS]
+    requires { ⌜ (v < user-room) × (most ≤ row-bits) ⌝ }
+    ensures { λ r. ⌜ (AllowedTo (now (rows .entry)) (now (asked .entry)) u most allowed → AllowedTo (now (rows .entry)) (now (asked .entry)) v most r) ⌝ }
+{
+    if u == v {
+        allowed
+    } else {
+        allowed_to(rows, asked, v, most)
+    }
+}
+
+// Whether a member of class c lacks permission p.
+fn is_lacked(lacked: &[u64; CLASS_WORDS], c: usize, p: usize) -> bool
+    requires { ⌜ (c < row-bits) × (p < row-bits) ⌝ }
+    ensures { λ r. ⌜ r ≡ cell (now (lacked .entry)) c p ⌝ }
+{
+    bits::has(lacked[c * ROW_WORDS + p / WORD_BITS], p % WORD_BITS)
+}
+
+// The lowest position of word j of the allowed classes whose class has no member that lacks permission p, else the end of the word.
+fn free_in_word(lacked: &[u64; CLASS_WORDS], word: u64, j: usize, p: usize) -> usize
+    requires { ⌜ (j < row-words) × (p < row-bits) ⌝ }
+    ensures { λ r. ⌜ FirstBelow word-bits (free-in-word word (now (lacked .entry)) p j) r ⌝ }
+{
+    let mut rest = word;
+    while rest != 0 {
+        let x = bits::lowest(rest);
+        if !is_lacked(lacked, j * WORD_BITS + x, p) {
+            return x;
+        }
+        rest = bits::without_lowest(rest);
+    }
+    WORD_BITS
+}
+
+// The lowest allowed class with no member that lacks permission p, else as many as there can be.
+fn class_for<'a>(allowed: &'a [u64; ROW_WORDS], lacked: &'a [u64; CLASS_WORDS], p: usize) -> usize
+    requires { ⌜ p < row-bits ⌝ }
+    ensures { λ r. ⌜ FirstBelow row-bits (free (now (allowed .entry)) (now (lacked .entry)) p) r ⌝ }
+{
+    let mut j = 0;
+    while j < ROW_WORDS {
+        let x = free_in_word(lacked, allowed[j], j, p);
+        if x < WORD_BITS {
+            return j * WORD_BITS + x;
+        }
+        j += 1;
+    }
+    CLASS_LIMIT
 }
 
 // Adds permission p to what class c asks.
 fn add_asked(asked: &mut [u64; CLASS_WORDS], c: usize, p: usize)
-    requires { ⌜ (c < grant-limit) × (p < row-bits) ⌝ }
+    requires { ⌜ (c < row-bits) × (p < row-bits) ⌝ }
     requires { ⌜ length (now asked) ≡ class-words ⌝ }
     ensures { λ _. ⌜ CellAdded (now (asked .entry)) (now (asked .exit)) c p true ⌝ }
 {
@@ -176,7 +213,7 @@ fn add_asked(asked: &mut [u64; CLASS_WORDS], c: usize, p: usize)
 
 // Adds to class c the permissions that user u lacks.
 fn add_lacked(rows: &[u64], lacked: &mut [u64; CLASS_WORDS], c: usize, u: usize)
-    requires { ⌜ (c < grant-limit) × (u < key-limit) ⌝ }
+    requires { ⌜ (c < row-bits) × (u < user-room) ⌝ }
     requires { ⌜ length (now lacked) ≡ class-words ⌝ }
     ensures { λ _. ⌜ LacksAdded (now (rows .entry)) (now (lacked .entry)) (now (lacked .exit)) c u row-bits ⌝ }
 {
@@ -189,22 +226,32 @@ fn add_lacked(rows: &[u64], lacked: &mut [u64; CLASS_WORDS], c: usize, u: usize)
     }
 }
 
-// The grouping of the kernel by fit.
-fn grouped_by_fit<'a>(rows: &'a [u64], cells: &'a [u16]) -> Placement
-    requires { ⌜ length (now cells) ≤ grant-limit ⌝ }
-    ensures { λ r. ⌜ Placed (grouping (fit-at-cells (now (rows .entry)) (now (cells .entry))) (length (now (cells .entry))))
-        (r .classes) (length (now (cells .entry))) (r .used) ⌝ }
+// The grouping of the kernel by fit, given up where it needs more classes than most.
+fn grouped_by_fit<'a>(rows: &'a [u64], cells: &'a [u16], most: usize) -> Placement
+    requires { ⌜ (length (now cells) ≤ grant-limit) × (most ≤ row-bits) ⌝ }
+    ensures { λ r. ⌜ (HeldCells (now (rows .entry)) (now (cells .entry))
+        → PlacedOrMore (grouping (fit-at-cells (now (rows .entry)) (now (cells .entry))) (length (now (cells .entry))))
+        (r .classes) (length (now (cells .entry))) (r .used) most) ⌝ }
 {
     let mut asked = [0; CLASS_WORDS];
     let mut lacked = [0; CLASS_WORDS];
     let mut classes = [0; GRANT_LIMIT];
+    let mut allowed = [!0; ROW_WORDS];
+    let mut u = 0;
     let mut count = 0;
     let mut d = 0;
     while d < cells.len() {
-        let cell = cells[d];
-        let c = class_for(rows, &asked, &lacked, cell, count);
-        add_asked(&mut asked, c, key_of(cell, Key::Permission));
-        add_lacked(rows, &mut lacked, c, key_of(cell, Key::User));
+        let v = user_of(cells[d]).0;
+        let p = permission_of(cells[d]).0;
+        allowed = allowed_next(rows, &asked, allowed, u, v, most);
+        u = v;
+        let c = class_for(&allowed, &lacked, p);
+        if c >= most {
+            let used = c + 1;
+            return Placement { classes, used };
+        }
+        add_asked(&mut asked, c, p);
+        add_lacked(rows, &mut lacked, c, v);
         classes[d] = c as u16;
         count = counted(count, c as u16);
         d += 1;
@@ -217,7 +264,7 @@ fn grouped_by_fit<'a>(rows: &'a [u64], cells: &'a [u16]) -> Placement
 
 // The one of two placements with fewer classes, the earlier on a tie.
 fn with_fewer(earlier: Placement, later: Placement) -> Placement
-    ensures { λ r. ⌜ ((n : ℕ) (p q : List ℕ) → Placed p (earlier .classes) n (earlier .used) → Placed q (later .classes) n (later .used)
+    ensures { λ r. ⌜ ((n : ℕ) (p q : List ℕ) → PlacedOrMore p (earlier .classes) n (earlier .used) (later .used) → Placed q (later .classes) n (later .used)
         → Placed (fewer p q) (r .classes) n (r .used)) ⌝ }
 {
     if earlier.used <= later.used {
@@ -227,16 +274,15 @@ fn with_fewer(earlier: Placement, later: Placement) -> Placement
     }
 }
 
-// The first best of the three groupings of the grants at some cells: by fit, by permission, by user.
+// The first best of the groupings of the grants at some cells, by fit and by permission. By user there are never fewer classes than by fit.
 fn best_of<'a>(rows: &'a [u64], cells: &'a [u16]) -> Placement
     requires { ⌜ length (now cells) ≤ grant-limit ⌝ }
-    ensures { λ r. ⌜ ((users : ℕ) (sheet : Sheet) → Shown (now (rows .entry)) users sheet
-        → Placed (best-grouping sheet (map grant-of (now (cells .entry)))) (r .classes) (length (now (cells .entry))) (r .used)) ⌝ }
+    ensures { λ r. ⌜ ((users : ℕ) (sheet : Sheet) → Shown (now (rows .entry)) users sheet → map grant-of (now (cells .entry)) ≡ kernel sheet
+        → Placed (first-best sheet) (r .classes) (length (now (cells .entry))) (r .used)) ⌝ }
 {
-    let fit = grouped_by_fit(rows, cells);
-    let permission = grouped_by_key(cells, Key::Permission);
-    let user = grouped_by_key(cells, Key::User);
-    with_fewer(with_fewer(fit, permission), user)
+    let permission = grouped_by_permission(cells);
+    let fit = grouped_by_fit(rows, cells, permission.used);
+    with_fewer(fit, permission)
 }
 
 // The first best grouping of the kernel.
@@ -246,7 +292,11 @@ pub fn first_best(rows: &[u64; CELL_WORDS], grants: Kernel) -> Placement
         → map grant-of (take (grants .size) (grants .cells)) ≡ kernel sheet
         → Placed (first-best sheet) (r .classes) (length (kernel sheet)) (r .used)) ⌝ }
 {
-    let cells = grants.cells;
     let size = grants.size;
+    if size == 0 {
+        let classes = [0; GRANT_LIMIT];
+        return Placement { classes, used: 0 };
+    }
+    let cells = grants.cells;
     best_of(rows, &cells[..size])
 }

@@ -1,21 +1,34 @@
 // The judgement of one grant against those remaining.
 use crate::cell::CellNo;
 use crate::cell::ROW_BITS;
-use crate::fit::dominates;
-use crate::fit::fitting;
-use crate::fit::partners_below;
+use crate::column::COLUMN_WORDS;
+use crate::column::PLACE_WORDS;
+use crate::column::partners_in_column;
+use crate::domination::apart;
+use crate::domination::holders;
+use crate::domination::misfit;
 use bits::WORD_BITS;
 use sheet::CELL_WORDS;
 use sheet::ROW_WORDS;
 ghost use mathlib.Core.Path.{_≡_};
-ghost use mathlib.Core.Bool.{not, _&&_};
-ghost use Prim.Native.Nat.{_+_, _*_, _<_, _≤_};
+ghost use mathlib.Core.Bool.{So};
+ghost use Prim.Native.Nat.{ℕ, _+_, _*_, _/_, _<_, _≤_};
 ghost use lib.Dec.{eqb};
-ghost use Rattle.bits.specs.Bit.{word-bits};
+ghost use lib.ListN.{length};
+ghost use Rattle.bits.specs.Below.{count-below};
+ghost use Rattle.bits.specs.Bit.{bit, word-bits};
+ghost use Rattle.lists.specs.Lists.{filter};
 ghost use Rattle.sheet.specs.Limits.{user-limit};
 ghost use Rattle.sheet.specs.Rows.{row-words};
-ghost use Rattle.grants.specs.CellPlaces.{cell-words, cell-limit, Part};
-ghost use Rattle.grants.specs.NearCells.{cells-of, dominates-in, tie-at, word-fits};
+ghost use Rattle.sheet.specs.Sheet.{Sheet};
+ghost use Rattle.grants.specs.Fit.{fits};
+ghost use Rattle.grants.specs.CellSets.{cell-grants};
+ghost use Rattle.grants.specs.CellPlaces.{cell-words, cell-limit, grant-of, marked, Shown, Part};
+ghost use Rattle.grants.specs.Columns.{Columns};
+ghost use Rattle.grants.specs.Insides.{Insides};
+ghost use Rattle.grants.specs.Misfits.{words-before};
+ghost use Rattle.grants.specs.NearCells.{cells-of, tie-at};
+ghost use Rattle.grants.specs.NearTieLaws.{Untried};
 ghost use Rattle.grants.specs.ReductionVerdict.{FoundIn, Judgeable, Judged};
 
 // The cell that a grant is tied to, if there is one.
@@ -31,54 +44,102 @@ pub enum Verdict {
     Tied(CellNo),
 }
 
-// Whether the grant at a cell dominates another one, at the cell other.
-fn ties<'a>(
+// Whether w, which has a position, has no other one.
+fn is_one(w: u64) -> bool
+    requires { ⌜ 0 < w ⌝ }
+    ensures { λ r. ⌜ r ≡ eqb (count-below word-bits (bit w)) 1 ⌝ }
+{
+    bits::without_lowest(w) == 0
+}
+
+// Whether no other grant of left fits the grant at a cell, which is one of left. All grants of its word do.
+fn is_single<'a>(
+    rows: &'a [u64; CELL_WORDS],
+    columns: &'a [u64; PLACE_WORDS],
+    left: &'a [u64; CELL_WORDS],
+    it: CellNo,
+) -> bool
+    requires { ⌜ (it .0 < cell-limit) × So (marked (now left) (it .0)) × Columns (now rows) (now columns) ⌝ }
+    ensures { λ r. ⌜ ((users : ℕ) (sheet : Sheet) → users ≤ user-limit → it .0 < cells-of users → Shown (now (rows .entry)) users sheet
+        → Part (now (left .entry)) (now (rows .entry))
+        → r ≡ eqb (length (filter (fits sheet (grant-of (it .0))) (cell-grants sheet (now (left .entry))))) 1) ⌝ }
+{
+    let at = it.0;
+    if !is_one(left[at / WORD_BITS]) {
+        return false;
+    }
+    partners_in_column(rows, columns, left, it, 2) == 1
+}
+
+// The positions of word i whose cells of left the grant at a cell may be tied to. There are none unless all cells of left in the word are in the grant's row.
+fn candidates<'a>(
     rows: &'a [u64; CELL_WORDS],
     left: &'a [u64; CELL_WORDS],
-    users: usize,
     it: CellNo,
-    other: usize,
-) -> bool
-    requires { ⌜ (users ≤ user-limit) × (it .0 < cell-limit) × (other < cell-limit) ⌝ }
-    ensures { λ r. ⌜ r ≡ (not (eqb other (it .0)) && dominates-in (now (rows .entry)) (now (left .entry)) users (it .0) other) ⌝ }
+    i: usize,
+) -> u64
+    requires { ⌜ (it .0 < cell-limit) × (i < cell-words) × Part (now left) (now rows) ⌝ }
+    ensures { λ r. ⌜ ((users : ℕ) → i < users * row-words
+        → Untried (now (rows .entry)) (now (left .entry)) users (it .0) i r) ⌝ }
 {
-    if other == it.0 {
-        return false;
+    let at = it.0;
+    let w = left[i];
+    if !bits::within(w, rows[at / ROW_BITS * ROW_WORDS + i % ROW_WORDS]) {
+        return 0;
     }
-    dominates(rows, left, users, it, CellNo(other))
+    if i == at / WORD_BITS {
+        bits::without(w, at % WORD_BITS)
+    } else {
+        w
+    }
 }
 
-// Whether the cells of word i at the positions of w all fit the grant at a cell. Most words fail against the grant's own row already.
-fn all_fit(rows: &[u64; CELL_WORDS], it: CellNo, i: usize, w: u64) -> bool
-    requires { ⌜ (it .0 < cell-limit) × (i < cell-words) ⌝ }
-    ensures { λ r. ⌜ r ≡ word-fits (now (rows .entry)) (it .0) i w ⌝ }
-{
-    let own = rows[it.0 / ROW_BITS * ROW_WORDS + i % ROW_WORDS];
-    if !bits::within(w, own) {
-        return false;
-    }
-    bits::within(w, fitting(rows, it, i))
-}
-
-// The lowest cell of word i to which the grant at a cell is tied. There is none unless all grants of the word fit it.
+// The lowest cell of word i to which the grant at a cell is tied. A word that keeps it from one candidate keeps it from all that the word's user holds.
 fn tie_in<'a>(
     rows: &'a [u64; CELL_WORDS],
+    columns: &'a [u64; PLACE_WORDS],
     left: &'a [u64; CELL_WORDS],
     users: usize,
     it: CellNo,
     i: usize,
 ) -> Found
-    requires { ⌜ (users ≤ user-limit) × (it .0 < cell-limit) × (i < users * row-words) × Part (now left) (now rows) ⌝ }
+    requires { ⌜ (users ≤ user-limit) × (it .0 < cell-limit) × (i < users * row-words) × Part (now left) (now rows) × Columns (now rows) (now columns) ⌝ }
     ensures { λ r. ⌜ FoundIn (tie-at (now (rows .entry)) (now (left .entry)) users (it .0)) (i * word-bits) ((i + 1) * word-bits) r ⌝ }
 {
-    let mut w = left[i];
-    if !all_fit(rows, it, i, w) {
-        return Found::Nothing;
-    }
+    let mut w = candidates(rows, left, it, i);
     while w != 0 {
         let other = i * WORD_BITS + bits::lowest(w);
-        if ties(rows, left, users, it, other) {
+        let j = misfit(rows, columns, left, users, it, CellNo(other));
+        if j == users * ROW_WORDS {
             return Found::At(CellNo(other));
+        }
+        w = apart(w, rows[j / ROW_WORDS * ROW_WORDS + i % ROW_WORDS]);
+    }
+    Found::Nothing
+}
+
+// The lowest cell to which the grant at a cell is tied, among the users' words at word j of the columns. Only a word in its row, of a user who holds its permission, has one.
+fn tie_among<'a>(
+    rows: &'a [u64; CELL_WORDS],
+    columns: &'a [u64; PLACE_WORDS],
+    inside: &'a [u64; COLUMN_WORDS],
+    left: &'a [u64; CELL_WORDS],
+    users: usize,
+    it: CellNo,
+    j: usize,
+) -> Found
+    requires { ⌜ (users ≤ user-limit) × (it .0 < cell-limit) × (j * word-bits < users * row-words) × Part (now left) (now rows)
+        × Columns (now rows) (now columns) × Insides (now rows) (now left) users (it .0 / word-bits) (now inside) × So (marked (now left) (it .0)) ⌝ }
+    ensures { λ r. ⌜ FoundIn (tie-at (now (rows .entry)) (now (left .entry)) users (it .0))
+        (words-before users j * word-bits) (words-before users (j + 1) * word-bits) r ⌝ }
+{
+    let at = it.0;
+    let mut w = holders(columns, users, at % ROW_BITS, j) & inside[j];
+    while w != 0 {
+        let i = j * WORD_BITS + bits::lowest(w);
+        let found = tie_in(rows, columns, left, users, it, i);
+        if let Found::At(other) = found {
+            return Found::At(other);
         }
         w = bits::without_lowest(w);
     }
@@ -88,20 +149,23 @@ fn tie_in<'a>(
 // The lowest cell of left to which the grant at a cell is tied.
 fn tie<'a>(
     rows: &'a [u64; CELL_WORDS],
+    columns: &'a [u64; PLACE_WORDS],
+    inside: &'a [u64; COLUMN_WORDS],
     left: &'a [u64; CELL_WORDS],
     users: usize,
     it: CellNo,
 ) -> Found
-    requires { ⌜ (users ≤ user-limit) × (it .0 < cell-limit) × Part (now left) (now rows) ⌝ }
+    requires { ⌜ (users ≤ user-limit) × (it .0 < cell-limit) × Part (now left) (now rows) × Columns (now rows) (now columns)
+        × Insides (now rows) (now left) users (it .0 / word-bits) (now inside) × So (marked (now left) (it .0)) ⌝ }
     ensures { λ r. ⌜ FoundIn (tie-at (now (rows .entry)) (now (left .entry)) users (it .0)) 0 (cells-of users) r ⌝ }
 {
-    let mut i = 0;
-    while i < users * ROW_WORDS {
-        let found = tie_in(rows, left, users, it, i);
+    let mut j = 0;
+    while j * WORD_BITS < users * ROW_WORDS {
+        let found = tie_among(rows, columns, inside, left, users, it, j);
         if let Found::At(other) = found {
             return Found::At(other);
         }
-        i += 1;
+        j += 1;
     }
     Found::Nothing
 }
@@ -109,17 +173,20 @@ fn tie<'a>(
 // No other grant of left fits it: single; else it dominates another: tied to the lowest such.
 pub fn judge<'a>(
     rows: &'a [u64; CELL_WORDS],
+    columns: &'a [u64; PLACE_WORDS],
+    inside: &'a [u64; COLUMN_WORDS],
     left: &'a [u64; CELL_WORDS],
     users: usize,
     it: CellNo,
 ) -> Verdict
-    requires { ⌜ Judgeable (now rows) (now left) users (it .0) ⌝ }
+    requires { ⌜ Judgeable (now rows) (now left) users (it .0) × Columns (now rows) (now columns)
+        × Insides (now rows) (now left) users (it .0 / word-bits) (now inside) ⌝ }
     ensures { λ r. ⌜ Judged (now (rows .entry)) (now (left .entry)) users (it .0) r ⌝ }
 {
-    if partners_below(rows, left, users, it, 2) == 1 {
+    if is_single(rows, columns, left, it) {
         return Verdict::Single;
     }
-    match tie(rows, left, users, it) {
+    match tie(rows, columns, inside, left, users, it) {
         Found::At(other) => Verdict::Tied(other),
         Found::Nothing => Verdict::Stays,
     }

@@ -7,12 +7,15 @@ use sheet::PermissionNo;
 use sheet::ROW_WORDS;
 use sheet::UserNo;
 ghost use mathlib.Core.Path.{_≡_};
-ghost use Prim.Native.Nat.{_+_, _*_, _/_, _%_, _^_, _≤_, _<_};
+ghost use mathlib.Core.List.{List};
+ghost use Prim.Native.Nat.{ℕ, _+_, _*_, _/_, _%_, _^_, _≤_, _<_};
+ghost use lib.ListN.{getD};
 ghost use Rattle.bits.specs.Bit.{bit, word-bits};
 ghost use Rattle.sheet.specs.Limits.{user-limit};
 ghost use Rattle.sheet.specs.Rows.{row-words, row-bits, cell};
-ghost use Rattle.grants.specs.CellPlaces.{marked, fit-in, grant-of};
+ghost use Rattle.grants.specs.CellPlaces.{cell-words, marked};
 ghost use Rattle.grants.specs.KernelArray.{Listed};
+ghost use Rattle.grants.specs.KernelList.{ListedTo};
 ghost use Rattle.grants.specs.KernelWalk.{NextFrom};
 
 // Grants in order: the cell of each by its number, and how many there are.
@@ -52,6 +55,22 @@ pub fn next_cell(words: &[u64; CELL_WORDS], users: usize, from: usize) -> usize
     n
 }
 
+// The cells of word i of a set, put in behind those that are there, as far as there is room. How many there are then.
+fn list_word(word: u64, i: usize, cells: &mut [u16; GRANT_LIMIT], start: usize) -> usize
+    requires { ⌜ i < cell-words ⌝ }
+    ensures { λ r. ⌜ ((left : List ℕ) → getD left i 0 ≡ word → ListedTo left (i * word-bits) (now (cells .entry)) start
+        → ListedTo left ((i + 1) * word-bits) (now (cells .exit)) r) ⌝ }
+{
+    let mut size = start;
+    let mut w = word;
+    while w != 0 && size < GRANT_LIMIT {
+        cells[size] = (i * WORD_BITS + bits::lowest(w)) as u16;
+        size += 1;
+        w = bits::without_lowest(w);
+    }
+    size
+}
+
 // The grants of a set in order. A set of more than GRANT_LIMIT, which no sheet has, is cut there.
 pub fn listed(left: &[u64; CELL_WORDS], users: usize) -> Kernel
     requires { ⌜ users ≤ user-limit ⌝ }
@@ -59,11 +78,10 @@ pub fn listed(left: &[u64; CELL_WORDS], users: usize) -> Kernel
 {
     let mut cells = [0; GRANT_LIMIT];
     let mut size = 0;
-    let mut n = next_cell(left, users, 0);
-    while n < users * ROW_BITS && size < GRANT_LIMIT {
-        cells[size] = n as u16;
-        size += 1;
-        n = next_cell(left, users, n + 1);
+    let mut i = 0;
+    while i < users * ROW_WORDS {
+        size = list_word(left[i], i, &mut cells, size);
+        i += 1;
     }
     Kernel { cells, size }
 }
@@ -83,7 +101,7 @@ pub fn permission_of(cell: u16) -> PermissionNo
 }
 
 // Whether a user holds a permission, as the rows say.
-fn holds(rows: &[u64], u: UserNo, p: PermissionNo) -> bool
+pub fn holds(rows: &[u64], u: UserNo, p: PermissionNo) -> bool
     requires { ⌜ u .0 * row-words + p .0 / word-bits < 2 ^ word-bits ⌝ }
     ensures { λ r. ⌜ r ≡ cell (now (rows .entry)) (u .0) (p .0) ⌝ }
 {
@@ -91,17 +109,6 @@ fn holds(rows: &[u64], u: UserNo, p: PermissionNo) -> bool
     let i = u.0 * ROW_WORDS + p / WORD_BITS;
     if i < rows.len() {
         bits::has(rows[i], p % WORD_BITS)
-    } else {
-        false
-    }
-}
-
-// Whether the grants at two cells fit.
-pub fn cells_fit(rows: &[u64], a: u16, b: u16) -> bool
-    ensures { λ r. ⌜ r ≡ fit-in (now (rows .entry)) (grant-of a) (grant-of b) ⌝ }
-{
-    if holds(rows, user_of(a), permission_of(b)) {
-        holds(rows, user_of(b), permission_of(a))
     } else {
         false
     }

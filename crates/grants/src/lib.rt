@@ -2,8 +2,11 @@
 mod cell;
 mod choice;
 mod column;
+mod counts;
 mod cover;
+mod domination;
 mod fit;
+mod inside;
 mod judgement;
 mod kernel;
 mod reduction;

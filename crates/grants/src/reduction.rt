@@ -1,5 +1,9 @@
 // The reduction: sweeps that remove singles and tie dominating grants, until one removes nothing.
 use crate::cell::CellNo;
+use crate::column::COLUMN_WORDS;
+use crate::column::PLACE_WORDS;
+use crate::column::columns_of;
+use crate::inside::insides;
 use crate::judgement::Verdict;
 use crate::judgement::judge;
 use bits::WORD_BITS;
@@ -9,14 +13,17 @@ use sheet::ROW_WORDS;
 ghost use mathlib.Core.Path.{_≡_};
 ghost use mathlib.Core.Bool.{So};
 ghost use mathlib.Core.List.{[], _∷_};
-ghost use Prim.Native.Nat.{_*_, _<_, _≤_};
+ghost use Prim.Native.Nat.{_*_, _/_, _<_, _≤_};
 ghost use lib.ListN.{length, getD};
+ghost use Rattle.bits.specs.Bit.{word-bits};
 ghost use Rattle.lists.specs.PassingBelow.{passing-below};
 ghost use Rattle.sheet.specs.Limits.{grant-limit};
 ghost use Rattle.sheet.specs.Rows.{row-words};
 ghost use Rattle.grants.specs.Reduction.{singles-of};
 ghost use Rattle.grants.specs.Log.{log-of};
 ghost use Rattle.grants.specs.CellPlaces.{marked};
+ghost use Rattle.grants.specs.Columns.{Columns};
+ghost use Rattle.grants.specs.Insides.{Insides};
 ghost use Rattle.grants.specs.NearCells.{cells-of};
 ghost use Rattle.grants.specs.ReductionResult.{Reducible, ReducedFrom};
 ghost use Rattle.grants.specs.ReductionWork.{work-of, word-cells, Ready, Visited, Settled, Removable, Removed};
@@ -55,6 +62,8 @@ fn remove<'a>(
 // One grant is judged against those remaining at that moment.
 fn visit<'a>(
     rows: &'a [u64; CELL_WORDS],
+    columns: &'a [u64; PLACE_WORDS],
+    inside: &'a [u64; COLUMN_WORDS],
     left: &'a mut [u64; CELL_WORDS],
     removed: &'a mut [u16; GRANT_LIMIT],
     partner: &'a mut [u16; GRANT_LIMIT],
@@ -62,12 +71,12 @@ fn visit<'a>(
     count: usize,
     it: CellNo,
 ) -> usize
-    requires { ⌜ Ready (now rows) users (work-of (now left) (now removed) (now partner) count)
-        × (it .0 < cells-of users) × So (marked (now left) (it .0)) ⌝ }
+    requires { ⌜ Ready (now rows) users (work-of (now left) (now removed) (now partner) count) × Columns (now rows) (now columns)
+        × (it .0 < cells-of users) × So (marked (now left) (it .0)) × Insides (now rows) (now left) users (it .0 / word-bits) (now inside) ⌝ }
     ensures { λ r. ⌜ Visited (now (rows .entry)) users (it .0 ∷ []) (work-of (now (left .entry)) (now (removed .entry)) (now (partner .entry)) count)
         (work-of (now (left .exit)) (now (removed .exit)) (now (partner .exit)) r) ⌝ }
 {
-    match judge(rows, left, users, it) {
+    match judge(rows, columns, inside, left, users, it) {
         Verdict::Stays => count,
         Verdict::Single => remove(left, removed, partner, count, it, it),
         Verdict::Tied(other) => remove(left, removed, partner, count, it, other),
@@ -77,6 +86,7 @@ fn visit<'a>(
 // The grants of word i are visited, in rising number.
 fn sweep_word<'a>(
     rows: &'a [u64; CELL_WORDS],
+    columns: &'a [u64; PLACE_WORDS],
     left: &'a mut [u64; CELL_WORDS],
     removed: &'a mut [u16; GRANT_LIMIT],
     partner: &'a mut [u16; GRANT_LIMIT],
@@ -84,16 +94,31 @@ fn sweep_word<'a>(
     count: usize,
     i: usize,
 ) -> usize
-    requires { ⌜ Ready (now rows) users (work-of (now left) (now removed) (now partner) count) × (i < users * row-words) ⌝ }
+    requires { ⌜ Ready (now rows) users (work-of (now left) (now removed) (now partner) count) × Columns (now rows) (now columns)
+        × (i < users * row-words) ⌝ }
     ensures { λ r. ⌜ Visited (now (rows .entry)) users (word-cells i (getD (now (left .entry)) i 0))
         (work-of (now (left .entry)) (now (removed .entry)) (now (partner .entry)) count)
         (work-of (now (left .exit)) (now (removed .exit)) (now (partner .exit)) r) ⌝ }
 {
-    let mut count = count;
     let mut w = left[i];
+    if w == 0 {
+        return count;
+    }
+    let mut count = count;
+    let inside = insides(rows, left, users, i);
     while w != 0 {
         let at = i * WORD_BITS + bits::lowest(w);
-        count = visit(rows, left, removed, partner, users, count, CellNo(at));
+        count = visit(
+            rows,
+            columns,
+            &inside,
+            left,
+            removed,
+            partner,
+            users,
+            count,
+            CellNo(at),
+        );
         w = bits::without_lowest(w);
     }
     count
@@ -102,13 +127,14 @@ fn sweep_word<'a>(
 // All remaining grants are visited, in rising number.
 fn sweep<'a>(
     rows: &'a [u64; CELL_WORDS],
+    columns: &'a [u64; PLACE_WORDS],
     left: &'a mut [u64; CELL_WORDS],
     removed: &'a mut [u16; GRANT_LIMIT],
     partner: &'a mut [u16; GRANT_LIMIT],
     users: usize,
     count: usize,
 ) -> usize
-    requires { ⌜ Ready (now rows) users (work-of (now left) (now removed) (now partner) count) ⌝ }
+    requires { ⌜ Ready (now rows) users (work-of (now left) (now removed) (now partner) count) × Columns (now rows) (now columns) ⌝ }
     ensures { λ r. ⌜ Visited (now (rows .entry)) users (passing-below (cells-of users) (marked (now (left .entry))))
         (work-of (now (left .entry)) (now (removed .entry)) (now (partner .entry)) count)
         (work-of (now (left .exit)) (now (removed .exit)) (now (partner .exit)) r) ⌝ }
@@ -116,7 +142,7 @@ fn sweep<'a>(
     let mut count = count;
     let mut i = 0;
     while i < users * ROW_WORDS {
-        count = sweep_word(rows, left, removed, partner, users, count, i);
+        count = sweep_word(rows, columns, left, removed, partner, users, count, i);
         i += 1;
     }
     count
@@ -125,17 +151,18 @@ fn sweep<'a>(
 // Sweeps repeat until one removes nothing.
 fn sweeps<'a>(
     rows: &'a [u64; CELL_WORDS],
+    columns: &'a [u64; PLACE_WORDS],
     left: &'a mut [u64; CELL_WORDS],
     removed: &'a mut [u16; GRANT_LIMIT],
     partner: &'a mut [u16; GRANT_LIMIT],
     users: usize,
 ) -> usize
-    requires { ⌜ Ready (now rows) users (work-of (now left) (now removed) (now partner) 0) × (now left ≡ now rows) ⌝ }
+    requires { ⌜ Ready (now rows) users (work-of (now left) (now removed) (now partner) 0) × Columns (now rows) (now columns) × (now left ≡ now rows) ⌝ }
     ensures { λ r. ⌜ Settled (now (rows .entry)) users (work-of (now (left .exit)) (now (removed .exit)) (now (partner .exit)) r) ⌝ }
 {
     let mut count = 0;
     loop {
-        let after = sweep(rows, left, removed, partner, users, count);
+        let after = sweep(rows, columns, left, removed, partner, users, count);
         if after == count {
             return after;
         }
@@ -171,7 +198,8 @@ pub fn reduce(rows: &[u64; CELL_WORDS], users: usize) -> Reduced
     let mut left = *rows;
     let mut removed = [0; GRANT_LIMIT];
     let mut partner = [0; GRANT_LIMIT];
-    let count = sweeps(rows, &mut left, &mut removed, &mut partner, users);
+    let columns = columns_of(rows);
+    let count = sweeps(rows, &columns, &mut left, &mut removed, &mut partner, users);
     let singles = count_singles(&removed, &partner, count);
     Reduced {
         left,

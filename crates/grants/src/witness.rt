@@ -1,8 +1,12 @@
 // The witness: the greedy choice from the kernel, and the singles.
 use crate::cell::CellNo;
+use crate::cell::ROW_BITS;
 use crate::choice::dropped;
 use crate::choice::fewest;
 use crate::column::columns_of;
+use crate::counts::first_counts;
+use crate::counts::recount;
+use crate::kernel::next_cell;
 use crate::sets::counted;
 use crate::sets::joined;
 use crate::sets::with_cell;
@@ -20,7 +24,7 @@ ghost use Rattle.grants.specs.WitnessSingles.{CellsOf};
 ghost use Rattle.grants.specs.WitnessRows.{ReducedTo, Witnessed};
 
 // The grants taken from a set one after the other, each with the fewest partners among those left, and dropped with them.
-fn chosen<'a>(
+fn chosen_by_counts<'a>(
     rows: &'a [u64; CELL_WORDS],
     kernel: &'a [u64; CELL_WORDS],
     users: usize,
@@ -30,22 +34,42 @@ fn chosen<'a>(
         → Chosen sheet (now (rows .entry)) (now (kernel .entry)) r) ⌝ }
 {
     let columns = columns_of(rows);
+    let mut counts = first_counts(rows, &columns, kernel, users);
     let mut left = *kernel;
     let mut taken = [0; CELL_WORDS];
     let mut count = 0;
     while count < GRANT_LIMIT {
-        let best = fewest(rows, &columns, &left, users);
+        let best = fewest(&left, &counts, users);
         let cell = best.cell;
         if best.partners == 0 {
             return taken;
         }
         let more = with_cell(taken, cell);
         let rest = dropped(rows, &left, users, cell);
+        recount(&mut counts, rows, &columns, &left, &rest, users);
         taken = more;
         left = rest;
         count += 1;
     }
     taken
+}
+
+// The same, with nothing to count where the set is empty.
+fn chosen<'a>(
+    rows: &'a [u64; CELL_WORDS],
+    kernel: &'a [u64; CELL_WORDS],
+    users: usize,
+) -> [u64; CELL_WORDS]
+    requires { ⌜ users ≤ user-limit ⌝ }
+    ensures { λ r. ⌜ ((sheet : Sheet) → Shown (now (rows .entry)) users sheet → Part (now (kernel .entry)) (now (rows .entry))
+        → Chosen sheet (now (rows .entry)) (now (kernel .entry)) r) ⌝ }
+{
+    let first = next_cell(kernel, users, 0);
+    if first < users * ROW_BITS {
+        chosen_by_counts(rows, kernel, users)
+    } else {
+        [0; CELL_WORDS]
+    }
 }
 
 // The cells of the grants that a log of removals has as single.

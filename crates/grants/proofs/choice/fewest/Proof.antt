@@ -1,62 +1,53 @@
--- `grants::choice::fewest`: the walk passes the remaining grants in order and keeps the best so far.
-use borrow.Author.Needs.{needs}
-use Prim.Native.Nat.{_*_, _-_}
+-- `grants::choice::fewest`: the walk passes the remaining grants in order, word by word, and keeps the best so far.
+use Prim.Native.Nat.{ℕ, _*_, _-_, _≤_}
 use native.Mathlib.Omega.{arith}
+use mathlib.Core.List.{List}
+use Rattle.bits.specs.Bit.{word-bits}
 use Rattle.sheet.specs.Limits.{user-limit}
 use Rattle.sheet.specs.Rows.{row-words, row-bits}
-use Rattle.grants.specs.WitnessWalk.{Walking, walk-starts, walk-goes-on, walk-ends}
+use Rattle.grants.specs.Counts.{Counted}
+use Rattle.grants.specs.WitnessWalk.{Walked, walk-starts, walk-ends}
 use Rattle.grants.proofs.choice.fewest.Statement.{statement}
 use Rattle.grants.proofs.choice.fewest.Tie as tie
 
 abbrev Inv-loop : tie.InvT-loop
-Inv-loop rows columns left users best₀ n₀ best n = Walking rows left users best n
+Inv-loop left counts users best₀ i₀ best i =
+    (i ≤ users * row-words) × ((rows : List ℕ) → Counted rows left users counts → Walked rows left users best (i * word-bits))
 
 abbrev μ-loop : tie.MeasureT-loop
-μ-loop rows columns left users best₀ n₀ best n = users * row-bits - n
-
-next-cell-requires : tie.Need-next-cell-requires Inv-loop μ-loop
-next-cell-requires c κs = omega arith
+μ-loop left counts users best₀ i₀ best i = users * row-words - i
 
 loop-holds : tie.Need-loop-holds Inv-loop μ-loop
-loop-holds c = walk-starts _ _ _ _ (c .next-cell .ensures)
+loop-holds c = (omega arith, λ rows counted. walk-starts _ _ _)
 
 mul-loop : tie.Need-mul-loop Inv-loop μ-loop
-unfolding user-limit
+unfolding user-limit row-words
 mul-loop c = omega arith
 
-partners-in-column-requires : tie.Need-partners-in-column-requires Inv-loop μ-loop
+better-in-word-requires : tie.Need-better-in-word-requires Inv-loop μ-loop
 unfolding user-limit row-words
-partners-in-column-requires c κs = (omega arith, c .before .before .before .before .pre .1)
+better-in-word-requires c κs = omega arith
 
-to-beat-requires : tie.Need-to-beat-requires Inv-loop μ-loop
-to-beat-requires c κs = tt
-
-better-requires : tie.Need-better-requires Inv-loop μ-loop
-better-requires c κs = search needs
-
-add-next-cell : tie.Need-add-next-cell Inv-loop μ-loop
-unfolding user-limit
-add-next-cell c = omega arith
-
-next-cell-requires-2 : tie.Need-next-cell-requires-2 Inv-loop μ-loop
-unfolding row-bits row-words
-next-cell-requires-2 c κs = omega arith
+add-i : tie.Need-add-i Inv-loop μ-loop
+unfolding user-limit row-words
+add-i c = omega arith
 
 loop-less : tie.Need-loop-less Inv-loop μ-loop
-loop-less c = omega (arith, c .next-cell2 .ensures .not-before)
+unfolding row-words
+loop-less c = omega arith
 
 loop-again : tie.Need-loop-again Inv-loop μ-loop
-unfolding row-bits row-words
+unfolding row-words
 loop-again c =
-    let given = c .before .before .before .before .before .before .before .pre in
-    let at = c .before .before .before .before .before .loop in
-    rw (c .before .better .ensures)
-    (walk-goes-on _ _ _ (at .best) (at .n) (at .inv) _ _ (given .0) (c .before .before .before .before .loop-test .taken)
-    (λ sheet shown part. rw (c .before .before .before .to-beat .ensures) at (c .before .before .partners-in-column .ensures _ sheet (given .0) shown part)) (c .next-cell2 .ensures))
+    let start = c .before .before .before in
+    let at = c .before .before .loop in
+    (omega arith, λ rows counted. c .better-in-word .ensures rows (start .args .users) (start .pre) (omega arith) counted (at .inv .1 rows counted))
 
 returns : tie.Need-returns Inv-loop μ-loop
 unfolding row-bits row-words
-returns c = let at = c .before .loop in walk-ends _ _ _ (at .best) (at .n) (at .inv) (omega (arith, at .inv .within))
+returns c rows counted =
+    let at = c .before .loop in
+    walk-ends _ _ _ (at .best) (at .i * word-bits) (at .inv .1 rows counted) (omega (arith, at .inv .0))
 
 pub fewest-spec : {M : Type 1} → statement M
 fewest-spec =
@@ -64,14 +55,10 @@ fewest-spec =
     (tie.spec
     Inv-loop
     μ-loop
-    next-cell-requires
     loop-holds
     mul-loop
-    to-beat-requires
-    partners-in-column-requires
-    better-requires
-    add-next-cell
-    next-cell-requires-2
+    better-in-word-requires
+    add-i
     loop-less
     loop-again
     returns)

@@ -3,40 +3,39 @@ use borrow.Author.Needs.{needs}
 use Prim.Native.Nat.{_<_}
 use native.Mathlib.Omega.{arith}
 use mathlib.Core.Path.{sym}
-use Rattle.sheet.specs.Limits.{grant-limit}
-use Rattle.sheet.specs.Rows.{row-words}
+use Rattle.sheet.specs.Rows.{row-words, row-bits}
 use Rattle.sheet.specs.CellLaws.{word-of, word-below, cell-set}
 use Rattle.grants.specs.CoverMembers.{class-words}
 use Rattle.grants.proofs.cover.add_asked.Statement.{statement}
 use Rattle.grants.proofs.cover.add_asked.Tie as tie
 
 below : (c : tie.Start) → word-of (c .args .c) (c .args .p) < class-words
-below c = word-below grant-limit (c .args .c) (c .args .p) (c .pre .0 .0) (c .pre .0 .1)
+below c = word-below row-bits (c .args .c) (c .args .p) (c .pre .0 .0) (c .pre .0 .1)
 
 mul-i : tie.Need-mul-i
 mul-i c = search needs
 
 add-i : tie.Need-add-i
-unfolding row-words grant-limit
+unfolding row-bits row-words
 add-i c = omega (arith, below c)
 
 mul-with : tie.Need-mul-with
-unfolding row-words grant-limit
+unfolding row-bits row-words
 mul-with c = omega (arith, below c)
 
 element-copy-out-with : tie.Need-element-copy-out-with
-unfolding row-words grant-limit
+unfolding row-bits row-words
 element-copy-out-with c = below c
 
 with-requires : tie.Need-with-requires
 with-requires c κs = search needs
 
 mul-asked : tie.Need-mul-asked
-unfolding row-words grant-limit
+unfolding row-bits row-words
 mul-asked c = omega (arith, below (c .before .before))
 
 element-write-asked : tie.Need-element-write-asked
-unfolding row-words grant-limit
+unfolding row-bits row-words
 element-write-asked c = below (c .before .before)
 
 returns : tie.Need-returns

@@ -4,7 +4,6 @@ use native.Mathlib.Omega.{arith}
 use mathlib.Core.Path.{_≡_}
 use lib.ListN.{length, getD}
 use Rattle.bits.specs.Bit.{word-bits}
-use Rattle.sheet.specs.Limits.{grant-limit}
 use Rattle.sheet.specs.Rows.{row-words, row-bits}
 use Rattle.grants.specs.CoverWords.{LacksAdded, no-lacks-added, lacks-word-added}
 use Rattle.grants.proofs.cover.add_lacked.Statement.{statement}
@@ -20,38 +19,38 @@ loop-holds : tie.Need-loop-holds Inv-loop μ-loop
 loop-holds c = (omega arith, no-lacks-added _ _ _ _)
 
 mul-word-at : tie.Need-mul-word-at Inv-loop μ-loop
-unfolding grant-limit
+unfolding row-bits row-words
 mul-word-at c = omega arith
 
 add-word-at : tie.Need-add-word-at Inv-loop μ-loop
-unfolding grant-limit row-words
+unfolding row-bits row-words
 add-word-at c = omega arith
 
 word-at-requires : tie.Need-word-at-requires Inv-loop μ-loop
 word-at-requires c κs = tt
 
 mul-i : tie.Need-mul-i Inv-loop μ-loop
-unfolding grant-limit
+unfolding row-bits row-words
 mul-i c = omega arith
 
 add-i : tie.Need-add-i Inv-loop μ-loop
-unfolding grant-limit row-words
+unfolding row-bits row-words
 add-i c = omega arith
 
 mul-lacked : tie.Need-mul-lacked Inv-loop μ-loop
-unfolding grant-limit row-words
+unfolding row-bits row-words
 mul-lacked c = omega arith
 
 element-copy-out-lacked : tie.Need-element-copy-out-lacked Inv-loop μ-loop
-unfolding grant-limit row-words
+unfolding row-bits row-words
 element-copy-out-lacked c = omega arith
 
 mul-lacked-2 : tie.Need-mul-lacked-2 Inv-loop μ-loop
-unfolding grant-limit row-words
+unfolding row-bits row-words
 mul-lacked-2 c = omega arith
 
 element-write-lacked : tie.Need-element-write-lacked Inv-loop μ-loop
-unfolding grant-limit row-words
+unfolding row-bits row-words
 element-write-lacked c = omega arith
 
 add-j : tie.Need-add-j Inv-loop μ-loop
@@ -63,7 +62,7 @@ unfolding row-words
 loop-less c = omega arith
 
 loop-again : tie.Need-loop-again Inv-loop μ-loop
-unfolding grant-limit row-words
+unfolding row-bits row-words
 loop-again c =
     let start = c .before .before .before .before .before in
     let at = c .before .before .before .loop in

@@ -1,37 +1,24 @@
--- `grants::cover::best_of`: the three groupings of the cells are those of their grants, and the one with fewest classes is kept.
+-- `grants::cover::best_of`: the groupings of the cells are those of the kernel, and the one with fewest classes is kept. The grouping by user is not needed, since it
+-- never has fewer classes than the grouping by fit.
 use borrow.Author.Needs.{needs}
-use Rattle.grants.specs.CoverArray.{best-of-cells}
+use Rattle.grants.specs.CoverArray.{held-cells, best-of-cells}
 use Rattle.grants.proofs.cover.best_of.Statement.{statement}
 use Rattle.grants.proofs.cover.best_of.Tie as tie
 
+grouped-by-permission-requires : tie.Need-grouped-by-permission-requires
+grouped-by-permission-requires c κs = search needs
+
 grouped-by-fit-requires : tie.Need-grouped-by-fit-requires
-grouped-by-fit-requires c κs = search needs
-
-grouped-by-key-requires : tie.Need-grouped-by-key-requires
-grouped-by-key-requires c κs = search needs
-
-grouped-by-key-requires-2 : tie.Need-grouped-by-key-requires-2
-grouped-by-key-requires-2 c κs = search needs
+grouped-by-fit-requires c κs = (c .before .before .before .pre, c .grouped-by-permission .ensures .0)
 
 with-fewer-requires : tie.Need-with-fewer-requires
 with-fewer-requires c κs = search needs
 
-with-fewer-requires-2 : tie.Need-with-fewer-requires-2
-with-fewer-requires-2 c κs = search needs
-
 returns : tie.Need-returns
-returns c users sheet shown =
-    let a = c .before .before .before .before .before .before .before .args in
-    let two = c .before .with-fewer .ensures _ _ _ (c .before .before .before .before .grouped-by-fit .ensures) (c .before .before .before .grouped-by-key .ensures) in
-    rw (best-of-cells shown (a .cells .now)) at (c .with-fewer2 .ensures _ _ _ two (c .before .before .grouped-by-key2 .ensures))
+returns c users sheet shown e =
+    let a = c .before .before .before .before .before .args in
+    rw (best-of-cells shown (a .cells .now) e) at
+    (c .with-fewer .ensures _ _ _ (c .before .grouped-by-fit .ensures (held-cells shown (a .cells .now) e)) (c .before .before .grouped-by-permission .ensures .1))
 
 pub best-of-spec : {M : Type 1} → statement M
-best-of-spec =
-    tie.close
-    (tie.spec
-    grouped-by-fit-requires
-    grouped-by-key-requires
-    grouped-by-key-requires-2
-    with-fewer-requires
-    with-fewer-requires-2
-    returns)
+best-of-spec = tie.close (tie.spec grouped-by-permission-requires grouped-by-fit-requires with-fewer-requires returns)

@@ -6,7 +6,6 @@ use mathlib.Core.Bool.{So}
 use borrow.Author.Tests.{not-true, not-false}
 use Rattle.bits.specs.Below.{every-below}
 use Rattle.bits.specs.Bit.{word-bits}
-use Rattle.sheet.specs.Limits.{grant-limit}
 use Rattle.sheet.specs.Rows.{row-words, row-bits}
 use Rattle.grants.specs.NearWordLaws.{every-in-word, every-next-word, every-word-fails}
 use Rattle.grants.specs.CoverWords.{held-at, held-word}
@@ -24,30 +23,30 @@ unfolding every-below
 loop-holds c = (omega arith, refl)
 
 mul-word-at : tie.Need-mul-word-at Inv-loop μ-loop
-unfolding grant-limit
+unfolding row-bits row-words
 mul-word-at c = omega arith
 
 add-word-at : tie.Need-add-word-at Inv-loop μ-loop
-unfolding grant-limit row-words
+unfolding row-bits row-words
 add-word-at c = omega arith
 
 word-at-requires : tie.Need-word-at-requires Inv-loop μ-loop
 word-at-requires c κs = tt
 
 mul-within : tie.Need-mul-within Inv-loop μ-loop
-unfolding grant-limit
+unfolding row-bits row-words
 mul-within c = omega arith
 
 add-within : tie.Need-add-within Inv-loop μ-loop
-unfolding grant-limit row-words
+unfolding row-bits row-words
 add-within c = omega arith
 
 mul-within-2 : tie.Need-mul-within-2 Inv-loop μ-loop
-unfolding grant-limit row-words
+unfolding row-bits row-words
 mul-within-2 c = omega arith
 
 element-copy-out-within : tie.Need-element-copy-out-within Inv-loop μ-loop
-unfolding grant-limit row-words
+unfolding row-bits row-words
 element-copy-out-within c = omega arith
 
 within-requires : tie.Need-within-requires Inv-loop μ-loop

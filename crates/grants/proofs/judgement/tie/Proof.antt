@@ -1,4 +1,4 @@
--- `grants::judgement::tie`: none of the words passed has a tie, so the first that has one has the lowest.
+-- `grants::judgement::tie`: none of the users' words before those at word j of the columns has a tie, so the first found is the lowest.
 use borrow.Author.Needs.{needs}
 use Prim.Native.Nat.{_*_, _-_, _≤_}
 use native.Mathlib.Omega.{arith}
@@ -6,59 +6,65 @@ use mathlib.Core.Path.{_≡_}
 use Rattle.bits.specs.Bit.{word-bits}
 use Rattle.sheet.specs.Limits.{user-limit}
 use Rattle.sheet.specs.Rows.{row-words}
+use Rattle.grants.specs.Columns.{column-words}
 use Rattle.grants.specs.NearCells.{tie-at}
+use Rattle.grants.specs.Misfits.{words-before}
 use Rattle.grants.specs.ReductionVerdict.{NoneIn}
 use Rattle.grants.specs.NearTieLaws.{none-then-none, none-then-lowest, lowest-of-all}
 use Rattle.grants.proofs.judgement.tie.Statement.{statement}
 use Rattle.grants.proofs.judgement.tie.Tie as tie
 
 abbrev Inv-loop : tie.InvT-loop
-Inv-loop rows left users it i₀ i = (i ≤ users * row-words) × NoneIn (tie-at rows left users (it .0)) 0 (i * word-bits)
+Inv-loop rows columns inside left users it j₀ j = (j ≤ column-words) × NoneIn (tie-at rows left users (it .0)) 0 (words-before users j * word-bits)
 
 abbrev μ-loop : tie.MeasureT-loop
-μ-loop rows left users it i₀ i = users * row-words - i
+μ-loop rows columns inside left users it j₀ j = users * row-words - j * word-bits
 
 loop-holds : tie.Need-loop-holds Inv-loop μ-loop
 loop-holds c = (omega arith, record { fails = λ m from to. absurd (omega arith) })
 
 mul-loop : tie.Need-mul-loop Inv-loop μ-loop
-unfolding user-limit
+unfolding user-limit row-words
 mul-loop c = omega arith
 
-tie-in-requires : tie.Need-tie-in-requires Inv-loop μ-loop
+mul-loop-2 : tie.Need-mul-loop-2 Inv-loop μ-loop
+unfolding user-limit row-words
+mul-loop-2 c = omega arith
+
+tie-among-requires : tie.Need-tie-among-requires Inv-loop μ-loop
 unfolding row-words
-tie-in-requires c κs = search needs
+tie-among-requires c κs = search needs
 
 enum-known-found : tie.Need-enum-known-found Inv-loop μ-loop
 enum-known-found c = search needs
 
 returns : tie.Need-returns Inv-loop μ-loop
-unfolding row-words
 returns c =
     lowest-of-all (omega arith)
     (none-then-lowest (omega arith) (c .before .before .before .before .before .loop .inv .1)
-    (rw (c .before .found .given .1) at (c .before .before .before .tie-in .ensures)))
+    (rw (c .before .found .given .1) at (c .before .before .before .tie-among .ensures)))
 
 enum-told : tie.Need-enum-told Inv-loop μ-loop
 enum-told c = search needs
 
-add-i : tie.Need-add-i Inv-loop μ-loop
-unfolding user-limit
-add-i c = omega arith
+add-j : tie.Need-add-j Inv-loop μ-loop
+unfolding user-limit row-words
+add-j c = omega arith
 
 loop-less : tie.Need-loop-less Inv-loop μ-loop
-unfolding row-words
+unfolding user-limit row-words
 loop-less c = omega arith
 
 loop-again : tie.Need-loop-again Inv-loop μ-loop
-unfolding row-words
-loop-again c = (omega arith, none-then-none (c .before .before .before .before .loop .inv .1) (rw (c .enum-told .given .1) at (c .before .before .tie-in .ensures)))
+unfolding user-limit row-words
+loop-again c = (omega arith, none-then-none (c .before .before .before .before .loop .inv .1) (rw (c .enum-told .given .1) at (c .before .before .tie-among .ensures)))
 
 returns-2 : tie.Need-returns-2 Inv-loop μ-loop
 unfolding row-words
 returns-2 c =
     let at = c .before .loop in
-    let end : at .i ≡ c .before .before .args .users * row-words = omega arith in
+    let users = c .before .before .args .users in
+    let end : words-before users (at .j) ≡ users * row-words = omega arith in
     rw end at (at .inv .1)
 
 pub tie-spec : {M : Type 1} → statement M
@@ -69,11 +75,12 @@ tie-spec =
     μ-loop
     loop-holds
     mul-loop
-    tie-in-requires
+    mul-loop-2
+    tie-among-requires
     enum-known-found
     returns
     enum-told
-    add-i
+    add-j
     loop-less
     loop-again
     returns-2)

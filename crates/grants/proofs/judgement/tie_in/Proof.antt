@@ -1,52 +1,31 @@
--- `grants::judgement::tie_in`: unless all cells of the word fit the judged one, none of them is dominated. Else the positions of w are the cells of the word still to be tried. The lowest is tried first, so the first that passes is the lowest.
+-- `grants::judgement::tie_in`: the positions of w are the candidates still to be tried. Without a misfit the lowest is the lowest tie; a misfit fails it and all others that its user holds.
 use borrow.Author.Needs.{needs}
-use Prim.Native.Nat.{ℕ}
 use native.Mathlib.Omega.{arith}
-use mathlib.Core.Path.{sym, _∙_}
-use mathlib.Core.Bool.{Bool, not, _&&_}
-use mathlib.Core.List.{List}
-use borrow.Author.Tests.{not-true}
-use lib.Dec.{eqb}
+use Prim.Native.Nat.{_+_, _*_, _<_}
+use mathlib.Core.Path.{_≡_}
+use mathlib.Core.Bool.{So}
+use Rattle.bits.specs.Bit.{word-bits}
 use Rattle.sheet.specs.Limits.{user-limit}
 use Rattle.sheet.specs.Rows.{row-words}
-use Rattle.grants.specs.NearCells.{dominates-in, tie-at}
-use Rattle.grants.specs.NearTieLaws.{Untried, all-untried, lowest-untried, one-tried, none-in-word, none-untried}
-use Rattle.grants.specs.NearWordLaws.{unless-whole-word-fits}
+use Rattle.grants.specs.NearTieLaws.{Untried, lowest-untried, none-untried}
+use Rattle.grants.specs.Misfits.{misfit-at}
+use Rattle.grants.specs.MisfitLaws.{unless-misfit}
+use Rattle.grants.specs.CandidateLaws.{misfit-tried, fewer-untried}
 use Rattle.grants.proofs.judgement.tie_in.Statement.{statement}
 use Rattle.grants.proofs.judgement.tie_in.Tie as tie
 
--- what a tie asks of another cell
-abbrev tied : List ℕ → List ℕ → ℕ → ℕ → ℕ → Bool
-tied rows left users it n = not (eqb n it) && dominates-in rows left users it n
-
 abbrev Inv-loop : tie.InvT-loop
-Inv-loop rows left users it i w₀ w = Untried left (tied rows left users (it .0)) i w
+Inv-loop rows columns left users it i w₀ w = Untried rows left users (it .0) i w
 
 abbrev μ-loop : tie.MeasureT-loop
-μ-loop rows left users it i w₀ w = w
+μ-loop rows columns left users it i w₀ w = w
 
-mul-w : tie.Need-mul-w Inv-loop μ-loop
+candidates-requires : tie.Need-candidates-requires Inv-loop μ-loop
 unfolding user-limit row-words
-mul-w c = omega arith
-
-element-copy-out-w : tie.Need-element-copy-out-w Inv-loop μ-loop
-unfolding user-limit row-words
-element-copy-out-w c = omega arith
-
-all-fit-requires : tie.Need-all-fit-requires Inv-loop μ-loop
-unfolding user-limit row-words
-all-fit-requires c κs = search needs
-
-returns : tie.Need-returns Inv-loop μ-loop
-returns c =
-    let a = c .before .before .before .args in
-    none-in-word (a .i) (tie-at (a .rows .now) (a .left .now) (a .users) (a .it .0))
-    (unless-whole-word-fits (a .rows .now) (a .left .now) (a .users) (a .it .0) (a .i) (c .before .before .before .pre .3) (omega arith)
-    (sym (c .before .all-fit .ensures) ∙ not-true (c .before .all-fit .result) (c .if1 .taken)))
+candidates-requires c κs = search needs
 
 loop-holds : tie.Need-loop-holds Inv-loop μ-loop
-loop-holds c =
-    let a = c .before .before .before .args in all-untried (a .left .now) (tied (a .rows .now) (a .left .now) (a .users) (a .it .0)) (a .i)
+loop-holds c = c .candidates .ensures (c .before .args .users) (c .before .pre .2)
 
 mul-other : tie.Need-mul-other Inv-loop μ-loop
 unfolding user-limit row-words
@@ -59,33 +38,71 @@ add-other : tie.Need-add-other Inv-loop μ-loop
 unfolding user-limit row-words
 add-other c = omega (arith, c .lowest .ensures .within)
 
-ties-requires : tie.Need-ties-requires Inv-loop μ-loop
+misfit-requires : tie.Need-misfit-requires Inv-loop μ-loop
 unfolding user-limit row-words
-ties-requires c κs = omega (arith, c .lowest .ensures .within)
+misfit-requires c κs = let s = c .before .before .before .before in (s .pre .0, s .pre .1, omega (arith, c .lowest .ensures .within), s .pre .4)
+
+mul-if1 : tie.Need-mul-if1 Inv-loop μ-loop
+unfolding user-limit row-words
+mul-if1 c = omega arith
+
+returns : tie.Need-returns Inv-loop μ-loop
+unfolding user-limit row-words
+returns c =
+    let a = c .before .before .before .before .before .before .args in
+    let low = c .before .before .lowest in
+    let all : c .before .misfit .result ≡ a .users * row-words = omega arith in
+    lowest-untried (a .rows .now) (a .left .now) (a .users) (a .it .0) (a .i) (c .before .before .before .before .loop .inv) (low .ensures)
+    (unless-misfit (a .rows .now) (a .left .now) (a .it .0) (a .i * word-bits + low .result) (a .users) (rw all at (c .before .misfit .ensures .earlier)))
+
+mul-apart : tie.Need-mul-apart Inv-loop μ-loop
+unfolding user-limit row-words
+mul-apart c = omega (arith, c .before .misfit .ensures .within)
+
+add-apart : tie.Need-add-apart Inv-loop μ-loop
+unfolding user-limit row-words
+add-apart c = omega (arith, c .before .misfit .ensures .within)
+
+mul-apart-2 : tie.Need-mul-apart-2 Inv-loop μ-loop
+unfolding user-limit row-words
+mul-apart-2 c = omega (arith, c .before .misfit .ensures .within)
+
+element-copy-out-apart : tie.Need-element-copy-out-apart Inv-loop μ-loop
+unfolding user-limit row-words
+element-copy-out-apart c = omega (arith, c .before .misfit .ensures .within)
+
+apart-requires : tie.Need-apart-requires Inv-loop μ-loop
+apart-requires c κs = tt
+
+-- the word that was found is one of the users', and a misfit
+found : (c : tie.Else1 Inv-loop μ-loop) →
+    let a = c .before .before .before .before .before .before .args in
+    let j = c .before .misfit .result in
+    (j < a .users * row-words) × So (misfit-at (a .rows .now) (a .left .now) (a .it .0) (a .i * word-bits + c .before .before .lowest .result) j)
+unfolding row-words
+found c =
+    let within : c .before .misfit .result < c .before .before .before .before .before .before .args .users * row-words = omega (arith, c .if1 .left, c .before .misfit .ensures .within) in
+    (within, c .before .misfit .ensures .passes within)
+
+loop-less : tie.Need-loop-less Inv-loop μ-loop
+unfolding row-words
+loop-less c =
+    let a = c .before .before .before .before .before .before .before .before .args in
+    fewer-untried (a .rows .now) (a .left .now) (a .users) (a .it .0) (a .i) (c .before .before .before .before .before .before .loop .w) (c .before .before .before .before .lowest .result)
+    (c .before .before .before .misfit .result) (c .apart .result) (c .before .before .before .before .lowest .ensures) (found (c .before .before) .1) (c .apart .ensures .1) (c .apart .ensures .0)
+
+loop-again : tie.Need-loop-again Inv-loop μ-loop
+unfolding row-words
+loop-again c =
+    let a = c .before .before .before .before .before .before .before .before .args in
+    misfit-tried (a .rows .now) (a .left .now) (a .users) (a .it .0) (a .i) (c .before .before .before .before .before .before .loop .w) (c .before .before .before .before .lowest .result)
+    (c .before .before .before .misfit .result) (c .apart .result) (c .before .before .before .before .lowest .ensures) (found (c .before .before) .1) (c .apart .ensures .1) (found (c .before .before) .0)
+    (c .before .before .before .before .before .before .loop .inv)
 
 returns-2 : tie.Need-returns-2 Inv-loop μ-loop
 returns-2 c =
-    let a = c .before .before .before .before .before .before .before .before .args in
-    lowest-untried (a .left .now) (tied (a .rows .now) (a .left .now) (a .users) (a .it .0)) (a .i) (c .before .before .before .before .loop .inv)
-    (c .before .before .lowest .ensures) (sym (c .before .ties .ensures) ∙ c .if2 .taken)
-
-without-lowest-requires : tie.Need-without-lowest-requires Inv-loop μ-loop
-without-lowest-requires c κs = omega arith
-
-loop-less : tie.Need-loop-less Inv-loop μ-loop
-loop-less c = c .without-lowest .ensures .less
-
-loop-again : tie.Need-loop-again Inv-loop μ-loop
-loop-again c =
-    let a = c .before .before .before .before .before .before .before .before .before .args in
-    one-tried (a .left .now) (tied (a .rows .now) (a .left .now) (a .users) (a .it .0)) (a .i) (c .before .before .before .before .before .loop .inv)
-    (c .before .before .before .lowest .ensures) (sym (c .before .before .ties .ensures) ∙ c .before .if2 .left) (c .without-lowest .ensures)
-
-returns-3 : tie.Need-returns-3 Inv-loop μ-loop
-returns-3 c =
-    let a = c .before .before .before .before .before .args in
-    none-untried (a .left .now) (tied (a .rows .now) (a .left .now) (a .users) (a .it .0)) (a .i)
-    (rw (c .loop-test .left) at (c .before .loop .inv))
+    let a = c .before .before .before .args in
+    none-untried (a .rows .now) (a .left .now) (a .users) (a .it .0) (a .i) (rw (c .loop-test .left) at (c .before .loop .inv))
 
 pub tie-in-spec : {M : Type 1} → statement M
 tie-in-spec =
@@ -93,17 +110,19 @@ tie-in-spec =
     (tie.spec
     Inv-loop
     μ-loop
-    mul-w
-    element-copy-out-w
-    all-fit-requires
-    returns
+    candidates-requires
     loop-holds
     mul-other
     lowest-requires
     add-other
-    ties-requires
-    returns-2
-    without-lowest-requires
+    misfit-requires
+    mul-if1
+    returns
+    mul-apart
+    add-apart
+    mul-apart-2
+    element-copy-out-apart
+    apart-requires
     loop-less
     loop-again
-    returns-3)
+    returns-2)

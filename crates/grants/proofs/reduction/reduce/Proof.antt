@@ -8,11 +8,15 @@ use Rattle.grants.specs.ReductionResult.{reducible-ready, settled-reduce
 use Rattle.grants.proofs.reduction.reduce.Statement.{statement}
 use Rattle.grants.proofs.reduction.reduce.Tie as tie
 
+columns-of-requires : tie.Need-columns-of-requires
+columns-of-requires c κs = tt
+
 sweeps-requires : tie.Need-sweeps-requires
 unfolding grant-limit
 sweeps-requires c κs = (
-  reducible-ready (replicate grant-limit 0) (replicate grant-limit 0) (c .before .before .before .before .pre)
+  reducible-ready (replicate grant-limit 0) (replicate grant-limit 0) (c .before .before .before .before .before .before .pre)
       (length-replicate {A = ℕ} grant-limit 0) (length-replicate {A = ℕ} grant-limit 0),
+  c .before .before .before .before .columns-of .ensures,
   refl,
 )
 
@@ -23,4 +27,4 @@ returns : tie.Need-returns
 returns c = settled-reduced (c .before .before .before .sweeps .ensures) (c .count-singles .ensures)
 
 pub reduce-spec : {M : Type 1} → statement M
-reduce-spec = tie.close (tie.spec sweeps-requires count-singles-requires returns)
+reduce-spec = tie.close (tie.spec columns-of-requires sweeps-requires count-singles-requires returns)

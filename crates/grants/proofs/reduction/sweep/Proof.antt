@@ -11,26 +11,28 @@ use Rattle.grants.proofs.reduction.sweep.Statement.{statement}
 use Rattle.grants.proofs.reduction.sweep.Tie as tie
 
 abbrev Inv-loop : tie.InvT-loop
-Inv-loop rows left₀ removed₀ partner₀ users count count₀ i₀ left removed partner count' i =
+Inv-loop rows columns left₀ removed₀ partner₀ users count count₀ i₀ left removed partner count' i =
     (i ≤ users * row-words) × Swept rows users i (work-of left₀ removed₀ partner₀ count) (work-of left removed partner count')
 
 abbrev μ-loop : tie.MeasureT-loop
-μ-loop rows left₀ removed₀ partner₀ users count count₀ i₀ left removed partner count' i = users * row-words - i
+μ-loop rows columns left₀ removed₀ partner₀ users count count₀ i₀ left removed partner count' i = users * row-words - i
 
 loop-holds : tie.Need-loop-holds Inv-loop μ-loop
-loop-holds c = (omega arith, swept-none (c .pre))
+loop-holds c = (omega arith, swept-none (c .pre .0))
 
 mul-loop : tie.Need-mul-loop Inv-loop μ-loop
 unfolding user-limit
-mul-loop c = omega (arith, c .before .pre .few-users)
+mul-loop c = omega (arith, c .before .pre .0 .few-users)
 
 sweep-word-requires : tie.Need-sweep-word-requires Inv-loop μ-loop
 unfolding row-words
-sweep-word-requires c κs = (visited-ready (c .before .before .before .before .before .pre) (c .before .before .before .before .loop .inv .1), omega arith)
+sweep-word-requires c κs =
+    let given = c .before .before .before .before .before .pre in
+    (visited-ready (given .0) (c .before .before .before .before .loop .inv .1), given .1, omega arith)
 
 add-i : tie.Need-add-i Inv-loop μ-loop
 unfolding user-limit
-add-i c = omega (arith, c .before .before .before .before .before .before .pre .few-users)
+add-i c = omega (arith, c .before .before .before .before .before .before .pre .0 .few-users)
 
 loop-less : tie.Need-loop-less Inv-loop μ-loop
 unfolding row-words

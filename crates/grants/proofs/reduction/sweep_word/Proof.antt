@@ -1,20 +1,23 @@
--- `grants::reduction::sweep_word`: the cells of the word still to be visited are at the positions of w, and remain. The lowest is visited next, and dropped.
+-- `grants::reduction::sweep_word`: the cells of the word still to be visited are at the positions of w, and remain. The lowest is visited next, and dropped. The words that they can be tied to stay the same.
 use native.Mathlib.Omega.{arith}
-use lib.Arith.{digits-lt}
+use lib.Arith.{digits-lt, digits-div}
 use lib.ListN.{getD}
 use Rattle.sheet.specs.Limits.{user-limit}
 use Rattle.sheet.specs.Rows.{row-words}
+use Rattle.grants.specs.Insides.{Insides}
+use Rattle.grants.specs.InsideLaws.{insides-found, insides-kept}
 use Rattle.grants.specs.ReductionWork.{work-of, word-cells}
-use Rattle.grants.specs.ReductionSweepLaws.{Sweeping, sweeping-at-first, sweeping-next, sweeping-done}
+use Rattle.grants.specs.ReductionSweepLaws.{Sweeping, sweeping-at-first, sweeping-next, sweeping-done, swept-empty}
 use Rattle.grants.proofs.reduction.sweep_word.Statement.{statement}
 use Rattle.grants.proofs.reduction.sweep_word.Tie as tie
 
 abbrev Inv-loop : tie.InvT-loop
-Inv-loop rows left₀ removed₀ partner₀ users count i count₀ w₀ left removed partner count' w =
+Inv-loop rows columns left₀ removed₀ partner₀ users count i w₀ count₀ inside left removed partner w count' =
     Sweeping rows users i (word-cells i (getD left₀ i 0)) (work-of left₀ removed₀ partner₀ count) (work-of left removed partner count') w
+    × Insides rows left users i inside
 
 abbrev μ-loop : tie.MeasureT-loop
-μ-loop rows left₀ removed₀ partner₀ users count i count₀ w₀ left removed partner count' w = w
+μ-loop rows columns left₀ removed₀ partner₀ users count i w₀ count₀ inside left removed partner w count' = w
 
 mul-w : tie.Need-mul-w Inv-loop μ-loop
 unfolding user-limit row-words
@@ -24,25 +27,43 @@ element-copy-out-w : tie.Need-element-copy-out-w Inv-loop μ-loop
 unfolding user-limit row-words
 element-copy-out-w c = omega (arith, c .pre .0 .few-users)
 
+returns : tie.Need-returns Inv-loop μ-loop
+returns c =
+    swept-empty (c .before .before .args .i) (c .before .before .pre .0) (c .if1 .taken)
+
+insides-requires : tie.Need-insides-requires Inv-loop μ-loop
+unfolding user-limit row-words
+insides-requires c κs = omega (arith, c .before .before .before .pre .0 .few-users)
+
 loop-holds : tie.Need-loop-holds Inv-loop μ-loop
-loop-holds c = sweeping-at-first (c .before .pre .0)
+unfolding row-words
+loop-holds c =
+    let s = c .before .before .before .before in
+    (sweeping-at-first (s .pre .0), insides-found (s .args .users) (s .args .i) (c .insides .result) (s .pre .0 .part) (s .pre .2) (c .insides .ensures))
 
 mul-at : tie.Need-mul-at Inv-loop μ-loop
 unfolding user-limit row-words
-mul-at c = omega (arith, c .before .before .before .pre .0 .few-users)
+mul-at c = omega (arith, c .before .before .before .before .before .before .pre .0 .few-users)
 
 lowest-requires : tie.Need-lowest-requires Inv-loop μ-loop
 lowest-requires c κs = omega arith
 
 add-at : tie.Need-add-at Inv-loop μ-loop
 unfolding user-limit row-words
-add-at c = omega (arith, c .before .before .before .before .pre .0 .few-users, c .lowest .ensures .within)
+add-at c = omega (arith, c .before .before .before .before .before .before .before .pre .0 .few-users, c .lowest .ensures .within)
 
 visit-requires : tie.Need-visit-requires Inv-loop μ-loop
 visit-requires c κs =
-    let at = c .before .before .before .before .before .loop .inv in
-    let low = c .before .before .before .lowest .ensures in
-    (at .ready, digits-lt (c .before .before .before .before .before .before .before .pre .1) (low .within), at .set (c .before .before .before .lowest .result) (low .within) (low .holds))
+    let at = c .before .before .before .before .before .before .loop .inv in
+    let low = c .before .before .before .before .lowest in
+    let given = c .before .before .before .before .before .before .before .before .before .before .before .pre in
+    let i = c .before .before .before .before .before .before .before .before .before .before .before .args .i in (
+      at .0 .ready,
+      given .1,
+      digits-lt (given .2) (low .ensures .within),
+      at .0 .set (low .result) (low .ensures .within) (low .ensures .holds),
+      rw (digits-div i (low .ensures .within)) (at .1),
+    )
 
 without-lowest-requires : tie.Need-without-lowest-requires Inv-loop μ-loop
 without-lowest-requires c κs = omega arith
@@ -52,10 +73,12 @@ loop-less c = c .without-lowest .ensures .less
 
 loop-again : tie.Need-loop-again Inv-loop μ-loop
 loop-again c =
-    sweeping-next (c .before .before .before .before .before .before .before .loop .inv) (c .before .before .before .before .before .lowest .ensures) (c .before .visit .ensures) (c .without-lowest .ensures)
+    let at = c .before .before .before .before .before .before .before .before .loop .inv in
+    let low = c .before .before .before .before .before .before .lowest .ensures in
+    (sweeping-next (at .0) low (c .before .visit .ensures) (c .without-lowest .ensures), insides-kept (low .within) (at .1) (c .before .visit .ensures))
 
-returns : tie.Need-returns Inv-loop μ-loop
-returns c = sweeping-done (rw (c .loop-test .left) at (c .before .loop .inv))
+returns-2 : tie.Need-returns-2 Inv-loop μ-loop
+returns-2 c = sweeping-done (rw (c .loop-test .left) at (c .before .loop .inv .0))
 
 pub sweep-word-spec : {M : Type 1} → statement M
 sweep-word-spec =
@@ -65,6 +88,8 @@ sweep-word-spec =
     μ-loop
     mul-w
     element-copy-out-w
+    returns
+    insides-requires
     loop-holds
     mul-at
     lowest-requires
@@ -73,4 +98,4 @@ sweep-word-spec =
     without-lowest-requires
     loop-less
     loop-again
-    returns)
+    returns-2)

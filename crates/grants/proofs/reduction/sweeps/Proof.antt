@@ -9,20 +9,20 @@ use Rattle.grants.proofs.reduction.sweeps.Statement.{statement}
 use Rattle.grants.proofs.reduction.sweeps.Tie as tie
 
 abbrev Inv-loop : tie.InvT-loop
-Inv-loop rows left₀ removed₀ partner₀ users count₀ left removed partner count = Settling rows users (work-of left removed partner count)
+Inv-loop rows columns left₀ removed₀ partner₀ users count₀ left removed partner count = Settling rows users (work-of left removed partner count)
 
 abbrev μ-loop : tie.MeasureT-loop
-μ-loop rows left₀ removed₀ partner₀ users count₀ left removed partner count = grant-limit - count
+μ-loop rows columns left₀ removed₀ partner₀ users count₀ left removed partner count = grant-limit - count
 
 loop-holds : tie.Need-loop-holds Inv-loop μ-loop
 loop-holds c =
     record {
       ready = c .pre .0;
-      pending = λ sheet shown. rw (c .pre .1) (pending-at-first shown (c .args .removed .now) (c .args .partner .now));
+      pending = λ sheet shown. rw (c .pre .2) (pending-at-first shown (c .args .removed .now) (c .args .partner .now));
     }
 
 sweep-requires : tie.Need-sweep-requires Inv-loop μ-loop
-sweep-requires c κs = c .before .before .before .loop .inv .ready
+sweep-requires c κs = (c .before .before .before .loop .inv .ready, c .before .before .before .before .pre .1)
 
 returns : tie.Need-returns Inv-loop μ-loop
 returns c = settling-done (c .before .before .before .before .before .loop .inv) (c .before .sweep .ensures) (c .if1 .taken)

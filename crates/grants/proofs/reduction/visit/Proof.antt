@@ -18,7 +18,7 @@ enum-told-2 c = search needs
 remove-requires : tie.Need-remove-requires
 remove-requires c κs =
     let given = c .before .before .before .before .before .before .before .pre in
-    removable (given .0) (given .1) (given .2) (given .1)
+    removable (given .0) (given .2) (given .3) (given .2)
 
 enum-known-other : tie.Need-enum-known-other
 enum-known-other c = search needs
@@ -31,7 +31,7 @@ judged-tied c = rw (c .other .given .1) at (c .before .before .judge .ensures)
 remove-requires-2 : tie.Need-remove-requires-2
 remove-requires-2 c κs =
     let given = c .before .before .before .before .before .before .before .before .pre in
-    removable (given .0) (given .1) (given .2) (judged-tied (c .before .before .before .before) .named .0)
+    removable (given .0) (given .2) (given .3) (judged-tied (c .before .before .before .before) .named .0)
 
 returns : tie.Need-returns
 returns c =
@@ -40,12 +40,12 @@ returns c =
 returns-2 : tie.Need-returns-2
 returns-2 c =
     let given = c .before .before .before .before .before .before .before .before .pre in
-    visit-single (given .0) (given .1) (given .2) (rw (c .before .before .before .before .enum-told2 .given .1) at (c .before .before .before .before .before .before .judge .ensures)) (c .remove .ensures)
+    visit-single (given .0) (given .2) (given .3) (rw (c .before .before .before .before .enum-told2 .given .1) at (c .before .before .before .before .before .before .judge .ensures)) (c .remove .ensures)
 
 returns-3 : tie.Need-returns-3
 returns-3 c =
     let given = c .before .before .before .before .before .before .before .before .before .pre in
-    visit-tied (given .0) (given .1) (given .2) (judged-tied (c .before .before .before .before .before)) (c .remove2 .ensures)
+    visit-tied (given .0) (given .2) (given .3) (judged-tied (c .before .before .before .before .before)) (c .remove2 .ensures)
 
 pub visit-spec : {M : Type 1} → statement M
 visit-spec =
