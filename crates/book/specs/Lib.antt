@@ -17,8 +17,10 @@ pub mod ListedWritten
 pub mod DigitLaws
 pub mod DigitsWritten
 pub mod NameLaws
+pub mod NextSet
 pub mod CellsText
 pub mod CellsWritten
+pub mod FourCells
 pub mod CountsText
 pub mod CountsLaws
 pub mod LaidLaws
@@ -27,6 +29,7 @@ pub mod ShownLaws
 pub mod WitnessText
 pub mod BookRows
 pub mod Measured
+pub mod SkippedParts
 pub mod DigitsMeasured
 pub mod LengthsMeasured
 pub mod BookMeasured

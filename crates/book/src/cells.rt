@@ -1,4 +1,5 @@
 // Rows of cells, `1` or `0` for each.
+use crate::fours::put_fours;
 use bits::WORD_BITS;
 use sheet::ROW_WORDS;
 ghost use mathlib.Core.Path.{_≡_};
@@ -35,16 +36,18 @@ fn put_cell(out: &mut [u8], cell: bool) -> usize
     2
 }
 
-// Writes the first `count` cells of a row, a comma before each.
+// Writes the first `count` cells of a row, a comma before each. A row is one word.
 pub fn put_cells(out: &mut [u8], words: &[u64], row: usize, count: usize) -> usize
     requires { ⌜ (count ≤ row-bits) × ((row + 1) * row-words ≤ length (now words)) ⌝ }
     requires { ⌜ length (cells-text (now words) row count) ≤ length (now out) ⌝ }
     ensures { λ r. ⌜ Written (cells-text (now (words .entry)) row count) (now (out .entry)) (now (out .exit)) r ⌝ }
 {
-    let mut at = 0;
-    let mut i = 0;
+    let word = words[row * ROW_WORDS];
+    let fours = count / 4;
+    let mut at = put_fours(out, word, fours);
+    let mut i = 4 * fours;
     while i < count {
-        let cell = cell_at(words, row, i);
+        let cell = bits::has(word, i);
         at += put_cell(&mut out[at..], cell);
         i += 1;
     }

@@ -1,5 +1,5 @@
 // Block 4: the witness, in grant order.
-use crate::cells::cell_at;
+use crate::next::next_set;
 use crate::put::put_bytes;
 use crate::put::put_field;
 use sheet::Layout;
@@ -13,12 +13,12 @@ ghost use lib.ListN.{length};
 ghost use Rattle.lists.specs.Listed.{listed};
 ghost use Rattle.sheet.specs.Text.{text-of};
 ghost use Rattle.sheet.specs.Sheet.{sheet-of, user-count, permission-count};
-ghost use Rattle.sheet.specs.Rows.{row-words, cell};
+ghost use Rattle.sheet.specs.Rows.{row-words};
 ghost use Rattle.sheet.specs.LaidOut.{LaidOut, UsersAt, PermissionsAt};
 ghost use Rattle.grants.specs.CellSets.{cell-grants};
 ghost use Rattle.book.specs.Book.{witness-block};
 ghost use Rattle.book.specs.RowsSaid.{GrantCells};
-ghost use Rattle.book.specs.WitnessText.{cell-line, line-if, witness-row};
+ghost use Rattle.book.specs.WitnessText.{cell-line, witness-row};
 ghost use Rattle.book.specs.Measured.{Measured, piece-most, line-most, block-most};
 ghost use Rattle.book.specs.Written.{Written};
 
@@ -46,41 +46,6 @@ fn put_grant_line<'a, 'b>(
     end + 1
 }
 
-// Writes the line of a cell that is set, and nothing for another.
-fn put_cell_line<'a, 'b>(
-    out: &mut [u8],
-    s: &'a [u8],
-    user_from: &'b [usize; USER_LIMIT],
-    user_to: &'b [usize; USER_LIMIT],
-    permission_from: &'b [usize; USER_LIMIT],
-    permission_to: &'b [usize; USER_LIMIT],
-    witness: &'a [u64],
-    user: UserNo,
-    permission: PermissionNo,
-) -> usize
-    requires { ⌜ UsersAt (now s) (now «user_from») (now «user_to») × PermissionsAt (now s) (now «permission_from») (now «permission_to»)
-        × (user .0 < user-count (sheet-of (now s))) × (permission .0 < permission-count (sheet-of (now s)))
-        × (user-count (sheet-of (now s)) * row-words ≤ length (now witness)) ⌝ }
-    requires { ⌜ length (line-if (cell (now witness) (user .0) (permission .0)) (cell-line (sheet-of (now s)) (user .0) (permission .0)))
-        ≤ length (now out) ⌝ }
-    ensures { λ r. ⌜ Written (line-if (cell (now (witness .entry)) (user .0) (permission .0))
-        (cell-line (sheet-of (now (s .entry))) (user .0) (permission .0))) (now (out .entry)) (now (out .exit)) r ⌝ }
-{
-    if cell_at(witness, user.0, permission.0) {
-        return put_grant_line(
-            out,
-            s,
-            user_from,
-            user_to,
-            permission_from,
-            permission_to,
-            user,
-            permission,
-        );
-    }
-    0
-}
-
 // Writes the lines of a user.
 fn put_witness_row<'a, 'b>(
     out: &mut [u8],
@@ -100,21 +65,21 @@ fn put_witness_row<'a, 'b>(
     ensures { λ r. ⌜ Written (witness-row (sheet-of (now (s .entry))) (now (witness .entry)) permissions (user .0))
         (now (out .entry)) (now (out .exit)) r ⌝ }
 {
+    let row = user.0;
     let mut at = 0;
-    let mut i = 0;
+    let mut i = next_set(witness, row, 0, permissions);
     while i < permissions {
-        at += put_cell_line(
+        at += put_grant_line(
             &mut out[at..],
             s,
             user_from,
             user_to,
             permission_from,
             permission_to,
-            witness,
             user,
             PermissionNo(i),
         );
-        i += 1;
+        i = next_set(witness, row, i + 1, permissions);
     }
     at
 }
@@ -183,37 +148,6 @@ fn grant_line_length<'a, 'b>(
     name.len() + held.len() + 2
 }
 
-// How long the line of a cell is, where it is set.
-fn cell_line_length<'a, 'b>(
-    s: &'a [u8],
-    user_from: &'b [usize; USER_LIMIT],
-    user_to: &'b [usize; USER_LIMIT],
-    permission_from: &'b [usize; USER_LIMIT],
-    permission_to: &'b [usize; USER_LIMIT],
-    witness: &'a [u64],
-    user: UserNo,
-    permission: PermissionNo,
-) -> usize
-    requires { ⌜ UsersAt (now s) (now «user_from») (now «user_to») × PermissionsAt (now s) (now «permission_from») (now «permission_to»)
-        × (user .0 < user-count (sheet-of (now s))) × (permission .0 < permission-count (sheet-of (now s)))
-        × (user-count (sheet-of (now s)) * row-words ≤ length (now witness)) ⌝ }
-    ensures { λ r. ⌜ Measured (line-if (cell (now (witness .entry)) (user .0) (permission .0))
-        (cell-line (sheet-of (now (s .entry))) (user .0) (permission .0))) piece-most r ⌝ }
-{
-    if cell_at(witness, user.0, permission.0) {
-        return grant_line_length(
-            s,
-            user_from,
-            user_to,
-            permission_from,
-            permission_to,
-            user,
-            permission,
-        );
-    }
-    0
-}
-
 // How long the lines of a user are.
 fn witness_row_length<'a, 'b>(
     s: &'a [u8],
@@ -230,20 +164,20 @@ fn witness_row_length<'a, 'b>(
         × (user-count (sheet-of (now s)) * row-words ≤ length (now witness)) ⌝ }
     ensures { λ r. ⌜ Measured (witness-row (sheet-of (now (s .entry))) (now (witness .entry)) permissions (user .0)) line-most r ⌝ }
 {
+    let row = user.0;
     let mut total = 0;
-    let mut i = 0;
+    let mut i = next_set(witness, row, 0, permissions);
     while i < permissions {
-        total += cell_line_length(
+        total += grant_line_length(
             s,
             user_from,
             user_to,
             permission_from,
             permission_to,
-            witness,
             user,
             PermissionNo(i),
         );
-        i += 1;
+        i = next_set(witness, row, i + 1, permissions);
     }
     total
 }

@@ -3,7 +3,7 @@
 use Prim.Native.Nat.{ℕ}
 use mathlib.Core.Path.{_≡_, refl}
 use mathlib.Core.Bool.{Bool, true, false}
-use mathlib.Core.List.{List, [], _∷_, map}
+use mathlib.Core.List.{List, [], _∷_}
 use Rattle.bits.specs.Below.{lowest-below}
 use Rattle.lists.specs.Ascii.{ascii}
 use Rattle.lists.specs.Lists.{list-of}

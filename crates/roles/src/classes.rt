@@ -2,6 +2,7 @@
 use crate::limits::CELL_LIMIT;
 use sheet::GRANT_LIMIT;
 ghost use mathlib.Core.Path.{_≡_};
+ghost use mathlib.Core.List.{[]};
 ghost use Prim.Native.Nat.{_+_, _<_, _≤_, _^_};
 ghost use Rattle.lists.specs.Placement.{used};
 ghost use Rattle.lists.specs.LatestFirst.{latest-first};
@@ -10,29 +11,22 @@ ghost use Rattle.grants.specs.CellPlaces.{cell-limit};
 ghost use Rattle.roles.specs.Classes.{Classes, put-back};
 ghost use Rattle.roles.specs.CellClasses.{ClassAt, ClassesAt, CellsBelow, removal-of, classes-in, paired-in};
 
-// The class of each cell, 0 where no grant has one, and how many classes there are.
-pub struct CellClasses {
-    pub class: [u16; CELL_LIMIT],
-    pub count: usize,
-}
-
-// The classes of the kernel's grants, each at its cell.
+// Puts the classes of the kernel's grants into an array that has no class yet, each at its cell.
 fn place_kernel<'a>(
+    class: &mut [u16; CELL_LIMIT],
     kernel: &'a [u16; GRANT_LIMIT],
     size: usize,
     placed: &'a [u16; GRANT_LIMIT],
-) -> [u16; CELL_LIMIT]
-    requires { ⌜ (size ≤ grant-limit) × CellsBelow size (now kernel) ⌝ }
-    ensures { λ r. ⌜ ClassAt r (paired-in (now (kernel .entry)) (now (placed .entry)) size) ⌝ }
+)
+    requires { ⌜ (size ≤ grant-limit) × CellsBelow size (now kernel) × ClassAt (now class) [] ⌝ }
+    ensures { λ _. ⌜ ClassAt (now (class .exit)) (paired-in (now (kernel .entry)) (now (placed .entry)) size) ⌝ }
 {
-    let mut class = [0; CELL_LIMIT];
     let mut i = 0;
     while i < size {
         let cell = kernel[i] as usize;
         class[cell] = placed[i];
         i += 1;
     }
-    class
 }
 
 // One removal gone back over: a single opens a class, a tied grant joins its partner's. The number of classes then.
@@ -51,8 +45,10 @@ fn put_back(class: &mut [u16; CELL_LIMIT], count: usize, cell: u16, partner: u16
     count
 }
 
-// The classes of all grants, from a placement of the kernel and the removals, the latest gone back over first.
+// Puts the classes of all grants into an array that has no class yet, from a placement of the kernel and the removals, the latest gone back over first. How
+// many classes there are.
 pub fn all_classes<'a>(
+    class: &mut [u16; CELL_LIMIT],
     kernel: &'a [u16; GRANT_LIMIT],
     size: usize,
     placed: &'a [u16; GRANT_LIMIT],
@@ -60,22 +56,19 @@ pub fn all_classes<'a>(
     removed: &'a [u16; GRANT_LIMIT],
     partner: &'a [u16; GRANT_LIMIT],
     count: usize,
-) -> CellClasses
-    requires { ⌜ (size ≤ grant-limit) × CellsBelow size (now kernel) ⌝ }
+) -> usize
+    requires { ⌜ (size ≤ grant-limit) × CellsBelow size (now kernel) × ClassAt (now class) [] ⌝ }
     requires { ⌜ (total ≡ used (latest-first (now placed) size)) × (total ≤ grant-limit) ⌝ }
     requires { ⌜ (count ≤ grant-limit) × CellsBelow count (now removed) × CellsBelow count (now partner) ⌝ }
-    ensures { λ r. ⌜ ClassesAt (r .class) (r .count) (classes-in (now (kernel .entry)) size (now (placed .entry))
+    ensures { λ r. ⌜ ClassesAt (now (class .exit)) r (classes-in (now (kernel .entry)) size (now (placed .entry))
         (now (removed .entry)) (now (partner .entry)) count) ⌝ }
 {
-    let mut class = place_kernel(kernel, size, placed);
+    place_kernel(class, kernel, size, placed);
     let mut opened = total;
     let mut i = count;
     while 0 < i {
         i -= 1;
-        opened = put_back(&mut class, opened, removed[i], partner[i]);
+        opened = put_back(class, opened, removed[i], partner[i]);
     }
-    CellClasses {
-        class,
-        count: opened,
-    }
+    opened
 }

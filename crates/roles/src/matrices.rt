@@ -4,7 +4,6 @@ use crate::limits::CELL_LIMIT;
 use crate::limits::ROLE_WORDS;
 use crate::numbers::number_roles;
 use crate::rows::role_rows;
-use crate::rows::user_rows;
 use sheet::CELL_WORDS;
 use sheet::GRANT_LIMIT;
 ghost use mathlib.Core.List.{List};
@@ -40,8 +39,9 @@ fn roles_of_classes<'a>(
         → RolesAt (r .has) (r .gives) (r .count) users (roles-of-classes (listed (now (cells .entry)) n) members)) ⌝ }
 {
     let numbers = number_roles(cells, n, class);
-    let has = user_rows(cells, &numbers.roles, n);
-    let gives = role_rows(cells, &numbers.roles, n);
+    let rows = role_rows(cells, &numbers.roles, n);
+    let has = rows.has;
+    let gives = rows.gives;
     RoleMatrices {
         has,
         gives,
@@ -68,6 +68,16 @@ pub fn roles_of<'a>(
         → RolesAt (r .has) (r .gives) (r .count) users (roles-of sheet placement)) ⌝ }
 {
     let all = grants::listed(rows, users);
-    let classes = all_classes(kernel, size, placed, total, removed, partner, count);
-    roles_of_classes(&all.cells, all.size, &classes.class)
+    let mut class = [0; CELL_LIMIT];
+    all_classes(
+        &mut class,
+        kernel,
+        size,
+        placed,
+        total,
+        removed,
+        partner,
+        count,
+    );
+    roles_of_classes(&all.cells, all.size, &class)
 }

@@ -21,6 +21,12 @@ ghost use Rattle.sheet.specs.CellLaws.{word-of};
 ghost use Rattle.roles.specs.CellClasses.{CellsBelow, paired-in};
 ghost use Rattle.roles.specs.RoleMatrices.{CellsShow, RolesBelow, has-role, gives-permission};
 
+// The two matrices.
+pub struct MarkedRows {
+    pub has: [u64; CELL_WORDS],
+    pub gives: [u64; ROLE_WORDS],
+}
+
 // Sets the cell of a row and a column.
 fn mark(words: &mut [u64], row: usize, column: usize)
     requires { ⌜ (column < row-bits) × (word-of row column < length (now words)) ⌝ }
@@ -62,42 +68,25 @@ fn role_of(roles: &[u16; GRANT_LIMIT], g: GrantNo) -> RoleNo
     role(roles[i])
 }
 
-// Who has which role: each grant's user has its role.
-pub fn user_rows<'a>(
-    cells: &'a [u16; GRANT_LIMIT],
-    roles: &'a [u16; GRANT_LIMIT],
-    n: usize,
-) -> [u64; CELL_WORDS]
-    requires { ⌜ (n ≤ grant-limit) × CellsBelow n (now cells) × RolesBelow n (now roles) ⌝ }
-    ensures { λ r. ⌜ CellsShow r (has-role (paired-in (now (cells .entry)) (now (roles .entry)) n)) ⌝ }
-{
-    let mut has = [0; CELL_WORDS];
-    let mut i = 0;
-    while i < n {
-        give_role(&mut has, user_of(cells[i]), role_of(roles, GrantNo(i)));
-        i += 1;
-    }
-    has
-}
-
-// What each role gives: each grant's role gives its permission.
+// Who has which role and what each role gives: each grant's user has its role, and its role gives its permission.
 pub fn role_rows<'a>(
     cells: &'a [u16; GRANT_LIMIT],
     roles: &'a [u16; GRANT_LIMIT],
     n: usize,
-) -> [u64; ROLE_WORDS]
+) -> MarkedRows
     requires { ⌜ (n ≤ grant-limit) × CellsBelow n (now cells) × RolesBelow n (now roles) ⌝ }
-    ensures { λ r. ⌜ CellsShow r (gives-permission (paired-in (now (cells .entry)) (now (roles .entry)) n)) ⌝ }
+    ensures { λ r. ⌜ CellsShow (r .has) (has-role (paired-in (now (cells .entry)) (now (roles .entry)) n)) ⌝ }
+    ensures { λ r. ⌜ CellsShow (r .gives) (gives-permission (paired-in (now (cells .entry)) (now (roles .entry)) n)) ⌝ }
 {
+    let mut has = [0; CELL_WORDS];
     let mut gives = [0; ROLE_WORDS];
     let mut i = 0;
     while i < n {
-        give_permission(
-            &mut gives,
-            role_of(roles, GrantNo(i)),
-            permission_of(cells[i]),
-        );
+        let cell = cells[i];
+        let role = role_of(roles, GrantNo(i));
+        give_role(&mut has, user_of(cell), role);
+        give_permission(&mut gives, role, permission_of(cell));
         i += 1;
     }
-    gives
+    MarkedRows { has, gives }
 }

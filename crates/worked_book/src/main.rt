@@ -20,10 +20,11 @@ fn print<'a>(
 )
     requires { ⌜ (counts .roles ≤ row-bits) × GrantCells (now witness) (sheet-of (now s)) ⌝ }
 {
-    if sheet::judge(s) != 0 {
+    let read = sheet::read(s);
+    if read.number != 0 {
         return;
     }
-    let layout = sheet::lay_out(s);
+    let layout = read.layout;
     let mut out = [0u8; 1024];
     let written = book::write_if_room(&mut out, s, layout, has, gives, witness, counts);
     let Writing::Bytes(n) = written else {

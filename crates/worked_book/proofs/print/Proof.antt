@@ -11,20 +11,19 @@ use Rattle.worked_book.proofs.print.Tie as tie
 within : (c : tie.After-known-told) → c .before .written .given .0 .0 ≤ length (c .before .before .before .before .write-if-room .last .0)
 within c = bytes-within _ _ (c .before .before .before .before .write-if-room .ensures) (c .before .written .given .1)
 
-judge-requires : tie.Need-judge-requires
-judge-requires c κs = search needs
+read-requires : tie.Need-read-requires
+read-requires c κs = search needs
 
 returns : tie.Need-returns
 returns c = search needs
-
-lay-out-requires : tie.Need-lay-out-requires
-lay-out-requires c κs = search needs
 
 slice-aggregate-write-if-room : tie.Need-slice-aggregate-write-if-room
 slice-aggregate-write-if-room c = search needs
 
 write-if-room-requires : tie.Need-write-if-room-requires
-write-if-room-requires c κs = search needs
+write-if-room-requires c κs =
+    let laid-out = c .before .before .before .before .read .ensures .1 (c .before .before .if1 .left) .0 in
+    search (needs, laid-out)
 
 enum-known-written : tie.Need-enum-known-written
 enum-known-written c = search needs
@@ -51,9 +50,8 @@ pub print-spec : {M : Type 1} → statement M
 print-spec =
     tie.close
     (tie.spec
-    judge-requires
+    read-requires
     returns
-    lay-out-requires
     slice-aggregate-write-if-room
     write-if-room-requires
     enum-known-written

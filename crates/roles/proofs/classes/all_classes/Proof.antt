@@ -10,23 +10,23 @@ use Rattle.roles.proofs.classes.all_classes.Statement.{statement}
 use Rattle.roles.proofs.classes.all_classes.Tie as tie
 
 abbrev Inv-loop : tie.InvT-loop
-Inv-loop kernel size placed total removed partner count class₀ opened₀ i₀ class opened i =
+Inv-loop class₀ kernel size placed total removed partner count opened₀ i₀ class opened i =
     (i ≤ count) × (opened + i ≤ total + count)
     × GoingBack class opened (log-of removed partner i) (classes-in kernel size placed removed partner count)
 
 abbrev μ-loop : tie.MeasureT-loop
-μ-loop kernel size placed total removed partner count class₀ opened₀ i₀ class opened i = i
+μ-loop class₀ kernel size placed total removed partner count opened₀ i₀ class opened i = i
 
 place-kernel-requires : tie.Need-place-kernel-requires Inv-loop μ-loop
-place-kernel-requires c κs = c .pre .0
+place-kernel-requires c κs = c .before .pre .0
 
 loop-holds : tie.Need-loop-holds Inv-loop μ-loop
 loop-holds c =
-    let a = c .before .args in (
+    let a = c .before .before .args in (
       omega arith,
       omega arith,
       going-back-starts (a .kernel .now) (a .size) (a .placed .now) (a .removed .now) (a .partner .now) (a .count)
-          (c .place-kernel .ensures) (c .before .pre .1 .0 .0),
+          (c .place-kernel .ensures) (c .before .before .pre .1 .0 .0),
     )
 
 sub-i : tie.Need-sub-i Inv-loop μ-loop
@@ -52,8 +52,8 @@ put-back-requires : tie.Need-put-back-requires Inv-loop μ-loop
 unfolding grant-limit
 put-back-requires c κs = (
   omega arith,
-  c .before .before .before .before .before .before .pre .1 .1 .1 .below (c .before .before .before .before .loop .i - 1) (omega arith),
-  c .before .before .before .before .before .before .pre .1 .1 .2 .below (c .before .before .before .before .loop .i - 1) (omega arith),
+  c .before .before .before .before .before .before .before .pre .1 .1 .1 .below (c .before .before .before .before .loop .i - 1) (omega arith),
+  c .before .before .before .before .before .before .before .pre .1 .1 .2 .below (c .before .before .before .before .loop .i - 1) (omega arith),
 )
 
 loop-less : tie.Need-loop-less Inv-loop μ-loop
@@ -61,7 +61,7 @@ loop-less c = omega arith
 
 loop-again : tie.Need-loop-again Inv-loop μ-loop
 loop-again c =
-    let a = c .before .before .before .before .before .before .before .args in
+    let a = c .before .before .before .before .before .before .before .before .args in
     let at-loop = c .before .before .before .before .before in
     let on = going-back-on (a .removed .now) (a .partner .now) (at-loop .loop .i) (c .before .before .before .before .loop-test .taken) (c .put-back .ensures)
     (at-loop .loop .inv .2) in
@@ -69,7 +69,7 @@ loop-again c =
 
 returns : tie.Need-returns Inv-loop μ-loop
 returns c =
-    let a = c .before .before .before .args in
+    let a = c .before .before .before .before .args in
     going-back-ends (a .removed .now) (a .partner .now) (c .before .loop .i) (omega arith) (c .before .loop .inv .2)
 
 pub all-classes-spec : {M : Type 1} → statement M

@@ -2,29 +2,28 @@
 -- of the next grant at its cell.
 use Prim.Native.Nat.{_≤_, _<_, _-_}
 use native.Mathlib.Omega.{arith}
-use mathlib.Core.Path.{_≡_, refl}
+use mathlib.Core.Path.{_≡_}
 use lib.ListN.{getD}
 use Rattle.sheet.specs.Limits.{grant-limit, user-limit}
 use Rattle.sheet.specs.Rows.{row-words}
 use Rattle.grants.specs.CellPlaces.{cell-limit}
 use Rattle.roles.specs.CellClasses.{ClassAt, paired-in}
-use Rattle.roles.specs.CellClassLaws.{no-classes, kernel-grant-written}
+use Rattle.roles.specs.CellClassLaws.{kernel-grant-written}
 use Rattle.roles.proofs.classes.place_kernel.Statement.{statement}
 use Rattle.roles.proofs.classes.place_kernel.Tie as tie
 
 abbrev Inv-loop : tie.InvT-loop
-Inv-loop kernel size placed class₀ i₀ class i = (i ≤ size) × ClassAt class (paired-in kernel placed i)
+Inv-loop class₀ kernel size placed i₀ class i = (i ≤ size) × ClassAt class (paired-in kernel placed i)
 
 abbrev μ-loop : tie.MeasureT-loop
-μ-loop kernel size placed class₀ i₀ class i = size - i
+μ-loop class₀ kernel size placed i₀ class i = size - i
 
 -- the next grant of the kernel is a cell
 cell-below : (c : tie.In-loop Inv-loop μ-loop) → getD (c .before .before .args .kernel .now) (c .before .loop .i) 0 < cell-limit
 cell-below c = c .before .before .pre .1 .below (c .before .loop .i) (c .loop-test .taken)
 
 loop-holds : tie.Need-loop-holds Inv-loop μ-loop
-unfolding user-limit row-words
-loop-holds c = (omega arith, no-classes cell-limit refl)
+loop-holds c = (omega arith, c .pre .2)
 
 mul-cell : tie.Need-mul-cell Inv-loop μ-loop
 unfolding grant-limit
@@ -50,9 +49,9 @@ mul-class-2 : tie.Need-mul-class-2 Inv-loop μ-loop
 unfolding user-limit row-words
 mul-class-2 c = omega (arith, cell-below (c .before .before))
 
-array-write-class : tie.Need-array-write-class Inv-loop μ-loop
+element-write-class : tie.Need-element-write-class Inv-loop μ-loop
 unfolding user-limit row-words
-array-write-class c = omega (arith, cell-below (c .before .before))
+element-write-class c = omega (arith, cell-below (c .before .before))
 
 add-i : tie.Need-add-i Inv-loop μ-loop
 unfolding grant-limit
@@ -86,7 +85,7 @@ place-kernel-spec =
     mul-class
     element-copy-out-class
     mul-class-2
-    array-write-class
+    element-write-class
     add-i
     loop-less
     loop-again

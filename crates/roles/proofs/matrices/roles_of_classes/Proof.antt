@@ -7,22 +7,17 @@ use Rattle.roles.proofs.matrices.roles_of_classes.Tie as tie
 number-roles-requires : tie.Need-number-roles-requires
 number-roles-requires c κs = search needs
 
-user-rows-requires : tie.Need-user-rows-requires
-user-rows-requires c κs =
+role-rows-requires : tie.Need-role-rows-requires
+role-rows-requires c κs =
     let pre = c .before .before .before .pre in
     (pre .0 .0, pre .0 .1, roles-below (c .before .before .number-roles .ensures) (pre .1))
 
-role-rows-requires : tie.Need-role-rows-requires
-role-rows-requires c κs =
-    let pre = c .before .before .before .before .before .before .pre in
-    (pre .0 .0, pre .0 .1, roles-below (c .before .before .before .before .before .number-roles .ensures) (pre .1))
-
 returns : tie.Need-returns
 returns c members users at =
-    let pre = c .before .before .before .before .before .before .before .pre in
-    let numbered = c .before .before .before .before .before .before .number-roles .ensures in
-    matrices-show users at (pre .0 .1) numbered (pre .1) (c .before .before .before .user-rows .ensures) (c .role-rows .ensures)
+    let marked = c .before .before in
+    let pre = marked .before .before .before .before .pre in
+    let numbered = marked .before .before .before .number-roles .ensures in
+    matrices-show users at (pre .0 .1) numbered (pre .1) (marked .role-rows .ensures .0) (marked .role-rows .ensures .1)
 
 pub roles-of-classes-spec : {M : Type 1} → statement M
-roles-of-classes-spec =
-    tie.close (tie.spec number-roles-requires user-rows-requires role-rows-requires returns)
+roles-of-classes-spec = tie.close (tie.spec number-roles-requires role-rows-requires returns)

@@ -1,22 +1,24 @@
--- `roles::role_rows`: after i turns the words hold what each role gives by the first i grants, since each turn sets the cell of the next grant's role and
--- permission.
+-- `roles::role_rows`: after i turns the words hold who has which role and what each role gives by the first i grants, since each turn sets the cell of the next
+-- grant's user and role, and that of its role and permission.
 use Prim.Native.Nat.{ℕ, _≤_, _<_, _-_}
 use native.Mathlib.Omega.{arith}
 use mathlib.Core.Path.{_≡_, sym, _∙_}
 use lib.ListN.{length, getD, length-replicate}
 use Rattle.sheet.specs.Limits.{grant-limit, user-limit}
 use Rattle.sheet.specs.Rows.{row-words, row-bits}
-use Rattle.grants.specs.CellPlaces.{cell-limit}
+use Rattle.grants.specs.CellPlaces.{cell-words, cell-limit}
 use Rattle.roles.specs.CellClasses.{paired-in}
-use Rattle.roles.specs.RoleMatrices.{role-words, CellsShow, gives-permission, permission-of-cell-below, role-word-below, no-cells, gives-permission-next}
+use Rattle.roles.specs.RoleMatrices.{role-words, CellsShow, has-role, gives-permission, user-word-below, permission-of-cell-below, role-word-below, no-cells, has-role-next, gives-permission-next}
 use Rattle.roles.proofs.rows.role_rows.Statement.{statement}
 use Rattle.roles.proofs.rows.role_rows.Tie as tie
 
 abbrev Inv-loop : tie.InvT-loop
-Inv-loop cells roles n gives₀ i₀ gives i = (i ≤ n) × (length gives ≡ role-words) × CellsShow gives (gives-permission (paired-in cells roles i))
+Inv-loop cells roles n has₀ gives₀ i₀ has gives i =
+    (i ≤ n) × ((length has ≡ cell-words) × CellsShow has (has-role (paired-in cells roles i)))
+    × ((length gives ≡ role-words) × CellsShow gives (gives-permission (paired-in cells roles i)))
 
 abbrev μ-loop : tie.MeasureT-loop
-μ-loop cells roles n gives₀ i₀ gives i = n - i
+μ-loop cells roles n has₀ gives₀ i₀ has gives i = n - i
 
 -- the next grant is a cell, and its role a column of a row
 cell-below : (c : tie.In-loop Inv-loop μ-loop) → getD (c .before .before .args .cells .now) (c .before .loop .i) 0 < cell-limit
@@ -27,32 +29,52 @@ role-below c = c .before .before .pre .2 .below (c .before .loop .i) (c .loop-te
 
 loop-holds : tie.Need-loop-holds Inv-loop μ-loop
 unfolding user-limit row-words row-bits
-loop-holds c = (omega arith, length-replicate {A = ℕ} role-words 0, no-cells role-words)
+loop-holds c = (
+  omega arith,
+  (length-replicate {A = ℕ} cell-words 0, no-cells cell-words),
+  (length-replicate {A = ℕ} role-words 0, no-cells role-words),
+)
+
+mul-cell : tie.Need-mul-cell Inv-loop μ-loop
+unfolding grant-limit
+mul-cell c = omega arith
+
+element-copy-out-cell : tie.Need-element-copy-out-cell Inv-loop μ-loop
+unfolding grant-limit
+element-copy-out-cell c = omega arith
+
+role-of-requires : tie.Need-role-of-requires Inv-loop μ-loop
+role-of-requires c κs = omega (arith, c .before .loop-test .taken, c .before .before .before .pre .0)
+
+slice-aggregate-give-role : tie.Need-slice-aggregate-give-role Inv-loop μ-loop
+unfolding user-limit row-bits row-words
+slice-aggregate-give-role c = sym (c .before .before .before .before .loop .inv .1 .0)
+
+user-of-requires : tie.Need-user-of-requires Inv-loop μ-loop
+user-of-requires c κs = tt
+
+give-role-requires : tie.Need-give-role-requires Inv-loop μ-loop
+give-role-requires c κs =
+    let in-loop = c .before .before .before .before in
+    let it = getD (in-loop .before .before .args .cells .now) (in-loop .before .loop .i) 0 in
+    let role = getD (in-loop .before .before .args .roles .now) (in-loop .before .loop .i) 0 in
+    rw (c .before .before .role-of .ensures, c .user-of .ensures, in-loop .before .loop .inv .1 .0)
+    (role-below in-loop, user-word-below it role (cell-below in-loop) (role-below in-loop))
 
 slice-aggregate-give-permission : tie.Need-slice-aggregate-give-permission Inv-loop μ-loop
 unfolding user-limit row-bits row-words
-slice-aggregate-give-permission c = sym (c .before .before .loop .inv .1)
-
-role-of-requires : tie.Need-role-of-requires Inv-loop μ-loop
-role-of-requires c κs = omega (arith, c .before .before .before .pre .0)
-
-mul-permission-of : tie.Need-mul-permission-of Inv-loop μ-loop
-unfolding grant-limit
-mul-permission-of c = omega arith
-
-element-copy-out-permission-of : tie.Need-element-copy-out-permission-of Inv-loop μ-loop
-unfolding grant-limit
-element-copy-out-permission-of c = omega arith
+slice-aggregate-give-permission c = sym (c .before .before .before .before .before .before .before .before .loop .inv .2 .0)
 
 permission-of-requires : tie.Need-permission-of-requires Inv-loop μ-loop
 permission-of-requires c κs = tt
 
 give-permission-requires : tie.Need-give-permission-requires Inv-loop μ-loop
 give-permission-requires c κs =
-    let in-loop = c .before .before .before .before in
+    let numbered = c .before .before .before .before .before .before in
+    let in-loop = numbered .before .before in
     let it = getD (in-loop .before .before .args .cells .now) (in-loop .before .loop .i) 0 in
     let role = getD (in-loop .before .before .args .roles .now) (in-loop .before .loop .i) 0 in
-    rw (c .permission-of .ensures, c .before .before .role-of .ensures, in-loop .before .loop .inv .1)
+    rw (c .permission-of .ensures, numbered .role-of .ensures, in-loop .before .loop .inv .2 .0)
     (permission-of-cell-below it, role-word-below it role (role-below in-loop))
 
 add-i : tie.Need-add-i Inv-loop μ-loop
@@ -65,17 +87,24 @@ loop-less c = omega arith
 
 loop-again : tie.Need-loop-again Inv-loop μ-loop
 loop-again c =
-    let in-loop = c .before .before .before .before .before .before in
+    let permitted = c .before .before in
+    let given = permitted .before .before .before in
+    let numbered = given .before .before .before in
+    let in-loop = numbered .before .before in
     let a = in-loop .before .before .args in
     let inv = in-loop .before .loop .inv in
-    let added =
-    rw (c .before .before .permission-of .ensures, c .before .before .before .before .role-of .ensures) at (c .before .give-permission .ensures) in
-    (omega arith, added .size ∙ inv .1, gives-permission-next (a .cells .now) (a .roles .now) (in-loop .before .loop .i) added (inv .2))
+    let i = in-loop .before .loop .i in
+    let has-added = rw (numbered .role-of .ensures, given .before .user-of .ensures) at (given .give-role .ensures) in
+    let gives-added = rw (permitted .permission-of .ensures, numbered .role-of .ensures) at (c .before .give-permission .ensures) in (
+      omega arith,
+      (has-added .size ∙ inv .1 .0, has-role-next (a .cells .now) (a .roles .now) i has-added (inv .1 .1)),
+      (gives-added .size ∙ inv .2 .0, gives-permission-next (a .cells .now) (a .roles .now) i gives-added (inv .2 .1)),
+    )
 
 returns : tie.Need-returns Inv-loop μ-loop
 returns c =
     let e : c .before .loop .i ≡ c .before .before .args .n = omega arith in
-    rw e at (c .before .loop .inv .2)
+    (rw e at (c .before .loop .inv .1 .1), rw e at (c .before .loop .inv .2 .1))
 
 pub role-rows-spec : {M : Type 1} → statement M
 role-rows-spec =
@@ -84,10 +113,13 @@ role-rows-spec =
     Inv-loop
     μ-loop
     loop-holds
-    slice-aggregate-give-permission
+    mul-cell
+    element-copy-out-cell
     role-of-requires
-    mul-permission-of
-    element-copy-out-permission-of
+    slice-aggregate-give-role
+    user-of-requires
+    give-role-requires
+    slice-aggregate-give-permission
     permission-of-requires
     give-permission-requires
     add-i
