@@ -1,7 +1,7 @@
 -- Two lists that can only be followed by the same: where one is in front of a list and the other is, what follows is the same. Lists of one length
 -- are such, and such lists one after the other are. So of parts in front of a list, one after the other, the next part is known too.
 -- Assumes nothing.
-use Prim.Native.Nat.{ℕ, zero, suc, _≤_, _<_}
+use Prim.Native.Nat.{ℕ, zero, suc, _<_}
 use native.Mathlib.Nat.{le-of-suc-le-suc, not-suc-le-zero}
 use native.Mathlib.Omega.{arith}
 use mathlib.Core.Path.{_≡_, refl, sym, ap, _∙_}
@@ -10,7 +10,7 @@ use mathlib.Core.Bool.{Bool, So}
 use mathlib.Core.List.{List, [], _∷_, _++_, append-assoc, append-cancel-left, head-eq-of-cons-eq, tail-eq-of-cons-eq}
 use lib.ListN.{length, drop}
 use lib.Seq.{drop-append-seam}
-use Rattle.lists.specs.Lists.{list-of, parted-by, concat}
+use Rattle.lists.specs.Lists.{parted-by, concat}
 use Rattle.lists.specs.CutLaws.{Free, parted-front}
 use Rattle.lists.specs.ListOfLaws.{list-of-first}
 use Rattle.lists.specs.Listed.{listed}

@@ -1,19 +1,19 @@
 -- A count read into a number of the machine, which stops at a bound that no number of lines of a book reaches. A count that says a lesser number
 -- is read as that number, and any other as the bound, so a comparison with a number of lines comes out as it should whatever the length of the
 -- count is.
-use Prim.Native.Nat.{ℕ, suc, _+_, _-_, _*_, _≤_, _<_, min}
-use Prim.Native.Char.{Char, code}
+use Prim.Native.Nat.{ℕ, suc, _+_, _-_, _*_, _<_, min}
+use Prim.Native.Char.{code}
 use native.Mathlib.Numerals.{add-one}
 use native.Mathlib.Omega.{arith}
-use mathlib.Core.Path.{_≡_, refl, sym, ap, _∙_}
-use mathlib.Core.Bool.{Bool, true, false, So, _&&_, cond}
+use mathlib.Core.Path.{_≡_, refl, sym, ap}
+use mathlib.Core.Bool.{Bool, true, false, So, cond}
 use mathlib.Core.List.{[], _∷_}
 use borrow.Author.Tests.{eqb-true, eq-eqb, ne-eqb}
 use lib.Dec.{eqb}
 use lib.ListN.{length, getD, drop}
 use lib.Seq.{drop-cons}
 use Rattle.bits.specs.Truth.{fails-unless, same-truth}
-use Rattle.lists.specs.Lists.{empty, all}
+use Rattle.lists.specs.Lists.{all}
 use Rattle.sheet.specs.Text.{Bytes}
 use Rattle.book.specs.Decimal.{is-digit, is-count, number-after, number-of}
 use Rattle.checker.specs.Form.{book-limit}

@@ -1,19 +1,18 @@
 -- Reading block 1: two counts, each up to its comma, and a state up to the line feed. A count and a state hold neither, so each stands in a text in
 -- one way at most, and what follows them is known.
-use Prim.Native.Nat.{ℕ, suc, _+_, _≤_}
+use Prim.Native.Nat.{ℕ, _+_}
 use native.Mathlib.Numerals.{add-one}
-use mathlib.Core.Path.{_≡_, refl, sym, _∙_}
-use mathlib.Core.Bool.{Bool, So}
+use mathlib.Core.Path.{_≡_, refl, _∙_}
+use mathlib.Core.Bool.{So}
 use mathlib.Core.List.{[], _∷_, _++_, append-assoc}
 use lib.Dec.{eqb}
-use lib.ListN.{length, drop}
 use Rattle.lists.specs.Ascii.{ascii}
 use Rattle.checker.specs.Aligned.{Aligned, aligned-same, aligned-then, ended-aligned}
 use Rattle.sheet.specs.Text.{Bytes, comma, line-feed}
 use Rattle.sheet.specs.Places.{part}
 use Rattle.roles.specs.Roles.{Standing, witnessed, searched, unsettled}
 use Rattle.roles.specs.StandingCases.{standing-case}
-use Rattle.book.specs.Decimal.{is-count, number-of}
+use Rattle.book.specs.Decimal.{is-count}
 use Rattle.book.specs.Words.{standing-word}
 use Rattle.book.specs.WordLaws.{count-field, standing-word-field}
 use Rattle.book.specs.LineLaws.{line-end}
@@ -29,7 +28,7 @@ use Rattle.checker.specs.Steps.{Reads, Misses}
 use Rattle.checker.specs.StepLaws.{reads-then, misses-first, misses-second, misses-after}
 use Rattle.checker.specs.Ended.{Ended, Unended, ended-once, ended-reads}
 use Rattle.checker.specs.Pieces.{counts-part}
-use Rattle.checker.specs.Capped.{capped, count-read, CountSaid, count-said, count-refused}
+use Rattle.checker.specs.Capped.{count-read, CountSaid, count-said, count-refused}
 
 -- ---- a count
 

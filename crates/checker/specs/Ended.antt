@@ -1,15 +1,13 @@
 -- A part of a text that a byte ends: what stands before the first such byte. A text has one such part at most at a place, so what follows it is
 -- known too. Assumes nothing.
 use Prim.Native.Nat.{ℕ, suc, _+_, _-_, _≤_, _<_}
-use native.Mathlib.Numerals.{add-one}
 use native.Mathlib.Omega.{arith}
 use mathlib.Core.Path.{_≡_, refl, sym, ap, _∙_}
 use mathlib.Core.Logic.{⊎-elim}
-use mathlib.Core.Bool.{false}
-use mathlib.Core.List.{List, [], _∷_, _++_, append-assoc, append-cancel-left, append-nil, tail-eq-of-cons-eq, List·Memᴰ, List·Memᴰ·head, Memᴰ·append-right, List·Memᴰ·append-cases, List·Memᴰ·eq-of-singleton, List·Memᴰ·not-nil}
+use mathlib.Core.List.{[], _∷_, _++_, append-assoc, append-cancel-left, append-nil, tail-eq-of-cons-eq, List·Memᴰ, List·Memᴰ·head, Memᴰ·append-right, List·Memᴰ·append-cases, List·Memᴰ·eq-of-singleton, List·Memᴰ·not-nil}
 use borrow.Author.Tests.{eq-eqb, ne-eqb}
 use lib.Dec.{eqb}
-use lib.ListN.{length, getD, take, drop, length-drop, take-append-drop, drop-of-length-le}
+use lib.ListN.{length, getD, drop, length-drop, take-append-drop, drop-of-length-le}
 use lib.Seq.{drop-cons, take-suc, getD-drop, drop-drop}
 use Rattle.bits.specs.Truth.{not-both}
 use Rattle.lists.specs.CutLaws.{Free}

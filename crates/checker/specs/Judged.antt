@@ -1,7 +1,7 @@
 -- The checker's answer, from the answer's own side. A sheet that is refused gives its number. For any other sheet a book that is not written for
 -- anything that can be said gives 12, and a book that is written for something is judged by what it says.
 use Prim.Native.Nat.{ℕ, _≤_, _<_}
-use mathlib.Core.Path.{_≡_, refl, sym, ap, _∙_}
+use mathlib.Core.Path.{_≡_, refl, ap, _∙_}
 use mathlib.Core.Bool.{Bool, true, false, So, _||_, not, cond, Bool·beq}
 use mathlib.Core.List.{List, [], _∷_, _++_}
 use borrow.Author.Tests.{eq-eqb, ne-eqb, lt-ltb, le-ltb}
@@ -12,7 +12,7 @@ use Rattle.bits.specs.Below.{every-below}
 use Rattle.bits.specs.BelowLaws.{every-below-ext}
 use Rattle.sheet.specs.Text.{Bytes}
 use Rattle.sheet.specs.Sheet.{Sheet, sheet-of, user-count, permission-count, holds}
-use Rattle.sheet.specs.Refusal.{Cause, refuse-if, first-number, sheet-causes, refusal, accepted}
+use Rattle.sheet.specs.Refusal.{Cause, refuse-if, first-number, sheet-causes, refusal}
 use Rattle.sheet.specs.CauseLaws.{NoneApplies, zero-none-applies, sheet-causes-rise}
 use Rattle.sheet.specs.Accepted.{accepted-keeps}
 use Rattle.roles.specs.RoleSet.{product}

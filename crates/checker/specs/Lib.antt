@@ -36,6 +36,7 @@ pub mod NameFound
 pub mod WitnessLineSteps
 pub mod WitnessSteps
 pub mod ProductWords
+pub mod GivenRoles
 pub mod WitnessWords
 pub mod Judged
 pub mod BookSays

@@ -1,6 +1,6 @@
 -- A book as the bytes that follow one another: the parts that a reader meets, each with the empty line that ends its block. Assumes nothing.
-use Prim.Native.Nat.{ℕ, _<_}
-use mathlib.Core.Path.{_≡_, refl, sym, ap, _∙_}
+use Prim.Native.Nat.{ℕ}
+use mathlib.Core.Path.{_≡_, ap, _∙_}
 use mathlib.Core.Bool.{Bool}
 use mathlib.Core.List.{List, [], _∷_, _++_, map, map-map, append-assoc}
 use lib.ListN.{length, getD}
@@ -11,7 +11,7 @@ use Rattle.sheet.specs.Text.{Bytes, Line, comma, line-feed, line-text, text-of}
 use Rattle.sheet.specs.Sheet.{Sheet, Grant, cell-text, user-count, permission-count}
 use Rattle.roles.specs.RoleSet.{RoleSet}
 use Rattle.roles.specs.Roles.{Standing}
-use Rattle.book.specs.Words.{standing-word, role-name, counts-heading, witness-heading}
+use Rattle.book.specs.Words.{standing-word, role-name}
 use Rattle.book.specs.Blocks.{Block}
 use Rattle.book.specs.Book.{Said, user-name, counts-block, roles-block, users-block, witness-line, witness-block, blocks-saying, book-text}
 use Rattle.book.specs.CellsText.{cell-field}

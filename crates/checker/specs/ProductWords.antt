@@ -1,19 +1,18 @@
 -- The product of two matrices of words, row by row and word by word. A word that has the bits of all roles that the user has is the row's word
 -- exactly where all its cells agree, since two words are one where their bits are. Cells beyond the permissions are set on neither side.
 use Prim.Native.Nat.{ℕ, _+_, _*_, _^_, _≤_, _<_}
-use native.Mathlib.Numerals.{add-one}
 use native.Mathlib.Omega.{arith}
 use mathlib.Core.Path.{_≡_, refl, sym, ap, _∙_}
 use mathlib.Core.Logic.{⊎-elim}
-use mathlib.Core.Bool.{Bool, true, false, So, _&&_, _||_, or-comm, and-false, Bool·beq}
+use mathlib.Core.Bool.{Bool, false, So, _&&_, and-false, Bool·beq}
 use mathlib.Core.List.{List, []}
 use lib.Arith.{digits-lt, digits-div, digits-mod}
-use lib.ListN.{length, getD, List·getD-eq-default}
+use lib.ListN.{getD, List·getD-eq-default}
 use Rattle.bits.specs.Truth.{fails-unless, same-truth, and-intro}
 use Rattle.bits.specs.Below.{some-below, every-below}
 use Rattle.bits.specs.BelowLaws.{below-or-from, some-below-ext, none-below-intro, every-below-intro, every-below-elim, every-below-ext, every-below-add}
 use Rattle.bits.specs.Bit.{bit, word-bits}
-use Rattle.bits.specs.BitLaws.{bit-of-zero, bit-ext}
+use Rattle.bits.specs.BitLaws.{bit-ext}
 use Rattle.sheet.specs.Sheet.{Sheet, user-count, permission-count, holds}
 use Rattle.sheet.specs.Rows.{row-words, row-bits, cell, RowsOf}
 use Rattle.sheet.specs.AcceptedFacts.{Lawful}
@@ -37,22 +36,6 @@ gives-bit gives k q r = bit (getD gives (r * row-words + k) 0) q
 -- word k of what the roles of a user give together
 pub record GivenWord (has gives : List ℕ) (roles u k word : ℕ) : Type 0 where
   pub bits : (q : ℕ) → bit word q ≡ some-below roles (λ r. cell has u r && gives-bit gives k q r)
-
--- ---- role by role
-
-pub given-none : (has gives : List ℕ) (u k : ℕ) → GivenWord has gives 0 u k 0
-unfolding some-below
-given-none has gives u k = record { bits = λ q. bit-of-zero q }
-
-pub given-more : {has gives : List ℕ} {r u k word after : ℕ} → GivenWord has gives r u k word
-    → ((q : ℕ) → bit after q ≡ (bit word q || (cell has u r && bit (getD gives (r * row-words + k) 0) q))) → GivenWord has gives (r + 1) u k after
-unfolding some-below
-given-more {has} {gives} {r} {u} {k} {word} {after} g e =
-    record {
-      bits = λ q.
-          rw (add-one r)
-          (e q ∙ rw (g .bits q) (or-comm (some-below r (λ r. cell has u r && gives-bit gives k q r)) (cell has u r && gives-bit gives k q r)));
-    }
 
 -- ---- cell by cell of a word
 

@@ -1,15 +1,14 @@
 -- Reading the lines of the roles, in order and up to the empty line. A line begins with `R`, so an empty line ends the roles, and the number of
 -- roles and what follows them are known.
-use Prim.Native.Nat.{ℕ, suc, _+_, _≤_, _<_}
-use Prim.Native.Char.{Char, code}
+use Prim.Native.Nat.{ℕ, _≤_, _<_}
+use Prim.Native.Char.{code}
 use native.Mathlib.Omega.{arith}
-use mathlib.Core.Path.{_≡_, refl, sym, ap, _∙_}
-use mathlib.Core.Logic.{_⊎_, inl, inr, ⊎-elim}
+use mathlib.Core.Path.{_≡_, sym, _∙_}
+use mathlib.Core.Logic.{_⊎_, ⊎-elim}
 use mathlib.Core.Bool.{Bool, false}
-use mathlib.Core.List.{List, [], _∷_, _++_, append-assoc, append-cancel-left, head-eq-of-cons-eq, tail-eq-of-cons-eq}
-use lib.ListN.{length, drop}
-use Rattle.lists.specs.Listed.{listed}
-use Rattle.checker.specs.Aligned.{Aligned, Begins, listed-ended}
+use mathlib.Core.List.{List, _∷_, _++_, append-assoc, append-cancel-left, head-eq-of-cons-eq, tail-eq-of-cons-eq}
+use lib.ListN.{drop}
+use Rattle.checker.specs.Aligned.{Begins, listed-ended}
 use Rattle.sheet.specs.Text.{Bytes, line-feed}
 use Rattle.sheet.specs.Sheet.{Sheet, permission-count}
 use Rattle.sheet.specs.Rows.{row-bits, cell}

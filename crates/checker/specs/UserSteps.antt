@@ -1,6 +1,5 @@
 -- Reading block 3: the roles are known from block 2 and the users from the sheet, so only the cells are open, and what follows the block is known.
 use Prim.Native.Nat.{ℕ, _<_}
-use mathlib.Core.Path.{_≡_}
 use mathlib.Core.Bool.{Bool}
 use mathlib.Core.List.{List, _++_}
 use Rattle.checker.specs.Aligned.{Aligned, aligned-same, aligned-then, aligned-listed}

@@ -17,7 +17,6 @@ use Rattle.grants.specs.Fit.{fits}
 use Rattle.grants.specs.Cover.{grant-at}
 use Rattle.checker.specs.Form.{role-limit}
 use Rattle.checker.specs.Check.{held, witness-stands}
-use Rattle.checker.specs.Right.{Stands}
 use Rattle.checker.specs.CheckParts.{witness-stands-elim, witness-stands-intro}
 use Rattle.checker.specs.declared.witness_block.WitnessLine.{WitnessLine}
 use Rattle.checker.specs.declared.witness_block.Witness.{Witness}

@@ -1,50 +1,27 @@
 // Cells of a line: a comma and `0` or `1` for each.
 use crate::cursor::Step;
-use crate::cursor::expect_byte;
 use bits::WORD_BITS;
 use sheet::ROW_WORDS;
+ghost use mathlib.Core.Path.{_≡_};
 ghost use Prim.Native.Nat.{_+_, _*_, _≤_, _<_};
 ghost use lib.ListN.{length};
 ghost use Rattle.sheet.specs.Rows.{row-words, row-bits};
-ghost use Rattle.sheet.specs.CellAdded.{CellAdded};
-ghost use Rattle.checker.specs.RowGrown.{Blank};
-ghost use Rattle.checker.specs.CellSteps.{CellReads, CellsRead};
+ghost use Rattle.checker.specs.RowGrown.{Blank, in-word};
+ghost use Rattle.checker.specs.CellSteps.{CellsRead};
 
-// What reading a cell finds.
-pub enum CellRead {
-    Cell(bool),
-    Off,
-}
-
-// The cell at this place, behind a comma.
-fn cell_field(book: &[u8], at: usize) -> CellRead
-    requires { ⌜ at ≤ length (now book) ⌝ }
-    ensures { λ r. ⌜ CellReads (now (book .entry)) at r ⌝ }
+// How many of the first `count` cells of a row stand in word k.
+pub fn cells_in_word(count: usize, k: usize) -> usize
+    requires { ⌜ k < row-words ⌝ }
+    ensures { λ r. ⌜ r ≡ in-word count k ⌝ }
 {
-    let Step::On(next) = expect_byte(book, at, b',') else {
-        return CellRead::Off;
-    };
-    if book.len() <= next {
-        return CellRead::Off;
+    let first = k * WORD_BITS;
+    if count <= first {
+        return 0;
     }
-    if book[next] == b'0' {
-        return CellRead::Cell(false);
+    if count - first < WORD_BITS {
+        return count - first;
     }
-    if book[next] == b'1' {
-        return CellRead::Cell(true);
-    }
-    CellRead::Off
-}
-
-// Sets a cell of a row that is not set, where the book says so.
-fn put_cell(rows: &mut [u64], row: usize, i: usize, one: bool)
-    requires { ⌜ (i < row-bits) × ((row + 1) * row-words ≤ length (now rows)) ⌝ }
-    ensures { λ _. ⌜ CellAdded (now (rows .entry)) (now (rows .exit)) row i one ⌝ }
-{
-    if one {
-        let word = row * ROW_WORDS + i / WORD_BITS;
-        rows[word] = bits::with(rows[word], i % WORD_BITS);
-    }
+    WORD_BITS
 }
 
 // Reads so many cells into a row that has none set.
@@ -52,13 +29,17 @@ pub fn read_cells(book: &[u8], at: usize, rows: &mut [u64], row: usize, count: u
     requires { ⌜ (at ≤ length (now book)) × (count ≤ row-bits) × ((row + 1) * row-words ≤ length (now rows)) × Blank (now rows) row ⌝ }
     ensures { λ r. ⌜ CellsRead (now (book .entry)) at row count (now (rows .entry)) (now (rows .exit)) r ⌝ }
 {
-    let mut i = 0;
-    while i < count {
-        let CellRead::Cell(one) = cell_field(book, at + 2 * i) else {
+    let mut next = at;
+    let mut k = 0;
+    while k < ROW_WORDS {
+        let n = cells_in_word(count, k);
+        let read = sheet::cells_word(book, next, n);
+        if !read.good {
             return Step::Off;
-        };
-        put_cell(rows, row, i, one);
-        i += 1;
+        }
+        rows[row * ROW_WORDS + k] = read.word;
+        next += 2 * n;
+        k += 1;
     }
-    Step::On(at + 2 * count)
+    Step::On(next)
 }

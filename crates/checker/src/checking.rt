@@ -13,12 +13,11 @@ use crate::roles_block::read_roles;
 use crate::users_block::read_users;
 use crate::witness_block::read_witness;
 use sheet::Layout;
-ghost use mathlib.Core.Path.{_≡_};
 ghost use Prim.Native.Nat.{_*_, _≤_};
 ghost use lib.ListN.{length};
 ghost use Rattle.sheet.specs.Sheet.{sheet-of};
-ghost use Rattle.sheet.specs.Refusal.{refusal};
 ghost use Rattle.sheet.specs.Rows.{row-words};
+ghost use Rattle.sheet.specs.RowsRead.{RowsRead};
 ghost use Rattle.sheet.specs.LaidOut.{LaidOut};
 ghost use Rattle.checker.specs.Form.{book-limit, role-limit};
 ghost use Rattle.checker.specs.Check.{Checks};
@@ -29,13 +28,15 @@ ghost use Rattle.checker.specs.BookRead.{FrontRead};
 fn check_from_users<'a>(
     sheet: &'a [u8],
     layout: Layout,
+    rows: &'a [u64],
     book: &'a [u8],
     at: usize,
     counts: Counts,
     roles: usize,
     gives: &'a [u64],
 ) -> Checked
-    requires { ⌜ LaidOut (now sheet) layout × (length (now book) ≤ book-limit) × (role-limit * row-words ≤ length (now gives)) ⌝ }
+    requires { ⌜ LaidOut (now sheet) layout × RowsRead (now rows) (sheet-of (now sheet)) × (layout .users * row-words ≤ length (now rows)) ⌝ }
+    requires { ⌜ (length (now book) ≤ book-limit) × (role-limit * row-words ≤ length (now gives)) ⌝ }
     requires { ⌜ FrontRead (sheet-of (now sheet)) (now book) counts (now gives) roles at ⌝ }
     ensures { λ r. ⌜ Checks (now (sheet .entry)) (now (book .entry)) (answer-of r) ⌝ }
 {
@@ -48,15 +49,24 @@ fn check_from_users<'a>(
         return refused(12);
     }
     let witness = read.witness;
-    judge_book(sheet, layout, counts, roles, &has, gives, witness)
+    judge_book(
+        sheet,
+        rows,
+        layout.users,
+        counts,
+        roles,
+        &has,
+        gives,
+        witness,
+    )
 }
 
-// Checks a book that is not too long against an accepted sheet.
-fn check_book<'a>(sheet: &'a [u8], book: &'a [u8]) -> Checked
-    requires { ⌜ (refusal (now sheet) ≡ 0) × (length (now book) ≤ book-limit) ⌝ }
+// Checks a book that is not too long against an accepted sheet, which has been read.
+fn check_book<'a>(sheet: &'a [u8], layout: Layout, rows: &'a [u64], book: &'a [u8]) -> Checked
+    requires { ⌜ LaidOut (now sheet) layout × RowsRead (now rows) (sheet-of (now sheet)) × (layout .users * row-words ≤ length (now rows)) ⌝ }
+    requires { ⌜ length (now book) ≤ book-limit ⌝ }
     ensures { λ r. ⌜ Checks (now (sheet .entry)) (now (book .entry)) (answer-of r) ⌝ }
 {
-    let layout = sheet::lay_out(sheet);
     let CountsRead::Counts(counts, second) = read_counts(book) else {
         return refused(12);
     };
@@ -64,7 +74,7 @@ fn check_book<'a>(sheet: &'a [u8], book: &'a [u8]) -> Checked
     let RolesRead::Roles(roles, third) = read_roles(book, second, sheet, layout, &mut gives) else {
         return refused(12);
     };
-    check_from_users(sheet, layout, book, third, counts, roles, &gives)
+    check_from_users(sheet, layout, rows, book, third, counts, roles, &gives)
 }
 
 // Whether a book is right for a sheet: the lowest of document 01's numbers that applies, with counts 0; or 0, with the roles and the witness lines. The
@@ -72,12 +82,15 @@ fn check_book<'a>(sheet: &'a [u8], book: &'a [u8]) -> Checked
 pub fn check<'a>(sheet: &'a [u8], book: &'a [u8]) -> Checked
     ensures { λ r. ⌜ Checks (now (sheet .entry)) (now (book .entry)) (answer-of r) ⌝ }
 {
-    let number = sheet::judge(sheet);
+    let read = sheet::read(sheet);
+    let number = read.number;
     if number != 0 {
         return refused(number);
     }
     if BOOK_LIMIT < book.len() {
         return refused(12);
     }
-    check_book(sheet, book)
+    let layout = read.layout;
+    let rows = read.rows;
+    check_book(sheet, layout, &rows, book)
 }

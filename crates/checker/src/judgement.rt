@@ -4,13 +4,14 @@ use crate::counts_block::Counts;
 use crate::product::rows_agree;
 use crate::witness::witness_stands;
 use crate::witness_block::Witness;
-use sheet::Layout;
 ghost use mathlib.Core.Path.{_≡_};
+ghost use mathlib.Core.Bool.{So};
 ghost use Prim.Native.Nat.{_*_, _≤_};
 ghost use lib.ListN.{length};
-ghost use Rattle.sheet.specs.Sheet.{sheet-of};
+ghost use Rattle.sheet.specs.Sheet.{sheet-of, user-count};
+ghost use Rattle.sheet.specs.Refusal.{accepted};
 ghost use Rattle.sheet.specs.Rows.{row-words};
-ghost use Rattle.sheet.specs.LaidOut.{LaidOut};
+ghost use Rattle.sheet.specs.RowsRead.{RowsRead};
 ghost use Rattle.checker.specs.Check.{check-refused};
 ghost use Rattle.checker.specs.BookSays.{BookSays, answer-of, JudgedAs};
 
@@ -33,28 +34,29 @@ pub fn refused(number: usize) -> Checked
     }
 }
 
-// Judges what was read of a book that is of the form, by 13, 14 and 15 in turn.
-pub fn judge_book(
-    sheet: &[u8],
-    layout: Layout,
+// Judges what was read of a book that is of the form, by 13, 14 and 15 in turn. The rows are those of the sheet, and the users as many.
+pub fn judge_book<'a>(
+    sheet: &'a [u8],
+    rows: &'a [u64],
+    users: usize,
     counts: Counts,
     roles: usize,
-    has: &[u64],
-    gives: &[u64],
+    has: &'a [u64],
+    gives: &'a [u64],
     witness: Witness,
 ) -> Checked
-    requires { ⌜ LaidOut (now sheet) layout × BookSays (sheet-of (now sheet)) counts roles (now has) (now gives) witness ⌝ }
-    requires { ⌜ (layout .users * row-words ≤ length (now has)) × (roles * row-words ≤ length (now gives)) ⌝ }
+    requires { ⌜ So (accepted (now sheet)) × RowsRead (now rows) (sheet-of (now sheet)) × (users ≡ user-count (sheet-of (now sheet))) ⌝ }
+    requires { ⌜ BookSays (sheet-of (now sheet)) counts roles (now has) (now gives) witness ⌝ }
+    requires { ⌜ (users * row-words ≤ length (now rows)) × (users * row-words ≤ length (now has)) × (roles * row-words ≤ length (now gives)) ⌝ }
     ensures { λ r. ⌜ JudgedAs (sheet-of (now (sheet .entry))) counts roles (now (has .entry)) (now (gives .entry)) witness (answer-of r) ⌝ }
 {
     if !counts_agree(counts, roles, witness.lines) {
         return refused(13);
     }
-    let rows = sheet::rows_of(sheet, layout);
-    if !rows_agree(&rows, has, gives, roles, layout.users) {
+    if !rows_agree(rows, has, gives, roles, users) {
         return refused(14);
     }
-    if !witness_stands(&rows, witness) {
+    if !witness_stands(rows, witness) {
         return refused(15);
     }
     Checked {

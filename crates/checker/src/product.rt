@@ -1,8 +1,9 @@
 // Whether the product of the two matrices is the sheet.
-use book::cell_at;
+use crate::cells::cells_in_word;
+use bits::WORD_BITS;
 use sheet::ROW_WORDS;
 ghost use mathlib.Core.Path.{_≡_};
-ghost use mathlib.Core.Bool.{_&&_, _||_};
+ghost use mathlib.Core.Bool.{_||_};
 ghost use Prim.Native.Nat.{ℕ, _+_, _*_, _≤_, _<_};
 ghost use lib.ListN.{length};
 ghost use Rattle.bits.specs.Bit.{bit};
@@ -10,12 +11,29 @@ ghost use Rattle.bits.specs.Below.{every-below};
 ghost use Rattle.sheet.specs.Rows.{row-words, row-bits};
 ghost use Rattle.book.specs.RowsSaid.{roles-in};
 ghost use Rattle.checker.specs.ProductWords.{GivenWord, row-agrees};
+ghost use Rattle.checker.specs.GivenRoles.{RolesWord, GivenWithin, some-given};
 
-// A word, and what a role gives where the user has it.
-fn with_given(word: u64, given: u64, has: bool) -> u64
-    ensures { λ r. ⌜ ((q : ℕ) → bit r q ≡ (bit word q || (has && bit given q))) ⌝ }
+// The roles of a user at the positions of word j, of which only those below `roles` count.
+fn roles_word(has: &[u64], roles: usize, u: usize, j: usize) -> u64
+    requires { ⌜ (j < row-words) × ((u + 1) * row-words ≤ length (now has)) ⌝ }
+    ensures { λ r. ⌜ RolesWord (now (has .entry)) roles u j r ⌝ }
 {
-    if has { word | given } else { word }
+    has[u * ROW_WORDS + j] & bits::full(cells_in_word(roles, j))
+}
+
+// A word, and word k of what the roles at the positions of some give, role after role. The positions are counted from `first` on.
+fn with_given(start: u64, gives: &[u64], first: usize, some: u64, k: usize) -> u64
+    requires { ⌜ (k < row-words) × GivenWithin (now gives) first some ⌝ }
+    ensures { λ r. ⌜ ((q : ℕ) → bit r q ≡ (bit start q || some-given (now (gives .entry)) first k q some)) ⌝ }
+{
+    let mut word = start;
+    let mut left = some;
+    while left != 0 {
+        let role = first + bits::lowest(left);
+        word = word | gives[role * ROW_WORDS + k];
+        left = bits::without_lowest(left);
+    }
+    word
 }
 
 // Word k of what the roles of a user give together.
@@ -24,10 +42,11 @@ fn given_word(has: &[u64], gives: &[u64], roles: usize, u: usize, k: usize) -> u
     ensures { λ r. ⌜ GivenWord (now (has .entry)) (now (gives .entry)) roles u k r ⌝ }
 {
     let mut word = 0;
-    let mut r = 0;
-    while r < roles {
-        word = with_given(word, gives[r * ROW_WORDS + k], cell_at(has, u, r));
-        r += 1;
+    let mut j = 0;
+    while j < ROW_WORDS {
+        let some = roles_word(has, roles, u, j);
+        word = with_given(word, gives, j * WORD_BITS, some, k);
+        j += 1;
     }
     word
 }

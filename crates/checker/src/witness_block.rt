@@ -7,13 +7,14 @@ use sheet::FoundPermission;
 use sheet::FoundUser;
 use sheet::Layout;
 use sheet::PermissionNo;
+use sheet::USER_LIMIT;
 use sheet::UserNo;
 ghost use mathlib.Core.Path.{_≡_};
-ghost use Prim.Native.Nat.{_≤_, _<_, _^_};
+ghost use Prim.Native.Nat.{_≤_};
 ghost use lib.ListN.{length};
-ghost use Rattle.sheet.specs.Sheet.{sheet-of};
-ghost use Rattle.sheet.specs.LaidOut.{LaidOut};
-ghost use Rattle.checker.specs.WitnessList.{no-witness, with-line};
+ghost use Rattle.sheet.specs.Sheet.{sheet-of, user-count, permission-count};
+ghost use Rattle.sheet.specs.LaidOut.{LaidOut, UsersAt, PermissionsAt};
+ghost use Rattle.checker.specs.WitnessList.{no-witness};
 ghost use Rattle.checker.specs.WitnessLineSteps.{WitnessReads};
 ghost use Rattle.checker.specs.WitnessSteps.{WitnessLinesRead, WitnessPartReads};
 
@@ -55,66 +56,101 @@ impl Witness {
             first: [line; ROLE_LIMIT],
         }
     }
-
-    // One line more.
-    fn with(self, line: WitnessLine) -> Self
-        requires { ⌜ self .lines < 2 ^ 63 ⌝ }
-        ensures { λ r. ⌜ r ≡ with-line self line ⌝ }
-    {
-        let lines = self.lines;
-        let mut first = self.first;
-        if lines < ROLE_LIMIT {
-            first[lines] = line;
-        }
-        Self {
-            lines: lines + 1,
-            first,
-        }
-    }
 }
 
-// Reads a witness line: a user's name, a comma, a permission's name and a line feed.
-fn witness_line<'a>(book: &'a [u8], at: usize, sheet: &'a [u8], layout: Layout) -> WitnessRead
-    requires { ⌜ (at ≤ length (now book)) × LaidOut (now sheet) layout ⌝ }
+// Reads a witness line: a user's name, a comma, a permission's name and a line feed. The users from number `first` on are looked at first.
+fn witness_line<'a, 'b>(
+    book: &'a [u8],
+    at: usize,
+    sheet: &'a [u8],
+    users: usize,
+    user_from: &'b [usize; USER_LIMIT],
+    user_to: &'b [usize; USER_LIMIT],
+    permissions: usize,
+    permission_from: &'b [usize; USER_LIMIT],
+    permission_to: &'b [usize; USER_LIMIT],
+    first: usize,
+) -> WitnessRead
+    requires { ⌜ at ≤ length (now book) ⌝ }
+    requires { ⌜ UsersAt (now sheet) (now «user_from») (now «user_to») × (users ≡ user-count (sheet-of (now sheet))) ⌝ }
+    requires { ⌜ PermissionsAt (now sheet) (now «permission_from») (now «permission_to») × (permissions ≡ permission-count (sheet-of (now sheet))) ⌝ }
     ensures { λ r. ⌜ WitnessReads (sheet-of (now (sheet .entry))) (now (book .entry)) at r ⌝ }
 {
     let Step::On(comma) = part_end(book, at, b',') else {
         return WitnessRead::Off;
     };
-    let FoundUser::At(user) = sheet::find_user(sheet, layout, &book[at..comma]) else {
+    let user_name = &book[at..comma];
+    let FoundUser::At(user) = sheet::find_user_in(
+        sheet,
+        user_from,
+        user_to,
+        users,
+        first,
+        user_name,
+    ) else {
         return WitnessRead::Off;
     };
     let start = comma + 1;
     let Step::On(end) = part_end(book, start, b'\n') else {
         return WitnessRead::Off;
     };
-    let FoundPermission::At(permission) = sheet::find_permission(sheet, layout, &book[start..end])
-    else {
+    let permission_name = &book[start..end];
+    let FoundPermission::At(permission) = sheet::find_permission_in(
+        sheet,
+        permission_from,
+        permission_to,
+        permissions,
+        0,
+        permission_name,
+    ) else {
         return WitnessRead::Off;
     };
     WitnessRead::Line(WitnessLine { user, permission }, end + 1)
 }
 
-// Reads witness lines up to the end of the book.
+// Reads witness lines up to the end of the book. The grants of a witness are mostly in order, so a user is looked for from the last one on.
 fn witness_lines<'a>(book: &'a [u8], at: usize, sheet: &'a [u8], layout: Layout) -> WitnessesRead
     requires { ⌜ (at ≤ length (now book)) × LaidOut (now sheet) layout ⌝ }
     ensures { λ r. ⌜ WitnessLinesRead (sheet-of (now (sheet .entry))) (now (book .entry)) at r ⌝ }
 {
-    let mut witness = Witness::none();
+    let users = layout.users;
+    let user_places = layout.user_places;
+    let permissions = layout.permissions;
+    let permission_places = layout.permission_places;
+    let none = Witness::none();
+    let mut first = none.first;
+    let mut lines = 0;
     let mut next = at;
+    let mut last = 0;
     while next < book.len() {
-        let WitnessRead::Line(line, after) = witness_line(book, next, sheet, layout) else {
+        let WitnessRead::Line(line, after) = witness_line(
+            book,
+            next,
+            sheet,
+            users,
+            &user_places.from,
+            &user_places.to,
+            permissions,
+            &permission_places.from,
+            &permission_places.to,
+            last,
+        ) else {
             return WitnessesRead {
                 of_form: false,
-                witness,
+                witness: none,
             };
         };
-        witness = witness.with(line);
+        if lines < ROLE_LIMIT {
+            first[lines] = line;
+        }
+        lines += 1;
         next = after;
+        let user = line.user;
+        last = user.0;
     }
     WitnessesRead {
         of_form: true,
-        witness,
+        witness: Witness { lines, first },
     }
 }
 

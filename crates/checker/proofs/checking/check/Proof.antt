@@ -1,20 +1,23 @@
 -- `checking::check`: the sheet's own number where it has one; else 12 for a book above the limit, and for any other book what the readings find.
 use native.Mathlib.Omega.{arith}
-use mathlib.Core.Path.{sym, _∙_}
+use mathlib.Core.Path.{_≡_, sym, _∙_}
 use borrow.Author.Needs.{needs}
 use Rattle.checker.specs.Form.{book-limit}
-use Rattle.checker.specs.CheckSteps.{refused-for-sheet, refused-too-long}
+use lib.ListN.{length}
+use Rattle.sheet.specs.Limits.{user-limit}
+use Rattle.sheet.specs.Rows.{row-words}
+use Rattle.checker.specs.CheckSteps.{users-within, refused-for-sheet, refused-too-long}
 use Rattle.checker.proofs.checking.check.Statement.{statement}
 use Rattle.checker.proofs.checking.check.Tie as tie
 
-judge-requires : tie.Need-judge-requires
-judge-requires c κs = search needs
+read-requires : tie.Need-read-requires
+read-requires c κs = search needs
 
 refused-requires : tie.Need-refused-requires
 refused-requires c κs = search needs
 
 returns : tie.Need-returns
-returns c = refused-for-sheet (c .before .before .judge .ensures) (c .before .if1 .taken) (c .refused .ensures)
+returns c = refused-for-sheet (c .before .before .read .ensures .0) (c .before .if1 .taken) (c .refused .ensures)
 
 refused-requires-2 : tie.Need-refused-requires-2
 refused-requires-2 c κs = search needs
@@ -22,15 +25,21 @@ refused-requires-2 c κs = search needs
 returns-2 : tie.Need-returns-2
 unfolding book-limit
 returns-2 c =
-    refused-too-long (sym (c .before .before .before .judge .ensures) ∙ c .before .before .if1 .left) (omega (arith, c .before .if2 .taken)) (c .refused2 .ensures)
+    refused-too-long (sym (c .before .before .before .read .ensures .0) ∙ c .before .before .if1 .left) (omega (arith, c .before .if2 .taken)) (c .refused2 .ensures)
+
+slice-aggregate-check-book : tie.Need-slice-aggregate-check-book
+slice-aggregate-check-book c = search needs
 
 check-book-requires : tie.Need-check-book-requires
-unfolding book-limit
-check-book-requires c κs = (sym (c .before .before .judge .ensures) ∙ c .before .if1 .left, omega (arith, c .if2 .left))
+unfolding book-limit user-limit row-words
+check-book-requires c κs =
+    let read = c .before .before .before .before .before .read .ensures .1 (c .before .before .before .before .if1 .left) in
+    let size : length (c .before .before .before .before .before .read .result .rows) ≡ 256 = search needs in
+    ((read .0, read .1, users-within (read .0) _ size), omega (arith, c .before .before .before .if2 .left))
 
 returns-3 : tie.Need-returns-3
 returns-3 c = search needs
 
 pub check-spec : {M : Type 1} → statement M
 check-spec =
-    tie.close (tie.spec judge-requires refused-requires returns refused-requires-2 returns-2 check-book-requires returns-3)
+    tie.close (tie.spec read-requires refused-requires returns refused-requires-2 returns-2 slice-aggregate-check-book check-book-requires returns-3)

@@ -11,22 +11,16 @@ use Rattle.checker.specs.CheckSteps.{zeros-blank, refused-for-form}
 use Rattle.checker.proofs.checking.check_book.Statement.{statement}
 use Rattle.checker.proofs.checking.check_book.Tie as tie
 
--- the layout, from where block 1 and from where block 2 has been read
-abbrev laid : tie.After-known-told → tie.After-lay-out
-laid c = c .before .before .before .before
+-- the call, from where block 1 has been read, and that place from where block 2 has been
+abbrev call : tie.After-known-told → tie.Start
+call c = c .before .before .before .before .before .before .before
 
 abbrev counted : tie.After-known-told2 → tie.After-known-told
 counted c = c .before .before .before .before .before .before
 
--- the call, and its sheet
-abbrev call : tie.After-lay-out → tie.Start
-call c = c .before .before .before
-
-abbrev sheet : tie.After-lay-out → Sheet
-sheet c = sheet-of (call c .args .sheet .now)
-
-lay-out-requires : tie.Need-lay-out-requires
-lay-out-requires c κs = search needs
+-- its sheet
+abbrev sheet : tie.Start → Sheet
+sheet c = sheet-of (c .args .sheet .now)
 
 read-counts-requires : tie.Need-read-counts-requires
 read-counts-requires c κs = search needs
@@ -43,11 +37,12 @@ refused-requires c κs = search needs
 returns : tie.Need-returns
 returns c =
     let read = c .before .before .before in
-    refused-for-form (read .before .lay-out .ensures .accepts)
-    (no-counts-written (sheet (read .before)) (rw (c .before .enum-told .given .1) at (read .read-counts .ensures))) (c .refused .ensures)
+    let start = read .before .before .before .before in
+    refused-for-form (start .pre .0 .0 .accepts)
+    (no-counts-written (sheet start) (rw (c .before .enum-told .given .1) at (read .read-counts .ensures))) (c .refused .ensures)
 
 first : (c : tie.After-known-told)
-    → CountsAt (call (laid c) .args .book .now) 0 (c .before .counts .given .0 .0) (c .before .counts .given .0 .1 .0)
+    → CountsAt (call c .args .book .now) 0 (c .before .counts .given .0 .0) (c .before .counts .given .0 .1 .0)
 first c = rw (c .before .counts .given .1) at (c .before .before .before .read-counts .ensures)
 
 slice-aggregate-read-roles : tie.Need-slice-aggregate-read-roles
@@ -56,7 +51,7 @@ slice-aggregate-read-roles c = search needs
 read-roles-requires : tie.Need-read-roles-requires
 unfolding role-limit row-words
 read-roles-requires c κs = (
-  (first (c .before) .reads .within, laid (c .before) .lay-out .ensures),
+  (first (c .before) .reads .within, call (c .before) .pre .0 .0),
   (omega arith, zeros-blank (role-limit * row-words)),
 )
 
@@ -73,11 +68,11 @@ returns-2 : tie.Need-returns-2
 returns-2 c =
     let read = c .before .before .before .before in
     let one = read .before .before in
-    refused-for-form (laid one .lay-out .ensures .accepts)
-    (no-roles-written (sheet (laid one)) (first one) (rw (c .before .enum-told2 .given .1) at (read .read-roles .ensures))) (c .refused2 .ensures)
+    refused-for-form (call one .pre .0 .0 .accepts)
+    (no-roles-written (sheet (call one)) (first one) (rw (c .before .enum-told2 .given .1) at (read .read-roles .ensures))) (c .refused2 .ensures)
 
 front : (c : tie.After-known-told2)
-    → FrontRead (sheet (laid (counted c))) (call (laid (counted c)) .args .book .now) (counted c .before .counts .given .0 .0)
+    → FrontRead (sheet (call (counted c))) (call (counted c) .args .book .now) (counted c .before .counts .given .0 .0)
     (c .before .before .before .before .read-roles .last .1 .1 .1 .1 .0) (c .before .roles .given .0 .0) (c .before .roles .given .0 .1 .0)
 front c =
     record {
@@ -92,13 +87,12 @@ slice-aggregate-check-from-users c = search needs
 check-from-users-requires : tie.Need-check-from-users-requires
 unfolding role-limit row-words
 check-from-users-requires c κs =
-    let one = counted (c .before) in (
+    let pre = call (counted (c .before)) .pre in (
+      pre .0,
       (
-        laid one .lay-out .ensures,
-        call (laid one) .pre .1,
-        omega (arith, c .before .before .before .before .before .read-roles .kept .1 .1 .1 .1 .0),
+        (pre .1, omega (arith, c .before .before .before .before .before .read-roles .kept .1 .1 .1 .1 .0)),
+        front (c .before),
       ),
-      front (c .before),
     )
 
 returns-3 : tie.Need-returns-3
@@ -108,7 +102,6 @@ pub check-book-spec : {M : Type 1} → statement M
 check-book-spec =
     tie.close
     (tie.spec
-    lay-out-requires
     read-counts-requires
     enum-known-counts
     enum-told

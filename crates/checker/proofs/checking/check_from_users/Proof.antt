@@ -20,7 +20,7 @@ use Rattle.checker.proofs.checking.check_from_users.Tie as tie
 
 -- the call, from where block 3 is to be read and from where it has been read
 abbrev call : tie.After-no-rows → tie.Start
-call c = c .before .before .before .before
+call c = c .before .before .before .before .before
 
 abbrev rows : tie.After-known-told → tie.After-no-rows
 rows c = c .before .before .before .before .before .before
@@ -44,7 +44,7 @@ slice-aggregate-read-users c = search needs
 read-users-requires : tie.Need-read-users-requires
 read-users-requires c κs =
     let pre = call (c .before) .pre in (
-      (pre .1 .roles-at .reads .within, pre .0 .0, pre .1 .roles-at .few),
+      (pre .1 .1 .roles-at .reads .within, pre .0 .0, pre .1 .1 .roles-at .few),
       (
         users-within (pre .0 .0) (length (c .before .no-rows .result)) (size (c .before)),
         rw (c .before .no-rows .ensures) (zeros-blank (user-limit * row-words)),
@@ -65,7 +65,7 @@ returns c =
     let read = c .before .before .before .before in
     let start = call (read .before .before) in
     refused-for-form (start .pre .0 .0 .accepts)
-    (no-users-written (sheet start) (start .pre .1) (rw (c .before .enum-told .given .1) at (read .read-users .ensures))) (c .refused .ensures)
+    (no-users-written (sheet start) (start .pre .1 .1) (rw (c .before .enum-told .given .1) at (read .read-users .ensures))) (c .refused .ensures)
 
 users : (c : tie.After-known-told)
     → Reads (call (rows c) .args .book .now) (call (rows c) .args .at) (users-part (sheet (call (rows c))) (call (rows c) .args .roles) (cell (has c)))
@@ -83,7 +83,7 @@ returns-2 c =
     let read = c .before .before .before in
     let start = call (rows (read .before)) in
     refused-for-form (start .pre .0 .0 .accepts)
-    (no-witness-written (sheet start) (start .pre .1) (has (read .before)) (users (read .before))
+    (no-witness-written (sheet start) (start .pre .1 .1) (has (read .before)) (users (read .before))
     (rw (not-true (read .read-witness .result .«of_form») (c .before .if1 .taken)) at (read .read-witness .ensures))) (c .refused2 .ensures)
 
 witness : (c : tie.Else1)
@@ -98,10 +98,14 @@ judge-book-requires : tie.Need-judge-book-requires
 judge-book-requires c κs =
     let read = c .before .before .before .before .before in
     let pre = call (rows read) .pre in (
-      (pre .0 .0, something-said (sheet (call (rows read))) (pre .1) (has read) (users read) (witness (c .before .before)) (pre .0 .1)),
+      (pre .0 .0 .accepts, pre .0 .1, pre .0 .0 .user-total),
       (
-        users-within (pre .0 .0) (length (has read)) (read .before .before .before .before .read-users .kept .1 .1 .1 .1 .0 ∙ size (rows read)),
-        rows-within (call (rows read) .args .roles) role-limit _ (pre .1 .roles-at .few) (pre .0 .2),
+        something-said (sheet (call (rows read))) (pre .1 .1) (has read) (users read) (witness (c .before .before)) (pre .1 .0 .0),
+        (
+          pre .0 .2,
+          users-within (pre .0 .0) (length (has read)) (read .before .before .before .before .read-users .kept .1 .1 .1 .1 .0 ∙ size (rows read)),
+          rows-within (call (rows read) .args .roles) role-limit _ (pre .1 .1 .roles-at .few) (pre .1 .0 .1),
+        ),
       ),
     )
 
@@ -109,7 +113,7 @@ returns-3 : tie.Need-returns-3
 returns-3 c =
     let read = c .before .before .before .before .before .before in
     let pre = call (rows read) .pre in
-    judged-as-read (pre .0 .0 .accepts) (has read) (pre .0 .1) (pre .1) (users read) (witness (c .before .before .before)) (c .judge-book .ensures)
+    judged-as-read (pre .0 .0 .accepts) (has read) (pre .1 .0 .0) (pre .1 .1) (users read) (witness (c .before .before .before)) (c .judge-book .ensures)
 
 pub check-from-users-spec : {M : Type 1} → statement M
 check-from-users-spec =

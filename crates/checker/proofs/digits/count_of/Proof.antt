@@ -1,6 +1,6 @@
 -- `digits::count_of`: the first digit tells `0`, a leading zero and any other count apart.
 use borrow.Author.Needs.{needs}
-use mathlib.Core.Path.{_≡_, sym, _∙_}
+use mathlib.Core.Path.{sym, _∙_}
 use Rattle.checker.specs.Capped.{no-digits, count-zero, leading-zero, no-leading-zero}
 use Rattle.checker.proofs.digits.count_of.Statement.{statement}
 use Rattle.checker.proofs.digits.count_of.Tie as tie

@@ -1,14 +1,12 @@
 -- `judgement::judge_book`: the three judgements in turn, each that of what the book says.
 use Prim.Native.Nat.{_*_, _≤_}
-use native.Mathlib.Nat.{mul-le-mul-right}
 use native.Mathlib.Omega.{arith}
-use mathlib.Core.Path.{_≡_, sym, ap, _∙_}
-use mathlib.Core.Bool.{So, false}
+use mathlib.Core.Path.{_≡_, sym, _∙_}
+use mathlib.Core.Bool.{So}
 use borrow.Author.Tests.{not-true, not-false}
 use borrow.Author.Needs.{needs}
 use lib.ListN.{length}
-use Rattle.sheet.specs.Limits.{user-limit, permission-limit}
-use Rattle.sheet.specs.Sheet.{sheet-of, user-count, permission-count}
+use Rattle.sheet.specs.Sheet.{Sheet, sheet-of, user-count, permission-count}
 use Rattle.sheet.specs.Rows.{row-words, row-bits}
 use Rattle.sheet.specs.AcceptedFacts.{Lawful, accepted-lawful}
 use Rattle.book.specs.Book.{Said}
@@ -18,104 +16,117 @@ use Rattle.checker.specs.BookSays.{Says, counts-as-said, product-as-said
 use Rattle.checker.proofs.judgement.judge_book.Statement.{statement}
 use Rattle.checker.proofs.judgement.judge_book.Tie as tie
 
+-- the call, from where the counts agree, from where the rows have been judged and from where the witness has been
+abbrev agreed : tie.Else1 → tie.Start
+agreed c = c .before .before .before .before .before .before
+
+abbrev counted : tie.After-rows-agree → tie.Else1
+counted c = c .before
+
+abbrev judged : tie.After-witness-stands → tie.After-rows-agree
+judged c = c .before .before
+
+-- the sheet, which is lawful and no wider than a row, and has a row for each user
+abbrev sheet : tie.Start → Sheet
+sheet c = sheet-of (c .args .sheet .now)
+
+lawful : (c : tie.Start) → Lawful (sheet c)
+lawful c = accepted-lawful (c .args .sheet .now) (c .pre .0 .0)
+
+wide : (c : tie.Start) → permission-count (sheet c) ≤ row-bits
+wide c = omega (arith, lawful c .few-permissions, permissions-fit-a-row)
+
+room : (c : tie.Start) → user-count (sheet c) * row-words ≤ length (c .args .rows .now)
+room c = rw (c .pre .0 .2) at (c .pre .1 .1 .0)
+
+-- what the book says, as far as it has been judged
+abbrev Said-here : (c : tie.Start) → Said → Type 0
+Said-here c says = Says (sheet c) (c .args .counts) (c .args .roles) (c .args .has .now) (c .args .gives .now) (c .args .witness) says
+
+counts : (c : tie.Else1) (says : Said) → Said-here (agreed c) says → So (counts-agree says)
+counts c says s = sym (counts-as-said s) ∙ sym (c .before .counts-agree .ensures) ∙ not-false _ (c .if1 .left)
+
+rows : (c : tie.After-rows-agree) (says : Said) → Said-here (agreed (counted c)) says
+    → c .rows-agree .result ≡ product-agrees (sheet (agreed (counted c))) (says .roles)
+rows c says s =
+    let start = agreed (counted c) in
+    rw (start .pre .0 .2) at (c .rows-agree .ensures) ∙ product-as-said s (start .args .rows .now) (start .pre .0 .1 .rows) (wide start) (lawful start)
+
+lines : (c : tie.After-witness-stands) (says : Said) → Said-here (agreed (counted (judged c))) says
+    → c .witness-stands .result ≡ witness-stands (sheet (agreed (counted (judged c)))) (says .witness)
+lines c says s =
+    let start = agreed (counted (judged c)) in
+    c .witness-stands .ensures
+    ∙ witness-as-said s (start .args .rows .now) (start .pre .0 .1 .rows) (wide start) (counts (counted (judged c)) says s)
+
 counts-agree-requires : tie.Need-counts-agree-requires
 counts-agree-requires c κs = search needs
 
 refused-requires : tie.Need-refused-requires
 refused-requires c κs = search needs
 
-lawful : (c : tie.Start) → Lawful (sheet-of (c .args .sheet .now))
-lawful c = accepted-lawful (c .args .sheet .now) (c .pre .0 .0 .accepts)
-
-wide : (c : tie.Start) → permission-count (sheet-of (c .args .sheet .now)) ≤ row-bits
-wide c = omega (arith, lawful c .few-permissions, permissions-fit-a-row)
-
 returns : tie.Need-returns
 returns c =
     record {
       judged = λ says s.
           c .refused .ensures
-          ∙ judged-13 (sheet-of (c .before .before .before .before .before .before .args .sheet .now)) says (sym (counts-as-said s) ∙ sym (c .before .before .counts-agree .ensures) ∙ not-true _ (c .before .if1 .taken));
+          ∙ judged-13 (sheet (c .before .before .before .before .before .before .before)) says (sym (counts-as-said s) ∙ sym (c .before .before .counts-agree .ensures) ∙ not-true _ (c .before .if1 .taken));
     }
 
-rows-of-requires : tie.Need-rows-of-requires
-rows-of-requires c κs = search needs
-
-slice-aggregate-rows-agree : tie.Need-slice-aggregate-rows-agree
-slice-aggregate-rows-agree c = search needs
-
--- there is a row for each user
-room : (c : tie.After-rows-of) → user-count (sheet-of (c .before .before .before .before .before .before .args .sheet .now)) * row-words ≤ length (c .rows-of .result)
-unfolding row-words user-limit
-room c =
-    let size : length (c .rows-of .result) ≡ 256 = search needs in
-    omega (arith, lawful (c .before .before .before .before .before .before) .few-users)
-
 rows-agree-requires : tie.Need-rows-agree-requires
-rows-agree-requires c κs = (
-  omega (arith, c .before .before .before .before .before .before .before .pre .0 .1 .said .few, roles-fit-a-row),
-  rw (c .before .before .before .before .before .before .before .pre .0 .0 .user-total) (room (c .before)),
-  c .before .before .before .before .before .before .before .pre .1 .0,
-  c .before .before .before .before .before .before .before .pre .1 .1,
-)
+rows-agree-requires c κs =
+    let start = agreed c in (
+      omega (arith, start .pre .1 .0 .said .few, roles-fit-a-row),
+      start .pre .1 .1 .0,
+      start .pre .1 .1 .1,
+      start .pre .1 .1 .2,
+    )
 
 refused-requires-2 : tie.Need-refused-requires-2
 refused-requires-2 c κs = search needs
 
--- what the book says, as far as it has been judged
-abbrev Said-here : (c : tie.Start) → Said → Type 0
-Said-here c says =
-    Says (sheet-of (c .args .sheet .now)) (c .args .counts) (c .args .roles) (c .args .has .now) (c .args .gives .now) (c .args .witness) says
-
-counts : (c : tie.Else1) (says : Said) → Said-here (c .before .before .before .before .before) says → So (counts-agree says)
-counts c says s = sym (counts-as-said s) ∙ sym (c .before .counts-agree .ensures) ∙ not-false _ (c .if1 .left)
-
-rows : (c : tie.After-rows-agree) (says : Said) → Said-here (c .before .before .before .before .before .before .before .before) says
-    → c .rows-agree .result ≡ product-agrees (sheet-of (c .before .before .before .before .before .before .before .before .args .sheet .now)) (says .roles)
-rows c says s =
-    rw (c .before .before .before .before .before .before .before .before .pre .0 .0 .user-total) at (c .rows-agree .ensures)
-    ∙ product-as-said s (c .before .before .rows-of .result) (c .before .before .rows-of .ensures .rows) (wide (c .before .before .before .before .before .before .before .before)) (lawful (c .before .before .before .before .before .before .before .before))
-
 returns-2 : tie.Need-returns-2
 returns-2 c =
+    let at = c .before .before in
     record {
       judged = λ says s.
           c .refused2 .ensures
-          ∙ judged-14 (sheet-of (c .before .before .before .before .before .before .before .before .before .before .args .sheet .now)) says (counts (c .before .before .before .before .before) says s) (sym (rows (c .before .before) says s) ∙ not-true _ (c .before .if2 .taken));
+          ∙ judged-14 (sheet (agreed (counted at))) says (counts (counted at) says s) (sym (rows at says s) ∙ not-true _ (c .before .if2 .taken));
     }
-
-slice-aggregate-witness-stands : tie.Need-slice-aggregate-witness-stands
-slice-aggregate-witness-stands c = search needs
 
 witness-stands-requires : tie.Need-witness-stands-requires
 witness-stands-requires c κs =
-    lines-as-said (c .before .before .before .before .before .before .before .before .before .before .pre .0 .1 .said) (c .before .before .before .before .rows-of .result) (c .before .before .before .before .rows-of .ensures .rows) (wide (c .before .before .before .before .before .before .before .before .before .before)) (counts (c .before .before .before .before .before) (c .before .before .before .before .before .before .before .before .before .before .pre .0 .1 .says) (c .before .before .before .before .before .before .before .before .before .before .pre .0 .1 .said))
-    (room (c .before .before .before .before))
+    let at = counted (c .before) in
+    let start = agreed at in
+    let said = start .pre .1 .0 in
+    lines-as-said (said .said) (start .args .rows .now) (start .pre .0 .1 .rows) (wide start) (counts at (said .says) (said .said)) (room start)
 
 refused-requires-3 : tie.Need-refused-requires-3
 refused-requires-3 c κs = search needs
 
-lines : (c : tie.After-witness-stands) (says : Said) → Said-here (c .before .before .before .before .before .before .before .before .before .before .before) says
-    → c .witness-stands .result ≡ witness-stands (sheet-of (c .before .before .before .before .before .before .before .before .before .before .before .args .sheet .now)) (says .witness)
-lines c says s =
-    c .witness-stands .ensures ∙ witness-as-said s (c .before .before .before .before .before .rows-of .result) (c .before .before .before .before .before .rows-of .ensures .rows) (wide (c .before .before .before .before .before .before .before .before .before .before .before)) (counts (c .before .before .before .before .before .before) says s)
+-- the product is the sheet, from where the witness has been judged
+product : (c : tie.After-witness-stands) (says : Said) → Said-here (agreed (counted (judged c))) says
+    → So (product-agrees (sheet (agreed (counted (judged c)))) (says .roles))
+product c says s = sym (rows (judged c) says s) ∙ not-false _ (c .before .if2 .left)
 
 returns-3 : tie.Need-returns-3
 returns-3 c =
+    let at = c .before .before in
     record {
       judged = λ says s.
           c .refused3 .ensures
-          ∙ judged-15 (sheet-of (c .before .before .before .before .before .before .before .before .before .before .before .before .before .args .sheet .now)) says (counts (c .before .before .before .before .before .before .before .before) says s) (sym (rows (c .before .before .before .before .before) says s) ∙ not-false _ (c .before .before .before .before .if2 .left))
-          (sym (lines (c .before .before) says s) ∙ not-true _ (c .before .if3 .taken));
+          ∙ judged-15 (sheet (agreed (counted (judged at)))) says (counts (counted (judged at)) says s) (product at says s)
+          (sym (lines at says s) ∙ not-true _ (c .before .if3 .taken));
     }
 
 returns-4 : tie.Need-returns-4
 returns-4 c =
+    let at = c .before in
     record {
       judged = λ says s.
           confirmed-as s
-          ∙ judged-right (sheet-of (c .before .before .before .before .before .before .before .before .before .before .before .before .args .sheet .now)) says (counts (c .before .before .before .before .before .before .before) says s) (sym (rows (c .before .before .before .before) says s) ∙ not-false _ (c .before .before .before .if2 .left))
-          (sym (lines (c .before) says s) ∙ not-false _ (c .if3 .left));
+          ∙ judged-right (sheet (agreed (counted (judged at)))) says (counts (counted (judged at)) says s) (product at says s)
+          (sym (lines at says s) ∙ not-false _ (c .if3 .left));
     }
 
 pub judge-book-spec : {M : Type 1} → statement M
@@ -125,12 +136,9 @@ judge-book-spec =
     counts-agree-requires
     refused-requires
     returns
-    rows-of-requires
-    slice-aggregate-rows-agree
     rows-agree-requires
     refused-requires-2
     returns-2
-    slice-aggregate-witness-stands
     witness-stands-requires
     refused-requires-3
     returns-3

@@ -1,9 +1,9 @@
 -- `names::expect_role_name`: what is written at the front of the buffer is the role's name.
 use native.Mathlib.Omega.{arith}
-use mathlib.Core.Path.{_≡_, sym, _∙_}
+use mathlib.Core.Path.{_≡_, sym}
 use borrow.Author.Needs.{needs}
 use Prim.Native.Nat.{_≤_}
-use lib.ListN.{length, take, drop}
+use lib.ListN.{length, take}
 use lib.Seq.{take-at, length-take-le}
 use Rattle.book.specs.Words.{role-name}
 use Rattle.checker.specs.RoleLimit.{roles-fit-a-row, role-name-short}

@@ -7,7 +7,6 @@ use borrow.Author.Needs.{needs}
 use Rattle.sheet.specs.Text.{Bytes, comma}
 use Rattle.book.specs.Words.{role-name}
 use Rattle.book.specs.LineLaws.{behind-comma}
-use Rattle.checker.specs.Form.{role-limit}
 use Rattle.checker.specs.Steps.{Reads}
 use Rattle.checker.specs.StepLaws.{reads-nothing, reads-then, reads-more, misses-first, misses-second, misses-known}
 use Rattle.checker.specs.Pieces.{role-fields}

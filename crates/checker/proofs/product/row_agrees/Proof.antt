@@ -1,7 +1,7 @@
 -- `product::row_agrees`: the cells of the words below k agree; a word that is another has a cell that does not.
 use Prim.Native.Nat.{_+_, _*_, _-_, _≤_, _<_}
 use native.Mathlib.Omega.{arith}
-use mathlib.Core.Path.{_≡_, sym}
+use mathlib.Core.Path.{sym}
 use borrow.Author.Needs.{needs}
 use lib.ListN.{length}
 use Rattle.sheet.specs.Rows.{row-words}

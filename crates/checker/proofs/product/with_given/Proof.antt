@@ -1,20 +1,100 @@
--- `product::with_given`: the bits of both words, where the user has the role.
-use mathlib.Core.Path.{sym}
-use mathlib.Core.Bool.{or-false}
+-- `product::with_given`: the positions of left are the roles still to be counted. The lowest is counted next, and dropped.
+use Prim.Native.Nat.{ℕ, _+_, _*_, _<_}
+use native.Mathlib.Omega.{arith}
+use mathlib.Core.Path.{_≡_, refl, sym, _∙_}
+use mathlib.Core.Bool.{_||_, or-false}
+use lib.ListN.{length}
 use Rattle.bits.specs.Bit.{bit}
 use Rattle.bits.specs.BitLaws.{bit-or}
+use Rattle.sheet.specs.Rows.{row-words}
+use Rattle.checker.specs.RoleLimit.{word-below}
+use Rattle.checker.specs.GivenRoles.{GivenWithin, some-given, none-given, given-next, within-dropped}
 use Rattle.checker.proofs.product.with_given.Statement.{statement}
 use Rattle.checker.proofs.product.with_given.Tie as tie
 
-returns : tie.Need-returns
-returns c = λ q. rw (c .if1 .taken) (bit-or (c .before .args .word) (c .before .args .given) q)
+abbrev Inv-loop : tie.InvT-loop
+Inv-loop start gives first some k word₀ left₀ word left =
+    GivenWithin gives first left
+    × ((q : ℕ) → (bit word q || some-given gives first k q left) ≡ (bit start q || some-given gives first k q some))
 
-returns-2 : tie.Need-returns-2
-returns-2 c = λ q. rw (c .if1 .left) (sym (or-false (bit (c .before .args .word) q)))
+abbrev μ-loop : tie.MeasureT-loop
+μ-loop start gives first some k word₀ left₀ word left = left
+
+loop-holds : tie.Need-loop-holds Inv-loop μ-loop
+loop-holds c = (c .before .pre .1, λ q. refl)
+
+lowest-requires : tie.Need-lowest-requires Inv-loop μ-loop
+lowest-requires c κs = omega arith
+
+-- the row of the lowest role is among the words
+word-there : (c : tie.After-lowest Inv-loop μ-loop)
+    → (c .before .before .before .before .args .first + c .lowest .result) * row-words + c .before .before .before .before .args .k
+    < length (c .before .before .before .before .args .gives .now)
+word-there c =
+    let a = c .before .before .before .before .args in
+    let low = c .lowest in
+    word-below (a .first + low .result) (a .first + low .result + 1) (a .k) _ (omega arith) (c .before .before .before .before .pre .0)
+    (c .before .before .loop .inv .0 .rows (low .result) (low .ensures .within) (low .ensures .holds))
+
+add-role : tie.Need-add-role Inv-loop μ-loop
+unfolding row-words
+add-role c = omega (arith, word-there c)
+
+mul-word : tie.Need-mul-word Inv-loop μ-loop
+unfolding row-words
+mul-word c = omega (arith, word-there c)
+
+add-word : tie.Need-add-word Inv-loop μ-loop
+unfolding row-words
+add-word c = omega (arith, word-there c)
+
+mul-word-2 : tie.Need-mul-word-2 Inv-loop μ-loop
+unfolding row-words
+mul-word-2 c = omega (arith, word-there c)
+
+shared-slice-read-word : tie.Need-shared-slice-read-word Inv-loop μ-loop
+unfolding row-words
+shared-slice-read-word c = word-there (c .before)
+
+without-lowest-requires : tie.Need-without-lowest-requires Inv-loop μ-loop
+without-lowest-requires c κs = omega arith
+
+loop-less : tie.Need-loop-less Inv-loop μ-loop
+loop-less c = c .without-lowest .ensures .less
+
+loop-again : tie.Need-loop-again Inv-loop μ-loop
+unfolding row-words
+loop-again c =
+    let a = c .before .before .before .before .before .before .args in
+    let at = c .before .before .before .before .loop in
+    let low = c .before .before .lowest in
+    let dropped = c .without-lowest .ensures in (
+      within-dropped (low .ensures) dropped (at .inv .0),
+      λ q.
+          given-next (a .gives .now) (a .first) (a .k) q (at .word) _ (low .ensures) dropped (bit-or (at .word) _ q) ∙ at .inv .1 q,
+    )
+
+returns : tie.Need-returns Inv-loop μ-loop
+returns c =
+    let a = c .before .before .before .args in
+    let at = c .before .loop in
+    let none : at .left ≡ 0 = omega (arith, c .loop-test .left) in
+    λ q. sym (or-false (bit (at .word) q)) ∙ rw (← none-given (a .gives .now) (a .first) (a .k) q) (rw none at (at .inv .1 q))
 
 pub with-given-spec : {M : Type 1} → statement M
 with-given-spec =
     tie.close
     (tie.spec
-    returns
-    returns-2)
+    Inv-loop
+    μ-loop
+    loop-holds
+    lowest-requires
+    add-role
+    mul-word
+    add-word
+    mul-word-2
+    shared-slice-read-word
+    without-lowest-requires
+    loop-less
+    loop-again
+    returns)

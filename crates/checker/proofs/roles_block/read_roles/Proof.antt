@@ -1,11 +1,8 @@
 -- `roles_block::read_roles`: the line of names, then the lines of the roles.
 use native.Mathlib.Omega.{arith}
-use mathlib.Core.Path.{_≡_}
 use borrow.Author.Needs.{needs}
 use Rattle.sheet.specs.Sheet.{sheet-of}
-use Rattle.sheet.specs.Limits.{permission-limit}
 use Rattle.sheet.specs.AcceptedFacts.{accepted-lawful}
-use Rattle.checker.specs.Form.{role-limit}
 use Rattle.checker.specs.Steps.{Reads}
 use Rattle.checker.specs.Pieces.{roles-heading}
 use Rattle.checker.specs.RoleLimit.{permissions-fit-a-row}

@@ -1,12 +1,11 @@
 -- `users_block::user_lines`: the lines of the users below u have been read.
-use Prim.Native.Nat.{_-_, _*_, _≤_, _<_}
+use Prim.Native.Nat.{_-_, _≤_, _<_}
 use native.Mathlib.Omega.{arith}
 use mathlib.Core.Path.{_≡_, refl, _∙_}
 use borrow.Author.Needs.{needs}
 use lib.ListN.{length}
 use Rattle.sheet.specs.LaidOutLaws.{users-at}
 use Rattle.sheet.specs.Sheet.{sheet-of, user-count}
-use Rattle.sheet.specs.Rows.{row-words}
 use Rattle.book.specs.Book.{user-name}
 use Rattle.checker.specs.RoleLimit.{row-within}
 use Rattle.checker.specs.RowSteps.{LinesBelow, lines-start, lines-more}

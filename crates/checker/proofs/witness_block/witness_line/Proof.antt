@@ -22,7 +22,7 @@ enum-told : tie.Need-enum-told
 enum-told c = search needs
 
 lawful : (c : tie.Start) → Lawful (sheet-of (c .args .sheet .now))
-lawful c = accepted-lawful (c .args .sheet .now) (c .pre .1 .accepts)
+lawful c = accepted-lawful (c .args .sheet .now) (c .pre .1 .0 .0 .accepts)
 
 returns : tie.Need-returns
 returns c = no-comma-in-line (sheet-of (c .before .before .before .before .before .args .sheet .now)) (lawful (c .before .before .before .before .before)) (rw (c .enum-told .given .1) at (c .before .before .part-end .ensures))
@@ -30,17 +30,17 @@ returns c = no-comma-in-line (sheet-of (c .before .before .before .before .befor
 first : (c : tie.After-known-told) → Ended (c .before .before .before .before .before .before .args .book .now) (c .before .before .before .before .before .before .args .at) comma (c .before .comma .given .0 .0)
 first c = rw (c .before .comma .given .1) at (c .before .before .before .part-end .ensures)
 
-sub-find-user : tie.Need-sub-find-user
-sub-find-user c = first c .forward
+sub-user-name : tie.Need-sub-user-name
+sub-user-name c = first c .forward
 
-part-find-user-start : tie.Need-part-find-user-start
-part-find-user-start c = first c .forward
+part-user-name-start : tie.Need-part-user-name-start
+part-user-name-start c = first c .forward
 
-part-find-user-end : tie.Need-part-find-user-end
-part-find-user-end c = omega (arith, first c .within)
+part-user-name-end : tie.Need-part-user-name-end
+part-user-name-end c = omega (arith, first c .within)
 
-find-user-requires : tie.Need-find-user-requires
-find-user-requires c κs = c .before .before .before .before .before .before .before .pre .1
+find-user-in-requires : tie.Need-find-user-in-requires
+find-user-in-requires c κs = search needs
 
 enum-known-user : tie.Need-enum-known-user
 enum-known-user c = search needs
@@ -51,7 +51,7 @@ enum-told-2 c = search needs
 returns-2 : tie.Need-returns-2
 returns-2 c =
     no-user (sheet-of (c .before .before .before .before .before .before .before .before .before .before .args .sheet .now)) (lawful (c .before .before .before .before .before .before .before .before .before .before)) (first (c .before .before .before .before))
-    (user-unknown (sheet-of (c .before .before .before .before .before .before .before .before .before .before .args .sheet .now) .users) _ (sym (c .enum-told2 .given .1) ∙ c .before .before .find-user .ensures))
+    (user-unknown (sheet-of (c .before .before .before .before .before .before .before .before .before .before .args .sheet .now) .users) _ (sym (c .enum-told2 .given .1) ∙ c .before .before .find-user-in .ensures))
 
 add-start : tie.Need-add-start
 add-start c = omega (arith, first (c .before .before .before .before .before) .within)
@@ -73,17 +73,17 @@ returns-3 c =
 second : (c : tie.After-known-told3) → Ended (c .before .before .before .before .before .before .before .before .before .before .before .before .before .before .before .args .book .now) (c .before .before .before .before .before .before .before .before .before .before .comma .given .0 .0 + 1) line-feed (c .before .end .given .0 .0)
 second c = rw (c .before .end .given .1) at (c .before .before .before .part-end2 .ensures)
 
-sub-find-permission : tie.Need-sub-find-permission
-sub-find-permission c = second c .forward
+sub-permission-name : tie.Need-sub-permission-name
+sub-permission-name c = second c .forward
 
-part-find-permission-start : tie.Need-part-find-permission-start
-part-find-permission-start c = second c .forward
+part-permission-name-start : tie.Need-part-permission-name-start
+part-permission-name-start c = second c .forward
 
-part-find-permission-end : tie.Need-part-find-permission-end
-part-find-permission-end c = omega (arith, second c .within)
+part-permission-name-end : tie.Need-part-permission-name-end
+part-permission-name-end c = omega (arith, second c .within)
 
-find-permission-requires : tie.Need-find-permission-requires
-find-permission-requires c κs = c .before .before .before .before .before .before .before .before .before .before .before .before .before .before .before .before .pre .1
+find-permission-in-requires : tie.Need-find-permission-in-requires
+find-permission-in-requires c κs = search needs
 
 enum-known-permission : tie.Need-enum-known-permission
 enum-known-permission c = search needs
@@ -94,17 +94,17 @@ enum-told-4 c = search needs
 returns-4 : tie.Need-returns-4
 returns-4 c =
     no-permission (sheet-of (c .before .before .before .before .before .before .before .before .before .before .before .before .before .before .before .before .before .before .before .args .sheet .now)) (lawful (c .before .before .before .before .before .before .before .before .before .before .before .before .before .before .before .before .before .before .before)) (first (c .before .before .before .before .before .before .before .before .before .before .before .before .before)) (second (c .before .before .before .before))
-    (permission-unknown (sheet-of (c .before .before .before .before .before .before .before .before .before .before .before .before .before .before .before .before .before .before .before .args .sheet .now) .permissions) _ (sym (c .enum-told4 .given .1) ∙ c .before .before .find-permission .ensures))
+    (permission-unknown (sheet-of (c .before .before .before .before .before .before .before .before .before .before .before .before .before .before .before .before .before .before .before .args .sheet .now) .permissions) _ (sym (c .enum-told4 .given .1) ∙ c .before .before .find-permission-in .ensures))
 
-add-t13 : tie.Need-add-t13
-add-t13 c = omega (arith, second (c .before .before .before .before .before) .within)
+add-t20 : tie.Need-add-t20
+add-t20 c = omega (arith, second (c .before .before .before .before .before) .within, c .before .before .before .before .before .before .before .before .before .before .before .before .before .before .before .before .before .before .before .before .good .0 .1)
 
 returns-5 : tie.Need-returns-5
 returns-5 c =
     witness-at (sheet-of (c .before .before .before .before .before .before .before .before .before .before .before .before .before .before .before .before .before .before .before .before .args .sheet .now)) (lawful (c .before .before .before .before .before .before .before .before .before .before .before .before .before .before .before .before .before .before .before .before)) (first (c .before .before .before .before .before .before .before .before .before .before .before .before .before .before)) (second (c .before .before .before .before .before)) _
-    (user-found (sheet-of (c .before .before .before .before .before .before .before .before .before .before .before .before .before .before .before .before .before .before .before .before .args .sheet .now) .users) _ (c .before .before .before .before .before .before .before .before .before .before .user .given .0 .0 .0) (sym (c .before .before .before .before .before .before .before .before .before .before .user .given .1) ∙ c .before .before .before .before .before .before .before .before .before .before .before .before .find-user .ensures))
+    (user-found (sheet-of (c .before .before .before .before .before .before .before .before .before .before .before .before .before .before .before .before .before .before .before .before .args .sheet .now) .users) _ (c .before .before .before .before .before .before .before .before .before .before .user .given .0 .0 .0) (sym (c .before .before .before .before .before .before .before .before .before .before .user .given .1) ∙ c .before .before .before .before .before .before .before .before .before .before .before .before .find-user-in .ensures))
     (permission-found (sheet-of (c .before .before .before .before .before .before .before .before .before .before .before .before .before .before .before .before .before .before .before .before .args .sheet .now) .permissions) _ (c .before .permission .given .0 .0 .0)
-    (sym (c .before .permission .given .1) ∙ c .before .before .before .find-permission .ensures))
+    (sym (c .before .permission .given .1) ∙ c .before .before .before .find-permission-in .ensures))
 
 pub witness-line-spec : {M : Type 1} → statement M
 witness-line-spec =
@@ -114,10 +114,10 @@ witness-line-spec =
     enum-known-comma
     enum-told
     returns
-    sub-find-user
-    part-find-user-start
-    part-find-user-end
-    find-user-requires
+    sub-user-name
+    part-user-name-start
+    part-user-name-end
+    find-user-in-requires
     enum-known-user
     enum-told-2
     returns-2
@@ -126,12 +126,12 @@ witness-line-spec =
     enum-known-end
     enum-told-3
     returns-3
-    sub-find-permission
-    part-find-permission-start
-    part-find-permission-end
-    find-permission-requires
+    sub-permission-name
+    part-permission-name-start
+    part-permission-name-end
+    find-permission-in-requires
     enum-known-permission
     enum-told-4
     returns-4
-    add-t13
+    add-t20
     returns-5)

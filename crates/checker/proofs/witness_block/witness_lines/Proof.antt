@@ -1,11 +1,14 @@
 -- `witness_block::witness_lines`: the lines up to `next` have been read.
-use Prim.Native.Nat.{_-_, _≤_}
+use Prim.Native.Nat.{_-_}
 use native.Mathlib.Omega.{arith}
-use mathlib.Core.Path.{_≡_}
+use mathlib.Core.Logic.{⊎-elim}
+use borrow.Author.Tests.{lt-ltb, le-ltb}
 use borrow.Author.Needs.{needs}
 use lib.ListN.{length}
 use Rattle.sheet.specs.Sheet.{sheet-of}
 use Rattle.sheet.specs.AcceptedFacts.{accepted-lawful}
+use Rattle.sheet.specs.LaidOutLaws.{users-at, permissions-at}
+use Rattle.checker.specs.Form.{role-limit}
 use Rattle.checker.specs.StepLaws.{reads-place}
 use Rattle.checker.specs.WitnessList.{named-grant}
 use Rattle.checker.specs.WitnessLineSteps.{WitnessAt}
@@ -14,19 +17,38 @@ use Rattle.checker.proofs.witness_block.witness_lines.Statement.{statem
 use Rattle.checker.proofs.witness_block.witness_lines.Tie as tie
 
 abbrev Inv-loop : tie.InvT-loop
-Inv-loop book at sheet layout witness₀ next₀ witness next = LinesRead (sheet-of sheet) book at witness next
+Inv-loop book at sheet users user-places permissions permission-places none first₀ lines₀ next₀ last₀ first lines next last =
+    LinesRead (sheet-of sheet) book at (record { lines = lines; first = first }) next
 
 abbrev μ-loop : tie.MeasureT-loop
-μ-loop book at sheet layout witness₀ next₀ witness next = length book - next
+μ-loop book at sheet users user-places permissions permission-places none first₀ lines₀ next₀ last₀ first lines next last = length book - next
+
+-- the turn, and the call, from where a line has been read
+abbrev turn : tie.After-known-told Inv-loop μ-loop → tie.In-loop Inv-loop μ-loop
+turn c = c .before .before .before .before .before .before .before .before .before .before
+
+abbrev call : tie.In-loop Inv-loop μ-loop → tie.Start Inv-loop μ-loop
+call c = c .before .before .before .before .before .before .before .before
 
 none-requires : tie.Need-none-requires Inv-loop μ-loop
 none-requires c κs = search needs
 
 loop-holds : tie.Need-loop-holds Inv-loop μ-loop
-loop-holds c = rw (c .none .ensures) (lines-start (sheet-of (c .before .before .before .args .sheet .now)) (c .before .before .before .args .book .now) (c .before .before .before .args .at) (c .before .before .before .pre .0))
+loop-holds c =
+    let start = c .before .before .before .before .before .before in
+    rw (c .before .none .ensures) (lines-start (sheet-of (start .args .sheet .now)) (start .args .book .now) (start .args .at) (start .pre .0))
 
 witness-line-requires : tie.Need-witness-line-requires Inv-loop μ-loop
-witness-line-requires c κs = (c .before .loop .inv .reads .within, c .before .before .before .before .before .pre .1)
+witness-line-requires c κs =
+    let here = c .before .before .before .before .before .before in
+    let start = call here in
+    let laid = start .pre .1 in (
+      here .before .loop .inv .reads .within,
+      (
+        (users-at (start .args .sheet .now) (start .args .layout) laid, laid .user-total),
+        (permissions-at (start .args .sheet .now) (start .args .layout) laid, laid .permission-total),
+      ),
+    )
 
 enum-known-line : tie.Need-enum-known-line Inv-loop μ-loop
 enum-known-line c = search needs
@@ -36,28 +58,43 @@ enum-told c = search needs
 
 returns : tie.Need-returns Inv-loop μ-loop
 returns c =
-    lines-off (sheet-of (c .before .before .before .before .before .before .before .before .args .sheet .now)) (accepted-lawful (c .before .before .before .before .before .before .before .before .args .sheet .now) (c .before .before .before .before .before .before .before .before .pre .1 .accepts)) (c .before .before .before .before .loop .inv) (c .before .before .before .loop-test .taken)
-    (rw (c .enum-told .given .1) at (c .before .before .witness-line .ensures))
+    let here = c .before .before .before .before .before .before .before .before .before in
+    let start = call here in
+    lines-off (sheet-of (start .args .sheet .now)) (accepted-lawful (start .args .sheet .now) (start .pre .1 .accepts)) (here .before .loop .inv)
+    (here .loop-test .taken) (rw (c .enum-told .given .1) at (c .before .before .witness-line .ensures))
 
 line : (c : tie.After-known-told Inv-loop μ-loop)
-    → WitnessAt (sheet-of (c .before .before .before .before .before .before .before .before .before .args .sheet .now)) (c .before .before .before .before .before .before .before .before .before .args .book .now) (c .before .before .before .before .before .loop .next) (c .before .line .given .0 .0) (c .before .line .given .0 .1 .0)
+    → WitnessAt (sheet-of (call (turn c) .args .sheet .now)) (call (turn c) .args .book .now) (turn c .before .loop .next) (c .before .line .given .0 .0)
+    (c .before .line .given .0 .1 .0)
 line c = rw (c .before .line .given .1) at (c .before .before .before .witness-line .ensures)
 
-with-requires : tie.Need-with-requires Inv-loop μ-loop
-with-requires c κs = omega (arith, lines-bound (c .before .before .before .before .before .loop .inv), c .before .before .before .before .before .before .before .before .before .good .0 .1)
+mul-first : tie.Need-mul-first Inv-loop μ-loop
+mul-first c = search needs
+
+array-set-from-first : tie.Need-array-set-from-first Inv-loop μ-loop
+array-set-from-first c = search needs
+
+add-lines : tie.Need-add-lines Inv-loop μ-loop
+add-lines c = omega (arith, lines-bound (turn (c .before) .before .loop .inv), call (turn (c .before)) .good .0 .1)
 
 loop-less : tie.Need-loop-less Inv-loop μ-loop
 loop-less c =
+    let read = c .before .before in
     omega (
       arith,
-      line-some (sheet-of (c .before .before .before .before .before .before .before .before .before .before .args .sheet .now)) (named-grant (c .before .before .line .given .0 .0)),
-      reads-place (line (c .before) .reads),
-      line (c .before) .reads .within,
-      c .before .before .before .before .before .loop-test .taken,
+      line-some (sheet-of (call (turn read) .args .sheet .now)) (named-grant (read .before .line .given .0 .0)),
+      reads-place (line read .reads),
+      line read .reads .within,
+      turn read .loop-test .taken,
     )
 
 loop-again : tie.Need-loop-again Inv-loop μ-loop
-loop-again c = rw (c .with .ensures) (line-read (c .before .before .before .before .before .before .loop .inv) (line (c .before)))
+unfolding role-limit
+loop-again c =
+    let read = c .before .before in
+    let more = line-read (turn read .before .loop .inv) (line read) in
+    let at = turn read .before .loop .lines in
+    ⊎-elim (λ w. rw (w .1) (rw (lt-ltb at 64 (w .0 .taken)) at more)) (λ w. rw (w .1) (rw (le-ltb at 64 (w .0 .left)) at more)) (c .before .if1 .came)
 
 returns-2 : tie.Need-returns-2 Inv-loop μ-loop
 returns-2 c = lines-end (c .before .loop .inv) (c .loop-test .left)
@@ -74,7 +111,9 @@ witness-lines-spec =
     enum-known-line
     enum-told
     returns
-    with-requires
+    mul-first
+    array-set-from-first
+    add-lines
     loop-less
     loop-again
     returns-2)

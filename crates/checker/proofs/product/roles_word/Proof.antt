@@ -1,0 +1,54 @@
+-- `product::roles_word`: the positions from the number of roles on are masked.
+use borrow.Author.Needs.{needs}
+use Prim.Native.Nat.{_+_, _*_, _<_}
+use native.Mathlib.Omega.{arith}
+use mathlib.Core.Path.{refl}
+use lib.ListN.{length}
+use Rattle.sheet.specs.Rows.{row-words}
+use Rattle.checker.specs.RoleLimit.{word-below}
+use Rattle.checker.specs.GivenRoles.{roles-masked}
+use Rattle.checker.proofs.product.roles_word.Statement.{statement}
+use Rattle.checker.proofs.product.roles_word.Tie as tie
+
+-- the word is among the words
+word-there : (c : tie.Start) → c .args .u * row-words + c .args .j < length (c .args .has .now)
+word-there c = word-below (c .args .u) (c .args .u + 1) (c .args .j) _ (omega arith) (c .pre .0) (c .pre .1)
+
+mul-result : tie.Need-mul-result
+mul-result c = search needs
+
+add-result : tie.Need-add-result
+unfolding row-words
+add-result c = omega (arith, word-there (c .before))
+
+mul-result-2 : tie.Need-mul-result-2
+unfolding row-words
+mul-result-2 c = omega (arith, word-there (c .before))
+
+shared-slice-read-result : tie.Need-shared-slice-read-result
+unfolding row-words
+shared-slice-read-result c = word-there (c .before .before)
+
+cells-in-word-requires : tie.Need-cells-in-word-requires
+cells-in-word-requires c κs = search needs
+
+full-requires : tie.Need-full-requires
+full-requires c κs = search needs
+
+returns : tie.Need-returns
+unfolding row-words
+returns c =
+    let a = c .before .before .before .before .args in
+    roles-masked (a .has .now) (a .roles) (a .u) (a .j) _ (c .full .result) (λ q. rw (← c .before .cells-in-word .ensures) (c .full .ensures q)) refl
+
+pub roles-word-spec : {M : Type 1} → statement M
+roles-word-spec =
+    tie.close
+    (tie.spec
+    mul-result
+    add-result
+    mul-result-2
+    shared-slice-read-result
+    cells-in-word-requires
+    full-requires
+    returns)
