@@ -1,4 +1,4 @@
-// The calls of a script. Each hands back the session after it, which came from the calls if the one before did.
+// The calls of a script. Each hands back the session after it, of a writing the one before it, which came from the calls if the one before did.
 use crate::say;
 use crate::space::SPACE_LIMIT;
 use crate::space::patterned;
@@ -45,14 +45,11 @@ pub fn search(session: Session, word: &[u8]) -> Session
 }
 
 // Writes into the lent bytes.
-fn write_into(session: Session, lent: &mut [u8]) -> Session
+fn write_into(session: Session, lent: &mut [u8])
     requires { ⌜ Sound session ⌝ }
-    ensures { λ r. ⌜ Sound r ⌝ }
 {
-    let written = session.write(lent);
-    let answer = written.answer;
+    let answer = session.write(lent);
     say::written(answer, lent);
-    written.session
 }
 
 pub fn write(session: Session, word: &[u8]) -> Session
@@ -69,7 +66,8 @@ pub fn write(session: Session, word: &[u8]) -> Session
         return session;
     }
     let mut space = patterned();
-    write_into(session, &mut space[..length])
+    write_into(session, &mut space[..length]);
+    session
 }
 
 pub fn check<'a>(sheet_path: &'a [u8], book_path: &'a [u8]) {

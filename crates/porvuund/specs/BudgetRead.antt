@@ -4,15 +4,15 @@ use Prim.Native.Nat.{ℕ, suc, _+_, _-_, _*_, _≤_, _<_, min}
 use Prim.Native.Char.{code}
 use native.Mathlib.Numerals.{add-one}
 use native.Mathlib.Omega.{arith}
-use mathlib.Core.Path.{_≡_, refl, sym, ap, _∙_}
-use mathlib.Core.Bool.{Bool, true, false, So, _&&_, not, cond}
+use mathlib.Core.Path.{_≡_, refl, sym, ap}
+use mathlib.Core.Bool.{Bool, true, false, So, _&&_, cond}
 use mathlib.Core.List.{[], _∷_}
 use borrow.Author.Tests.{le-leb, lt-leb}
 use lib.Dec.{leb}
 use lib.ListN.{length, getD, drop}
 use lib.Seq.{drop-cons}
 use Rattle.bits.specs.Truth.{fails-unless}
-use Rattle.lists.specs.Lists.{empty, all}
+use Rattle.lists.specs.Lists.{all}
 use Rattle.sheet.specs.Text.{Bytes}
 use Rattle.book.specs.Decimal.{is-digit, number-after, number-of}
 use Rattle.session.specs.Program.{budget-limit, is-budget, budget-of}

@@ -1,8 +1,8 @@
 -- A whole task in one call: a sheet is loaded into a fresh session, searched once within a budget, and its book is written. The answer is that of the
 -- first of these calls that refuses, and else that of the writing. Assumes nothing.
 use Prim.Native.Nat.{ℕ}
-use mathlib.Core.Path.{_≡_, refl, sym, ap, _∙_}
-use mathlib.Core.Bool.{So, cond}
+use mathlib.Core.Path.{_≡_, refl, ap, _∙_}
+use mathlib.Core.Bool.{cond}
 use mathlib.Core.Logic.{_≢_}
 use borrow.Author.Tests.{eq-eqb, ne-eqb}
 use Rattle.sheet.specs.Text.{Bytes}

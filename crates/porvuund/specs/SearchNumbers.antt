@@ -1,6 +1,6 @@
 -- A search's answer with a number for its state. Assumes nothing.
 use Prim.Native.Nat.{ℕ}
-use mathlib.Core.Path.{_≡_, ap, _∙_}
+use mathlib.Core.Path.{_≡_}
 use mathlib.Core.Option.{Option, none, some}
 use Rattle.roles.specs.Roles.{Standing, witnessed, searched, unsettled}
 use Rattle.session.specs.Session.{Session, SearchAnswer, search-answer, after-search, Searches}

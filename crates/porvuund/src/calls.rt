@@ -27,8 +27,8 @@ pub extern "C" fn porvuund_book(sheet: &[u8], budget: u32, out: &mut [u8]) -> Bo
     let found = searched.session;
     let written = found.write(out);
     BookNumbers {
-        number: written.answer.number,
-        count: written.answer.count,
+        number: written.number,
+        count: written.count,
     }
 }
 

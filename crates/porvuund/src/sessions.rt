@@ -1,10 +1,10 @@
-// A session held by another language: each function is the session's own call of that name. Other languages keep what `Sound` asks by handing back
-// only sessions that these functions gave.
+// A session held by another language: each function is the session's own call of that name. Other languages keep what `Sound` asks by handing in
+// only sessions that these functions gave. A writing gives none: the session that was handed in is the one after it.
 use roles::Standing;
 use session::Loaded;
 use session::Named;
 use session::Session;
-use session::Written;
+use session::WriteAnswer;
 ghost use mathlib.Core.Path.{_≡_};
 ghost use mathlib.Core.Logic.{_≢_};
 ghost use Rattle.session.specs.Session.{fresh, Loads, Writes};
@@ -85,10 +85,9 @@ pub extern "C" fn porvuund_search(session: Session, budget: u32) -> SearchedNumb
 }
 
 #[no_mangle]
-pub extern "C" fn porvuund_write(session: Session, out: &mut [u8]) -> Written
+pub extern "C" fn porvuund_write(session: Session, out: &mut [u8]) -> WriteAnswer
     requires { ⌜ Sound session ⌝ }
-    ensures { λ r. ⌜ Writes (view session) (now (out .entry)) (write-said (r .answer)) (now (out .exit)) (view (r .session)) ⌝ }
-    ensures { λ r. ⌜ r .session ≡ session ⌝ }
+    ensures { λ r. ⌜ Writes (view session) (now (out .entry)) (write-said r) (now (out .exit)) (view session) ⌝ }
 {
     session.write(out)
 }

@@ -1,6 +1,7 @@
 -- Demand 3 from the contracts as the source has them: a run of calls of the code is a sequence of demand 3, since what each contract requires and ensures,
 -- by the reading that is made of its clauses, is what a step of `CodeLed` says.
 use Prim.Native.Nat.{ℕ}
+use mathlib.Core.Path.{refl}
 use mathlib.Core.List.{List, [], _∷_, map}
 use borrow.Fn.Kinds.{PK, RK, Dens, In, Out, resT, endedOf}
 use contract.Lifetimes.{Lfts}
@@ -30,7 +31,8 @@ abbrev pub Kept : {n : ℕ} {ps : List (PK n)} {r : RK n} → In n ps → Out n 
 Kept requires ensures call =
     requires (call .lifetimes) (call .args) → ensures (call .lifetimes) (call .args) (call .result) (call .left)
 
--- the calls, the latest first, that led from `Session::fresh` to this value: each keeps its contract and was made on the value that the call before handed back
+-- the calls, the latest first, that led from `Session::fresh` to this value: each keeps its contract and was made on the value after the call before, which
+-- a load or a search handed back and a writing left as it was
 pub data Ran : List Made → Session → Type 1 where
   fresh : (call : Call 0 fresh-kinds.ps fresh-kinds.r) → Kept fresh-reads.Pre fresh-reads.Post call → Ran [] (call .result)
   load : (earlier : List Made) (call : Call 1 load-kinds.ps load-kinds.r) → Ran earlier (call .args .0)
@@ -41,7 +43,7 @@ pub data Ran : List Made → Session → Type 1 where
       → Ran (searches (call .args .1 .0) (call .result .answer) ∷ earlier) (call .result .session)
   write : (earlier : List Made) (call : Call 1 write-kinds.ps write-kinds.r) → Ran earlier (call .args .0)
       → Kept write-reads.Pre write-reads.Post call
-      → Ran (writes (now (call .args .1 .0)) (call .result .answer) (now (call .left .1 .0)) ∷ earlier) (call .result .session)
+      → Ran (writes (now (call .args .1 .0)) (call .result) (now (call .left .1 .0)) ∷ earlier) (call .args .0)
 
 -- each contract is a step
 pub ran-led : {made : List Made} {s : Session} → Ran made s → CodeLed made s
@@ -50,7 +52,7 @@ ran-led (load earlier call before kept) =
     (call .args .0, ran-led before, λ sound. let e = kept sound in (e .0, e .1 .0, e .1 .1))
 ran-led (search earlier call before kept) =
     (call .args .0, ran-led before, λ sound. let e = kept sound in (e .0, e .1 .0, e .1 .1))
-ran-led (write earlier call before kept) = (call .args .0, ran-led before, kept)
+ran-led (write earlier call before kept) = (call .args .0, ran-led before, λ sound. (kept sound, refl))
 
 -- demand 3 holds of every run of the code
 pub demand-3-of-the-code : {made : List Made} {s : Session} → Ran made s → OwedOfAll (map event-of made)

@@ -3,8 +3,10 @@
 use Prim.Native.Nat.{ℕ, _≤_, _<_}
 use native.Mathlib.Omega.{arith}
 use mathlib.Core.Path.{_≡_, sym, ap, _∙_}
+use mathlib.Core.Logic.{⊎-elim}
 use mathlib.Core.List.{List}
 use borrow.Author.Tests.{lt-leb}
+use Rattle.bits.specs.BelowLaws.{below-or-from}
 use Rattle.lists.specs.LatestFirst.{latest-first}
 use Rattle.sheet.specs.Limits.{permission-limit, grant-limit}
 use Rattle.sheet.specs.Sheet.{sheet-of}
@@ -13,13 +15,13 @@ use Rattle.sheet.specs.AcceptedFacts.{accepted-lawful}
 use Rattle.grants.specs.Cover.{first-best}
 use Rattle.grants.specs.CoverPlaced.{Placed}
 use Rattle.search.specs.Machine.{State, search-limit}
-use Rattle.search.specs.View.{placed-of}
 use Rattle.roles.specs.Roles.{roles-of, role-count, start-of}
 use Rattle.roles.specs.RolesInput.{Belongs}
 use Rattle.roles.specs.ReducedBelongs.{reduced-belongs}
 use Rattle.book.specs.LaidLaws.{few-users}
 use Rattle.checker.specs.RoleLimit.{permissions-fit-a-row}
 use Rattle.session.specs.Held.{text-in, size-in, state-in, Holds}
+use Rattle.session.specs.BestOf.{BestOf}
 use Rattle.session.specs.MovedOn.{state-within}
 use Rattle.session.specs.CountsHeld.{roles-held, few-roles-held}
 use Rattle.session.specs.declared.Session.{Session as Held}
@@ -40,15 +42,18 @@ BelongsIn s classes =
     (s .prepared .reduced .removed) (s .prepared .reduced .partner) (s .prepared .reduced .count) (sheet-of (text-in s)) (state-in s .best)
 
 module _ {s : Held} (h : Holds s) where
-  -- the first cover
-  pub first-is-best : search-limit < size-in s → BestIn s (s .prepared .first .classes)
-  first-is-best l = record { so-far = h .prepared .first .so-far ∙ sym (best-above s l); in-use = h .counted }
-
-  -- the position's, copied
-  pub copy-is-best : size-in s ≤ search-limit → {classes : List ℕ}
-      → ((n : ℕ) → n ≤ search-limit → latest-first classes n ≡ placed-of (s .position .best) n) → BestIn s classes
-  copy-is-best l same =
-      record { so-far = same (size-in s) l ∙ sym (ap (λ (st : State). st .best) (state-within s l)); in-use = h .counted }
+  -- the first cover, or the position's
+  pub best-held : {classes : List ℕ} → BestOf (s .prepared .first .classes) (s .position .best) (size-in s) classes → BestIn s classes
+  best-held {classes} b =
+      ⊎-elim
+      (λ (l : search-limit < size-in s).
+      record {
+        so-far = ap (λ (c : List ℕ). latest-first c (size-in s)) (b .above l) ∙ h .prepared .first .so-far ∙ sym (best-above s l);
+        in-use = h .counted;
+      })
+      (λ (l : size-in s ≤ search-limit).
+      record { so-far = b .within l (size-in s) l ∙ sym (ap (λ (st : State). st .best) (state-within s l)); in-use = h .counted })
+      (below-or-from search-limit (size-in s))
 
   -- no more classes than roles
   few-classes : s .position .cursor .count ≤ grant-limit

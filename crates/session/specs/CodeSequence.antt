@@ -1,4 +1,4 @@
--- Sequences of calls of the code: each is made on the value that the call before handed back. What its contract ensures is a step of a sequence of
+-- Sequences of calls of the code: each is made on the value after the call before. What its contract ensures is a step of a sequence of
 -- demand 3, between the sessions that the two values stand for; so demand 3 holds of every sequence of calls of the code.
 use Prim.Native.Nat.{ℕ}
 use mathlib.Core.Path.{_≡_, subst, sym}
@@ -30,14 +30,15 @@ event-of (searches budget answer) = record { call = search budget; outcome = sea
 event-of (writes buffer answer lent) =
     record { call = write buffer; outcome = record { answer = write-said answer; lent = lent } }
 
--- what the contract of the call ensures, of the value that it was made on and the value that it handed back
+-- what the contract of the call ensures, of the value that it was made on and the value after it: the one that a load or a search handed back; a writing
+-- hands none back, and the value that it was made on is the one after it
 abbrev pub Ensured : Made → Held → Held → Type 0
 Ensured (loads text answer) before after =
     Loads (view before) text (load-said answer) (view after) × Sound after × (answer .number ≢ 0 → after ≡ before)
 Ensured (searches budget answer) before after =
     Searches (view before) budget (search-said answer) (view after) × Sound after × (answer .number ≢ 0 → after ≡ before)
 Ensured (writes buffer answer lent) before after =
-    Writes (view before) buffer (write-said answer) lent (view after) × (after ≡ before)
+    Writes (view before) buffer (write-said answer) lent (view before) × (after ≡ before)
 
 -- what the contract of `Session::fresh` ensures
 abbrev pub Fresh : Held → Type 0
@@ -53,7 +54,7 @@ step-happens : (made : Made) (before after : Held) → Ensured made before after
     → Happens (event-of made .call) (event-of made .outcome) (view before) (view after)
 step-happens (loads text answer) before after e = e .0
 step-happens (searches budget answer) before after e = e .0
-step-happens (writes buffer answer lent) before after e = e .0
+step-happens (writes buffer answer lent) before after e = rw (e .1) (e .0)
 
 -- and leaves a value that the next call may be made on
 step-sound : (made : Made) (before after : Held) → Sound before → Ensured made before after → Sound after

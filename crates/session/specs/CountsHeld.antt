@@ -10,12 +10,11 @@ use Rattle.sheet.specs.Sheet.{sheet-of}
 use Rattle.sheet.specs.AcceptedFacts.{accepted-lawful}
 use Rattle.grants.specs.Witness.{witness}
 use Rattle.roles.specs.Roles.{standing-of, bound-of, role-count, standing, bound}
-use Rattle.roles.specs.StandingCases.{standing-case}
 use Rattle.book.specs.declared.counts.Counts.{Counts}
 use Rattle.minimality.specs.StateBound.{state-counted, state-le-permissions}
 use Rattle.session.specs.Believed.{accepted-even}
 use Rattle.session.specs.Held.{text-in, state-in, Holds}
-use Rattle.session.specs.Counted.{CountsIn}
+use Rattle.session.specs.Counted.{CountsFrom, CountsIn}
 use Rattle.session.specs.declared.Session.{Session as Held}
 
 -- the best placement's classes and the singles
@@ -54,12 +53,11 @@ module _ {s : Held} (h : Holds s) where
   bound-held = rw (roles-held, h .prepared .witness .counted)
 
   -- counts made of these are the session's
-  pub counts-held : (counts : Counts) → counts .roles ≡ roles-in s
-      → standing-case (counts .standing) ≡ standing-of (roles-in s) (s .prepared .witness .count) (s .position .cursor .finished)
-      → counts .bound ≡ bound-of (standing-case (counts .standing)) (roles-in s) (s .prepared .witness .count) → CountsIn s counts
-  counts-held counts roles stands bounds =
+  pub counts-held : (counts : Counts)
+      → CountsFrom (roles-in s) (s .prepared .witness .count) (s .position .cursor .finished) counts → CountsIn s counts
+  counts-held counts from =
       record {
-        roles = roles ∙ roles-held;
-        bound = bounds ∙ rw (stands ∙ standing-held) bound-held;
-        standing = stands ∙ standing-held;
+        roles = from .roles ∙ roles-held;
+        bound = from .bound ∙ rw (from .standing ∙ standing-held) bound-held;
+        standing = from .standing ∙ standing-held;
       }

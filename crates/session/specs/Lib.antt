@@ -22,6 +22,7 @@ pub mod Anew
 pub mod Loading
 pub mod Counted
 pub mod ClassesCopied
+pub mod BestOf
 pub mod TableKernel
 pub mod MovedOn
 pub mod CountsHeld

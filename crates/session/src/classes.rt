@@ -1,4 +1,5 @@
 // Class numbers as the first cover has them, two bytes each, and as a position has them, one byte each.
+use grants::Placement;
 use search::KERNEL_LIMIT;
 use sheet::GRANT_LIMIT;
 ghost use mathlib.Core.Path.{_≡_};
@@ -7,6 +8,7 @@ ghost use lib.ListN.{getD};
 ghost use Rattle.lists.specs.LatestFirst.{latest-first};
 ghost use Rattle.search.specs.Machine.{search-limit};
 ghost use Rattle.search.specs.View.{placed-of};
+ghost use Rattle.session.specs.BestOf.{BestOf};
 
 // The classes of a kernel that can be searched, as a position has them. Of a greater kernel there are none.
 pub fn narrowed(classes: &[u16; GRANT_LIMIT], size: usize) -> [u8; KERNEL_LIMIT]
@@ -43,4 +45,14 @@ pub fn widened(classes: &[u8; KERNEL_LIMIT]) -> [u16; GRANT_LIMIT]
         i += 1;
     }
     wide
+}
+
+// The best placement: the position's, or the first one where the kernel is too great to be searched.
+pub fn best_of(first: Placement, best: &[u8; KERNEL_LIMIT], size: usize) -> [u16; GRANT_LIMIT]
+    ensures { λ r. ⌜ BestOf (first .classes) (now (best .entry)) size r ⌝ }
+{
+    if KERNEL_LIMIT < size {
+        return first.classes;
+    }
+    widened(best)
 }

@@ -7,11 +7,15 @@ use crate::prepared::prepare;
 use crate::text::copied;
 use search::KERNEL_LIMIT;
 use search::Position;
+use sheet::CELL_WORDS;
+use sheet::Layout;
 use sheet::SHEET_LIMIT;
 ghost use mathlib.Core.Path.{_≡_};
 ghost use mathlib.Core.Logic.{_≢_};
 ghost use Rattle.sheet.specs.Sheet.{sheet-of};
 ghost use Rattle.sheet.specs.Refusal.{refusal};
+ghost use Rattle.sheet.specs.LaidOut.{LaidOut};
+ghost use Rattle.sheet.specs.RowsRead.{RowsRead};
 ghost use Rattle.roles.specs.Roles.{start-of};
 ghost use Rattle.session.specs.Session.{fresh, loaded, Loads};
 ghost use Rattle.session.specs.Said.{load-said};
@@ -41,16 +45,15 @@ impl Session {
         }
     }
 
-    // A session with this accepted sheet, before any search.
-    fn anew(s: &[u8]) -> Session
-        requires { ⌜ refusal (now s) ≡ 0 ⌝ }
+    // A session with this accepted sheet, before any search, from what the sheet was read as.
+    fn anew(s: &[u8], layout: Layout, rows: [u64; CELL_WORDS]) -> Session
+        requires { ⌜ (refusal (now s) ≡ 0) × LaidOut (now s) layout × RowsRead rows (sheet-of (now s)) ⌝ }
         ensures { λ r. ⌜ view r ≡ loaded (now (s .entry)) (start-of (sheet-of (now (s .entry)))) ⌝ }
         ensures { λ r. ⌜ Holds r ⌝ }
     {
         let text = copied(s);
-        let prepared = prepare(s);
-        let first = prepared.first.classes;
-        let narrow = narrowed(&first, prepared.kernel.size);
+        let prepared = prepare(layout, rows);
+        let narrow = narrowed(&prepared.first.classes, prepared.kernel.size);
         let singles = prepared.reduced.singles;
         let witness = prepared.witness.count;
         let position = Position::start(narrow, prepared.first.used, singles, witness);
@@ -70,14 +73,17 @@ impl Session {
         ensures { λ r. ⌜ Sound (r .session) ⌝ }
         ensures { λ r. ⌜ (r .answer .number ≢ 0 → r .session ≡ self) ⌝ }
     {
-        let number = sheet::judge(s);
+        let found = sheet::read(s);
+        let number = found.number;
         if number != 0 {
             return Loaded {
                 session: self,
                 answer: LoadAnswer::refused(number),
             };
         }
-        let session = Session::anew(s);
+        let layout = found.layout;
+        let rows = found.rows;
+        let session = Session::anew(s, layout, rows);
         let prepared = session.prepared;
         Loaded {
             session,

@@ -9,14 +9,15 @@ use sheet::GRANT_LIMIT;
 use sheet::Layout;
 use sheet::Places;
 use sheet::USER_LIMIT;
-ghost use mathlib.Core.Path.{_≡_};
 ghost use Prim.Native.Nat.{_≤_};
 ghost use lib.ListN.{length};
 ghost use Rattle.sheet.specs.Limits.{user-limit, grant-limit};
-ghost use Rattle.sheet.specs.Sheet.{Sheet, grants};
-ghost use Rattle.sheet.specs.Refusal.{refusal};
+ghost use Rattle.sheet.specs.Text.{Bytes};
+ghost use Rattle.sheet.specs.Sheet.{Sheet, sheet-of, grants};
+ghost use Rattle.sheet.specs.LaidOut.{LaidOut};
+ghost use Rattle.sheet.specs.RowsRead.{RowsRead};
 ghost use Rattle.grants.specs.CellPlaces.{Shown};
-ghost use Rattle.grants.specs.ReductionResult.{ReducedFrom};
+ghost use Rattle.grants.specs.ReductionResult.{Reducible, ReducedFrom};
 ghost use Rattle.grants.specs.WitnessRows.{Witnessed};
 ghost use Rattle.session.specs.Prepared.{PreparedFor};
 
@@ -80,23 +81,17 @@ fn witness_found(rows: &[u64; CELL_WORDS], users: usize, reduced: Reduced) -> Wi
     ensures { λ r. ⌜ ((sheet : Sheet) → Shown (now (rows .entry)) users sheet → length (grants sheet) ≤ grant-limit
         → Witnessed sheet (now (rows .entry)) (r .cells) (r .count)) ⌝ }
 {
-    let left = reduced.left;
-    let removed = reduced.removed;
-    let partner = reduced.partner;
-    let singles = grants::single_cells(&removed, &partner, reduced.count);
-    grants::witness_of(rows, &left, &singles, users)
+    let singles = grants::single_cells(&reduced.removed, &reduced.partner, reduced.count);
+    grants::witness_of(rows, &reduced.left, &singles, users)
 }
 
-// What there is to find of an accepted sheet.
-pub fn prepare(s: &[u8]) -> Prepared
-    requires { ⌜ refusal (now s) ≡ 0 ⌝ }
-    ensures { λ r. ⌜ PreparedFor (now (s .entry)) r ⌝ }
+// What there is to find of an accepted sheet, from where its names stand and its cells.
+pub fn prepare(layout: Layout, rows: [u64; CELL_WORDS]) -> Prepared
+    requires { ⌜ (layout .users ≤ user-limit) × Reducible rows (layout .users) ⌝ }
+    ensures { λ r. ⌜ ((text : Bytes) → LaidOut text layout → RowsRead rows (sheet-of text) → PreparedFor text r) ⌝ }
 {
-    let layout = sheet::lay_out(s);
-    let rows = sheet::rows_of(s, layout);
     let reduced = grants::reduce(&rows, layout.users);
-    let left = reduced.left;
-    let kernel = grants::listed(&left, layout.users);
+    let kernel = grants::listed(&reduced.left, layout.users);
     let witness = witness_found(&rows, layout.users, reduced);
     let first = grants::first_best(&rows, kernel);
     let table = grants::fit_table(&rows, kernel);

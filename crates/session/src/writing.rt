@@ -1,99 +1,83 @@
-// Writings: the book of the sheet where the search stands, into a lent buffer.
+// Writings: the book of the sheet where the search stands, into a lent buffer. A writing changes no session, so none is handed back.
 use crate::Session;
 use crate::answers::WriteAnswer;
-use crate::classes::widened;
-use crate::counts::counts_of;
+use crate::classes::best_of;
+use crate::counts::counts_at;
+use book::Counts;
 use book::Writing;
-use roles::RoleMatrices;
-use search::KERNEL_LIMIT;
-use sheet::GRANT_LIMIT;
-ghost use mathlib.Core.Path.{_≡_};
+use roles::ROLE_WORDS;
+use sheet::CELL_WORDS;
+use sheet::Layout;
+ghost use Prim.Native.Nat.{_≤_};
+ghost use lib.ListN.{length, take};
 ghost use Rattle.sheet.specs.Sheet.{sheet-of};
-ghost use Rattle.grants.specs.CoverPlaced.{Placed};
-ghost use Rattle.roles.specs.Roles.{roles-of};
-ghost use Rattle.roles.specs.RolesShown.{RolesAt};
-ghost use Rattle.book.specs.Book.{book};
+ghost use Rattle.sheet.specs.Rows.{row-bits};
+ghost use Rattle.sheet.specs.LaidOut.{LaidOut};
+ghost use Rattle.book.specs.RowsSaid.{GrantCells};
+ghost use Rattle.book.specs.BookRows.{rows-book};
 ghost use Rattle.book.specs.Writing as writing;
 ghost use Rattle.session.specs.Session.{Writes};
 ghost use Rattle.session.specs.Said.{write-said};
-ghost use Rattle.session.specs.Held.{text-in, size-in, state-in, view, Holds, Sound};
+ghost use Rattle.session.specs.Held.{view, Sound};
 
-// The session after a writing, and what the writing answers.
-#[repr(C)]
-pub struct Written {
-    pub session: Session,
-    pub answer: WriteAnswer,
+// Writes the book of the sheet that the first `count` bytes are, where the buffer is long enough.
+fn book_into<'a>(
+    out: &mut [u8],
+    text: &'a [u8],
+    count: usize,
+    layout: Layout,
+    has: &'a [u64; CELL_WORDS],
+    gives: &'a [u64; ROLE_WORDS],
+    witness: &'a [u64; CELL_WORDS],
+    counts: Counts,
+) -> Writing
+    requires { ⌜ (count ≤ length (now text)) × LaidOut (take count (now text)) layout × (counts .roles ≤ row-bits)
+        × GrantCells (now witness) (sheet-of (take count (now text))) ⌝ }
+    ensures { λ r. ⌜ writing.Writes (rows-book (take count (now (text .entry))) (now (has .entry)) (now (gives .entry)) (now (witness .entry)) counts)
+        (now (out .entry)) r (now (out .exit)) ⌝ }
+{
+    book::write_if_room(out, &text[..count], layout, has, gives, witness, counts)
 }
 
 impl Session {
-    // The best placement: the position's, or the first one where the kernel is too great to be searched.
-    fn best(self) -> [u16; GRANT_LIMIT]
-        requires { ⌜ Holds self ⌝ }
-        ensures { λ r. ⌜ Placed (state-in self .best) r (size-in self) (self .position .cursor .count) ⌝ }
+    // Writes the book at the front of the buffer, or refuses and leaves every byte of it. The session after it is the one before.
+    pub fn write(self, out: &mut [u8]) -> WriteAnswer
+        requires { ⌜ Sound self ⌝ }
+        ensures { λ r. ⌜ Writes (view self) (now (out .entry)) (write-said r) (now (out .exit)) (view self) ⌝ }
     {
-        if KERNEL_LIMIT < self.prepared.kernel.size {
-            return self.prepared.first.classes;
+        if !self.loaded {
+            return WriteAnswer::refused(10);
         }
-        let best = self.position.best;
-        widened(&best)
-    }
-
-    // The roles where the search stands.
-    fn roles(self) -> RoleMatrices
-        requires { ⌜ Holds self ⌝ }
-        ensures { λ r. ⌜ RolesAt (r .has) (r .gives) (r .count) (self .prepared .layout .users)
-            (roles-of (sheet-of (text-in self)) (state-in self .best)) ⌝ }
-    {
-        let rows = self.prepared.rows;
-        let cells = self.prepared.kernel.cells;
-        let removed = self.prepared.reduced.removed;
-        let partner = self.prepared.reduced.partner;
-        let best = self.best();
-        roles::roles_of(
-            &rows,
+        let first = self.prepared.first;
+        let best = best_of(first, &self.position.best, self.prepared.kernel.size);
+        let matrices = roles::roles_of(
+            &self.prepared.rows,
             self.prepared.layout.users,
-            &cells,
+            &self.prepared.kernel.cells,
             self.prepared.kernel.size,
             &best,
             self.position.cursor.count,
-            &removed,
-            &partner,
+            &self.prepared.reduced.removed,
+            &self.prepared.reduced.partner,
             self.prepared.reduced.count,
-        )
-    }
-
-    // Writes the book where the buffer is long enough.
-    fn book_into(self, out: &mut [u8]) -> Writing
-        requires { ⌜ Holds self ⌝ }
-        ensures { λ r. ⌜ writing.Writes (book (sheet-of (text-in self)) (state-in self)) (now (out .entry)) r (now (out .exit)) ⌝ }
-    {
-        let counts = counts_of(self);
-        let matrices = self.roles();
-        let has = matrices.has;
-        let gives = matrices.gives;
-        let witness = self.prepared.witness.cells;
+        );
+        let counts = counts_at(
+            self.position.cursor.count,
+            self.prepared.reduced.singles,
+            self.prepared.witness.count,
+            self.position.cursor.finished,
+        );
         let layout = self.prepared.layout;
-        let text = self.text;
-        let length = self.length;
-        book::write_if_room(out, &text[..length], layout, &has, &gives, &witness, counts)
-    }
-
-    // Writes the book at the front of the buffer, or refuses and leaves every byte of it.
-    pub fn write(self, out: &mut [u8]) -> Written
-        requires { ⌜ Sound self ⌝ }
-        ensures { λ r. ⌜ Writes (view self) (now (out .entry)) (write-said (r .answer)) (now (out .exit)) (view (r .session)) ⌝ }
-        ensures { λ r. ⌜ r .session ≡ self ⌝ }
-    {
-        if !self.loaded {
-            return Written {
-                session: self,
-                answer: WriteAnswer::refused(10),
-            };
-        }
-        let writing = self.book_into(out);
-        Written {
-            session: self,
-            answer: WriteAnswer::of(writing),
-        }
+        let writing = book_into(
+            out,
+            &self.text,
+            self.length,
+            layout,
+            &matrices.has,
+            &matrices.gives,
+            &self.prepared.witness.cells,
+            counts,
+        );
+        WriteAnswer::of(writing)
     }
 }

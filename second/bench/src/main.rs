@@ -41,7 +41,7 @@ fn main() {
             baseline: check::<Session>(sheet),
             library: check::<Library>(sheet),
         });
-        print_refused_call(rounds);
+        print_refused_calls(rounds);
         print_searches(rounds);
     });
 }
@@ -114,17 +114,27 @@ fn print_calls<'a>(title: &str, rounds: usize, calls: impl Fn(&Sheet) -> Pair<Ca
     }
 }
 
-/// A search without a sheet: all that it does is to hand the session in and back.
-fn print_refused_call(rounds: usize) {
-    fn refused<Kind: Implementation + 'static>() -> Call<'static> {
+/// Calls without a sheet, which are refused: all that a search does is to take the session and hand it back,
+/// and all that a writing does is to take it.
+fn print_refused_calls(rounds: usize) {
+    fn search<Kind: Implementation + 'static>() -> Call<'static> {
         let mut session = Kind::fresh();
         Box::new(move || {
             black_box(session.search(black_box(0)).expect_err("there is no sheet"));
         })
     }
-    print_heading("A refused search", "microseconds a call");
-    let calls = Pair { baseline: refused::<Session>(), library: refused::<Library>() };
-    print_row("none", measure(rounds, calls).map(|time| time / 1_000.0));
+    fn write<Kind: Implementation + 'static>() -> Call<'static> {
+        let mut session = Kind::fresh();
+        let mut buffer = vec![0; BOOK_BYTES];
+        Box::new(move || {
+            black_box(session.write(black_box(&mut buffer)).expect_err("there is no sheet"));
+        })
+    }
+    print_heading("Refused calls", "microseconds a call");
+    let searches = Pair { baseline: search::<Session>(), library: search::<Library>() };
+    print_row("search", measure(rounds, searches).map(|time| time / 1_000.0));
+    let writings = Pair { baseline: write::<Session>(), library: write::<Library>() };
+    print_row("write", measure(rounds, writings).map(|time| time / 1_000.0));
 }
 
 fn print_searches(rounds: usize) {

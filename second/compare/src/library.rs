@@ -50,12 +50,6 @@ struct WriteNumbers {
 }
 
 #[repr(C)]
-struct Written {
-    session: Session,
-    answer: WriteNumbers,
-}
-
-#[repr(C)]
 struct CheckNumbers {
     number: usize,
     roles: usize,
@@ -66,7 +60,7 @@ unsafe extern "C" {
     fn porvuund_fresh() -> Session;
     fn porvuund_load(session: Session, sheet: *const u8, sheet_length: usize) -> Loaded;
     fn porvuund_search(session: Session, budget: u32) -> Searched;
-    fn porvuund_write(session: Session, out: *mut u8, out_length: usize) -> Written;
+    fn porvuund_write(session: Session, out: *mut u8, out_length: usize) -> WriteNumbers;
     fn porvuund_check(
         sheet: *const u8,
         sheet_length: usize,
@@ -82,8 +76,8 @@ unsafe extern "C" {
     ) -> WriteNumbers;
 }
 
-/// A session of the proved implementation. It is a value that goes into each call and comes back from it; only
-/// the calls make one.
+/// A session of the proved implementation. It is a value that goes into each call, and comes back from a load and
+/// a search; only the calls make one.
 #[derive(Clone)]
 pub struct Library(Box<Session>);
 
@@ -120,8 +114,7 @@ impl Implementation for Library {
     fn write(&mut self, buffer: &mut [u8]) -> Result<usize, Refusal> {
         // SAFETY: the session comes from a call, and the pointer is that of a lent slice of that length.
         let written = unsafe { porvuund_write(*self.0, buffer.as_mut_ptr(), buffer.len()) };
-        *self.0 = written.session;
-        let WriteNumbers { number, count } = written.answer;
+        let WriteNumbers { number, count } = written;
         result(number, &[count], count)
     }
 

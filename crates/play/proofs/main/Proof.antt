@@ -1,6 +1,5 @@
 -- `main`: the session came from the calls, the line keeps its room, and each turn leaves one turn less.
 use borrow.Author.Needs.{needs}
-use native.Mathlib.Omega.{arith}
 use mathlib.Core.Path.{_≡_}
 use lib.ListN.{length}
 use Rattle.session.specs.Held.{Sound}

@@ -1,7 +1,7 @@
 -- `budget::read_budget`: the digits say a number below the bound exactly where the word is a budget, and then it is that number.
 use borrow.Author.Needs.{needs}
 use Prim.Native.Nat.{_≤_, _<_}
-use mathlib.Core.Path.{_≡_, sym, ap, _∙_}
+use mathlib.Core.Path.{sym, ap, _∙_}
 use Rattle.porvuund.specs.BudgetRead.{budget-cap, no-digits, budget-found, budget-missing}
 use Rattle.porvuund.specs.declared.budget.BudgetRead.the-variants.{Number}
 use Rattle.porvuund.proofs.budget.read_budget.Statement.{statement}

@@ -1,6 +1,5 @@
 -- `calls::porvuund_book`: each call takes the session that the one before left, and a load's number is the sheet's.
 use borrow.Author.Needs.{needs}
-use Prim.Native.Nat.{ℕ}
 use mathlib.Core.Path.{_≡_, sym, _∙_}
 use Rattle.sheet.specs.Refusal.{refusal}
 use Rattle.porvuund.specs.OneShot.{loaded-number, refused-by-load, written-after}
@@ -41,7 +40,7 @@ returns-2 c =
     let l = f .before .before .before in
     let s = start l in
     written-after (s .args .sheet .now) (s .args .budget) (s .args .out .now) (sym (sheet-number l) ∙ f .before .before .if1 .left)
-    (l .before .fresh .ensures .0) (l .load .ensures .0) (f .search .ensures .0) (w .write .ensures .0)
+    (l .before .fresh .ensures .0) (l .load .ensures .0) (f .search .ensures .0) (w .write .ensures)
 
 pub porvuund-book-spec : {M : Type 1} → statement M
 porvuund-book-spec =

@@ -5,7 +5,7 @@ use mathlib.Core.Path.{_≡_, sym}
 use mathlib.Core.List.{[], _∷_}
 use lib.ListN.{length}
 use Rattle.checker.specs.Form.{book-limit}
-use Rattle.book.specs.Written.{Written, written-as}
+use Rattle.book.specs.Written.{written-as}
 use Rattle.session.specs.Program.{program-buffer, budget-of}
 use Rattle.porvuund.specs.OneShot.{Books, book-said}
 use Rattle.porvuund.specs.Output.{output-written, output-refused}

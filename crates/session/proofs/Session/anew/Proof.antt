@@ -7,6 +7,8 @@ use lib.ListN.{length}
 use Rattle.sheet.specs.Limits.{sheet-limit}
 use Rattle.session.specs.Anew.{first-class-below, held-of, Anew, view-anew, holds-anew}
 use Rattle.session.specs.Loading.{unrefused-short}
+use Rattle.session.specs.Prepared.{PreparedFor}
+use Rattle.session.specs.Preparing.{laid-few-users, laid-reducible}
 use Rattle.session.proofs.Session.anew.Statement.{statement}
 use Rattle.session.proofs.Session.anew.Tie as tie
 
@@ -15,13 +17,19 @@ unfolding sheet-limit
 room c = search needs
 
 copied-requires : tie.Need-copied-requires
-copied-requires c κs = unrefused-short (c .before .args .s .now) (c .before .pre)
+copied-requires c κs = unrefused-short (c .before .args .s .now) (c .before .pre .0)
 
 prepare-requires : tie.Need-prepare-requires
-prepare-requires c κs = search needs
+prepare-requires c κs =
+    let read = c .before .before .pre in
+    (laid-few-users (read .1), laid-reducible (read .1) (read .2))
+
+-- what was found of the sheet
+found : (c : tie.After-prepare) → PreparedFor (c .before .before .before .args .s .now) (c .prepare .result)
+found c = let read = c .before .before .before .pre in c .prepare .ensures (c .before .before .before .args .s .now) (read .1) (read .2)
 
 narrowed-requires : tie.Need-narrowed-requires
-narrowed-requires c κs = λ searched i l. omega (arith, first-class-below (c .before .before .prepare .ensures) i l)
+narrowed-requires c κs = λ searched i l. omega (arith, first-class-below (found (c .before .before)) i l)
 
 start-requires : tie.Need-start-requires
 start-requires c κs = search needs
@@ -34,9 +42,9 @@ returns c =
     let made : Anew text (held-of text (at-copied .copied .result) (at-prepared .prepare .result) (c .start .result)) =
     record {
       accepts = refl;
-      whole = omega (arith, room at-copied, unrefused-short text (at-copied .before .before .pre));
+      whole = omega (arith, room at-copied, unrefused-short text (at-copied .before .before .pre .0));
       kept = at-copied .copied .ensures;
-      found = at-prepared .prepare .ensures;
+      found = found at-prepared;
       first = c .before .narrowed .result;
       same = c .before .narrowed .ensures;
       starts = c .start .ensures;

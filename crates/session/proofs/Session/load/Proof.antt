@@ -1,7 +1,7 @@
--- `session::Session::load`: the judge's number decides. A refused sheet is answered by it and leaves the session; of an accepted one the session is made
+-- `session::Session::load`: the number that the sheet was read with decides. A refused sheet is answered by it and leaves the session; of an accepted one the session is made
 -- anew, and its counts are those found of the bytes that it keeps.
 use native.Mathlib.Omega.{arith}
-use mathlib.Core.Path.{_≡_, refl, ap, _∙_}
+use mathlib.Core.Path.{_≡_, refl, sym, ap, _∙_}
 use borrow.Author.Needs.{needs}
 use Rattle.sheet.specs.Text.{Bytes}
 use Rattle.sheet.specs.Sheet.{sheet-of}
@@ -13,41 +13,45 @@ use Rattle.session.specs.Loading.{refused-loads, accepted-loads, text-lo
 use Rattle.session.proofs.Session.load.Statement.{statement}
 use Rattle.session.proofs.Session.load.Tie as tie
 
-judge-requires : tie.Need-judge-requires
-judge-requires c κs = search needs
+read-requires : tie.Need-read-requires
+read-requires c κs = search needs
 
 refused-requires : tie.Need-refused-requires
 refused-requires c κs = search needs
 
 returns : tie.Need-returns
 returns c =
-    let at-judged = c .before .before in
-    (refused-loads _ _ (at-judged .judge .ensures) (λ z. omega arith) (c .refused .ensures), (at-judged .before .before .pre, λ _. refl))
+    let at-read = c .before .before in
+    (refused-loads _ _ (at-read .read .ensures .0) (λ z. omega arith) (c .refused .ensures), (at-read .before .before .pre, λ _. refl))
 
 anew-requires : tie.Need-anew-requires
-anew-requires c κs = search needs
+anew-requires c κs =
+    let at-read = c .before .before .before in
+    let e : at-read .read .result .number ≡ 0 = omega arith in
+    let read = at-read .read .ensures .1 e in
+    (sym (at-read .read .ensures .0) ∙ e, read .0, read .1)
 
 counts-requires : tie.Need-counts-requires
 counts-requires c κs = search needs
 
 -- the answer has the counts of the sheet
-said : (c : tie.After-counts) → load-said (c .counts .result) ≡ load-counts (sheet-of (c .before .before .before .before .before .before .args .s .now))
+said : (c : tie.After-counts) → load-said (c .counts .result) ≡ load-counts (sheet-of (c .before .before .before .before .before .before .before .before .args .s .now))
 said c =
     let at-anew = c .before .before in
     let session = at-anew .anew .result in
-    let text = at-anew .before .before .before .before .args .s .now in
+    let text = at-anew .before .before .before .before .before .before .args .s .now in
     c .counts .ensures (text-in session) (at-anew .anew .ensures .1 .prepared)
     ∙ ap (λ (t : Bytes). load-counts (sheet-of t)) (text-loaded session text (start-of (sheet-of text)) (at-anew .anew .ensures .0))
 
 returns-2 : tie.Need-returns-2
 returns-2 c =
     let at-anew = c .before .before in
-    let at-judged = at-anew .before .before in (
-      accepted-loads _ _ (omega (arith, at-judged .judge .ensures)) (said c) (at-anew .anew .ensures .0),
+    let at-read = at-anew .before .before .before .before in (
+      accepted-loads _ _ (omega (arith, at-read .read .ensures .0)) (said c) (at-anew .anew .ensures .0),
       (record { held = λ _. at-anew .anew .ensures .1 }, λ refused. absurd (refused (ap (λ (a : LoadAnswer). a .number) (said c)))),
     )
 
 pub load-spec : {M : Type 1} → statement M
 load-spec =
     tie.close
-    (tie.spec judge-requires refused-requires returns anew-requires counts-requires returns-2)
+    (tie.spec read-requires refused-requires returns anew-requires counts-requires returns-2)

@@ -12,8 +12,8 @@ witness-of-requires c κs = search needs
 
 returns : tie.Need-returns
 returns c sheet shown few =
-    let at-singles = c .before .before .before in
-    let from = at-singles .before .before .before .before .before .before .pre .1 in
+    let at-singles = c .before .before .before .before in
+    let from = at-singles .before .before .before .before .pre .1 in
     c .witness-of .ensures sheet shown (reduced-to from shown few (at-singles .single-cells .ensures))
 
 pub witness-found-spec : {M : Type 1} → statement M
