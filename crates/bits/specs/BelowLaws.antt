@@ -8,8 +8,9 @@ use native.Mathlib.Nat.{add-zero, add-suc, le-refl, le-step, le-of-suc-le-suc, l
 use native.Mathlib.Omega.{arith}
 use borrow.Author.Tests.{not-false, ltb-true, ltb-false}
 use lib.Dec.{ltb}
+use Rattle.spec.specs.Vocabulary.{some-below, every-below}
 use Rattle.bits.specs.Truth.{passes-or-fails, not-both, fails-unless, same-truth, and-intro, and-left, and-right, and-left-comm, or-left, or-right, or-cases, or-left-comm, not-passes, not-fails}
-use Rattle.bits.specs.Below.{some-below, every-below, Found, Missed}
+use Rattle.bits.specs.Counting.{Found, Missed}
 
 -- a number below suc n
 pub last-or-below : {i n : ℕ} → i < suc n → (i ≡ n) ⊎ (i < n)

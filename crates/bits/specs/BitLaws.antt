@@ -13,7 +13,7 @@ use lib.Pow.{pow-pos, pow-mono, pow-lt, ones-lt, shr-shr, shl-shr}
 use lib.Bits.{bitAnd, bitOr, bitXor, and-shr, or-shr, xor-shr, and-mod, or-mod, xor-mod, shifted-half, shifted-even}
 use Rattle.bits.specs.Truth.{not-both}
 use Rattle.bits.specs.Bit.{bit}
-use Rattle.bits.specs.Below.{one-if}
+use Rattle.bits.specs.Counting.{one-if}
 use Rattle.bits.specs.BelowLaws.{below-or-from}
 
 -- ---- position by position

@@ -6,7 +6,8 @@ use Prim.Native.Nat.{ℕ, zero, suc, _+_, _*_, _/_, _%_, _^_, _<_}
 use native.Mathlib.Nat.{zero-mul, suc-mul}
 use lib.Arith.{digits-div, digits-mod}
 use lib.Count.{ones}
-use Rattle.bits.specs.Below.{count-below, sum-below, some-below, every-below}
+use Rattle.spec.specs.Vocabulary.{some-below, every-below}
+use Rattle.bits.specs.Counting.{count-below, sum-below}
 use Rattle.bits.specs.BelowLaws.{some-below-add, every-below-add}
 use Rattle.bits.specs.CountLaws.{count-below-add, count-below-ext}
 use Rattle.bits.specs.SumLaws.{sum-below-ext}

@@ -10,7 +10,7 @@ use native.Mathlib.Omega.{arith}
 use borrow.Author.Tests.{eqb-true, eq-eqb, ne-eqb, not-false}
 use lib.Dec.{eqb}
 use Rattle.bits.specs.Truth.{passes-or-fails, same-truth, not-passes, and-intro}
-use Rattle.bits.specs.Below.{one-if, count-below}
+use Rattle.bits.specs.Counting.{one-if, count-below}
 use Rattle.bits.specs.BelowLaws.{last-or-below}
 use Rattle.bits.specs.CountLaws.{count-below-ext, count-below-none-intro, count-below-none-elim}
 

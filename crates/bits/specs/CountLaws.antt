@@ -6,8 +6,9 @@ use mathlib.Core.Bool.{Bool, true, false, So, false≢true}
 use Prim.Native.Nat.{ℕ, zero, suc, _+_, _≤_, _<_}
 use native.Mathlib.Nat.{add-zero, add-suc, le-refl, le-step, le-dest, not-suc-le-zero}
 use native.Mathlib.Omega.{arith}
+use Rattle.spec.specs.Vocabulary.{some-below}
 use Rattle.bits.specs.Truth.{passes-or-fails, fails-unless}
-use Rattle.bits.specs.Below.{one-if, count-below, some-below, Found}
+use Rattle.bits.specs.Counting.{one-if, count-below, Found}
 use Rattle.bits.specs.BelowLaws.{last-or-below, some-below-elim, none-below-elim}
 
 -- ---- what one number adds

@@ -9,8 +9,9 @@ use native.Mathlib.Nat.{lt-of-lt-of-le, lt-trans}
 use native.Mathlib.Omega.{arith}
 use borrow.Author.Tests.{eqb-true}
 use lib.Dec.{eqb}
+use Rattle.spec.specs.Vocabulary.{some-below, lowest-below}
 use Rattle.bits.specs.Truth.{passes-or-fails, not-both, same-truth, and-intro, and-left, and-right, or-left, or-right, or-cases, not-passes}
-use Rattle.bits.specs.Below.{some-below, lowest-below, Lowest}
+use Rattle.bits.specs.Counting.{Lowest}
 use Rattle.bits.specs.BelowLaws.{below-or-from, some-below-intro, some-below-elim}
 use Rattle.bits.specs.LowestLaws.{lowest-below-intro, lowest-below-none-intro, lowest-below-cases}
 

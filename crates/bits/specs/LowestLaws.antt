@@ -7,8 +7,9 @@ use mathlib.Core.Option.{none, some}
 use Prim.Native.Nat.{ℕ, zero, suc, _+_, _-_, _≤_, _<_, suc-le-suc}
 use native.Mathlib.Nat.{le-refl, le-step, le-of-suc-le-suc, lt-of-not-le, lt-trans, not-suc-le-zero, zero-lt-suc, add-sub-of-le}
 use native.Mathlib.Omega.{arith}
+use Rattle.spec.specs.Vocabulary.{some-below, lowest-below}
 use Rattle.bits.specs.Truth.{passes-or-fails, not-both}
-use Rattle.bits.specs.Below.{some-below, lowest-below, Lowest}
+use Rattle.bits.specs.Counting.{Lowest}
 use Rattle.bits.specs.BelowLaws.{last-or-below, below-or-from, some-below-elim}
 
 pub lowest-below-none-intro : (n : ℕ) (f : ℕ → Bool) → ((i : ℕ) → i < n → f i ≡ false) → lowest-below n f ≡ none

@@ -3,7 +3,8 @@ use mathlib.Core.Path.{_≡_}
 use mathlib.Core.Bool.{Bool, _&&_, _||_}
 use Prim.Native.Nat.{ℕ, _+_}
 use native.Mathlib.Numerals.{add-one}
-use Rattle.bits.specs.Below.{one-if, count-below, sum-below, some-below, every-below, found-or, lowest-below}
+use Rattle.spec.specs.Vocabulary.{some-below, every-below, found-or, lowest-below}
+use Rattle.bits.specs.Counting.{one-if, count-below, sum-below}
 
 pub count-below-step : (n : ℕ) (f : ℕ → Bool) → count-below (n + 1) f ≡ count-below n f + one-if (f n)
 unfolding count-below

@@ -5,7 +5,7 @@ use mathlib.Core.Bool.{Bool}
 use Prim.Native.Nat.{ℕ, zero, suc, _+_, _*_, _≤_, _<_}
 use native.Mathlib.Nat.{add-zero, add-suc, suc-mul, zero-mul, le-refl, le-step, le-dest, not-suc-le-zero}
 use native.Mathlib.Omega.{arith}
-use Rattle.bits.specs.Below.{one-if, count-below, sum-below}
+use Rattle.bits.specs.Counting.{one-if, count-below, sum-below}
 use Rattle.bits.specs.BelowLaws.{last-or-below}
 
 pub sum-below-ext : (n : ℕ) (g h : ℕ → ℕ) → ((i : ℕ) → i < n → g i ≡ h i) → sum-below n g ≡ sum-below n h

@@ -11,8 +11,9 @@ use lib.Dec.{eqb, eqb·suc-zero, eqb·suc-suc}
 use lib.Pow.{pow-pos}
 use lib.Bits.{bitAnd, and-le-l, and-le-r}
 use lib.Count.{ones, ones-step, ones-le, trailingZeros}
+use Rattle.spec.specs.Vocabulary.{some-below, every-below}
 use Rattle.bits.specs.Truth.{implies, implies-intro, and-absorbs, and-right, not-both, not-passes, not-fails, same-truth}
-use Rattle.bits.specs.Below.{one-if, count-below, some-below, every-below, Lowest}
+use Rattle.bits.specs.Counting.{one-if, count-below, Lowest}
 use Rattle.bits.specs.BelowLaws.{some-below-intro, some-below-ext, none-below-intro, none-below-elim, every-below-intro, every-below-elim}
 use Rattle.bits.specs.LowestLaws.{lowest-ext, lowest-at-zero, lowest-next}
 use Rattle.bits.specs.CountLaws.{count-below-ext, count-below-first}

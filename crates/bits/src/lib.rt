@@ -2,7 +2,7 @@
 // put in or taken out, how many and which lowest, and whether one word is within another.
 //
 // A contract says of each position whether the result has it, by `bit`, or equals a definition of
-// `specs/Below.antt` on the word's bits. A position is a usize below WORD_BITS, as an index is.
+// `specs/Counting.antt` on the word's bits. A position is a usize below WORD_BITS, as an index is.
 mod position;
 mod whole;
 

@@ -3,8 +3,9 @@ use crate::WORD_BITS;
 ghost use mathlib.Core.Path.{_≡_};
 ghost use Prim.Native.Nat.{ℕ, _<_, _≤_};
 ghost use lib.Dec.{ltb};
+ghost use Rattle.spec.specs.Vocabulary.{every-below};
 ghost use Rattle.bits.specs.Truth.{implies};
-ghost use Rattle.bits.specs.Below.{count-below, every-below, Lowest};
+ghost use Rattle.bits.specs.Counting.{count-below, Lowest};
 ghost use Rattle.bits.specs.Bit.{bit, word-bits};
 ghost use Rattle.bits.specs.Word.{LowestDropped};
 

@@ -8,13 +8,13 @@ use mathlib.Core.Logic.{⊎-elim}
 use mathlib.Core.Bool.{false, So, false≢true}
 use mathlib.Core.List.{List, [], _∷_, _++_, List·Memᴰ, List·Memᴰ·not-nil, List·Memᴰ·eq-of-singleton}
 use lib.ListN.{length}
-use Rattle.lists.specs.Lists.{joined, parted-by}
+use Rattle.spec.specs.Vocabulary.{joined, parted-by}
+use Rattle.spec.specs.Text.{Bytes, Line, comma, line-feed, lines-of, text-of, last-byte}
+use Rattle.spec.specs.Book.{Block, empty-line, text-of-blocks}
+use Rattle.spec.specs.Form.{is-empty-line, blocks-of}
 use Rattle.lists.specs.CutLaws.{parted-joined, joined-parted, append-ending}
 use Rattle.lists.specs.JoinLaws.{joined-element}
-use Rattle.sheet.specs.Text.{Bytes, Line, comma, line-feed, lines-of, text-of}
-use Rattle.sheet.specs.Refusal.{last-byte}
 use Rattle.sheet.specs.TextLaws.{Field, Fields, Lines, read-as-written, written-as-read-to-feed}
-use Rattle.book.specs.Blocks.{Block, empty-line, is-empty-line, text-of-blocks, blocks-of}
 
 -- a line that a block can hold: one that a text can hold, and not the empty line
 pub record BlockLine (line : Line) : Type 0 where

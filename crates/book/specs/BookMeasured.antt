@@ -4,10 +4,10 @@ use native.Mathlib.Omega.{arith}
 use mathlib.Core.Path.{_≡_, ap}
 use mathlib.Core.List.{List, _++_}
 use lib.ListN.{length, length-append}
-use Rattle.sheet.specs.Text.{Bytes, text-of}
-use Rattle.sheet.specs.Sheet.{sheet-of}
+use Rattle.spec.specs.Text.{Bytes, text-of}
+use Rattle.spec.specs.Sheet.{sheet-of}
+use Rattle.spec.specs.Book.{witness-block}
 use Rattle.grants.specs.CellSets.{cell-grants}
-use Rattle.book.specs.Book.{witness-block}
 use Rattle.book.specs.CountsText.{counts-text}
 use Rattle.book.specs.RowsSaid.{shown-roles, shown-users}
 use Rattle.book.specs.LineLaws.{line-end}

@@ -4,24 +4,20 @@ use Prim.Native.Nat.{ℕ, _≤_}
 use native.Mathlib.Nat.{lt-of-lt-of-le}
 use mathlib.Core.Path.{_≡_, ap, _∙_}
 use mathlib.Core.List.{List, [], _∷_, _++_}
-use Rattle.lists.specs.Ascii.{ascii}
-use Rattle.lists.specs.Lists.{list-of}
+use Rattle.spec.specs.Vocabulary.{list-of}
+use Rattle.spec.specs.Text.{ascii, Bytes, Line, text-of}
+use Rattle.spec.specs.Sheet.{Sheet, Grant, sheet-of, user-count, permission-count, cell-text, user-name}
+use Rattle.spec.specs.Witness.{witness}
+use Rattle.spec.specs.Machine.{State}
+use Rattle.spec.specs.RoleSet.{RoleSet}
+use Rattle.spec.specs.Roles.{Standing, roles-of, role-count, standing, bound}
+use Rattle.spec.specs.Book.{role-name, Block, text-of-blocks, counts-block, roles-block, users-block, witness-block, blocks-saying, book-text, said-in, book}
 use Rattle.lists.specs.ListOfLaws.{list-of-same}
-use Rattle.sheet.specs.Text.{Bytes, Line, text-of}
-use Rattle.sheet.specs.Sheet.{Sheet, Grant, sheet-of, user-count, permission-count, cell-text}
 use Rattle.sheet.specs.Rows.{row-bits}
 use Rattle.grants.specs.CellSets.{cell-grants}
-use Rattle.grants.specs.Witness.{witness}
-use Rattle.search.specs.Machine.{State}
-use Rattle.roles.specs.RoleSet.{RoleSet}
 use Rattle.roles.specs.RoleRows.{RoleRows}
 use Rattle.roles.specs.RolesShown.{RolesAt}
-use Rattle.roles.specs.Roles.{Standing, roles-of, role-count, standing, bound}
 use Rattle.roles.specs.StandingCases.{standing-case}
-use Rattle.book.specs.Decimal.{decimal}
-use Rattle.book.specs.Words.{role-name}
-use Rattle.book.specs.Blocks.{Block, text-of-blocks}
-use Rattle.book.specs.Book.{counts-block, roles-block, users-block, user-name, witness-block, blocks-saying, book-text, said-in, book}
 use Rattle.book.specs.CountsText.{counts-text}
 use Rattle.book.specs.RowsSaid.{said-by, shown-roles, shown-users}
 use Rattle.book.specs.LineLaws.{line-end, four-blocks}
@@ -42,7 +38,7 @@ pub book-parts : (text : Bytes) (has gives witness : List ℕ) (counts : Counts)
 unfolding book-text blocks-saying
 book-parts text has gives witness counts =
     four-blocks
-    (counts-block (decimal (counts .roles)) (decimal (counts .bound)) (standing-case (counts .standing)))
+    (counts-block (counts .roles) (counts .bound) (standing-case (counts .standing)))
     (shown-roles (sheet-of text) gives (counts .roles))
     (shown-users (sheet-of text) has (counts .roles))
     (witness-block (sheet-of text) (cell-grants (sheet-of text) witness))
@@ -74,8 +70,8 @@ pub rows-book-says : (text : Bytes) {has gives : List ℕ} (words : List ℕ) (c
     → rows-book text has gives words counts
     ≡ book-text (sheet-of text)
     (record {
-      role-digits = decimal (roles .count);
-      bound-digits = decimal (counts .bound);
+      count = roles .count;
+      bound = counts .bound;
       standing = standing-case (counts .standing);
       roles = roles;
       witness = grants;
@@ -83,7 +79,7 @@ pub rows-book-says : (text : Bytes) {has gives : List ℕ} (words : List ℕ) (c
 unfolding book-text blocks-saying
 rows-book-says text {has} {gives} words counts {roles} {grants} at fit e =
     let sheet : Sheet = sheet-of text in
-    let first : Block = counts-block (decimal (roles .count)) (decimal (counts .bound)) (standing-case (counts .standing)) in
+    let first : Block = counts-block (roles .count) (counts .bound) (standing-case (counts .standing)) in
     ap (λ (n : ℕ). book-text sheet (said-by sheet has gives words n (counts .bound) (standing-case (counts .standing)))) (at .total)
     ∙ ap (λ (l : List Grant).
     text-of-blocks (first ∷ shown-roles sheet gives (roles .count) ∷ shown-users sheet has (roles .count) ∷ witness-block sheet l ∷ [])) e
@@ -104,15 +100,15 @@ rows-book-in text words counts st at fit same-bound same-standing same-witness =
     let roles : RoleSet = roles-of sheet (st .best) in
     rows-book-says text words counts at fit same-witness
     ∙ ap (λ (n : ℕ). book-text sheet (record {
-      role-digits = decimal (roles .count);
-      bound-digits = decimal n;
+      count = roles .count;
+      bound = n;
       standing = standing-case (counts .standing);
       roles = roles;
       witness = witness sheet;
     })) same-bound
     ∙ ap (λ (k : Standing). book-text sheet (record {
-      role-digits = decimal (roles .count);
-      bound-digits = decimal (bound sheet st);
+      count = roles .count;
+      bound = bound sheet st;
       standing = k;
       roles = roles;
       witness = witness sheet;

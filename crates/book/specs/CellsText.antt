@@ -2,9 +2,9 @@
 use Prim.Native.Nat.{ℕ}
 use mathlib.Core.Bool.{Bool}
 use mathlib.Core.List.{List, _∷_}
+use Rattle.spec.specs.Text.{Bytes, comma}
+use Rattle.spec.specs.Sheet.{cell-text}
 use Rattle.lists.specs.Listed.{listed}
-use Rattle.sheet.specs.Text.{Bytes, comma}
-use Rattle.sheet.specs.Sheet.{cell-text}
 use Rattle.sheet.specs.Rows.{cell}
 
 -- a cell behind what stands before it

@@ -5,8 +5,8 @@ use mathlib.Core.Path.{_≡_, refl}
 use mathlib.Core.Bool.{Bool, true, false}
 use mathlib.Core.List.{[], _∷_}
 use lib.ListN.{length, set}
-use Rattle.sheet.specs.Text.{Bytes, comma}
-use Rattle.sheet.specs.Sheet.{cell-text}
+use Rattle.spec.specs.Text.{Bytes, comma}
+use Rattle.spec.specs.Sheet.{cell-text}
 use Rattle.book.specs.CellsText.{cell-field}
 use Rattle.book.specs.Written.{Written, nothing-written, byte-written}
 

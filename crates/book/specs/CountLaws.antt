@@ -10,10 +10,10 @@ use mathlib.Core.List.{[], _∷_, _++_, append-assoc, append-nil}
 use borrow.Author.Tests.{ne-eqb, eqb-true, eqb-false}
 use lib.Dec.{eqb}
 use lib.ListN.{length}
+use Rattle.spec.specs.Vocabulary.{empty, all}
+use Rattle.spec.specs.Text.{Bytes}
+use Rattle.spec.specs.Decimal.{digit, decimal, is-digit, is-count, number-after, number-of}
 use Rattle.bits.specs.Truth.{and-intro, and-left, and-right}
-use Rattle.lists.specs.Lists.{empty, all}
-use Rattle.sheet.specs.Text.{Bytes}
-use Rattle.book.specs.Decimal.{digit, decimal, is-digit, is-count, number-after, number-of}
 use Rattle.book.specs.DecimalLaws.{decimal-of-digit, decimal-of-more, decimal-induction, number-of-decimal, is-digit-intro, is-digit-elim, digits-and-one, decimal-digits}
 
 -- ---- a number's decimal is a count

@@ -2,9 +2,9 @@
 -- Assumes nothing.
 use mathlib.Core.Path.{_≡_}
 use mathlib.Core.List.{_++_, append-assoc, append-nil}
-use Rattle.lists.specs.Ascii.{ascii}
+use Rattle.spec.specs.Text.{ascii}
+use Rattle.spec.specs.Decimal.{decimal}
 use Rattle.roles.specs.StandingCases.{standing-case}
-use Rattle.book.specs.Decimal.{decimal}
 use Rattle.book.specs.CountsText.{standing-text, counts-text}
 use Rattle.book.specs.declared.counts.Counts.{Counts}
 

@@ -10,13 +10,13 @@ use mathlib.Core.Bool.{true, So, _&&_}
 use mathlib.Core.List.{[], _∷_, _++_}
 use borrow.Author.Tests.{lt-ltb, le-ltb}
 use lib.ListN.{length, length-append}
+use Rattle.spec.specs.Vocabulary.{all}
+use Rattle.spec.specs.Text.{Bytes}
+use Rattle.spec.specs.Decimal.{digit, decimal-in, decimal, is-digit, number-after, number-of}
 use Rattle.bits.specs.Truth.{and-intro}
 use Rattle.bits.specs.BelowLaws.{below-or-from}
-use Rattle.lists.specs.Lists.{all}
 use Rattle.lists.specs.AppendLaws.{all-append}
-use Rattle.sheet.specs.Text.{Bytes}
 use Rattle.sheet.specs.ByteLaws.{between-intro, between-low, between-high}
-use Rattle.book.specs.Decimal.{digit, decimal-in, decimal, is-digit, number-after, number-of}
 
 -- ---- digit by digit
 

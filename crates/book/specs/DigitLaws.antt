@@ -4,8 +4,8 @@ use native.Mathlib.Omega.{arith}
 use mathlib.Core.Path.{_≡_, ap, _∙_}
 use mathlib.Core.List.{[], _∷_}
 use lib.ListN.{length, length-append}
+use Rattle.spec.specs.Decimal.{digit, decimal}
 use Rattle.bits.specs.Bit.{word-bits}
-use Rattle.book.specs.Decimal.{digit, decimal}
 use Rattle.book.specs.DecimalLaws.{decimal-of-digit, decimal-of-tens, decimal-length}
 
 pub one-digit : (n : ℕ) → n < 10 → length (decimal n) ≡ 1

@@ -1,8 +1,8 @@
 -- The digits of a number of the machine, counted one by one.
 use Prim.Native.Nat.{ℕ, _+_, _/_, _^_, _≤_, _<_}
 use native.Mathlib.Omega.{arith}
+use Rattle.spec.specs.Decimal.{decimal}
 use Rattle.bits.specs.Bit.{word-bits}
-use Rattle.book.specs.Decimal.{decimal}
 use Rattle.book.specs.DigitLaws.{word-digits, digit-more, digits-of-word}
 use Rattle.book.specs.Measured.{Measured}
 

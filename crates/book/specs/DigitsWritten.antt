@@ -3,8 +3,8 @@ use Prim.Native.Nat.{ℕ, _+_, _/_, _%_, _≤_, _<_}
 use mathlib.Core.Path.{_≡_}
 use mathlib.Core.List.{[]}
 use lib.ListN.{length, set}
-use Rattle.sheet.specs.Text.{Bytes}
-use Rattle.book.specs.Decimal.{digit, decimal}
+use Rattle.spec.specs.Text.{Bytes}
+use Rattle.spec.specs.Decimal.{digit, decimal}
 use Rattle.book.specs.DecimalLaws.{decimal-of-digit, decimal-of-tens}
 use Rattle.book.specs.Written.{Written, nothing-written, byte-written}
 

@@ -6,12 +6,12 @@ use native.Mathlib.Omega.{arith}
 use mathlib.Core.Path.{_≡_, refl, sym, ap, _∙_}
 use mathlib.Core.Bool.{Bool, true, false}
 use mathlib.Core.List.{_++_, append-assoc}
-use Rattle.bits.specs.Below.{one-if}
+use Rattle.spec.specs.Vocabulary.{list-of}
+use Rattle.spec.specs.Text.{Bytes}
+use Rattle.bits.specs.Counting.{one-if}
 use Rattle.bits.specs.Bit.{bit}
 use Rattle.bits.specs.BitLaws.{first-digit, bit-shift}
-use Rattle.lists.specs.Lists.{list-of}
 use Rattle.lists.specs.Listed.{listed, listed-suc, listed-more}
-use Rattle.sheet.specs.Text.{Bytes}
 use Rattle.book.specs.CellsText.{cell-field}
 
 -- byte k of a number

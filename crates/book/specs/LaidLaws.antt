@@ -3,14 +3,13 @@ use Prim.Native.Nat.{ℕ, _≤_, _<_}
 use native.Mathlib.Omega.{arith}
 use mathlib.Core.List.{List}
 use lib.ListN.{length}
-use Rattle.sheet.specs.Limits.{permission-limit, user-limit, name-limit}
-use Rattle.sheet.specs.Text.{Bytes}
-use Rattle.sheet.specs.Sheet.{sheet-of, user-count, permission-count}
+use Rattle.spec.specs.Limits.{permission-limit, user-limit, name-limit}
+use Rattle.spec.specs.Text.{Bytes}
+use Rattle.spec.specs.Sheet.{sheet-of, user-count, permission-count, user-name, permission-name}
 use Rattle.sheet.specs.Rows.{row-words, row-bits}
 use Rattle.sheet.specs.AcceptedFacts.{Lawful, accepted-lawful}
 use Rattle.sheet.specs.LaidOut.{LaidOut, UsersAt, PermissionsAt}
 use Rattle.sheet.specs.declared.layout.Layout.{Layout}
-use Rattle.book.specs.Book.{user-name, permission-name}
 
 module _ {text : Bytes} {layout : Layout} (laid : LaidOut text layout) where
   lawful : Lawful (sheet-of text)
@@ -30,18 +29,22 @@ module _ {text : Bytes} {layout : Layout} (laid : LaidOut text layout) where
   few-users = omega (arith, laid .user-total, lawful .few-users)
 
   pub user-name-short : (u : ℕ) → u < layout .users → length (user-name (sheet-of text) u) ≤ name-limit
+  unfolding name-limit
   user-name-short u h = lawful .user-name u (omega (arith, laid .user-total)) .short
 
   pub permission-name-short : (p : ℕ) → p < layout .permissions → length (permission-name (sheet-of text) p) ≤ name-limit
+  unfolding name-limit
   permission-name-short p h = lawful .permission-name p (omega (arith, laid .permission-total)) .short
 
 -- the same of a sheet whose names' places are lent
 pub placed-user-name-short : {text : Bytes} {from to : List ℕ} → UsersAt text from to → (u : ℕ) → u < user-count (sheet-of text)
     → length (user-name (sheet-of text) u) ≤ name-limit
+unfolding name-limit
 placed-user-name-short {text} at u h = accepted-lawful text (at .accepts) .user-name u h .short
 
 pub placed-permission-name-short : {text : Bytes} {from to : List ℕ} → PermissionsAt text from to → (p : ℕ) → p < permission-count (sheet-of text)
     → length (permission-name (sheet-of text) p) ≤ name-limit
+unfolding name-limit
 placed-permission-name-short {text} at p h = accepted-lawful text (at .accepts) .permission-name p h .short
 
 pub placed-permissions-fit : {text : Bytes} {from to : List ℕ} → PermissionsAt text from to → permission-count (sheet-of text) ≤ row-bits

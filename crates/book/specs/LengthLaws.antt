@@ -5,10 +5,10 @@ use native.Mathlib.Omega.{arith}
 use mathlib.Core.Path.{_≡_, _∙_}
 use mathlib.Core.List.{List, [], _∷_, map}
 use lib.ListN.{length, length-append}
-use Rattle.lists.specs.Lists.{joined}
+use Rattle.spec.specs.Vocabulary.{joined}
+use Rattle.spec.specs.Text.{Bytes, Line, comma, line-feed, line-text, text-of}
+use Rattle.spec.specs.Book.{Block, empty-line, text-of-blocks}
 use Rattle.lists.specs.Total.{total, total-append, total-map, length-joined, length-concat-total}
-use Rattle.sheet.specs.Text.{Bytes, Line, comma, line-feed, line-text, text-of}
-use Rattle.book.specs.Blocks.{Block, empty-line, text-of-blocks}
 
 -- a field with the byte behind it
 abbrev pub field-length : Bytes → ℕ

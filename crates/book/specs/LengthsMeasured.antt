@@ -4,16 +4,14 @@ use native.Mathlib.Omega.{arith}
 use mathlib.Core.Path.{_≡_, ap, _∙_}
 use mathlib.Core.List.{List, _++_}
 use lib.ListN.{length, length-append}
-use Rattle.lists.specs.Ascii.{ascii}
+use Rattle.spec.specs.Limits.{name-limit}
+use Rattle.spec.specs.Text.{ascii, Bytes, line-text}
+use Rattle.spec.specs.Sheet.{Sheet, user-name, permission-name}
+use Rattle.spec.specs.Decimal.{decimal}
+use Rattle.spec.specs.Book.{role-name}
 use Rattle.lists.specs.Listed.{listed-even}
-use Rattle.sheet.specs.Limits.{name-limit}
-use Rattle.sheet.specs.Text.{Bytes, line-text}
-use Rattle.sheet.specs.Sheet.{Sheet}
 use Rattle.sheet.specs.Rows.{row-words, row-bits, cell}
 use Rattle.roles.specs.StandingCases.{standing-case}
-use Rattle.book.specs.Decimal.{decimal}
-use Rattle.book.specs.Words.{role-name}
-use Rattle.book.specs.Book.{user-name, permission-name}
 use Rattle.book.specs.DigitLaws.{word-digits}
 use Rattle.book.specs.CountsText.{standing-text, counts-text}
 use Rattle.book.specs.CountsLaws.{counts-parts}

@@ -1,15 +1,10 @@
--- The role book (role decomposition with its certificate) as bytes. `Decimal`, `Words`, `Blocks` and `Book` have the definitions; the other
--- modules have the laws, one subject each. Then come what writers leave in a lent buffer (`Written`), what they write from rows of words
+-- Writing the role book. The first modules have the laws of its counts, words and blocks, one subject each. Then come what writers leave in a lent buffer (`Written`), what they write from rows of words
 -- (`RowsSaid`, `BookRows`), how long it is (`Measured`), and what a writing answers (`Writing`).
-pub mod Decimal
 pub mod DecimalLaws
 pub mod CountLaws
-pub mod Words
 pub mod WordLaws
-pub mod Blocks
 pub mod BlockLaws
 pub mod LengthLaws
-pub mod Book
 pub mod Written
 pub mod LineLaws
 pub mod LineWritten

@@ -4,12 +4,12 @@ use Prim.Native.Nat.{ℕ}
 use mathlib.Core.Path.{_≡_, refl, sym, ap, _∙_}
 use mathlib.Core.List.{List, [], _∷_, _++_, map, map-append, append-assoc, append-nil}
 use lib.ListN.{length, getD}
-use Rattle.lists.specs.Lists.{list-of, joined, concat}
+use Rattle.spec.specs.Vocabulary.{list-of, joined, concat}
+use Rattle.spec.specs.Text.{Bytes, Line, comma, line-feed, line-text, text-of}
+use Rattle.spec.specs.Book.{Block, empty-line, text-of-blocks}
 use Rattle.lists.specs.JoinLaws.{concat-append}
 use Rattle.lists.specs.ListOfLaws.{list-of-places, map-list-of}
 use Rattle.lists.specs.Listed.{listed}
-use Rattle.sheet.specs.Text.{Bytes, Line, comma, line-feed, line-text, text-of}
-use Rattle.book.specs.Blocks.{Block, empty-line, text-of-blocks}
 
 -- a field behind the one before it
 abbrev pub behind-comma : Bytes → Bytes

@@ -2,9 +2,9 @@
 use Prim.Native.Nat.{ℕ, _+_, _≤_}
 use mathlib.Core.List.{_++_}
 use lib.ListN.{length}
-use Rattle.sheet.specs.Text.{Bytes}
+use Rattle.spec.specs.Text.{Bytes}
 use Rattle.book.specs.LineLaws.{line-end}
-use Rattle.book.specs.Written.{Written, Ready, rest-from, with-rest, front-fits, then-written}
+use Rattle.book.specs.Written.{Written, WrittenSoFar, rest-from, with-rest, front-fits, then-written}
 
 -- the buffer has room for a line
 pub record LineRoom (name fields before : Bytes) : Type 0 where
@@ -17,9 +17,9 @@ module _ {name fields before : Bytes} (room : LineRoom name fields before) where
   pub name-fits : length name ≤ length before
   name-fits = front-fits name fields fields-fit
 
-  pub behind-name : {mid : Bytes} {at : ℕ} → Written name before mid at → Ready name fields before mid at
+  pub behind-name : {mid : Bytes} {at : ℕ} → Written name before mid at → WrittenSoFar name fields before mid at
   behind-name w = record { written = w; fits = fields-fit }
 
   pub behind-fields : {mid rest : Bytes} {at m : ℕ} → Written name before mid at → Written fields (rest-from at mid) rest m
-      → Ready (name ++ fields) line-end before (with-rest at mid rest) (at + m)
+      → WrittenSoFar (name ++ fields) line-end before (with-rest at mid rest) (at + m)
   behind-fields w v = record { written = then-written (behind-name w) v; fits = room .fits }

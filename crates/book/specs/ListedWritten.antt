@@ -5,9 +5,9 @@ use native.Mathlib.Nat.{le-trans, le-antisymm}
 use native.Mathlib.Omega.{arith}
 use mathlib.Core.Path.{_≡_}
 use lib.ListN.{length}
+use Rattle.spec.specs.Text.{Bytes}
 use Rattle.lists.specs.Listed.{listed, listed-more, listed-front}
-use Rattle.sheet.specs.Text.{Bytes}
-use Rattle.book.specs.Written.{Written, Ready, rest-from, with-rest, nothing-written, written-length, then-written}
+use Rattle.book.specs.Written.{Written, WrittenSoFar, rest-from, with-rest, nothing-written, written-length, then-written}
 
 -- of n parts, which the buffer has room for, those below i are written
 pub record Listing (n : ℕ) (part : ℕ → Bytes) (i : ℕ) (before mid : Bytes) (at : ℕ) : Type 0 where
@@ -26,7 +26,7 @@ pub listing-ends : {n : ℕ} {part : ℕ → Bytes} {i : ℕ} {before mid : Byte
 listing-ends {n} {part} {i} l e = let same : i ≡ n = le-antisymm (l .below) e in rw same at (l .written)
 
 module _ {n : ℕ} {part : ℕ → Bytes} {i : ℕ} {before mid : Bytes} {at : ℕ} (l : Listing n part i before mid at) (more : i < n) where
-  pub part-ready : Ready (listed i part) (part i) before mid at
+  pub part-ready : WrittenSoFar (listed i part) (part i) before mid at
   part-ready = record { written = l .written; fits = le-trans (listed-front i n part more) (l .fits) }
 
   pub part-written : {rest : Bytes} {m : ℕ} → Written (part i) (rest-from at mid) rest m

@@ -6,8 +6,8 @@ use native.Mathlib.Numerals.{add-one}
 use native.Mathlib.Omega.{arith}
 use mathlib.Core.Path.{_≡_, ap}
 use lib.ListN.{length, length-append}
+use Rattle.spec.specs.Text.{Bytes}
 use Rattle.lists.specs.Listed.{listed, listed-more}
-use Rattle.sheet.specs.Text.{Bytes}
 
 -- no piece of a line, no line of a book and no block of a book is longer
 abbrev pub piece-most : ℕ

@@ -3,9 +3,9 @@ use Prim.Native.Nat.{ℕ, _+_}
 use native.Mathlib.Numerals.{add-one}
 use mathlib.Core.Path.{_≡_, ap}
 use mathlib.Core.List.{_++_}
-use Rattle.lists.specs.Ascii.{ascii}
-use Rattle.book.specs.Decimal.{decimal}
-use Rattle.book.specs.Words.{role-name}
+use Rattle.spec.specs.Text.{ascii}
+use Rattle.spec.specs.Decimal.{decimal}
+use Rattle.spec.specs.Book.{role-name}
 use Rattle.book.specs.LineLaws.{behind-comma}
 
 -- a name, and a name behind a comma

@@ -2,21 +2,16 @@
 use Prim.Native.Nat.{ℕ, _<_}
 use mathlib.Core.Bool.{Bool, So}
 use mathlib.Core.List.{List, _∷_}
+use Rattle.spec.specs.Vocabulary.{every-below, list-of}
+use Rattle.spec.specs.Text.{ascii, Line}
+use Rattle.spec.specs.Sheet.{Sheet, user-count, permission-count, holds, cell-text, user-name}
+use Rattle.spec.specs.RoleSet.{RoleSet}
+use Rattle.spec.specs.Roles.{Standing}
+use Rattle.spec.specs.Book.{role-name, Block, Said}
 use Rattle.bits.specs.Truth.{implies, implies-elim}
-use Rattle.bits.specs.Below.{every-below}
 use Rattle.bits.specs.BelowLaws.{every-below-elim}
-use Rattle.lists.specs.Ascii.{ascii}
-use Rattle.lists.specs.Lists.{list-of}
-use Rattle.sheet.specs.Text.{Line}
-use Rattle.sheet.specs.Sheet.{Sheet, user-count, permission-count, holds, cell-text}
 use Rattle.sheet.specs.Rows.{cell}
 use Rattle.grants.specs.CellSets.{cell-grants}
-use Rattle.roles.specs.RoleSet.{RoleSet}
-use Rattle.roles.specs.Roles.{Standing}
-use Rattle.book.specs.Decimal.{decimal}
-use Rattle.book.specs.Words.{role-name}
-use Rattle.book.specs.Blocks.{Block}
-use Rattle.book.specs.Book.{Said, user-name}
 
 -- the role set of two matrices
 abbrev pub roles-in : List ℕ → List ℕ → ℕ → RoleSet
@@ -26,8 +21,8 @@ roles-in has gives count = record { count = count; has = cell has; gives = cell 
 abbrev pub said-by : Sheet → List ℕ → List ℕ → List ℕ → ℕ → ℕ → Standing → Said
 said-by sheet has gives witness count bound standing =
     record {
-      role-digits = decimal count;
-      bound-digits = decimal bound;
+      count = count;
+      bound = bound;
       standing = standing;
       roles = roles-in has gives count;
       witness = cell-grants sheet witness;

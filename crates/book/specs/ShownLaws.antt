@@ -2,14 +2,12 @@
 use Prim.Native.Nat.{ℕ}
 use mathlib.Core.Path.{_≡_, sym, ap, _∙_}
 use mathlib.Core.List.{List, _∷_, _++_}
-use Rattle.lists.specs.Ascii.{ascii}
-use Rattle.lists.specs.Lists.{list-of}
+use Rattle.spec.specs.Vocabulary.{list-of}
+use Rattle.spec.specs.Text.{ascii, Bytes, line-text, text-of}
+use Rattle.spec.specs.Sheet.{Sheet, user-count, permission-count, cell-text, user-name, permission-name}
+use Rattle.spec.specs.Book.{role-name}
 use Rattle.lists.specs.Listed.{listed}
-use Rattle.sheet.specs.Text.{Bytes, line-text, text-of}
-use Rattle.sheet.specs.Sheet.{Sheet, user-count, permission-count, cell-text}
 use Rattle.sheet.specs.Rows.{cell}
-use Rattle.book.specs.Words.{role-name}
-use Rattle.book.specs.Book.{user-name, permission-name}
 use Rattle.book.specs.CellsText.{cells-text}
 use Rattle.book.specs.RowsSaid.{role-line, shown-roles, user-line, shown-users}
 use Rattle.book.specs.LineLaws.{behind-comma, line-end, line-parts, line-parts-of, block-parts}

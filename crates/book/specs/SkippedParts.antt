@@ -7,8 +7,8 @@ use mathlib.Core.Logic.{⊎-elim}
 use mathlib.Core.Bool.{Bool, false}
 use mathlib.Core.List.{[], append-nil}
 use lib.ListN.{length}
+use Rattle.spec.specs.Text.{Bytes}
 use Rattle.lists.specs.Listed.{listed, listed-suc}
-use Rattle.sheet.specs.Text.{Bytes}
 use Rattle.book.specs.ListedWritten.{Listing}
 use Rattle.book.specs.Measured.{Adding}
 use Rattle.book.specs.WitnessText.{line-if}

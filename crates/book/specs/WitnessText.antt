@@ -8,17 +8,16 @@ use mathlib.Core.Logic.{⊎-elim}
 use mathlib.Core.Bool.{Bool, true, false, _&&_, cond, and-false}
 use mathlib.Core.List.{List, [], _∷_, _++_, map, map-append}
 use lib.ListN.{length, getD}
+use Rattle.spec.specs.Vocabulary.{keep, filter, list-from, concat}
+use Rattle.spec.specs.Text.{ascii, Bytes, Line, line-text, text-of}
+use Rattle.spec.specs.Sheet.{Sheet, Grant, user-count, permission-count, holds, grants-of-row, grants-of-rows}
+use Rattle.spec.specs.Book.{witness-line, witness-block}
 use Rattle.bits.specs.Truth.{passes-or-fails}
-use Rattle.lists.specs.Ascii.{ascii}
-use Rattle.lists.specs.Lists.{keep, filter, list-from, concat}
 use Rattle.lists.specs.FilterLaws.{filter-append}
 use Rattle.lists.specs.Listed.{listed, listed-same}
-use Rattle.sheet.specs.Text.{Bytes, Line, line-text, text-of}
-use Rattle.sheet.specs.Sheet.{Sheet, Grant, user-count, permission-count, holds, grants-of-row, grants-of-rows}
 use Rattle.sheet.specs.Rows.{cell}
 use Rattle.sheet.specs.AcceptedFacts.{Lawful}
 use Rattle.grants.specs.CellSets.{in-cells, cell-grants}
-use Rattle.book.specs.Book.{witness-line, witness-block}
 use Rattle.book.specs.RowsSaid.{GrantCells}
 use Rattle.book.specs.LineLaws.{text-append}
 

@@ -8,18 +8,18 @@ use mathlib.Core.Bool.{Bool, true, false, So, _||_}
 use mathlib.Core.List.{_∷_}
 use lib.Dec.{eqb}
 use lib.ListN.{length}
+use Rattle.spec.specs.Vocabulary.{all}
+use Rattle.spec.specs.Text.{Bytes, between, name-byte}
+use Rattle.spec.specs.Sheet.{cell-text}
+use Rattle.spec.specs.Roles.{Standing, witnessed, searched, unsettled}
+use Rattle.spec.specs.Decimal.{decimal, is-digit, is-count, number-of}
+use Rattle.spec.specs.Book.{standing-word, role-name}
 use Rattle.bits.specs.Truth.{or-left, or-right}
-use Rattle.lists.specs.Lists.{all}
 use Rattle.lists.specs.TestLaws.{all-intro, all-elim}
-use Rattle.sheet.specs.Text.{Bytes, between, name-byte}
-use Rattle.sheet.specs.Sheet.{cell-text}
 use Rattle.sheet.specs.ByteLaws.{name-byte-no-comma, name-byte-no-line-feed}
 use Rattle.sheet.specs.TextLaws.{Field}
-use Rattle.roles.specs.Roles.{Standing, witnessed, searched, unsettled}
-use Rattle.book.specs.Decimal.{decimal, is-digit, is-count, number-of}
 use Rattle.book.specs.DecimalLaws.{number-of-decimal, decimal-digits, decimal-length}
 use Rattle.book.specs.CountLaws.{count-digits}
-use Rattle.book.specs.Words.{standing-word, role-name}
 
 -- ---- bytes of a name
 

@@ -7,7 +7,7 @@ use mathlib.Core.List.{_++_}
 use borrow.Author.Tests.{lt-ltb, le-ltb}
 use lib.Dec.{ltb}
 use lib.ListN.{length, drop, length-append}
-use Rattle.sheet.specs.Text.{Bytes}
+use Rattle.spec.specs.Text.{Bytes}
 use Rattle.book.specs.Written.{Written}
 use Rattle.book.specs.declared.writing.Writing.{Writing as WritingValue}
 use Rattle.book.specs.declared.writing.Writing.the-variants as writing

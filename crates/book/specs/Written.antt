@@ -8,7 +8,7 @@ use mathlib.Core.Path.{_≡_, refl, sym, ap, _∙_}
 use mathlib.Core.List.{[], _∷_, _++_, append-assoc, append-nil}
 use lib.ListN.{length, take, drop, set, getD, length-append, length-drop, drop-of-length-le}
 use lib.Seq.{drop-drop, drop-cons, take-at, take-all, drop-at, set-at, take-suc}
-use Rattle.sheet.specs.Text.{Bytes}
+use Rattle.spec.specs.Text.{Bytes}
 
 -- the buffer after is these bytes, then what it held past them; the answer is their number
 pub record Written (bytes before after : Bytes) (count : ℕ) : Type 0 where
@@ -56,7 +56,7 @@ with-rest-is a {before} {mid} {n} rest w =
     rw (past, front, append-nil rest)
 
 -- some bytes are written, and the buffer has room for more
-pub record Ready (done next before mid : Bytes) (at : ℕ) : Type 0 where
+pub record WrittenSoFar (done next before mid : Bytes) (at : ℕ) : Type 0 where
   pub written : Written done before mid at
   pub fits : length (done ++ next) ≤ length before
 
@@ -64,7 +64,7 @@ pub record Ready (done next before mid : Bytes) (at : ℕ) : Type 0 where
 pub front-fits : (done next : Bytes) {room : ℕ} → length (done ++ next) ≤ room → length done ≤ room
 front-fits done next fits = omega (arith, length-append done next)
 
-module _ {done next before mid : Bytes} {at : ℕ} (r : Ready done next before mid at) where
+module _ {done next before mid : Bytes} {at : ℕ} (r : WrittenSoFar done next before mid at) where
   done-fits : length done ≤ length before
   done-fits = front-fits done next (r .fits)
 
@@ -116,7 +116,7 @@ byte-written bytes b {before} {mid} {count} fits w =
       counted = rw (more) (omega arith);
     }
 
-module _ {done before mid : Bytes} {at b : ℕ} (r : Ready done (b ∷ []) before mid at) where
+module _ {done before mid : Bytes} {at b : ℕ} (r : WrittenSoFar done (b ∷ []) before mid at) where
   byte-fits : at < length before
   byte-fits = omega (arith, r .written .counted, r .fits, length-append done (b ∷ []))
 

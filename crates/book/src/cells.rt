@@ -6,7 +6,7 @@ ghost use mathlib.Core.Path.{_≡_};
 ghost use mathlib.Core.List.{_∷_, []};
 ghost use Prim.Native.Nat.{_+_, _*_, _≤_, _<_};
 ghost use lib.ListN.{length};
-ghost use Rattle.sheet.specs.Sheet.{cell-text};
+ghost use Rattle.spec.specs.Sheet.{cell-text};
 ghost use Rattle.sheet.specs.Rows.{row-words, row-bits, cell};
 ghost use Rattle.book.specs.CellsText.{cell-field, cells-text};
 ghost use Rattle.book.specs.Written.{Written};

@@ -4,7 +4,7 @@ ghost use mathlib.Core.Path.{_≡_};
 ghost use mathlib.Core.List.{_++_};
 ghost use Prim.Native.Nat.{_≤_, _<_};
 ghost use lib.ListN.{length};
-ghost use Rattle.book.specs.Decimal.{digit, decimal};
+ghost use Rattle.spec.specs.Decimal.{digit, decimal};
 ghost use Rattle.book.specs.DigitLaws.{word-digits};
 ghost use Rattle.book.specs.Measured.{Measured};
 ghost use Rattle.book.specs.Written.{Written};

@@ -2,7 +2,7 @@
 ghost use mathlib.Core.Path.{_≡_};
 ghost use Prim.Native.Nat.{_*_, _≤_, _<_};
 ghost use lib.ListN.{length};
-ghost use Rattle.bits.specs.Below.{one-if};
+ghost use Rattle.bits.specs.Counting.{one-if};
 ghost use Rattle.bits.specs.Bit.{bit, word-bits};
 ghost use Rattle.lists.specs.Listed.{listed};
 ghost use Rattle.book.specs.CellsText.{cell-field};

@@ -6,7 +6,7 @@ use roles::ROLE_WORDS;
 use sheet::CELL_WORDS;
 use sheet::Layout;
 ghost use Prim.Native.Nat.{_≤_};
-ghost use Rattle.sheet.specs.Sheet.{sheet-of};
+ghost use Rattle.spec.specs.Sheet.{sheet-of};
 ghost use Rattle.sheet.specs.Rows.{row-bits};
 ghost use Rattle.sheet.specs.LaidOut.{LaidOut};
 ghost use Rattle.book.specs.RowsSaid.{GrantCells};

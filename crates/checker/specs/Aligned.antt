@@ -10,7 +10,7 @@ use mathlib.Core.Bool.{Bool, So}
 use mathlib.Core.List.{List, [], _∷_, _++_, append-assoc, append-cancel-left, head-eq-of-cons-eq, tail-eq-of-cons-eq}
 use lib.ListN.{length, drop}
 use lib.Seq.{drop-append-seam}
-use Rattle.lists.specs.Lists.{parted-by, concat}
+use Rattle.spec.specs.Vocabulary.{parted-by, concat}
 use Rattle.lists.specs.CutLaws.{Free, parted-front}
 use Rattle.lists.specs.ListOfLaws.{list-of-first}
 use Rattle.lists.specs.Listed.{listed}

@@ -9,36 +9,33 @@ use mathlib.Core.Bool.{Bool, true, false}
 use mathlib.Core.List.{List, [], _∷_, map}
 use lib.Dec.{lit≤}
 use lib.ListN.{length, getD, length-map, List·getD-eq-default}
+use Rattle.spec.specs.Vocabulary.{list-of}
+use Rattle.spec.specs.Limits.{permission-limit, user-limit, name-limit, book-limit, role-limit}
+use Rattle.spec.specs.Text.{ascii, Bytes, Line}
+use Rattle.spec.specs.Sheet.{Sheet, Grant, cell-text, user-count, permission-count, user-name, permission-name}
+use Rattle.spec.specs.RoleSet.{RoleSet}
+use Rattle.spec.specs.Roles.{Standing, witnessed, searched, unsettled}
+use Rattle.spec.specs.Decimal.{decimal}
+use Rattle.spec.specs.Book.{standing-word, role-name, Said, counts-block, roles-block, users-block, witness-line, witness-block, blocks-saying, book-text}
 use Rattle.bits.specs.BelowLaws.{below-or-from}
-use Rattle.lists.specs.Ascii.{ascii}
-use Rattle.lists.specs.Lists.{list-of}
 use Rattle.lists.specs.TestLaws.{member-at}
 use Rattle.lists.specs.ListOfLaws.{length-list-of}
 use Rattle.lists.specs.EachLaws.{Each, each-listed, each-mapped}
 use Rattle.lists.specs.Total.{total, total-le}
-use Rattle.sheet.specs.Limits.{permission-limit, user-limit, name-limit}
-use Rattle.sheet.specs.Text.{Bytes, Line}
-use Rattle.sheet.specs.Sheet.{Sheet, Grant, cell-text, user-count, permission-count}
-use Rattle.roles.specs.RoleSet.{RoleSet}
-use Rattle.roles.specs.Roles.{Standing, witnessed, searched, unsettled}
-use Rattle.book.specs.Decimal.{decimal}
 use Rattle.book.specs.DecimalLaws.{decimal-length-three}
-use Rattle.book.specs.Words.{standing-word, role-name}
 use Rattle.book.specs.WordLaws.{role-name-parts}
 use Rattle.book.specs.LengthLaws.{field-length, line-length, block-length, line-length-fields, blocks-length}
-use Rattle.book.specs.Book.{Said, user-name, permission-name, counts-block, roles-block, users-block, witness-line, witness-block, blocks-saying, book-text}
-use Rattle.checker.specs.Form.{book-limit, role-limit}
 
 -- the length of a written book is the length of its blocks, and one more for each empty line between them
 pub book-length : (sheet : Sheet) (book : Said)
     → length (book-text sheet book)
-    ≡ block-length (counts-block (book .role-digits) (book .bound-digits) (book .standing))
+    ≡ block-length (counts-block (book .count) (book .bound) (book .standing))
     + suc (block-length (roles-block sheet (book .roles)))
     + suc (block-length (users-block sheet (book .roles)))
     + suc (block-length (witness-block sheet (book .witness)))
 unfolding book-text blocks-saying
 book-length sheet book =
-    rw (blocks-length (counts-block (book .role-digits) (book .bound-digits) (book .standing))
+    rw (blocks-length (counts-block (book .count) (book .bound) (book .standing))
     (roles-block sheet (book .roles) ∷ users-block sheet (book .roles) ∷ witness-block sheet (book .witness) ∷ []))
     (omega arith)
 
@@ -56,16 +53,16 @@ pub record Small (sheet : Sheet) (book : Said) : Type 0 where
   pub short-permissions : Each (λ name. length name ≤ name-limit) (sheet .permissions)
   pub few-roles : book .roles .count ≤ role-limit
   pub few-lines : length (book .witness) ≤ role-limit
-  pub short-role-digits : length (book .role-digits) ≤ most-digits
-  pub short-bound-digits : length (book .bound-digits) ≤ most-digits
+  pub short-count : length (decimal (book .count)) ≤ most-digits
+  pub short-bound : length (decimal (book .bound)) ≤ most-digits
 
-pub short-count : (n : ℕ) → n ≤ role-limit → length (decimal n) ≤ most-digits
+pub short-decimal : (n : ℕ) → n ≤ role-limit → length (decimal n) ≤ most-digits
 unfolding most-digits role-limit permission-limit
-short-count n h = decimal-length-three n (omega arith)
+short-decimal n h = decimal-length-three n (omega arith)
 
 -- `R` and the digits
 short-role-name : (r : ℕ) → r < role-limit → length (role-name r) ≤ suc most-digits
-short-role-name r h = rw (role-name-parts r) (suc-le-suc (short-count (suc r) h))
+short-role-name r h = rw (role-name-parts r) (suc-le-suc (short-decimal (suc r) h))
 
 short-standing : (s : Standing) → length (standing-word s) ≤ 9
 short-standing witnessed = omega arith
@@ -89,12 +86,12 @@ cells-length count most cell h =
 
 -- ---- block by block
 
-counts-length : (role-digits bound-digits : Bytes) (s : Standing) → length role-digits ≤ most-digits → length bound-digits ≤ most-digits
-    → block-length (counts-block role-digits bound-digits s) ≤ 28 + 2 * suc most-digits
-counts-length role-digits bound-digits s h k =
+counts-length : (count bound : ℕ) (s : Standing) → length (decimal count) ≤ most-digits → length (decimal bound) ≤ most-digits
+    → block-length (counts-block count bound s) ≤ 28 + 2 * suc most-digits
+counts-length count bound s h k =
     rw (
       line-length-fields (ascii "roles") (ascii "bound" ∷ ascii "state" ∷ []),
-      line-length-fields role-digits (bound-digits ∷ standing-word s ∷ []),
+      line-length-fields (decimal count) (decimal bound ∷ standing-word s ∷ []),
     )
     (omega (arith, short-standing s))
 
@@ -191,7 +188,7 @@ book-within-limit sheet book s =
     (rw (book-length sheet book)
     (omega (
       arith,
-      counts-length (book .role-digits) (book .bound-digits) (book .standing) (s .short-role-digits) (s .short-bound-digits),
+      counts-length (book .count) (book .bound) (book .standing) (s .short-count) (s .short-bound),
       roles-length sheet (book .roles) (s .few-permissions) (s .short-permissions) (s .few-roles),
       users-length sheet (book .roles) (s .few-users) (s .short-users) (s .few-roles),
       witness-length sheet (book .witness) (s .short-users) (s .short-permissions) (s .few-lines),

@@ -5,16 +5,17 @@ use native.Mathlib.Omega.{arith}
 use mathlib.Core.Path.{_≡_, refl, sym, ap, _∙_}
 use mathlib.Core.List.{List, _++_}
 use lib.ListN.{length, drop, length-append, length-drop}
-use Rattle.lists.specs.Ascii.{ascii}
-use Rattle.sheet.specs.Text.{Bytes}
-use Rattle.sheet.specs.Sheet.{Sheet}
+use Rattle.spec.specs.Limits.{book-limit}
+use Rattle.spec.specs.Text.{ascii, Bytes}
+use Rattle.spec.specs.Sheet.{Sheet}
+use Rattle.spec.specs.Decimal.{decimal, number-of}
+use Rattle.spec.specs.Book.{Said, book-text}
 use Rattle.sheet.specs.Rows.{cell}
 use Rattle.roles.specs.StandingCases.{standing-case}
-use Rattle.book.specs.Book.{Said, book-text}
+use Rattle.book.specs.CountLaws.{decimal-is-count, count-is-decimal}
 use Rattle.book.specs.RowsSaid.{roles-in}
 use Rattle.checker.specs.declared.counts_block.Counts.{Counts}
 use Rattle.checker.specs.declared.witness_block.Witness.{Witness}
-use Rattle.checker.specs.Form.{book-limit}
 use Rattle.checker.specs.WrittenLines.{Sayable}
 use Rattle.checker.specs.Steps.{Reads}
 use Rattle.checker.specs.Pieces.{counts-part, roles-part, users-part, witness-texts, witness-part, book-in-parts}
@@ -23,7 +24,7 @@ use Rattle.checker.specs.CountSteps.{CountsAt, NoCounts, counts-parts-al
 use Rattle.checker.specs.RoleSteps.{RolesPart, NoRolesPart, roles-part-once}
 use Rattle.checker.specs.UserSteps.{NoUsersPart, users-parts-aligned}
 use Rattle.checker.specs.WitnessSteps.{WitnessPart, NoWitnessPart, lines-few}
-use Rattle.checker.specs.Judged.{Unwritten, WrittenAs}
+use Rattle.checker.specs.Judgement.{Unwritten, WrittenAs}
 use Rattle.checker.specs.BookSays.{Says, BookSays}
 
 -- blocks 1 and 2 were read
@@ -39,7 +40,8 @@ module _ (sheet : Sheet) {book : Bytes} where
   no-counts-written m =
       record {
         none = λ says s e.
-            m (says .role-digits) (says .bound-digits) (says .standing) (s .role-count) (s .bound-count) .misses _ (e ∙ book-in-parts sheet says);
+            m (decimal (says .count)) (decimal (says .bound)) (says .standing) (decimal-is-count (says .count)) (decimal-is-count (says .bound))
+            .misses _ (e ∙ book-in-parts sheet says);
       }
 
   -- ---- block 2
@@ -50,8 +52,9 @@ module _ (sheet : Sheet) {book : Bytes} where
         ≡ roles-part sheet (says .roles .count) (says .roles .gives)
         ++ (users-part sheet (says .roles .count) (says .roles .has) ++ witness-part sheet (says .witness))
     behind-counts says s e =
-        counts-parts-aligned (first .role-digits) (first .bound-digits) (standing-case (counts .standing)) (says .role-digits) (says .bound-digits)
-        (says .standing) (first .roles .count) (first .bound .count) (s .role-count) (s .bound-count) .rest (drop second book) _
+        counts-parts-aligned (first .role-digits) (first .bound-digits) (standing-case (counts .standing)) (decimal (says .count))
+        (decimal (says .bound)) (says .standing) (first .roles .count) (first .bound .count) (decimal-is-count (says .count))
+        (decimal-is-count (says .bound)) .rest (drop second book) _
         (sym (first .reads .reads) ∙ e ∙ book-in-parts sheet says)
 
     pub no-roles-written : NoRolesPart sheet book second → Unwritten sheet book
@@ -104,8 +107,8 @@ module _ (sheet : Sheet) {book : Bytes} where
         abbrev pub said-read : Said
         said-read =
             record {
-              role-digits = front .counts-at .role-digits;
-              bound-digits = front .counts-at .bound-digits;
+              count = number-of (front .counts-at .role-digits);
+              bound = number-of (front .counts-at .bound-digits);
               standing = standing-case (counts .standing);
               roles = roles-in has gives roles;
               witness = last .grants;
@@ -118,7 +121,12 @@ module _ (sheet : Sheet) {book : Bytes} where
             (front .roles-at .reads .reads
             ∙ ap (λ (l : Bytes). roles-part sheet roles (cell gives) ++ l)
             (users .reads ∙ ap (λ (l : Bytes). users-part sheet roles (cell has) ++ l) (last .there)))
-            ∙ sym (book-in-parts sheet said-read)
+            ∙ sym
+            (book-in-parts sheet said-read
+            ∙ rw (
+              count-is-decimal (front .counts-at .role-digits) (front .counts-at .roles .count),
+              count-is-decimal (front .counts-at .bound-digits) (front .counts-at .bound .count),
+            ))
 
         few-lines : length book ≤ book-limit → length (last .grants) < count-cap
         unfolding count-cap
@@ -137,8 +145,6 @@ module _ (sheet : Sheet) {book : Bytes} where
               written = in-parts;
               sayable =
                   record {
-                    role-count = front .counts-at .roles .count;
-                    bound-count = front .counts-at .bound .count;
                     few-roles = front .roles-at .few;
                     known-users = λ g m. last .known g m .user;
                     known-permissions = λ g m. last .known g m .permission;

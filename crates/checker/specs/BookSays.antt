@@ -7,20 +7,21 @@ use mathlib.Core.Bool.{false, So, _&&_}
 use mathlib.Core.List.{List}
 use lib.Dec.{eqb}
 use lib.ListN.{length}
-use Rattle.bits.specs.Below.{every-below}
+use Rattle.spec.specs.Vocabulary.{every-below}
+use Rattle.spec.specs.Limits.{role-limit}
+use Rattle.spec.specs.Sheet.{Sheet, user-count, permission-count}
+use Rattle.spec.specs.RoleSet.{RoleSet}
+use Rattle.spec.specs.Roles.{Standing, witnessed, searched, unsettled}
+use Rattle.spec.specs.Book.{Said}
+use Rattle.spec.specs.Right.{BoundAgrees}
+use Rattle.spec.specs.Refusal.{bound-agrees, counts-agree, product-agrees, witness-agrees}
+use Rattle.spec.specs.Calls.{CheckAnswer, check-refused, confirmed}
 use Rattle.lists.specs.EachLaws.{Each}
-use Rattle.sheet.specs.Sheet.{Sheet, user-count, permission-count}
 use Rattle.sheet.specs.Rows.{row-words, row-bits, cell, RowsOf}
 use Rattle.sheet.specs.AcceptedFacts.{Lawful}
-use Rattle.roles.specs.RoleSet.{RoleSet}
-use Rattle.roles.specs.Roles.{Standing, witnessed, searched, unsettled}
 use Rattle.roles.specs.StandingCases.{standing-case}
-use Rattle.book.specs.Decimal.{number-of}
-use Rattle.book.specs.Book.{Said}
 use Rattle.book.specs.RowsSaid.{roles-in}
-use Rattle.checker.specs.Form.{role-limit}
-use Rattle.checker.specs.Check.{bound-agrees, counts-agree, product-agrees, witness-stands, CheckAnswer, check-refused, confirmed}
-use Rattle.checker.specs.CheckParts.{BoundAgrees, counts-agree-elim}
+use Rattle.checker.specs.CheckParts.{counts-agree-elim}
 use Rattle.checker.specs.declared.counts_block.Counts.{Counts}
 use Rattle.checker.specs.declared.witness_block.Witness.{Witness}
 use Rattle.checker.specs.declared.judgement.Checked.{Checked}
@@ -29,7 +30,7 @@ use Rattle.checker.specs.ProductWords.{row-agrees, rows-are-sheet}
 use Rattle.checker.specs.WitnessList.{Collects}
 use Rattle.checker.specs.WitnessLineSteps.{Known}
 use Rattle.checker.specs.WitnessWords.{LinesWithin, lines-within, lines-stand, stands-by-words}
-use Rattle.checker.specs.Judged.{judged-number, answered}
+use Rattle.checker.specs.Judgement.{judged-number, answered}
 
 -- the answer that the code gives, as the definitions have it
 abbrev pub answer-of : Checked → CheckAnswer
@@ -37,8 +38,8 @@ answer-of c = record { number = c .number; roles = c .roles; witness-lines = c .
 
 -- this is said
 pub record Says (sheet : Sheet) (counts : Counts) (roles : ℕ) (has gives : List ℕ) (w : Witness) (says : Said) : Type 0 where
-  pub role-number : counts .roles ≡ capped (number-of (says .role-digits))
-  pub bound-number : counts .bound ≡ capped (number-of (says .bound-digits))
+  pub role-number : counts .roles ≡ capped (says .count)
+  pub bound-number : counts .bound ≡ capped (says .bound)
   pub standing : standing-case (counts .standing) ≡ says .standing
   pub matrices : says .roles ≡ roles-in has gives roles
   pub few : roles ≤ role-limit
@@ -88,8 +89,8 @@ module _ {sheet : Sheet} {counts : Counts} {roles : ℕ} {has gives : List ℕ} 
         s .standing,
         s .collects .counted,
         role-count,
-        capped-test (number-of (says .role-digits)) roles (roles-below-cap roles (s .few)),
-        bound-capped (says .standing) (number-of (says .bound-digits)) roles (length (says .witness)) (roles-below-cap roles (s .few)) (s .few-lines),
+        capped-test (says .count) roles (roles-below-cap roles (s .few)),
+        bound-capped (says .standing) (says .bound) roles (length (says .witness)) (roles-below-cap roles (s .few)) (s .few-lines),
       )
 
   -- where the counts agree, every witness line is kept
@@ -99,7 +100,7 @@ module _ {sheet : Sheet} {counts : Counts} {roles : ℕ} {has gives : List ℕ} 
       omega (
         arith,
         role-count,
-        bound-few (says .standing) (number-of (says .bound-digits)) (says .roles .count) (length (says .witness))
+        bound-few (says .standing) (says .bound) (says .roles .count) (length (says .witness))
             (counts-agree-elim says agree .bound),
       )
 
@@ -118,7 +119,7 @@ module _ {sheet : Sheet} {counts : Counts} {roles : ℕ} {has gives : List ℕ} 
     lines-as-said agree room =
         lines-within sheet rows w (says .witness) shown wide (s .known) (s .collects) (lines-kept agree) room
 
-    pub witness-as-said : So (counts-agree says) → lines-stand rows w ≡ witness-stands sheet (says .witness)
+    pub witness-as-said : So (counts-agree says) → lines-stand rows w ≡ witness-agrees sheet (says .witness)
     witness-as-said agree = stands-by-words sheet rows w (says .witness) shown wide (s .known) (s .collects) (lines-kept agree)
 
 -- ---- the answer
@@ -131,10 +132,10 @@ module _ (sheet : Sheet) (says : Said) where
       → check-refused 14 ≡ answered (judged-number sheet says) says
   judged-14 e f = rw (e, f)
 
-  pub judged-15 : So (counts-agree says) → So (product-agrees sheet (says .roles)) → witness-stands sheet (says .witness) ≡ false
+  pub judged-15 : So (counts-agree says) → So (product-agrees sheet (says .roles)) → witness-agrees sheet (says .witness) ≡ false
       → check-refused 15 ≡ answered (judged-number sheet says) says
   judged-15 e f g = rw (e, f, g)
 
-  pub judged-right : So (counts-agree says) → So (product-agrees sheet (says .roles)) → So (witness-stands sheet (says .witness))
+  pub judged-right : So (counts-agree says) → So (product-agrees sheet (says .roles)) → So (witness-agrees sheet (says .witness))
       → confirmed says ≡ answered (judged-number sheet says) says
   judged-right e f g = rw (e, f, g)

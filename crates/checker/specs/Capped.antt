@@ -12,11 +12,11 @@ use borrow.Author.Tests.{eqb-true, eq-eqb, ne-eqb}
 use lib.Dec.{eqb}
 use lib.ListN.{length, getD, drop}
 use lib.Seq.{drop-cons}
+use Rattle.spec.specs.Vocabulary.{all}
+use Rattle.spec.specs.Limits.{book-limit}
+use Rattle.spec.specs.Text.{Bytes}
+use Rattle.spec.specs.Decimal.{is-digit, is-count, number-after, number-of}
 use Rattle.bits.specs.Truth.{fails-unless, same-truth}
-use Rattle.lists.specs.Lists.{all}
-use Rattle.sheet.specs.Text.{Bytes}
-use Rattle.book.specs.Decimal.{is-digit, is-count, number-after, number-of}
-use Rattle.checker.specs.Form.{book-limit}
 use Rattle.checker.specs.declared.digits.CountRead.{CountRead}
 use Rattle.checker.specs.declared.digits.CountRead.the-variants.{Count, Off}
 

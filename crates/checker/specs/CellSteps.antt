@@ -7,9 +7,9 @@ use mathlib.Core.Logic.{⊎-elim}
 use mathlib.Core.Bool.{Bool}
 use mathlib.Core.List.{List}
 use lib.ListN.{length, getD}
+use Rattle.spec.specs.Text.{Bytes, comma}
 use Rattle.bits.specs.BelowLaws.{below-or-from}
 use Rattle.bits.specs.Bit.{word-bits}
-use Rattle.sheet.specs.Text.{Bytes, comma}
 use Rattle.sheet.specs.Rows.{row-words, cell}
 use Rattle.sheet.specs.CellsWord.{cell-byte, CellsStand, CellsIn}
 use Rattle.sheet.specs.CellsStanding.{stands-cells, cells-stand}

@@ -9,32 +9,20 @@ use mathlib.Core.List.{List, [], _∷_, List·Memᴰ}
 use borrow.Author.Tests.{eqb-true, eq-eqb, ltb-true, lt-ltb}
 use lib.Dec.{eqb, ltb}
 use lib.ListN.{length}
+use Rattle.spec.specs.Vocabulary.{every-below, any, all}
+use Rattle.spec.specs.Sheet.{Sheet, Grant, user-count, permission-count, holds, held}
+use Rattle.spec.specs.Fit.{fits}
+use Rattle.spec.specs.Cover.{grant-at}
+use Rattle.spec.specs.RoleSet.{RoleSet, product, Multiplies}
+use Rattle.spec.specs.Roles.{Standing, witnessed, searched, unsettled}
+use Rattle.spec.specs.Book.{Said}
+use Rattle.spec.specs.Right.{BoundAgrees, CountsAgree, WitnessStands}
+use Rattle.spec.specs.Refusal.{bound-agrees, counts-agree, product-agrees, some-fit, witness-agrees}
 use Rattle.bits.specs.Truth.{and-intro, and-left, and-right, or-fails, or-fails-left, or-fails-right, not-passes, not-fails}
-use Rattle.bits.specs.Below.{every-below}
 use Rattle.bits.specs.BelowLaws.{every-below-intro, every-below-elim}
-use Rattle.lists.specs.Lists.{any, all}
 use Rattle.lists.specs.TestLaws.{all-intro, all-elim, none-intro, none-elim, member-at, place-of}
-use Rattle.sheet.specs.Sheet.{Sheet, Grant, user-count, permission-count, holds}
-use Rattle.grants.specs.Fit.{fits}
-use Rattle.grants.specs.Cover.{grant-at}
-use Rattle.roles.specs.RoleSet.{RoleSet, product, Multiplies}
-use Rattle.roles.specs.Roles.{Standing, witnessed, searched, unsettled}
-use Rattle.book.specs.Decimal.{number-of}
-use Rattle.book.specs.Book.{Said}
-use Rattle.checker.specs.Check.{bound-agrees, counts-agree, product-agrees, held, some-fit, witness-stands}
-use Rattle.checker.specs.Right.{Stands}
 
 -- ---- the counts
-
--- how the bound agrees with the number of roles and of witness lines
-abbrev pub BoundAgrees : Standing → ℕ → ℕ → ℕ → Type 0
-BoundAgrees witnessed bound roles lines = (bound ≡ roles) × (roles ≡ lines)
-BoundAgrees searched bound roles lines = (bound ≡ roles) × (lines < roles)
-BoundAgrees unsettled bound roles lines = (bound ≡ lines) × (lines < roles)
-
-pub record CountsAgree (book : Said) : Type 0 where
-  pub roles : number-of (book .role-digits) ≡ book .roles .count
-  pub bound : BoundAgrees (book .standing) (number-of (book .bound-digits)) (book .roles .count) (length (book .witness))
 
 bound-agrees-elim : (s : Standing) (bound roles lines : ℕ) → So (bound-agrees s bound roles lines) → BoundAgrees s bound roles lines
 bound-agrees-elim witnessed bound roles lines e =
@@ -56,17 +44,17 @@ pub counts-agree-elim : (book : Said) → So (counts-agree book) → CountsAgree
 unfolding counts-agree
 counts-agree-elim book e =
     record {
-      roles = eqb-true (number-of (book .role-digits)) (book .roles .count) (search (and-left));
+      roles = eqb-true (book .count) (book .roles .count) (search (and-left));
       bound =
-          bound-agrees-elim (book .standing) (number-of (book .bound-digits)) (book .roles .count) (length (book .witness)) (search (and-right));
+          bound-agrees-elim (book .standing) (book .bound) (book .roles .count) (length (book .witness)) (search (and-right));
     }
 
 pub counts-agree-intro : (book : Said) → CountsAgree book → So (counts-agree book)
 unfolding counts-agree
 counts-agree-intro book c =
-    let roles = eq-eqb (number-of (book .role-digits)) (book .roles .count) (c .roles) in
+    let roles = eq-eqb (book .count) (book .roles .count) (c .roles) in
     let bound =
-    bound-agrees-intro (book .standing) (number-of (book .bound-digits)) (book .roles .count) (length (book .witness)) (c .bound) in
+    bound-agrees-intro (book .standing) (book .bound) (book .roles .count) (length (book .witness)) (c .bound) in
     search and-intro
 
 -- ---- the product
@@ -133,8 +121,8 @@ some-fit-intro sheet (g ∷ later) h =
         let r = place-of later (record { user = 0; permission = 0 }) m in
         rw (r .there) at (h 0 (suc (r .place)) (omega arith) (omega (arith, r .within)))
 
-pub witness-stands-elim : (sheet : Sheet) (grants : List Grant) → So (witness-stands sheet grants) → Stands sheet grants
-unfolding witness-stands
+pub witness-stands-elim : (sheet : Sheet) (grants : List Grant) → So (witness-agrees sheet grants) → WitnessStands sheet grants
+unfolding witness-agrees
 witness-stands-elim sheet grants e =
     record {
       all-held = λ g m. all-elim (held sheet) grants (and-left (all (held sheet) grants) (not (some-fit sheet grants)) e) m;
@@ -143,8 +131,8 @@ witness-stands-elim sheet grants e =
           (not-fails (some-fit sheet grants) (and-right (all (held sheet) grants) (not (some-fit sheet grants)) e));
     }
 
-pub witness-stands-intro : (sheet : Sheet) (grants : List Grant) → Stands sheet grants → So (witness-stands sheet grants)
-unfolding witness-stands
+pub witness-stands-intro : (sheet : Sheet) (grants : List Grant) → WitnessStands sheet grants → So (witness-agrees sheet grants)
+unfolding witness-agrees
 witness-stands-intro sheet grants s =
     and-intro (all (held sheet) grants) (not (some-fit sheet grants)) (all-intro (held sheet) grants (s .all-held))
     (not-passes (some-fit sheet grants) (some-fit-intro sheet grants (s .none-fit)))

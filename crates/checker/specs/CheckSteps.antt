@@ -8,10 +8,11 @@ use mathlib.Core.Bool.{So}
 use mathlib.Core.List.{List}
 use borrow.Author.Tests.{eqb-true}
 use lib.ListN.{length, replicate}
-use Rattle.sheet.specs.Limits.{user-limit}
-use Rattle.sheet.specs.Text.{Bytes}
-use Rattle.sheet.specs.Sheet.{sheet-of}
-use Rattle.sheet.specs.Refusal.{refusal, accepted}
+use Rattle.spec.specs.Limits.{user-limit, book-limit}
+use Rattle.spec.specs.Text.{Bytes}
+use Rattle.spec.specs.Sheet.{sheet-of}
+use Rattle.spec.specs.Refusal.{refusal, accepted}
+use Rattle.spec.specs.Calls.{CheckAnswer, check-refused, Checks}
 use Rattle.sheet.specs.Rows.{row-words, cell}
 use Rattle.sheet.specs.LaidOut.{LaidOut}
 use Rattle.sheet.specs.declared.layout.Layout.{Layout}
@@ -19,13 +20,11 @@ use Rattle.sheet.specs.AcceptedFacts.{accepted-lawful}
 use Rattle.roles.specs.RoleMatrices.{no-cells}
 use Rattle.checker.specs.declared.counts_block.Counts.{Counts}
 use Rattle.checker.specs.declared.witness_block.Witness.{Witness}
-use Rattle.checker.specs.Form.{book-limit}
-use Rattle.checker.specs.Check.{CheckAnswer, check-refused, Checks}
 use Rattle.checker.specs.Steps.{Reads}
 use Rattle.checker.specs.Pieces.{users-part}
 use Rattle.checker.specs.RowSteps.{AllBlank}
 use Rattle.checker.specs.WitnessSteps.{WitnessPart}
-use Rattle.checker.specs.Judged.{refused-by-sheet, too-long-book, Unwritten, unwritten-book, written-book}
+use Rattle.checker.specs.Judgement.{refused-by-sheet, too-long-book, Unwritten, unwritten-book, written-book}
 use Rattle.checker.specs.BookSays.{JudgedAs}
 use Rattle.checker.specs.BookRead.{FrontRead, said-read, read-is-written, read-is-said}
 

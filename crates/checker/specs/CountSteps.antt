@@ -6,14 +6,13 @@ use mathlib.Core.Path.{_≡_, refl, _∙_}
 use mathlib.Core.Bool.{So}
 use mathlib.Core.List.{[], _∷_, _++_, append-assoc}
 use lib.Dec.{eqb}
-use Rattle.lists.specs.Ascii.{ascii}
+use Rattle.spec.specs.Text.{ascii, Bytes, comma, line-feed}
+use Rattle.spec.specs.Roles.{Standing, witnessed, searched, unsettled}
+use Rattle.spec.specs.Decimal.{is-count}
+use Rattle.spec.specs.Book.{standing-word}
 use Rattle.checker.specs.Aligned.{Aligned, aligned-same, aligned-then, ended-aligned}
-use Rattle.sheet.specs.Text.{Bytes, comma, line-feed}
 use Rattle.sheet.specs.Places.{part}
-use Rattle.roles.specs.Roles.{Standing, witnessed, searched, unsettled}
 use Rattle.roles.specs.StandingCases.{standing-case}
-use Rattle.book.specs.Decimal.{is-count}
-use Rattle.book.specs.Words.{standing-word}
 use Rattle.book.specs.WordLaws.{count-field, standing-word-field}
 use Rattle.book.specs.LineLaws.{line-end}
 use Rattle.checker.specs.declared.digits.CountRead.the-variants as digits

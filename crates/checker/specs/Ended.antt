@@ -9,10 +9,10 @@ use borrow.Author.Tests.{eq-eqb, ne-eqb}
 use lib.Dec.{eqb}
 use lib.ListN.{length, getD, drop, length-drop, take-append-drop, drop-of-length-le}
 use lib.Seq.{drop-cons, take-suc, getD-drop, drop-drop}
+use Rattle.spec.specs.Text.{Bytes}
 use Rattle.bits.specs.Truth.{not-both}
 use Rattle.lists.specs.CutLaws.{Free}
 use Rattle.checker.specs.Aligned.{ended-same}
-use Rattle.sheet.specs.Text.{Bytes}
 use Rattle.sheet.specs.Places.{part}
 use Rattle.checker.specs.declared.cursor.Step.{Step}
 use Rattle.checker.specs.declared.cursor.Step.the-variants.{On, Off}

@@ -6,40 +6,40 @@ use mathlib.Core.Logic.{_↔_}
 use mathlib.Core.Bool.{So, _&&_}
 use borrow.Author.Tests.{eqb-true, eq-eqb}
 use lib.ListN.{length}
+use Rattle.spec.specs.Limits.{book-limit, role-limit}
+use Rattle.spec.specs.Text.{Bytes}
+use Rattle.spec.specs.Sheet.{Sheet, sheet-of, user-count, permission-count}
+use Rattle.spec.specs.Rules.{Keeps}
+use Rattle.spec.specs.RoleSet.{product, Multiplies}
+use Rattle.spec.specs.Book.{Said}
+use Rattle.spec.specs.Form.{said}
+use Rattle.spec.specs.Right.{OfForm, Right}
+use Rattle.spec.specs.Refusal.{refusal, accepted, counts-agree}
+use Rattle.spec.specs.Calls.{confirmed, check}
 use Rattle.bits.specs.BelowLaws.{some-below-ext}
-use Rattle.sheet.specs.Text.{Bytes}
-use Rattle.sheet.specs.Sheet.{Sheet, sheet-of, user-count, permission-count}
-use Rattle.sheet.specs.Refusal.{refusal, accepted}
-use Rattle.sheet.specs.Rules.{Keeps}
 use Rattle.sheet.specs.Accepted.{accepted-keeps, accepts-sheets, reads-sheets}
-use Rattle.roles.specs.RoleSet.{product, Multiplies}
-use Rattle.book.specs.Book.{Said}
-use Rattle.checker.specs.Form.{said}
-use Rattle.checker.specs.Check.{counts-agree, confirmed, check}
-use Rattle.checker.specs.Right.{OfForm, Right}
 use Rattle.checker.specs.NameLaws.{GoodSheet, good-names}
 use Rattle.checker.specs.WrittenLines.{Sayable}
 use Rattle.checker.specs.ReadBack.{SaysSame, written-has-form, read-back}
 use Rattle.checker.specs.ReadForm.{form-is-written, form-is-sayable}
-use Rattle.checker.specs.CheckParts.{product-agrees-elim, product-agrees-intro, witness-stands-elim, witness-stands-intro}
+use Rattle.checker.specs.CheckParts.{counts-agree-elim, counts-agree-intro, product-agrees-elim, product-agrees-intro, witness-stands-elim, witness-stands-intro}
 use Rattle.checker.specs.Verdict.{Passes, check-confirms, zero-unrefused, unrefused-zero}
 
 -- ---- what passes is right
 
 pub passes-right : (sheet : Sheet) (text : Bytes) → Passes sheet text → Right sheet text (said sheet text)
+unfolding book-limit role-limit
 passes-right sheet text p =
     let s = form-is-sayable sheet text (p .has-form) in
     record {
       of-form = record {
         written = form-is-written sheet text (p .has-form);
         short = p .short;
-        role-count = s .role-count;
-        bound-count = s .bound-count;
         few-roles = s .few-roles;
         known-users = s .known-users;
         known-permissions = s .known-permissions;
       };
-      counts = p .counts;
+      counts = counts-agree-elim (said sheet text) (p .counts);
       product = product-agrees-elim sheet (said sheet text .roles) (p .product);
       witness = witness-stands-elim sheet (said sheet text .witness) (p .witness);
     }
@@ -49,13 +49,13 @@ passes-right sheet text p =
 pub counts-agree-same : (sheet : Sheet) (read written : Said) → SaysSame sheet read written → counts-agree read ≡ counts-agree written
 unfolding counts-agree
 counts-agree-same sheet read written s =
-    rw (s .role-digits, s .bound-digits, s .standing, s .count, s .witness)
+    rw (s .count, s .bound, s .standing, s .roles, s .witness)
 
 pub product-same : (sheet : Sheet) (read written : Said) → SaysSame sheet read written → (u p : ℕ) → u < user-count sheet
     → p < permission-count sheet → product (read .roles) u p ≡ product (written .roles) u p
 unfolding product
 product-same sheet read written s u p h k =
-    rw (s .count)
+    rw (s .roles)
     (some-below-ext (written .roles .count) (λ r. read .roles .has u r && read .roles .gives r p)
     (λ r. written .roles .has u r && written .roles .gives r p) (λ r l. rw (s .has u r h l, s .gives r p l k)))
 
@@ -65,10 +65,9 @@ multiplies-same sheet read written s m =
     record { cell = λ u p h k. product-same sheet read written s u p h k ∙ m .cell u p h k }
 
 of-form-sayable : (sheet : Sheet) (text : Bytes) (says : Said) → OfForm sheet text says → Sayable sheet says
+unfolding role-limit
 of-form-sayable sheet text says f =
     record {
-      role-count = f .role-count;
-      bound-count = f .bound-count;
       few-roles = f .few-roles;
       known-users = f .known-users;
       known-permissions = f .known-permissions;
@@ -80,12 +79,13 @@ right-read sheet good text says r =
     rw (r .of-form .written) (read-back sheet good says (of-form-sayable sheet text says (r .of-form)))
 
 pub right-passes : (sheet : Sheet) → GoodSheet sheet → (text : Bytes) (says : Said) → Right sheet text says → Passes sheet text
+unfolding book-limit
 right-passes sheet good text says r =
     let same = right-read sheet good text says r in
     record {
       short = r .of-form .short;
       has-form = rw (r .of-form .written) (written-has-form sheet good says (of-form-sayable sheet text says (r .of-form)));
-      counts = counts-agree-same sheet (said sheet text) says same ∙ r .counts;
+      counts = counts-agree-same sheet (said sheet text) says same ∙ counts-agree-intro says (r .counts);
       product = product-agrees-intro sheet (said sheet text .roles) (multiplies-same sheet (said sheet text) says same (r .product));
       witness = rw (same .witness) (witness-stands-intro sheet (says .witness) (r .witness));
     }
@@ -126,7 +126,7 @@ module _ (text book : Bytes) (sheet : Sheet) (says : Said) (kept : Keeps text sh
   pub answers-counts : check text book ≡ confirmed says
   answers-counts =
       check-confirms text book right-is-accepted
-      ∙ confirmed-same (said (sheet-of text) book) says (says-as-read .count) (ap length (says-as-read .witness))
+      ∙ confirmed-same (said (sheet-of text) book) says (says-as-read .roles) (ap length (says-as-read .witness))
 
 -- the checker accepts a book exactly when its sheet keeps the rules and its form, counts, product and witness are right
 pub accepts-books : (text book : Bytes)

@@ -7,21 +7,17 @@ use mathlib.Core.List.{List, _∷_, tail, List·Memᴰ}
 use borrow.Author.Tests.{eqb-true, eq-eqb, leb-true, le-leb}
 use lib.Dec.{eqb}
 use lib.ListN.{length}
+use Rattle.spec.specs.Vocabulary.{every-below, all, same-by, list-of}
+use Rattle.spec.specs.Limits.{role-limit}
+use Rattle.spec.specs.Text.{ascii, same-bytes, Bytes, Line, line-feed, last-byte, same-name}
+use Rattle.spec.specs.Sheet.{Sheet, first-field, first-line, user-count, permission-count, is-bit, user-name}
+use Rattle.spec.specs.Decimal.{is-count}
+use Rattle.spec.specs.Book.{role-name, counts-heading, witness-heading, Block}
+use Rattle.spec.specs.Form.{blocks-of, block-at, line-at, field-at, is-standing, counts-form, cells-line, roles-form, users-form, known, witness-form, form}
 use Rattle.bits.specs.Truth.{and-intro, and-left, and-right}
-use Rattle.bits.specs.Below.{every-below}
 use Rattle.bits.specs.BelowLaws.{every-below-intro, every-below-elim}
-use Rattle.lists.specs.Ascii.{ascii}
-use Rattle.lists.specs.Lists.{all, same-by, same-bytes, list-of}
 use Rattle.lists.specs.TestLaws.{all-intro, all-elim, same-bytes-equal, same-bytes-refl, equal-same-bytes}
 use Rattle.lists.specs.SameLaws.{same-by-equal, same-by-reflexive}
-use Rattle.sheet.specs.Text.{Bytes, Line, line-feed}
-use Rattle.sheet.specs.Sheet.{Sheet, first-field, first-line, user-count, permission-count}
-use Rattle.sheet.specs.Refusal.{last-byte, is-bit, same-name}
-use Rattle.book.specs.Decimal.{is-count}
-use Rattle.book.specs.Words.{role-name, counts-heading, witness-heading}
-use Rattle.book.specs.Blocks.{Block, blocks-of}
-use Rattle.book.specs.Book.{user-name}
-use Rattle.checker.specs.Form.{role-limit, block-at, line-at, field-at, is-standing, counts-form, cells-line, roles-form, users-form, known, witness-form, form}
 
 -- ---- equal lists of names
 

@@ -10,8 +10,9 @@ use lib.Arith.{digits-div, digits-mod}
 use lib.Bits.{bitAnd}
 use lib.Dec.{eqb, ltb}
 use lib.ListN.{length, getD}
+use Rattle.spec.specs.Vocabulary.{some-below}
 use Rattle.bits.specs.Truth.{same-truth, and-intro, and-left, and-right}
-use Rattle.bits.specs.Below.{some-below, Lowest}
+use Rattle.bits.specs.Counting.{Lowest}
 use Rattle.bits.specs.BelowLaws.{some-below-intro, some-below-elim, none-below-intro, some-below-ext, some-below-add}
 use Rattle.bits.specs.CutLaws.{some-below-apart}
 use Rattle.bits.specs.Bit.{bit, word-bits}

@@ -1,10 +1,6 @@
--- The checker: whether a book is of the form, its counts agree, its product is the sheet and its witness stands. `Form`, `Check` and `Right` have
--- the definitions. `Exact` shows that the checker accepts exactly the right books, `Alone` what its answer shows by itself, and `Confirmed` that it
--- confirms a book written from what is right; the modules before them have the laws that these rest on. From `RoleLimit` on the modules join the code
+-- The checker: whether a book is of the form, its counts agree, its product is the sheet and its witness stands. `Exact` shows that the checker accepts
+-- exactly the right books, and `Confirmed` that a book written from what is right is right; the modules before them have the laws that these rest on. From `RoleLimit` on the modules join the code
 -- to the definitions: what each reading of a book finds, and in `CheckSteps` that the code's answer is the checker's.
-pub mod Form
-pub mod Check
-pub mod Right
 pub mod NameLaws
 pub mod FormParts
 pub mod WrittenForm
@@ -14,7 +10,6 @@ pub mod ReadForm
 pub mod CheckParts
 pub mod Verdict
 pub mod Exact
-pub mod Alone
 pub mod BookLength
 pub mod Confirmed
 pub mod OwnBook
@@ -38,7 +33,7 @@ pub mod WitnessSteps
 pub mod ProductWords
 pub mod GivenRoles
 pub mod WitnessWords
-pub mod Judged
+pub mod Judgement
 pub mod BookSays
 pub mod Aligned
 pub mod BookRead

@@ -2,8 +2,8 @@
 use Prim.Native.Nat.{ℕ}
 use mathlib.Core.Bool.{Bool}
 use mathlib.Core.List.{List, _++_}
+use Rattle.spec.specs.Text.{Bytes}
 use Rattle.checker.specs.Aligned.{Aligned, aligned-same, aligned-then}
-use Rattle.sheet.specs.Text.{Bytes}
 use Rattle.sheet.specs.Rows.{cell}
 use Rattle.book.specs.LineLaws.{line-end}
 use Rattle.checker.specs.declared.cursor.Step.{Step}

@@ -5,11 +5,10 @@ use mathlib.Core.Path.{_≡_, refl, sym, ap}
 use mathlib.Core.List.{List, []}
 use mathlib.Core.Option.{Option, none, some}
 use lib.ListN.{length, getD}
+use Rattle.spec.specs.Text.{Bytes, same-name}
 use Rattle.bits.specs.Truth.{not-both}
 use Rattle.bits.specs.LowestLaws.{lowest-below-elim, lowest-below-none-elim}
 use Rattle.lists.specs.TestLaws.{same-bytes-equal, equal-same-bytes}
-use Rattle.sheet.specs.Text.{Bytes}
-use Rattle.sheet.specs.Refusal.{same-name}
 use Rattle.sheet.specs.NamesAt.{name-number}
 use Rattle.sheet.specs.LaidOut.{found-user, found-permission}
 use Rattle.sheet.specs.declared.numbers.UserNo.{UserNo}

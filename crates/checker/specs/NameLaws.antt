@@ -7,17 +7,16 @@ use mathlib.Core.Bool.{Bool, false, So}
 use mathlib.Core.List.{List, [], List·Memᴰ}
 use mathlib.Core.Option.{Option·getD}
 use lib.ListN.{length, getD}
+use Rattle.spec.specs.Text.{Bytes, name-byte, same-name}
+use Rattle.spec.specs.Sheet.{Sheet}
+use Rattle.spec.specs.Rules.{Names}
+use Rattle.spec.specs.Form.{known, number-among}
 use Rattle.bits.specs.Truth.{not-both, fails-unless}
-use Rattle.bits.specs.Below.{Lowest}
+use Rattle.bits.specs.Counting.{Lowest}
 use Rattle.bits.specs.LowestLaws.{lowest-below-intro, lowest-below-cases}
 use Rattle.lists.specs.TestLaws.{all-intro, any-intro, any-elim, member-at, place-of, same-bytes-equal, same-bytes-refl}
-use Rattle.sheet.specs.Text.{Bytes, name-byte}
-use Rattle.sheet.specs.Sheet.{Sheet}
-use Rattle.sheet.specs.Refusal.{same-name}
-use Rattle.sheet.specs.Rules.{Names}
 use Rattle.sheet.specs.TextLaws.{Field}
 use Rattle.book.specs.WordLaws.{name-bytes-field}
-use Rattle.checker.specs.Form.{known, number-among}
 
 -- a name that can stand as the first field of a line: it has a byte, and neither comma nor line feed stands in it
 pub record GoodName (name : Bytes) : Type 0 where

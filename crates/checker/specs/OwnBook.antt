@@ -1,5 +1,5 @@
--- The book of a sheet in a state of its search is accepted and read as it was written, where its roles are few and multiply to the sheet and
--- its witness stands: the state word and the bound are set from the roles and the witness just as the checker compares them.
+-- The book of a sheet in a state of its search is right for what it says, where its roles are few and multiply to the sheet and its witness
+-- stands: the state word and the bound are set from the roles and the witness just as the counts must agree.
 use Prim.Native.Nat.{ℕ, _≤_}
 use native.Mathlib.Omega.{arith}
 use mathlib.Core.Path.{_≡_, refl}
@@ -7,20 +7,17 @@ use mathlib.Core.Bool.{Bool, true, false, So, cond}
 use borrow.Author.Tests.{eqb-true, eqb-false}
 use lib.Dec.{eqb}
 use lib.ListN.{length}
-use Rattle.sheet.specs.Text.{Bytes}
-use Rattle.sheet.specs.Sheet.{Sheet, sheet-of}
-use Rattle.sheet.specs.Refusal.{accepted}
-use Rattle.grants.specs.Witness.{witness}
-use Rattle.search.specs.Machine.{State}
-use Rattle.roles.specs.RoleSet.{Multiplies}
-use Rattle.roles.specs.Roles.{witnessed, searched, unsettled, standing-of, bound-of, roles-of, role-count, standing, bound}
-use Rattle.book.specs.Book.{said-in, book}
-use Rattle.checker.specs.Form.{role-limit, said}
-use Rattle.checker.specs.Check.{check}
-use Rattle.checker.specs.Right.{Stands}
-use Rattle.checker.specs.CheckParts.{BoundAgrees}
-use Rattle.checker.specs.ReadBack.{SaysSame}
-use Rattle.checker.specs.Confirmed.{Sound, sound-is-accepted, sound-is-read}
+use Rattle.spec.specs.Limits.{role-limit}
+use Rattle.spec.specs.Text.{Bytes}
+use Rattle.spec.specs.Sheet.{Sheet, sheet-of}
+use Rattle.spec.specs.Witness.{witness}
+use Rattle.spec.specs.Machine.{State}
+use Rattle.spec.specs.RoleSet.{Multiplies}
+use Rattle.spec.specs.Roles.{witnessed, searched, unsettled, standing-of, bound-of, roles-of, role-count, standing, bound}
+use Rattle.spec.specs.Book.{said-in, book}
+use Rattle.spec.specs.Right.{BoundAgrees, WitnessStands, Right}
+use Rattle.spec.specs.Refusal.{accepted}
+use Rattle.checker.specs.Confirmed.{SoundBook, sound-is-right}
 
 -- state and bound agree, where there are no more witness lines than roles
 pub bound-agrees-of : (roles w : ℕ) (finished : Bool) → w ≤ roles
@@ -38,28 +35,24 @@ pub record OwnFacts (sheet : Sheet) (st : State) : Type 0 where
   pub few-roles : role-count sheet st ≤ role-limit
   pub enough-roles : length (witness sheet) ≤ role-count sheet st
   pub product : Multiplies (roles-of sheet (st .best)) sheet
-  pub witness-stands : Stands sheet (witness sheet)
+  pub witness-stands : WitnessStands sheet (witness sheet)
 
-pub own-book-sound : (sheet : Sheet) (st : State) → OwnFacts sheet st → Sound sheet (said-in sheet st) (bound sheet st)
+pub own-book-sound : (sheet : Sheet) (st : State) → OwnFacts sheet st → SoundBook sheet (said-in sheet st)
 unfolding said-in role-count bound standing
 own-book-sound sheet st f =
     record {
-      role-digits = refl;
-      bound-digits = refl;
       few-roles = f .few-roles;
-      bound-agrees = bound-agrees-of (role-count sheet st) (length (witness sheet)) (st .finished) (f .enough-roles);
+      counts =
+          record {
+            roles = refl;
+            bound = bound-agrees-of (role-count sheet st) (length (witness sheet)) (st .finished) (f .enough-roles);
+          };
       product = f .product;
       witness = f .witness-stands;
     }
 
-pub own-book-accepted : (text : Bytes) → So (accepted text) → (st : State) → OwnFacts (sheet-of text) st
-    → check text (book (sheet-of text) st) .number ≡ 0
+pub own-book-right : (text : Bytes) → So (accepted text) → (st : State) → OwnFacts (sheet-of text) st
+    → Right (sheet-of text) (book (sheet-of text) st) (said-in (sheet-of text) st)
 unfolding book
-own-book-accepted text takes st f =
-    sound-is-accepted text takes (said-in (sheet-of text) st) (bound (sheet-of text) st) (own-book-sound (sheet-of text) st f)
-
-pub own-book-read : (text : Bytes) → So (accepted text) → (st : State) → OwnFacts (sheet-of text) st
-    → SaysSame (sheet-of text) (said (sheet-of text) (book (sheet-of text) st)) (said-in (sheet-of text) st)
-unfolding book
-own-book-read text takes st f =
-    sound-is-read text takes (said-in (sheet-of text) st) (bound (sheet-of text) st) (own-book-sound (sheet-of text) st f)
+own-book-right text takes st f =
+    sound-is-right text takes (said-in (sheet-of text) st) (own-book-sound (sheet-of text) st f)

@@ -4,16 +4,14 @@ use mathlib.Core.Path.{_≡_, ap, _∙_}
 use mathlib.Core.Bool.{Bool}
 use mathlib.Core.List.{List, [], _∷_, _++_, map, map-map, append-assoc}
 use lib.ListN.{length, getD}
-use Rattle.lists.specs.Ascii.{ascii}
-use Rattle.lists.specs.Lists.{list-of, concat}
+use Rattle.spec.specs.Vocabulary.{list-of, concat}
+use Rattle.spec.specs.Text.{ascii, Bytes, Line, comma, line-feed, line-text, text-of}
+use Rattle.spec.specs.Sheet.{Sheet, Grant, cell-text, user-count, permission-count, user-name}
+use Rattle.spec.specs.RoleSet.{RoleSet}
+use Rattle.spec.specs.Roles.{Standing}
+use Rattle.spec.specs.Decimal.{decimal}
+use Rattle.spec.specs.Book.{standing-word, role-name, Block, Said, counts-block, roles-block, users-block, witness-line, witness-block, blocks-saying, book-text}
 use Rattle.lists.specs.Listed.{listed, listed-same}
-use Rattle.sheet.specs.Text.{Bytes, Line, comma, line-feed, line-text, text-of}
-use Rattle.sheet.specs.Sheet.{Sheet, Grant, cell-text, user-count, permission-count}
-use Rattle.roles.specs.RoleSet.{RoleSet}
-use Rattle.roles.specs.Roles.{Standing}
-use Rattle.book.specs.Words.{standing-word, role-name}
-use Rattle.book.specs.Blocks.{Block}
-use Rattle.book.specs.Book.{Said, user-name, counts-block, roles-block, users-block, witness-line, witness-block, blocks-saying, book-text}
 use Rattle.book.specs.CellsText.{cell-field}
 use Rattle.book.specs.LineLaws.{behind-comma, line-end, line-parts, line-parts-of, block-parts, four-blocks}
 
@@ -73,9 +71,9 @@ witness-part sheet grants = ascii "user,permission\n" ++ witness-texts sheet gra
 
 -- ---- the blocks are these parts
 
-counts-in-parts : (role-digits bound-digits : Bytes) (standing : Standing)
-    → text-of (counts-block role-digits bound-digits standing) ++ line-end ≡ counts-part role-digits bound-digits standing
-counts-in-parts role-digits bound-digits standing = simp append-assoc
+counts-in-parts : (count bound : ℕ) (standing : Standing)
+    → text-of (counts-block count bound standing) ++ line-end ≡ counts-part (decimal count) (decimal bound) standing
+counts-in-parts count bound standing = simp append-assoc
 
 named-in-parts : (name : Bytes) (count : ℕ) (cells : ℕ → Bool)
     → line-text (name ∷ list-of count (λ i. cell-text (cells i))) ≡ named-text name count cells
@@ -118,16 +116,16 @@ same-parts p q r s = cc
 -- a book is its four parts
 pub book-in-parts : (sheet : Sheet) (says : Said)
     → book-text sheet says
-    ≡ counts-part (says .role-digits) (says .bound-digits) (says .standing)
+    ≡ counts-part (decimal (says .count)) (decimal (says .bound)) (says .standing)
     ++ (roles-part sheet (says .roles .count) (says .roles .gives)
     ++ (users-part sheet (says .roles .count) (says .roles .has) ++ witness-part sheet (says .witness)))
 unfolding book-text blocks-saying
 book-in-parts sheet says =
-    let counts : Block = counts-block (says .role-digits) (says .bound-digits) (says .standing) in
+    let counts : Block = counts-block (says .count) (says .bound) (says .standing) in
     let roles : Block = roles-block sheet (says .roles) in
     let users : Block = users-block sheet (says .roles) in
     let witness : Block = witness-block sheet (says .witness) in
     four-blocks counts roles users witness
     ∙ grouped (text-of counts) (text-of roles) (text-of users) (text-of witness) line-end
-    ∙ same-parts (counts-in-parts (says .role-digits) (says .bound-digits) (says .standing)) (roles-in-parts sheet (says .roles))
+    ∙ same-parts (counts-in-parts (says .count) (says .bound) (says .standing)) (roles-in-parts sheet (says .roles))
     (users-in-parts sheet (says .roles)) (witness-in-parts sheet (says .witness))

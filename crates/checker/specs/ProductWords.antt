@@ -8,17 +8,17 @@ use mathlib.Core.Bool.{Bool, false, So, _&&_, and-false, Bool·beq}
 use mathlib.Core.List.{List, []}
 use lib.Arith.{digits-lt, digits-div, digits-mod}
 use lib.ListN.{getD, List·getD-eq-default}
+use Rattle.spec.specs.Vocabulary.{some-below, every-below}
+use Rattle.spec.specs.Sheet.{Sheet, user-count, permission-count, holds}
+use Rattle.spec.specs.RoleSet.{RoleSet, product}
+use Rattle.spec.specs.Refusal.{product-agrees}
 use Rattle.bits.specs.Truth.{fails-unless, same-truth, and-intro}
-use Rattle.bits.specs.Below.{some-below, every-below}
 use Rattle.bits.specs.BelowLaws.{below-or-from, some-below-ext, none-below-intro, every-below-intro, every-below-elim, every-below-ext, every-below-add}
 use Rattle.bits.specs.Bit.{bit, word-bits}
 use Rattle.bits.specs.BitLaws.{bit-ext}
-use Rattle.sheet.specs.Sheet.{Sheet, user-count, permission-count, holds}
 use Rattle.sheet.specs.Rows.{row-words, row-bits, cell, RowsOf}
 use Rattle.sheet.specs.AcceptedFacts.{Lawful}
-use Rattle.roles.specs.RoleSet.{RoleSet, product}
 use Rattle.book.specs.RowsSaid.{roles-in}
-use Rattle.checker.specs.Check.{product-agrees}
 use Rattle.checker.specs.CheckParts.{same-cell, cell-same}
 
 -- a cell of a row agrees with the product

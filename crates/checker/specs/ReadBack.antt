@@ -5,18 +5,16 @@ use native.Mathlib.Omega.{arith}
 use mathlib.Core.Path.{_≡_, refl, _∙_}
 use mathlib.Core.Bool.{Bool, true, false, So}
 use mathlib.Core.List.{[], _∷_, map-map}
-use Rattle.lists.specs.Lists.{list-of}
+use Rattle.spec.specs.Vocabulary.{list-of}
+use Rattle.spec.specs.Text.{Bytes, Line, line-feed, last-byte}
+use Rattle.spec.specs.Sheet.{Sheet, Grant, is-one, cell-text, user-count, permission-count, user-name}
+use Rattle.spec.specs.Roles.{Standing, witnessed, searched, unsettled}
+use Rattle.spec.specs.Book.{standing-word, role-name, Said, counts-block, roles-block, users-block, witness-line, witness-block, blocks-saying, book-text}
+use Rattle.spec.specs.Form.{blocks-of, grant-of-line, line-at, field-at, standing-said, form, said-by-blocks, said}
 use Rattle.lists.specs.JoinLaws.{map-fixed}
 use Rattle.lists.specs.ListOfLaws.{length-list-of, getD-list-of}
-use Rattle.sheet.specs.Text.{Bytes, Line, line-feed}
-use Rattle.sheet.specs.Sheet.{Sheet, Grant, is-one, cell-text, user-count, permission-count}
-use Rattle.sheet.specs.Refusal.{last-byte}
-use Rattle.roles.specs.Roles.{Standing, witnessed, searched, unsettled}
-use Rattle.book.specs.Words.{standing-word, role-name}
-use Rattle.book.specs.Blocks.{blocks-of}
+use Rattle.book.specs.DecimalLaws.{number-of-decimal}
 use Rattle.book.specs.BlockLaws.{blocks-read-as-written, blocks-end-in-feed}
-use Rattle.book.specs.Book.{Said, user-name, counts-block, roles-block, users-block, witness-line, witness-block, blocks-saying, book-text}
-use Rattle.checker.specs.Form.{grant-of-line, line-at, field-at, standing-said, form, said-by-blocks, said}
 use Rattle.checker.specs.FormParts.{FormOf, form-intro}
 use Rattle.checker.specs.WrittenForm.{counts-block-form, roles-block-form, users-block-form, witness-block-form}
 use Rattle.checker.specs.WrittenLines.{Sayable, good-blocks}
@@ -24,10 +22,10 @@ use Rattle.checker.specs.NameLaws.{GoodSheet, number-among-at}
 
 -- two books say the same of a sheet: the same of each of its users and permissions and of each role
 pub record SaysSame (sheet : Sheet) (read written : Said) : Type 0 where
-  pub role-digits : read .role-digits ≡ written .role-digits
-  pub bound-digits : read .bound-digits ≡ written .bound-digits
+  pub count : read .count ≡ written .count
+  pub bound : read .bound ≡ written .bound
   pub standing : read .standing ≡ written .standing
-  pub count : read .roles .count ≡ written .roles .count
+  pub roles : read .roles .count ≡ written .roles .count
   pub has : (u r : ℕ) → u < user-count sheet → r < written .roles .count → read .roles .has u r ≡ written .roles .has u r
   pub gives : (r p : ℕ) → r < written .roles .count → p < permission-count sheet → read .roles .gives r p ≡ written .roles .gives r p
   pub witness : read .witness ≡ written .witness
@@ -42,7 +40,7 @@ blocks-of-book sheet good book s = blocks-read-as-written (blocks-saying sheet b
 book-ends-in-feed : (sheet : Sheet) (book : Said) → last-byte (book-text sheet book) ≡ line-feed
 unfolding book-text blocks-saying
 book-ends-in-feed sheet book =
-    blocks-end-in-feed (counts-block (book .role-digits) (book .bound-digits) (book .standing))
+    blocks-end-in-feed (counts-block (book .count) (book .bound) (book .standing))
     (roles-block sheet (book .roles) ∷ users-block sheet (book .roles) ∷ witness-block sheet (book .witness) ∷ []) (omega arith)
 
 -- ---- the form
@@ -53,7 +51,7 @@ blocks-form sheet book s =
     record {
       ended = book-ends-in-feed sheet book;
       four-blocks = refl;
-      counts = counts-block-form (book .role-digits) (book .bound-digits) (book .standing) (s .role-count) (s .bound-count);
+      counts = counts-block-form (book .count) (book .bound) (book .standing);
       roles = roles-block-form sheet (book .roles) (s .few-roles);
       users = rw (length-list-of (book .roles .count) line) (users-block-form sheet (book .roles));
       witness = witness-block-form sheet (book .witness) (s .known-users) (s .known-permissions);
@@ -97,10 +95,10 @@ blocks-say : (sheet : Sheet) → GoodSheet sheet → (book : Said) → Sayable s
 unfolding blocks-saying
 blocks-say sheet good book s =
     record {
-      role-digits = refl;
-      bound-digits = refl;
+      count = number-of-decimal (book .count);
+      bound = number-of-decimal (book .bound);
       standing = standing-read (book .standing);
-      count = length-list-of (book .roles .count) line;
+      roles = length-list-of (book .roles .count) line;
       has = λ u r h k. cell-of-lines (user-count sheet) (book .roles .count) (user-name sheet) (book .roles .has) u r h k;
       gives = λ r p h k. cell-of-lines (book .roles .count) (permission-count sheet) role-name (book .roles .gives) r p h k;
       witness = map-map (grant-of-line sheet) (witness-line sheet) (book .witness)

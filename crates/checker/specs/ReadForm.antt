@@ -7,23 +7,21 @@ use mathlib.Core.Logic.{⊎-elim}
 use mathlib.Core.Bool.{So, _||_}
 use mathlib.Core.List.{List, [], _∷_, map, map-map, tail}
 use lib.ListN.{length, getD}
+use Rattle.spec.specs.Vocabulary.{list-of}
+use Rattle.spec.specs.Text.{ascii, same-bytes, Bytes, Line}
+use Rattle.spec.specs.Sheet.{Sheet, is-one, cell-text, user-count, permission-count, is-bit, user-name}
+use Rattle.spec.specs.RoleSet.{RoleSet}
+use Rattle.spec.specs.Roles.{witnessed, searched, unsettled}
+use Rattle.spec.specs.Decimal.{number-of}
+use Rattle.spec.specs.Book.{standing-word, role-name, Block, text-of-blocks, counts-block, roles-block, users-block, witness-line, witness-block, blocks-saying, book-text}
+use Rattle.spec.specs.Form.{blocks-of, block-at, line-at, field-at, is-standing, grant-of-line, standing-said, form, said-by-blocks, said}
 use Rattle.bits.specs.Truth.{or-cases}
-use Rattle.lists.specs.Ascii.{ascii}
-use Rattle.lists.specs.Lists.{same-bytes, list-of}
 use Rattle.lists.specs.TestLaws.{all-elim, member-at, same-bytes-equal}
 use Rattle.lists.specs.JoinLaws.{map-fixed}
 use Rattle.lists.specs.ListOfLaws.{list-of-places, list-of-same}
 use Rattle.lists.specs.EachLaws.{each-mapped}
-use Rattle.sheet.specs.Text.{Bytes, Line}
-use Rattle.sheet.specs.Sheet.{Sheet, is-one, cell-text, user-count, permission-count}
-use Rattle.sheet.specs.Refusal.{is-bit}
-use Rattle.roles.specs.RoleSet.{RoleSet}
-use Rattle.roles.specs.Roles.{witnessed, searched, unsettled}
-use Rattle.book.specs.Words.{standing-word, role-name}
-use Rattle.book.specs.Blocks.{Block, text-of-blocks, blocks-of}
+use Rattle.book.specs.CountLaws.{count-is-decimal}
 use Rattle.book.specs.BlockLaws.{blocks-written-as-read}
-use Rattle.book.specs.Book.{user-name, counts-block, roles-block, users-block, witness-line, witness-block, blocks-saying, book-text}
-use Rattle.checker.specs.Form.{block-at, line-at, field-at, is-standing, grant-of-line, standing-said, form, said-by-blocks, said}
 use Rattle.checker.specs.FormParts.{CountsForm, counts-form-elim, CellsLine, RolesForm, roles-form-elim, UsersForm, users-form-elim, WitnessLine, WitnessForm, witness-form-elim, FormOf, form-elim}
 use Rattle.checker.specs.WrittenLines.{Sayable}
 use Rattle.checker.specs.NameLaws.{known-stands}
@@ -49,10 +47,17 @@ standing-written word e =
 
 counts-written : (block : Block) → CountsForm block
     → block
-    ≡ counts-block (field-at (line-at block 1) 0) (field-at (line-at block 1) 1) (standing-said (field-at (line-at block 1) 2))
+    ≡ counts-block (number-of (field-at (line-at block 1) 0)) (number-of (field-at (line-at block 1) 1))
+    (standing-said (field-at (line-at block 1) 2))
 counts-written block f =
     by-places block [] 2 (f .two-lines)
-    ∙ rw (f .heading, by-places (line-at block 1) [] 3 (f .three-fields), standing-written (field-at (line-at block 1) 2) (f .standing))
+    ∙ rw (
+      f .heading,
+      by-places (line-at block 1) [] 3 (f .three-fields),
+      count-is-decimal (field-at (line-at block 1) 0) (f .role-count),
+      count-is-decimal (field-at (line-at block 1) 1) (f .bound-count),
+      standing-written (field-at (line-at block 1) 2) (f .standing),
+    )
 
 -- ---- lines of a name and cells
 
@@ -152,12 +157,9 @@ pub form-is-sayable : (sheet : Sheet) (text : Bytes) → So (form sheet text) �
 unfolding said
 form-is-sayable sheet text e =
     let f = form-elim sheet text e in
-    let counts = counts-form-elim (block-at (blocks-of text) 0) (f .counts) in
     let roles = roles-form-elim sheet (block-at (blocks-of text) 1) (f .roles) in
     let witness = witness-form-elim sheet (block-at (blocks-of text) 3) (f .witness) in
     record {
-      role-count = counts .role-count;
-      bound-count = counts .bound-count;
       few-roles = roles .few;
       known-users =
           each-mapped (λ g. g .user < user-count sheet) (grant-of-line sheet) (tail (block-at (blocks-of text) 3))

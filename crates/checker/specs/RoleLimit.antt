@@ -5,11 +5,10 @@ use native.Mathlib.Numerals.{add-one}
 use native.Mathlib.Omega.{arith}
 use lib.Arith.{digits-lt}
 use lib.ListN.{length}
-use Rattle.sheet.specs.Limits.{permission-limit}
+use Rattle.spec.specs.Limits.{permission-limit, role-limit}
+use Rattle.spec.specs.Book.{role-name}
 use Rattle.sheet.specs.Rows.{row-words, row-bits}
-use Rattle.book.specs.Words.{role-name}
 use Rattle.book.specs.WordLaws.{role-name-length}
-use Rattle.checker.specs.Form.{role-limit}
 
 pub roles-fit-a-row : role-limit ≤ row-bits
 unfolding role-limit row-bits row-words

@@ -8,16 +8,16 @@ use mathlib.Core.Logic.{_⊎_, ⊎-elim}
 use mathlib.Core.Bool.{Bool, false}
 use mathlib.Core.List.{List, _∷_, _++_, append-assoc, append-cancel-left, head-eq-of-cons-eq, tail-eq-of-cons-eq}
 use lib.ListN.{drop}
+use Rattle.spec.specs.Limits.{role-limit}
+use Rattle.spec.specs.Text.{Bytes, line-feed}
+use Rattle.spec.specs.Sheet.{Sheet, permission-count}
+use Rattle.spec.specs.Book.{role-name}
 use Rattle.checker.specs.Aligned.{Begins, listed-ended}
-use Rattle.sheet.specs.Text.{Bytes, line-feed}
-use Rattle.sheet.specs.Sheet.{Sheet, permission-count}
 use Rattle.sheet.specs.Rows.{row-bits, cell}
-use Rattle.book.specs.Words.{role-name}
 use Rattle.book.specs.WordLaws.{role-name-parts}
 use Rattle.book.specs.LineLaws.{line-end}
 use Rattle.checker.specs.declared.roles_block.RolesRead.{RolesRead}
 use Rattle.checker.specs.declared.roles_block.RolesRead.the-variants as found
-use Rattle.checker.specs.Form.{role-limit}
 use Rattle.checker.specs.Steps.{Reads, Misses}
 use Rattle.checker.specs.StepLaws.{reads-then, misses-first, misses-second}
 use Rattle.checker.specs.Pieces.{named-text, named-texts, roles-heading, roles-part}

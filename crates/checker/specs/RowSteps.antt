@@ -6,9 +6,9 @@ use mathlib.Core.Logic.{⊎-elim}
 use mathlib.Core.Bool.{false}
 use mathlib.Core.List.{List, _++_}
 use lib.ListN.{length}
+use Rattle.spec.specs.Text.{Bytes}
 use Rattle.bits.specs.BelowLaws.{below-or-from}
 use Rattle.lists.specs.Listed.{listed-same}
-use Rattle.sheet.specs.Text.{Bytes}
 use Rattle.sheet.specs.Rows.{row-bits, cell}
 use Rattle.book.specs.LineLaws.{line-end}
 use Rattle.book.specs.CellsText.{cell-field}

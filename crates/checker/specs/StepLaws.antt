@@ -7,9 +7,9 @@ use mathlib.Core.Path.{_≡_, refl, sym, ap, _∙_}
 use mathlib.Core.List.{[], _∷_, _++_, append-assoc, append-cancel-left, nil≢cons, head-eq-of-cons-eq}
 use lib.ListN.{length, drop, getD, length-append, length-drop, drop-of-length-le}
 use lib.Seq.{drop-cons}
+use Rattle.spec.specs.Text.{Bytes}
 use Rattle.lists.specs.Listed.{listed, listed-more}
 use Rattle.checker.specs.Aligned.{Aligned, aligned-same, listed-next}
-use Rattle.sheet.specs.Text.{Bytes}
 use Rattle.checker.specs.declared.cursor.Step.{Step}
 use Rattle.checker.specs.declared.cursor.Step.the-variants.{On, Off}
 use Rattle.checker.specs.Steps.{Reads, Misses, Expects}

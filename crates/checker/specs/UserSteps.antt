@@ -2,11 +2,10 @@
 use Prim.Native.Nat.{ℕ, _<_}
 use mathlib.Core.Bool.{Bool}
 use mathlib.Core.List.{List, _++_}
+use Rattle.spec.specs.Text.{Bytes}
+use Rattle.spec.specs.Sheet.{Sheet, user-count, user-name}
 use Rattle.checker.specs.Aligned.{Aligned, aligned-same, aligned-then, aligned-listed}
-use Rattle.sheet.specs.Text.{Bytes}
-use Rattle.sheet.specs.Sheet.{Sheet, user-count}
 use Rattle.sheet.specs.Rows.{cell}
-use Rattle.book.specs.Book.{user-name}
 use Rattle.book.specs.LineLaws.{line-end}
 use Rattle.checker.specs.declared.cursor.Step.{Step}
 use Rattle.checker.specs.declared.cursor.Step.the-variants.{On, Off}

@@ -8,14 +8,15 @@ use mathlib.Core.List.{List, [], _∷_, _++_}
 use borrow.Author.Tests.{eqb-true, eq-eqb, ne-eqb, ltb-false, le-ltb, not-false}
 use lib.Dec.{eqb, ltb}
 use lib.ListN.{length}
+use Rattle.spec.specs.Limits.{book-limit}
+use Rattle.spec.specs.Text.{Bytes}
+use Rattle.spec.specs.Sheet.{Sheet, sheet-of}
+use Rattle.spec.specs.Book.{Said}
+use Rattle.spec.specs.Form.{form, said}
+use Rattle.spec.specs.Refusal.{Cause, first-number, sheet-causes, refusal, counts-agree, product-agrees, witness-agrees, book-causes, check-causes}
+use Rattle.spec.specs.Calls.{CheckAnswer, check-refused, confirmed, check}
 use Rattle.bits.specs.Truth.{or-fails, or-fails-left, or-fails-right}
-use Rattle.sheet.specs.Text.{Bytes}
-use Rattle.sheet.specs.Sheet.{Sheet, sheet-of}
-use Rattle.sheet.specs.Refusal.{Cause, first-number, sheet-causes, refusal}
 use Rattle.sheet.specs.CauseLaws.{rising, NoneApplies, zero-none-applies, none-applies-zero, sheet-causes-rise}
-use Rattle.book.specs.Book.{Said}
-use Rattle.checker.specs.Form.{book-limit, form, said}
-use Rattle.checker.specs.Check.{counts-agree, product-agrees, witness-stands, book-causes, check-causes, CheckAnswer, check-refused, confirmed, check}
 
 -- all tests of a book pass
 pub record Passes (sheet : Sheet) (text : Bytes) : Type 0 where
@@ -23,7 +24,7 @@ pub record Passes (sheet : Sheet) (text : Bytes) : Type 0 where
   pub has-form : So (form sheet text)
   pub counts : So (counts-agree (said sheet text))
   pub product : So (product-agrees sheet (said sheet text .roles))
-  pub witness : So (witness-stands sheet (said sheet text .witness))
+  pub witness : So (witness-agrees sheet (said sheet text .witness))
 
 pub passes-none-applies : (sheet : Sheet) (text : Bytes) → Passes sheet text → NoneApplies (book-causes sheet text)
 unfolding book-causes
@@ -40,7 +41,7 @@ none-applies-passes sheet text n =
       has-form = not-false (form sheet text) (or-fails-right (ltb book-limit (length text)) (not (form sheet text)) (n .0));
       counts = not-false (counts-agree (said sheet text)) (n .1 .0);
       product = not-false (product-agrees sheet (said sheet text .roles)) (n .1 .1 .0);
-      witness = not-false (witness-stands sheet (said sheet text .witness)) (n .1 .1 .1 .0);
+      witness = not-false (witness-agrees sheet (said sheet text .witness)) (n .1 .1 .1 .0);
     }
 
 -- ---- two lists of causes

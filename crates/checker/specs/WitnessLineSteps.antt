@@ -7,12 +7,11 @@ use mathlib.Core.Bool.{false}
 use mathlib.Core.List.{[], _∷_, _++_, append-assoc, List·Memᴰ}
 use lib.Dec.{eqb}
 use lib.ListN.{drop}
+use Rattle.spec.specs.Text.{Bytes, comma, line-feed}
+use Rattle.spec.specs.Sheet.{Sheet, Grant, user-count, permission-count, user-name, permission-name}
 use Rattle.checker.specs.Aligned.{Aligned, aligned-then, ended-aligned}
-use Rattle.sheet.specs.Text.{Bytes, comma, line-feed}
-use Rattle.sheet.specs.Sheet.{Sheet, Grant, user-count, permission-count}
 use Rattle.sheet.specs.Places.{part}
 use Rattle.sheet.specs.AcceptedFacts.{Lawful, name-field}
-use Rattle.book.specs.Book.{user-name, permission-name}
 use Rattle.checker.specs.declared.witness_block.WitnessLine.{WitnessLine}
 use Rattle.checker.specs.declared.witness_block.WitnessRead.{WitnessRead}
 use Rattle.checker.specs.declared.witness_block.WitnessRead.the-variants as found

@@ -9,10 +9,10 @@ use borrow.Author.Tests.{lt-ltb, le-ltb}
 use lib.Dec.{ltb}
 use lib.ListN.{length, getD, set, replicate, length-append, length-set, length-replicate, List·getD-append}
 use lib.Seq.{getD-set-same, getD-set-other, getD-at}
+use Rattle.spec.specs.Limits.{role-limit}
+use Rattle.spec.specs.Sheet.{Grant}
+use Rattle.spec.specs.Cover.{grant-at}
 use Rattle.bits.specs.BelowLaws.{below-or-from}
-use Rattle.sheet.specs.Sheet.{Grant}
-use Rattle.grants.specs.Cover.{grant-at}
-use Rattle.checker.specs.Form.{role-limit}
 use Rattle.checker.specs.declared.witness_block.WitnessLine.{WitnessLine}
 use Rattle.checker.specs.declared.witness_block.Witness.{Witness}
 

@@ -7,12 +7,10 @@ use mathlib.Core.Bool.{Bool, true, false}
 use mathlib.Core.List.{List, [], _∷_, _++_, append-assoc, append-nil, List·Memᴰ·head, List·Memᴰ·tail, List·Memᴰ·append-cases, List·Memᴰ·eq-of-singleton}
 use mathlib.Core.Logic.{⊎-elim}
 use lib.ListN.{length, drop, length-append, length-drop, drop-of-length-le}
-use Rattle.lists.specs.Ascii.{ascii}
+use Rattle.spec.specs.Text.{ascii, Bytes, comma, line-feed}
+use Rattle.spec.specs.Sheet.{Sheet, Grant, user-name, permission-name}
 use Rattle.lists.specs.EachLaws.{Each, each-none}
-use Rattle.sheet.specs.Text.{Bytes, comma, line-feed}
-use Rattle.sheet.specs.Sheet.{Sheet, Grant}
 use Rattle.sheet.specs.AcceptedFacts.{Lawful}
-use Rattle.book.specs.Book.{user-name, permission-name}
 use Rattle.checker.specs.declared.witness_block.WitnessLine.{WitnessLine}
 use Rattle.checker.specs.declared.witness_block.Witness.{Witness}
 use Rattle.checker.specs.declared.witness_block.WitnessesRead.{WitnessesRead}

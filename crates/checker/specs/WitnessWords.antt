@@ -6,17 +6,17 @@ use mathlib.Core.Path.{_≡_, sym, ap, _∙_}
 use mathlib.Core.Bool.{Bool, false, So, _&&_, not}
 use mathlib.Core.List.{List, List·Memᴰ}
 use lib.ListN.{length, getD}
+use Rattle.spec.specs.Vocabulary.{some-below, every-below}
+use Rattle.spec.specs.Limits.{role-limit}
+use Rattle.spec.specs.Sheet.{Sheet, Grant, user-count, permission-count, holds, held}
+use Rattle.spec.specs.Fit.{fits}
+use Rattle.spec.specs.Cover.{grant-at}
+use Rattle.spec.specs.Refusal.{witness-agrees}
 use Rattle.bits.specs.Truth.{same-truth, and-intro, and-left, and-right, not-passes, not-fails}
-use Rattle.bits.specs.Below.{some-below, every-below}
 use Rattle.bits.specs.BelowLaws.{none-below-intro, none-below-elim, every-below-intro, every-below-elim}
 use Rattle.lists.specs.TestLaws.{member-at, place-of}
 use Rattle.lists.specs.EachLaws.{Each}
-use Rattle.sheet.specs.Sheet.{Sheet, Grant, user-count, permission-count, holds}
 use Rattle.sheet.specs.Rows.{row-words, row-bits, cell, RowsOf}
-use Rattle.grants.specs.Fit.{fits}
-use Rattle.grants.specs.Cover.{grant-at}
-use Rattle.checker.specs.Form.{role-limit}
-use Rattle.checker.specs.Check.{held, witness-stands}
 use Rattle.checker.specs.CheckParts.{witness-stands-elim, witness-stands-intro}
 use Rattle.checker.specs.declared.witness_block.WitnessLine.{WitnessLine}
 use Rattle.checker.specs.declared.witness_block.Witness.{Witness}
@@ -96,11 +96,11 @@ module _ (sheet : Sheet) (rows : List ℕ) (w : Witness) (grants : List Grant) (
   fit-at i j h k = rw (cell-of i j h k, cell-of j i k h)
 
   -- the witness by words is judged as its grants are
-  pub stands-by-words : lines-stand rows w ≡ witness-stands sheet grants
+  pub stands-by-words : lines-stand rows w ≡ witness-agrees sheet grants
   unfolding lines-stand
-  stands-by-words = same-truth (every-below (w .lines) (line-stands rows w)) (witness-stands sheet grants) forth back
+  stands-by-words = same-truth (every-below (w .lines) (line-stands rows w)) (witness-agrees sheet grants) forth back
     where
-      forth : So (every-below (w .lines) (line-stands rows w)) → So (witness-stands sheet grants)
+      forth : So (every-below (w .lines) (line-stands rows w)) → So (witness-agrees sheet grants)
       forth all = witness-stands-intro sheet grants (record { all-held = all-held; none-fit = none-fit })
         where
           line : (j : ℕ) → j < length grants → So (line-stands rows w j)
@@ -119,7 +119,7 @@ module _ (sheet : Sheet) (rows : List ℕ) (w : Witness) (grants : List Grant) (
               ∙ none-below-elim j (λ i. lines-fit rows (line-of w i) (line-of w j))
               (not-fails (fits-earlier rows w j) (and-right (line-held rows (line-of w j)) (not (fits-earlier rows w j)) (line j k))) h
 
-      back : So (witness-stands sheet grants) → So (every-below (w .lines) (line-stands rows w))
+      back : So (witness-agrees sheet grants) → So (every-below (w .lines) (line-stands rows w))
       back stands =
           let s = witness-stands-elim sheet grants stands in
           every-below-intro (w .lines) (line-stands rows w) (λ j h.

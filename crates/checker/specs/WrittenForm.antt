@@ -4,18 +4,17 @@ use Prim.Native.Nat.{ℕ, suc, _≤_, _<_}
 use mathlib.Core.Path.{refl, ap}
 use mathlib.Core.Bool.{Bool, true, false, So}
 use mathlib.Core.List.{List, [], _∷_, map, List·Memᴰ, Memᴰ·of-map}
-use Rattle.lists.specs.Lists.{list-of}
+use Rattle.spec.specs.Vocabulary.{list-of}
+use Rattle.spec.specs.Limits.{role-limit}
+use Rattle.spec.specs.Text.{Bytes, Line}
+use Rattle.spec.specs.Sheet.{Sheet, Grant, cell-text, user-count, permission-count, is-bit, user-name}
+use Rattle.spec.specs.RoleSet.{RoleSet}
+use Rattle.spec.specs.Roles.{Standing, witnessed, searched, unsettled}
+use Rattle.spec.specs.Book.{standing-word, role-name, counts-block, roles-block, users-block, witness-line, witness-block}
+use Rattle.spec.specs.Form.{is-standing, counts-form, roles-form, users-form, witness-form}
 use Rattle.lists.specs.TestLaws.{all-intro}
 use Rattle.lists.specs.ListOfLaws.{length-list-of, getD-list-of, list-of-element}
-use Rattle.sheet.specs.Text.{Bytes, Line}
-use Rattle.sheet.specs.Sheet.{Sheet, Grant, cell-text, user-count, permission-count}
-use Rattle.sheet.specs.Refusal.{is-bit}
-use Rattle.roles.specs.RoleSet.{RoleSet}
-use Rattle.roles.specs.Roles.{Standing, witnessed, searched, unsettled}
-use Rattle.book.specs.Decimal.{is-count}
-use Rattle.book.specs.Words.{standing-word, role-name}
-use Rattle.book.specs.Book.{user-name, counts-block, roles-block, users-block, witness-line, witness-block}
-use Rattle.checker.specs.Form.{role-limit, is-standing, counts-form, roles-form, users-form, witness-form}
+use Rattle.book.specs.CountLaws.{decimal-is-count}
 use Rattle.checker.specs.FormParts.{counts-form-intro, CellsLine, roles-form-intro, users-form-intro, WitnessLine, witness-form-intro}
 use Rattle.checker.specs.NameLaws.{known-at}
 
@@ -24,16 +23,15 @@ standing-word-stands witnessed = refl
 standing-word-stands searched = refl
 standing-word-stands unsettled = refl
 
-pub counts-block-form : (role-digits bound-digits : Bytes) (s : Standing) → So (is-count role-digits) → So (is-count bound-digits)
-    → So (counts-form (counts-block role-digits bound-digits s))
-counts-block-form role-digits bound-digits s p q =
-    counts-form-intro (counts-block role-digits bound-digits s)
+pub counts-block-form : (count bound : ℕ) (s : Standing) → So (counts-form (counts-block count bound s))
+counts-block-form count bound s =
+    counts-form-intro (counts-block count bound s)
     (record {
       two-lines = refl;
       heading = refl;
       three-fields = refl;
-      role-count = p;
-      bound-count = q;
+      role-count = decimal-is-count count;
+      bound-count = decimal-is-count bound;
       standing = standing-word-stands s;
     })
 

@@ -7,29 +7,25 @@ use mathlib.Core.Path.{_≡_, refl}
 use mathlib.Core.Bool.{Bool, false, So}
 use mathlib.Core.List.{List, [], _∷_}
 use lib.ListN.{length, getD}
-use Rattle.lists.specs.Ascii.{ascii}
-use Rattle.lists.specs.Lists.{all, list-of}
+use Rattle.spec.specs.Vocabulary.{all, list-of}
+use Rattle.spec.specs.Limits.{role-limit}
+use Rattle.spec.specs.Text.{ascii, Bytes, Line, name-byte}
+use Rattle.spec.specs.Sheet.{Sheet, Grant, cell-text, user-count, permission-count, user-name, permission-name}
+use Rattle.spec.specs.RoleSet.{RoleSet}
+use Rattle.spec.specs.Roles.{Standing}
+use Rattle.spec.specs.Decimal.{decimal}
+use Rattle.spec.specs.Book.{standing-word, role-name, Said, counts-block, roles-block, users-block, witness-line, witness-block, blocks-saying}
+use Rattle.spec.specs.Form.{is-empty-line}
 use Rattle.lists.specs.TestLaws.{member-at}
 use Rattle.lists.specs.EachLaws.{Each, each-none, each-first, each-listed, each-mapped}
-use Rattle.sheet.specs.Text.{Bytes, Line, name-byte}
-use Rattle.sheet.specs.Sheet.{Sheet, Grant, cell-text, user-count, permission-count}
 use Rattle.sheet.specs.TextLaws.{Field}
-use Rattle.roles.specs.RoleSet.{RoleSet}
-use Rattle.roles.specs.Roles.{Standing}
-use Rattle.book.specs.Decimal.{is-count}
-use Rattle.book.specs.CountLaws.{count-has-digit}
-use Rattle.book.specs.Words.{standing-word, role-name}
+use Rattle.book.specs.CountLaws.{decimal-is-count, count-has-digit}
 use Rattle.book.specs.WordLaws.{name-bytes-field, count-field, standing-word-field, cell-text-field, role-name-field, role-name-some}
-use Rattle.book.specs.Blocks.{is-empty-line}
 use Rattle.book.specs.BlockLaws.{BlockLine, GoodBlocks}
-use Rattle.book.specs.Book.{Said, user-name, permission-name, counts-block, roles-block, users-block, witness-line, witness-block, blocks-saying}
-use Rattle.checker.specs.Form.{role-limit}
 use Rattle.checker.specs.NameLaws.{GoodName, GoodNames, GoodSheet}
 
--- a book that can be written and read: its counts are counts, its roles are few, and its witness names users and permissions of the sheet
+-- a book that can be written and read: its roles are few, and its witness names users and permissions of the sheet
 pub record Sayable (sheet : Sheet) (book : Said) : Type 0 where
-  pub role-count : So (is-count (book .role-digits))
-  pub bound-count : So (is-count (book .bound-digits))
   pub few-roles : book .roles .count ≤ role-limit
   pub known-users : Each (λ g. g .user < user-count sheet) (book .witness)
   pub known-permissions : Each (λ g. g .permission < permission-count sheet) (book .witness)
@@ -56,16 +52,16 @@ each-cell count cell = each-listed Field count (λ i. cell-text (cell i)) (λ i 
 word-line : (word : Bytes) (rest : Line) → So (all name-byte word) → 1 ≤ length word → Each Field rest → BlockLine (word ∷ rest)
 word-line word rest e h later = named-line word rest h (name-bytes-field word e) later
 
-counts-lines : (role-digits bound-digits : Bytes) (s : Standing) → So (is-count role-digits) → So (is-count bound-digits)
-    → Each BlockLine (counts-block role-digits bound-digits s)
+counts-lines : (count bound : ℕ) (s : Standing) → Each BlockLine (counts-block count bound s)
 unfolding name-byte
-counts-lines role-digits bound-digits s p q =
+counts-lines count bound s =
     each-first BlockLine
     (word-line (ascii "roles") (ascii "bound" ∷ ascii "state" ∷ []) refl (omega arith)
     (each-first Field (name-bytes-field (ascii "bound") refl) (each-first Field (name-bytes-field (ascii "state") refl) (each-none Field))))
     (each-first BlockLine
-    (named-line role-digits (bound-digits ∷ standing-word s ∷ []) (count-has-digit role-digits p) (count-field role-digits p)
-    (each-first Field (count-field bound-digits q) (each-first Field (standing-word-field s) (each-none Field))))
+    (named-line (decimal count) (decimal bound ∷ standing-word s ∷ []) (count-has-digit (decimal count) (decimal-is-count count))
+    (count-field (decimal count) (decimal-is-count count))
+    (each-first Field (count-field (decimal bound) (decimal-is-count bound)) (each-first Field (standing-word-field s) (each-none Field))))
     (each-none BlockLine))
 
 roles-lines : (sheet : Sheet) → GoodSheet sheet → (roles : RoleSet) → Each BlockLine (roles-block sheet roles)
@@ -109,7 +105,7 @@ good-blocks sheet good book s =
       some-block = omega arith;
       each =
           each-first (Each BlockLine)
-          (counts-lines (book .role-digits) (book .bound-digits) (book .standing) (s .role-count) (s .bound-count))
+          (counts-lines (book .count) (book .bound) (book .standing))
           (each-first (Each BlockLine) (roles-lines sheet good (book .roles))
           (each-first (Each BlockLine) (users-lines sheet good (book .roles))
           (each-first (Each BlockLine) (witness-lines sheet good (book .witness) (s .known-users) (s .known-permissions))

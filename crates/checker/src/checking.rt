@@ -15,12 +15,12 @@ use crate::witness_block::read_witness;
 use sheet::Layout;
 ghost use Prim.Native.Nat.{_*_, _≤_};
 ghost use lib.ListN.{length};
-ghost use Rattle.sheet.specs.Sheet.{sheet-of};
+ghost use Rattle.spec.specs.Limits.{book-limit, role-limit};
+ghost use Rattle.spec.specs.Sheet.{sheet-of};
+ghost use Rattle.spec.specs.Calls.{Checks};
 ghost use Rattle.sheet.specs.Rows.{row-words};
 ghost use Rattle.sheet.specs.RowsRead.{RowsRead};
 ghost use Rattle.sheet.specs.LaidOut.{LaidOut};
-ghost use Rattle.checker.specs.Form.{book-limit, role-limit};
-ghost use Rattle.checker.specs.Check.{Checks};
 ghost use Rattle.checker.specs.BookSays.{answer-of};
 ghost use Rattle.checker.specs.BookRead.{FrontRead};
 

@@ -8,11 +8,11 @@ ghost use mathlib.Core.Path.{_≡_};
 ghost use mathlib.Core.Bool.{So};
 ghost use Prim.Native.Nat.{_*_, _≤_};
 ghost use lib.ListN.{length};
-ghost use Rattle.sheet.specs.Sheet.{sheet-of, user-count};
-ghost use Rattle.sheet.specs.Refusal.{accepted};
+ghost use Rattle.spec.specs.Sheet.{sheet-of, user-count};
+ghost use Rattle.spec.specs.Refusal.{accepted};
+ghost use Rattle.spec.specs.Calls.{check-refused};
 ghost use Rattle.sheet.specs.Rows.{row-words};
 ghost use Rattle.sheet.specs.RowsRead.{RowsRead};
-ghost use Rattle.checker.specs.Check.{check-refused};
 ghost use Rattle.checker.specs.BookSays.{BookSays, answer-of, JudgedAs};
 
 // The answer: document 01's number, 0 where none applies, with the roles and the witness lines; a number above 0 comes with counts 0.

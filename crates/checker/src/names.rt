@@ -8,10 +8,10 @@ use sheet::PermissionNo;
 use sheet::RoleNo;
 ghost use Prim.Native.Nat.{_≤_, _<_};
 ghost use lib.ListN.{length};
-ghost use Rattle.sheet.specs.Sheet.{sheet-of};
+ghost use Rattle.spec.specs.Limits.{role-limit};
+ghost use Rattle.spec.specs.Sheet.{sheet-of};
+ghost use Rattle.spec.specs.Book.{role-name};
 ghost use Rattle.sheet.specs.LaidOut.{LaidOut};
-ghost use Rattle.book.specs.Words.{role-name};
-ghost use Rattle.checker.specs.Form.{role-limit};
 ghost use Rattle.checker.specs.Steps.{Expects};
 ghost use Rattle.checker.specs.Pieces.{name-fields, role-fields};
 

@@ -12,7 +12,7 @@ use sheet::UserNo;
 ghost use mathlib.Core.Path.{_≡_};
 ghost use Prim.Native.Nat.{_≤_};
 ghost use lib.ListN.{length};
-ghost use Rattle.sheet.specs.Sheet.{sheet-of, user-count, permission-count};
+ghost use Rattle.spec.specs.Sheet.{sheet-of, user-count, permission-count};
 ghost use Rattle.sheet.specs.LaidOut.{LaidOut, UsersAt, PermissionsAt};
 ghost use Rattle.checker.specs.WitnessList.{no-witness};
 ghost use Rattle.checker.specs.WitnessLineSteps.{WitnessReads};

@@ -3,7 +3,7 @@ use search::KERNEL_LIMIT;
 use search::KERNEL_WORDS;
 use search::TABLE_WORDS;
 ghost use mathlib.Core.Path.{_≡_};
-ghost use Rattle.lists.specs.Placement.{used};
+ghost use Rattle.spec.specs.Cover.{used};
 ghost use Rattle.closing.specs.Crown.{users, grants};
 ghost use Rattle.search.specs.View.{placed-of};
 

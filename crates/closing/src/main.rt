@@ -7,7 +7,7 @@ mod print;
 use search::Position;
 use search::TABLE_WORDS;
 ghost use Rattle.closing.specs.Crown.{grants};
-ghost use Rattle.search.specs.View.{Stands};
+ghost use Rattle.search.specs.View.{PositionStands};
 
 // What one step fewer than enough is, what is enough, and the budget of each of many searches.
 const TOO_FEW: u32 = 124;
@@ -25,7 +25,7 @@ const WITNESS: usize = 3;
 
 // The position before the first step.
 fn start() -> Position
-    ensures { λ r. ⌜ Stands grants r ⌝ }
+    ensures { λ r. ⌜ PositionStands grants r ⌝ }
 {
     Position::start(crown::by_user(), crown::USERS, SINGLES, WITNESS)
 }

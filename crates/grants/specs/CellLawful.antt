@@ -7,8 +7,8 @@ use mathlib.Core.Bool.{So}
 use mathlib.Core.List.{List, []}
 use lib.Dec.{lit≤}
 use lib.ListN.{length, getD}
-use Rattle.sheet.specs.Limits.{permission-limit}
-use Rattle.sheet.specs.Sheet.{Sheet, user-count, holds}
+use Rattle.spec.specs.Limits.{permission-limit}
+use Rattle.spec.specs.Sheet.{Sheet, user-count, holds}
 use Rattle.sheet.specs.GrantLaws.{yes-within, held-user-below}
 use Rattle.sheet.specs.Rows.{row-words, row-bits, RowsOf}
 use Rattle.sheet.specs.AcceptedFacts.{Lawful}

@@ -9,14 +9,14 @@ use mathlib.Core.Bool.{Bool, So, _&&_}
 use mathlib.Core.List.{List, map, List·Memᴰ, Memᴰ·map, Memᴰ·of-map, Memᴰ·cast}
 use lib.Arith.{digits-div, digits-mod, digits-lt}
 use lib.ListN.{length, length-map}
+use Rattle.spec.specs.Vocabulary.{filter}
+use Rattle.spec.specs.Sheet.{Sheet, Grant, holds, grants}
 use Rattle.bits.specs.Truth.{same-truth, and-right, and-intro}
-use Rattle.bits.specs.Below.{count-below}
-use Rattle.lists.specs.Lists.{filter}
+use Rattle.bits.specs.Counting.{count-below}
 use Rattle.lists.specs.AppendLaws.{filter-map}
 use Rattle.lists.specs.OrderedMap.{ordered-map}
 use Rattle.lists.specs.OrderedUnique.{ordered-unique}
 use Rattle.lists.specs.PassingBelow.{passing-below, passing-only, passing-member, passing-rises, passing-filter, passing-length, passing-ext}
-use Rattle.sheet.specs.Sheet.{Sheet, Grant, holds, grants}
 use Rattle.sheet.specs.Rows.{row-bits}
 use Rattle.sheet.specs.GrantLaws.{same-parts, grant-held, held-grant}
 use Rattle.sheet.specs.GrantOrderLaws.{Before, grants-ordered}

@@ -5,9 +5,9 @@ use mathlib.Core.Path.{_≡_}
 use mathlib.Core.Bool.{Bool, So, _&&_}
 use mathlib.Core.List.{List}
 use lib.ListN.{getD}
+use Rattle.spec.specs.Limits.{user-limit}
+use Rattle.spec.specs.Sheet.{Sheet, Grant, holds}
 use Rattle.bits.specs.Bit.{bit, word-bits}
-use Rattle.sheet.specs.Limits.{user-limit}
-use Rattle.sheet.specs.Sheet.{Sheet, Grant, holds}
 use Rattle.sheet.specs.Rows.{row-words, row-bits, cell, RowsOf}
 
 -- the words of a sheet with as many users as can be, and the cells of a row for each

@@ -2,8 +2,8 @@
 use Prim.Native.Nat.{ℕ}
 use mathlib.Core.Bool.{Bool}
 use mathlib.Core.List.{List}
-use Rattle.lists.specs.Lists.{filter}
-use Rattle.sheet.specs.Sheet.{Sheet, Grant, grants}
+use Rattle.spec.specs.Vocabulary.{filter}
+use Rattle.spec.specs.Sheet.{Sheet, Grant, grants}
 use Rattle.sheet.specs.Rows.{cell}
 
 -- the grant's cell is set

@@ -11,7 +11,11 @@ use borrow.Author.Tests.{eq-eqb, ne-eqb}
 use lib.Dec.{eqb}
 use lib.Bits.{bitAnd}
 use lib.ListN.{length, getD}
-use Rattle.bits.specs.Below.{count-below, sum-below, Lowest}
+use Rattle.spec.specs.Vocabulary.{filter}
+use Rattle.spec.specs.Limits.{user-limit}
+use Rattle.spec.specs.Sheet.{Sheet}
+use Rattle.spec.specs.Fit.{fits}
+use Rattle.bits.specs.Counting.{count-below, sum-below, Lowest}
 use Rattle.bits.specs.BelowLaws.{last-or-below}
 use Rattle.bits.specs.BlockLaws.{count-below-blocks}
 use Rattle.bits.specs.CountLaws.{count-below-le, count-below-ext, count-below-none-intro}
@@ -20,11 +24,7 @@ use Rattle.bits.specs.Truth.{passes-or-fails, fails-unless}
 use Rattle.bits.specs.Bit.{bit, word-bits}
 use Rattle.bits.specs.BitLaws.{bit-of-zero}
 use Rattle.bits.specs.Word.{LowestDropped}
-use Rattle.lists.specs.Lists.{filter}
-use Rattle.sheet.specs.Limits.{user-limit}
-use Rattle.sheet.specs.Sheet.{Sheet}
 use Rattle.sheet.specs.Rows.{row-words, row-bits}
-use Rattle.grants.specs.Fit.{fits}
 use Rattle.grants.specs.CellSets.{cell-grants}
 use Rattle.grants.specs.CellPlaces.{cell-words, grant-of, marked, near, FittingWord, CountedBelow, Shown, Part}
 use Rattle.grants.specs.CellPlaceLaws.{row-words-pos, row-bits-pos, fit-by-word}

@@ -9,7 +9,7 @@ use lib.Bits.{bitOr}
 use lib.Dec.{eqb}
 use lib.ListN.{getD}
 use Rattle.bits.specs.Truth.{passes-or-fails, not-both, or-left, or-right}
-use Rattle.bits.specs.Below.{Lowest}
+use Rattle.bits.specs.Counting.{Lowest}
 use Rattle.bits.specs.Bit.{bit, word-bits}
 use Rattle.bits.specs.BitLaws.{bit-or, bit-of-zero}
 use Rattle.bits.specs.Word.{LowestDropped}

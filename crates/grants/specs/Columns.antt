@@ -4,7 +4,7 @@ use Prim.Native.Nat.{ℕ, _+_, _*_, _/_, _%_}
 use mathlib.Core.Bool.{Bool, cond}
 use mathlib.Core.List.{List}
 use Rattle.bits.specs.Bit.{word-bits}
-use Rattle.bits.specs.Below.{count-below}
+use Rattle.bits.specs.Counting.{count-below}
 use Rattle.sheet.specs.Rows.{row-words, row-bits, cell}
 use Rattle.grants.specs.CellPlaces.{cell-words, near}
 use Rattle.grants.specs.WitnessWords.{MadeCells}

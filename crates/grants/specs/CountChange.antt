@@ -10,7 +10,7 @@ use lib.Dec.{eqb}
 use lib.ListN.{length, getD, set, length-set}
 use lib.Seq.{getD-set-same, getD-set-other}
 use Rattle.bits.specs.Truth.{passes-or-fails, same-truth, and-left, and-right, not-fails}
-use Rattle.bits.specs.Below.{Lowest}
+use Rattle.bits.specs.Counting.{Lowest}
 use Rattle.bits.specs.Bit.{bit, word-bits}
 use Rattle.bits.specs.BitLaws.{bit-of-zero}
 use Rattle.bits.specs.Word.{LowestDropped}

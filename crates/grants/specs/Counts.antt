@@ -6,19 +6,19 @@ use mathlib.Core.Path.{_≡_, refl, sym, ap, ap₂, _∙_}
 use mathlib.Core.Bool.{Bool, true, false, So, not, _&&_, and-comm}
 use mathlib.Core.List.{List}
 use lib.ListN.{length, getD, replicate, length-replicate}
+use Rattle.spec.specs.Vocabulary.{filter}
+use Rattle.spec.specs.Limits.{user-limit}
+use Rattle.spec.specs.Sheet.{Sheet}
+use Rattle.spec.specs.Fit.{fits}
 use Rattle.bits.specs.Truth.{not-both}
-use Rattle.bits.specs.Below.{sum-below}
+use Rattle.bits.specs.Counting.{sum-below}
 use Rattle.bits.specs.BlockLaws.{count-below-blocks}
 use Rattle.bits.specs.CountLaws.{count-below-le, count-below-ext}
 use Rattle.bits.specs.CountJoinLaws.{count-below-split}
 use Rattle.bits.specs.StepLaws.{sum-below-step}
 use Rattle.bits.specs.SumLaws.{sum-below-more, sum-below-le}
 use Rattle.bits.specs.Bit.{bit, word-bits}
-use Rattle.lists.specs.Lists.{filter}
-use Rattle.sheet.specs.Limits.{user-limit}
-use Rattle.sheet.specs.Sheet.{Sheet}
 use Rattle.sheet.specs.Rows.{row-words, row-bits}
-use Rattle.grants.specs.Fit.{fits}
 use Rattle.grants.specs.CellSets.{cell-grants}
 use Rattle.grants.specs.CellPlaces.{cell-words, cell-limit, grant-of, marked, fit-in, near, Shown, Part}
 use Rattle.grants.specs.FitWordLaws.{marked-in-word, near-count}

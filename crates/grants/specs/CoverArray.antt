@@ -6,12 +6,11 @@ use mathlib.Core.Path.{_≡_, sym, ap, _∙_}
 use mathlib.Core.List.{List, [], map}
 use borrow.Author.Tests.{le-leb}
 use lib.ListN.{length, getD, length-map}
-use Rattle.lists.specs.Placement.{used, grouping}
+use Rattle.spec.specs.Sheet.{Sheet, Grant}
+use Rattle.spec.specs.Reduction.{kernel}
+use Rattle.spec.specs.Cover.{used, grouping, grant-at, fit-at, permission-at, fewer, best-grouping, first-best}
 use Rattle.lists.specs.KeyLaws.{same-key, by-key}
 use Rattle.lists.specs.SameGrouping.{grouping-ext}
-use Rattle.sheet.specs.Sheet.{Sheet, Grant}
-use Rattle.grants.specs.Reduction.{kernel}
-use Rattle.grants.specs.Cover.{grant-at, fit-at, permission-at, fewer, best-grouping, first-best}
 use Rattle.grants.specs.CoverLaws.{fewer-le-earlier, by-fit, by-permission, by-user}
 use Rattle.grants.specs.CellPlaces.{grant-of, Shown}
 use Rattle.grants.specs.CellPlaceLaws.{row-bits-pos}

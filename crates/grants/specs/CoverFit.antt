@@ -10,10 +10,10 @@ use mathlib.Core.Logic.{inl, inr, ⊎-elim}
 use mathlib.Core.Bool.{Bool, true, false}
 use mathlib.Core.List.{List}
 use lib.ListN.{length, getD, set, replicate}
+use Rattle.spec.specs.Cover.{used, joins, grouping}
 use Rattle.bits.specs.Truth.{not-both}
 use Rattle.bits.specs.BelowLaws.{below-or-from}
 use Rattle.bits.specs.LowestLaws.{lowest-below-intro}
-use Rattle.lists.specs.Placement.{used, joins, grouping}
 use Rattle.lists.specs.PlacementLaws.{earlier-uses-fewer, latest-below-used}
 use Rattle.lists.specs.GroupingLaws.{class-taken, grouping-length, grouping-valid}
 use Rattle.bits.specs.Bit.{word-bits}

@@ -12,16 +12,16 @@ use borrow.Author.Tests.{eqb-true, eqb-false, eq-eqb, ne-eqb}
 use lib.Dec.{eqb}
 use lib.ListN.{length, getD, set, replicate, length-set, length-replicate, getD-replicate}
 use lib.Seq.{getD-set-same, getD-set-other}
+use Rattle.spec.specs.Limits.{grant-limit}
+use Rattle.spec.specs.Cover.{used}
 use Rattle.bits.specs.Truth.{passes-or-fails, not-both, fails-unless}
 use Rattle.bits.specs.BelowLaws.{last-or-below, some-below-intro, some-below-elim, some-below-more}
-use Rattle.lists.specs.Placement.{used}
 use Rattle.lists.specs.Classing.{class-in}
 use Rattle.lists.specs.GrownLaws.{grown-used-le}
 use Rattle.lists.specs.PlacementLaws.{class-below-used}
 use Rattle.lists.specs.GroupingLaws.{grouping-length, grouping-grown}
 use Rattle.lists.specs.KeyLaws.{same-key, has-key, by-key, grouping-used-le}
 use Rattle.lists.specs.KeyStep.{next-class, keyed-next, keyed-before, next-class-known, next-class-new}
-use Rattle.sheet.specs.Limits.{grant-limit}
 use Rattle.sheet.specs.Rows.{row-bits}
 use Rattle.grants.specs.CoverPlaced.{Placed, none-placed, few-classes, one-placed}
 

@@ -10,15 +10,14 @@ use mathlib.Core.List.{List, List·Memᴰ}
 use borrow.Author.Tests.{eqb-true, leb-true, leb-false}
 use lib.Dec.{leb}
 use lib.ListN.{length}
+use Rattle.spec.specs.Sheet.{Sheet, Grant}
+use Rattle.spec.specs.Cover.{used, grouping, grant-at, fit-at, permission-at, user-at, fewer, best-grouping}
 use Rattle.bits.specs.Truth.{passes-or-fails}
-use Rattle.lists.specs.Placement.{used, grouping}
 use Rattle.lists.specs.Classing.{Valid, Grown}
 use Rattle.lists.specs.PlacementLaws.{valid-mono}
 use Rattle.lists.specs.GroupingLaws.{grouping-length, grouping-grown, grouping-valid}
 use Rattle.lists.specs.KeyLaws.{grouping-used-le}
-use Rattle.sheet.specs.Sheet.{Sheet, Grant}
 use Rattle.grants.specs.FitLaws.{Held, one-permission-fits, one-user-fits}
-use Rattle.grants.specs.Cover.{grant-at, fit-at, permission-at, user-at, fewer, best-grouping}
 use Rattle.grants.specs.NumberLaws.{grant-at-member}
 
 -- ---- the one with fewest classes of two

@@ -12,12 +12,13 @@ use borrow.Author.Tests.{eqb-true, eq-eqb}
 use lib.Dec.{eqb}
 use lib.ListN.{length, getD, set, replicate, length-replicate, getD-replicate}
 use lib.Seq.{getD-set-same, getD-set-other}
+use Rattle.spec.specs.Vocabulary.{some-below, every-below}
+use Rattle.spec.specs.Cover.{joins}
 use Rattle.bits.specs.Truth.{passes-or-fails, not-both, fails-unless, same-truth, implies, implies-intro, implies-elim, not-passes, not-fails, and-intro, and-left, and-right}
-use Rattle.bits.specs.Below.{some-below, every-below, Found}
+use Rattle.bits.specs.Counting.{Found}
 use Rattle.bits.specs.BelowLaws.{some-below-intro, some-below-elim, some-below-ext, every-below-intro, every-below-elim}
 use Rattle.bits.specs.Bit.{word-bits}
 use Rattle.bits.specs.BitLaws.{bit-of-zero}
-use Rattle.lists.specs.Placement.{joins}
 use Rattle.lists.specs.PlacementLaws.{joins-intro, joins-elim}
 use Rattle.lists.specs.LatestFirst.{latest-first, latest-first-length, latest-first-class}
 use Rattle.sheet.specs.Rows.{row-words, row-bits, cell}

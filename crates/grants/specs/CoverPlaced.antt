@@ -8,11 +8,10 @@ use mathlib.Core.Bool.{Bool}
 use mathlib.Core.List.{List, []}
 use borrow.Author.Tests.{le-leb, lt-leb}
 use lib.ListN.{length, set}
-use Rattle.lists.specs.Placement.{used, grouping}
+use Rattle.spec.specs.Cover.{used, grouping, fewer}
 use Rattle.lists.specs.GrownLaws.{grown-used-le}
 use Rattle.lists.specs.GroupingLaws.{class-taken, grouping-length, grouping-grown}
 use Rattle.lists.specs.LatestFirst.{latest-first, latest-first-next}
-use Rattle.grants.specs.Cover.{fewer}
 
 -- a placement of d numbers as their classes in an array, and the count of the classes
 pub record Placed (placement classes : List ℕ) (d count : ℕ) : Type 0 where

@@ -8,11 +8,11 @@ use mathlib.Core.Logic.{_⊎_, inl, inr, ⊎-elim, _≢_}
 use mathlib.Core.Bool.{Bool, false, So}
 use borrow.Author.Tests.{eqb-true, eqb-false, ne-eqb}
 use lib.Dec.{eqb}
+use Rattle.spec.specs.Vocabulary.{lowest-below}
+use Rattle.spec.specs.Cover.{used, joins, grouping}
 use Rattle.bits.specs.Truth.{passes-or-fails, not-both}
-use Rattle.bits.specs.Below.{lowest-below}
 use Rattle.bits.specs.BelowLaws.{last-or-below, below-or-from, none-below-intro}
 use Rattle.bits.specs.LowestLaws.{lowest-below-cases, lowest-below-intro, lowest-le}
-use Rattle.lists.specs.Placement.{used, joins, grouping}
 use Rattle.lists.specs.Classing.{class-in}
 use Rattle.lists.specs.PlacementLaws.{class-in-latest, class-in-earlier, class-below-used, joins-intro, earlier-uses-fewer, latest-below-used}
 use Rattle.lists.specs.GroupingLaws.{class-taken, grouping-length, grouping-grown}

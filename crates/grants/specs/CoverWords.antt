@@ -13,8 +13,8 @@ use lib.Bits.{bitOr}
 use lib.Dec.{eqb, ltb, lit<}
 use lib.ListN.{length, getD, set, length-set}
 use lib.Seq.{getD-set-same, getD-set-other}
+use Rattle.spec.specs.Vocabulary.{every-below}
 use Rattle.bits.specs.Truth.{passes-or-fails, same-truth, implies}
-use Rattle.bits.specs.Below.{every-below}
 use Rattle.bits.specs.BelowLaws.{every-below-ext}
 use Rattle.bits.specs.Bit.{bit, word-bits}
 use Rattle.bits.specs.BitLaws.{bit-or, bit-not}

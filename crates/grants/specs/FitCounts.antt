@@ -12,7 +12,7 @@ use lib.Bits.{bitAnd}
 use lib.Dec.{lit<, eqb}
 use lib.ListN.{length, getD}
 use Rattle.bits.specs.Truth.{passes-or-fails, not-both, fails-unless, and-intro, and-left, and-right}
-use Rattle.bits.specs.Below.{count-below, Lowest}
+use Rattle.bits.specs.Counting.{count-below, Lowest}
 use Rattle.bits.specs.BelowLaws.{below-or-from}
 use Rattle.bits.specs.CountLaws.{count-below-ext, count-below-none-intro}
 use Rattle.bits.specs.Bit.{bit, word-bits}

@@ -2,9 +2,9 @@
 -- the cells asked for are their own. So a held grant fits itself, and the grants of one permission or of one user all fit.
 use mathlib.Core.Path.{_≡_, refl}
 use mathlib.Core.Bool.{So, and-comm}
+use Rattle.spec.specs.Sheet.{Sheet, Grant, holds}
+use Rattle.spec.specs.Fit.{fits}
 use Rattle.bits.specs.Truth.{and-intro, and-left, and-right}
-use Rattle.sheet.specs.Sheet.{Sheet, Grant, holds}
-use Rattle.grants.specs.Fit.{fits}
 
 -- a grant whose cell says yes
 abbrev pub Held : Sheet → Grant → Type 0

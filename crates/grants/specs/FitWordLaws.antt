@@ -9,14 +9,14 @@ use mathlib.Core.List.{List}
 use lib.Arith.{digits-div, digits-mod}
 use lib.Bits.{bitAnd}
 use lib.ListN.{length, getD}
-use Rattle.bits.specs.Below.{count-below}
+use Rattle.spec.specs.Vocabulary.{filter}
+use Rattle.spec.specs.Sheet.{Sheet}
+use Rattle.spec.specs.Fit.{fits}
+use Rattle.bits.specs.Counting.{count-below}
 use Rattle.bits.specs.CountLaws.{count-below-ext, count-below-add}
 use Rattle.bits.specs.Bit.{bit, word-bits}
 use Rattle.bits.specs.BitLaws.{bit-and}
-use Rattle.lists.specs.Lists.{filter}
-use Rattle.sheet.specs.Sheet.{Sheet}
 use Rattle.sheet.specs.Rows.{row-words, row-bits}
-use Rattle.grants.specs.Fit.{fits}
 use Rattle.grants.specs.CellSets.{cell-grants}
 use Rattle.grants.specs.CellPlaces.{grant-of, marked, fit-in, near, FittingWord, Shown, Part}
 use Rattle.grants.specs.CellPlaceLaws.{row-bits-pos}

@@ -9,9 +9,9 @@ use mathlib.Core.List.{List, [], _∷_, List·Memᴰ·eq-of-singleton}
 use borrow.Author.Tests.{lt-ltb, le-ltb, eq-eqb, ne-eqb}
 use lib.Dec.{eqb, ltb, lit<}
 use lib.ListN.{getD}
+use Rattle.spec.specs.Vocabulary.{some-below, every-below}
 use Rattle.bits.specs.Bit.{bit, word-bits}
 use Rattle.bits.specs.Truth.{implies, implies-intro, passes-or-fails, not-both, and-intro}
-use Rattle.bits.specs.Below.{some-below, every-below}
 use Rattle.bits.specs.BelowLaws.{below-or-from, some-below-intro, some-below-ext, none-below-elim, every-below-intro, every-below-ext}
 use Rattle.sheet.specs.Rows.{row-words, row-bits}
 use Rattle.grants.specs.CellPlaces.{marked, Part}

@@ -6,12 +6,12 @@ use mathlib.Core.Path.{_≡_, refl, sym, ap, _∙_}
 use mathlib.Core.Bool.{Bool, true, false}
 use mathlib.Core.List.{List, [], _∷_, map}
 use lib.ListN.{length, getD, take, length-map}
-use Rattle.lists.specs.Lists.{keep, filter}
+use Rattle.spec.specs.Vocabulary.{keep, filter}
+use Rattle.spec.specs.Limits.{grant-limit}
+use Rattle.spec.specs.Sheet.{Sheet, grants}
+use Rattle.spec.specs.Cover.{grant-at}
 use Rattle.lists.specs.PassingBelow.{passing-below}
-use Rattle.sheet.specs.Limits.{grant-limit}
-use Rattle.sheet.specs.Sheet.{Sheet, grants}
 use Rattle.sheet.specs.Rows.{row-bits}
-use Rattle.grants.specs.Cover.{grant-at}
 use Rattle.grants.specs.CellSets.{in-cells, cell-grants}
 use Rattle.grants.specs.CellPlaces.{grant-of, marked, Shown, Part}
 use Rattle.grants.specs.CellListLaws.{cell-grants-by-cell}

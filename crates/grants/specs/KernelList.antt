@@ -13,7 +13,8 @@ use lib.Dec.{eqb}
 use lib.Count.{trailingZeros}
 use lib.ListN.{length, getD, take, set, length-set, length-append}
 use lib.Seq.{take-suc-set, length-take-le}
-use Rattle.bits.specs.Below.{Lowest}
+use Rattle.spec.specs.Limits.{grant-limit}
+use Rattle.bits.specs.Counting.{Lowest}
 use Rattle.bits.specs.BelowLaws.{below-or-from}
 use Rattle.bits.specs.Bit.{bit, word-bits}
 use Rattle.bits.specs.BitLaws.{bit-of-zero}
@@ -21,7 +22,6 @@ use Rattle.bits.specs.CountLaws.{count-below-more}
 use Rattle.bits.specs.Word.{LowestDropped}
 use Rattle.bits.specs.WordLaws.{lowest-trailing}
 use Rattle.lists.specs.PassingBelow.{passing-below, passing-until, passing-next, passing-length}
-use Rattle.sheet.specs.Limits.{grant-limit}
 use Rattle.sheet.specs.Rows.{row-bits}
 use Rattle.grants.specs.CellPlaces.{marked}
 use Rattle.grants.specs.CellListLaws.{cell-grants-by-cell}

@@ -7,16 +7,16 @@ use mathlib.Core.List.{List, [], _∷_}
 use mathlib.Core.Option.{Option, none, some}
 use lib.Dec.{eqb}
 use lib.ListN.{length}
-use Rattle.lists.specs.Lists.{empty}
+use Rattle.spec.specs.Vocabulary.{empty}
+use Rattle.spec.specs.Sheet.{Sheet, Grant, same-grant, grants}
+use Rattle.spec.specs.Fit.{partners}
+use Rattle.spec.specs.Reduction.{Reduction, dominated, is-single, tied-if, carry-out, visit, visits, sweep, sweeps, unreduced, reduction, kernel}
+use Rattle.spec.specs.Cover.{grant-at}
 use Rattle.lists.specs.Ordered.{Ordered, ordered-filter, ordered-places}
-use Rattle.sheet.specs.Sheet.{Sheet, Grant, same-grant, grants}
 use Rattle.sheet.specs.GrantLaws.{grant-held}
 use Rattle.sheet.specs.GrantOrderLaws.{Before, grants-ordered}
-use Rattle.grants.specs.Fit.{partners}
 use Rattle.grants.specs.FitLaws.{Held}
-use Rattle.grants.specs.Reduction.{Reduction, dominated, is-single, tied-if, carry-out, visit, visits, sweep, sweeps, unreduced, reduction, kernel}
 use Rattle.grants.specs.RemovedGranted.{kernel-granted}
-use Rattle.grants.specs.Cover.{grant-at}
 use Rattle.grants.specs.NumberLaws.{grant-at-member}
 
 module _ (sheet : Sheet) where

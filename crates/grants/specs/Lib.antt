@@ -1,12 +1,7 @@
--- Grants: which fit, which the reduction leaves, which bear witness, and the first cover.
-pub mod Fit
+-- Grants over rows of words: the laws of fitting, reduction, witness and first cover, and what the code's words stand for.
 pub mod FitLaws
 pub mod WithoutLaws
 pub mod AmongLaws
-pub mod Reduction
-pub mod Witness
-pub mod Cover
-pub mod Cases
 pub mod NumberLaws
 pub mod CoverLaws
 pub mod KernelArray

@@ -4,7 +4,7 @@ use mathlib.Core.Bool.{cond}
 use mathlib.Core.List.{List, [], _∷_}
 use lib.Dec.{eqb}
 use lib.ListN.{getD}
-use Rattle.grants.specs.Reduction.{Removal, single, tied}
+use Rattle.spec.specs.Reduction.{Removal, single, tied}
 use Rattle.grants.specs.CellPlaces.{grant-of}
 
 -- removal i, as two lists of cells say it: a grant whose partner is itself was removed as single

@@ -12,12 +12,12 @@ use lib.Arith.{digits-div, digits-mod}
 use lib.Bits.{bitAnd}
 use lib.Dec.{ltb, lit<}
 use lib.ListN.{getD}
+use Rattle.spec.specs.Vocabulary.{every-below}
+use Rattle.spec.specs.Limits.{user-limit}
 use Rattle.bits.specs.Bit.{bit, word-bits}
 use Rattle.bits.specs.BitLaws.{bit-and}
 use Rattle.bits.specs.Truth.{implies, implies-intro, passes-or-fails, same-truth, and-intro, and-left, and-right, not-fails}
-use Rattle.bits.specs.Below.{every-below}
 use Rattle.bits.specs.BelowLaws.{every-below-ext, every-below-intro, every-below-elim}
-use Rattle.sheet.specs.Limits.{user-limit}
 use Rattle.sheet.specs.Rows.{row-words, row-bits}
 use Rattle.grants.specs.CellPlaces.{cell-words, grant-of, marked, fit-in, FittingWord}
 use Rattle.grants.specs.CellPlaceLaws.{user-of-cell, word-of-cell, position-of-cell, fit-by-word}

@@ -6,9 +6,9 @@ use mathlib.Core.Bool.{Bool, false, So, not, _&&_}
 use mathlib.Core.List.{List}
 use lib.Dec.{ltb}
 use lib.ListN.{getD}
+use Rattle.spec.specs.Vocabulary.{every-below}
 use Rattle.bits.specs.Bit.{bit, word-bits}
 use Rattle.bits.specs.Truth.{implies}
-use Rattle.bits.specs.Below.{every-below}
 use Rattle.sheet.specs.Rows.{row-words, row-bits}
 use Rattle.grants.specs.CellPlaces.{grant-of, marked, fit-in}
 use Rattle.grants.specs.Columns.{held-in}

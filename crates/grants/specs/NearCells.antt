@@ -4,9 +4,9 @@ use Prim.Native.Nat.{ℕ, _*_}
 use mathlib.Core.Bool.{Bool, not, _&&_}
 use mathlib.Core.List.{List}
 use lib.Dec.{eqb}
+use Rattle.spec.specs.Vocabulary.{every-below}
 use Rattle.bits.specs.Bit.{word-bits}
 use Rattle.bits.specs.Truth.{implies}
-use Rattle.bits.specs.Below.{every-below}
 use Rattle.sheet.specs.Rows.{row-words}
 use Rattle.grants.specs.CellPlaces.{grant-of, marked, fit-in, near}
 

@@ -9,22 +9,22 @@ use mathlib.Core.Option.{none, some}
 use borrow.Author.Tests.{eq-eqb, eqb-true}
 use lib.Dec.{eqb}
 use lib.ListN.{length}
+use Rattle.spec.specs.Vocabulary.{filter, first}
+use Rattle.spec.specs.Sheet.{Sheet, Grant, same-grant}
+use Rattle.spec.specs.Fit.{fits, partners}
+use Rattle.spec.specs.Reduction.{dominates, dominated}
 use Rattle.bits.specs.Bit.{word-bits}
 use Rattle.bits.specs.Truth.{implies, same-truth, and-intro}
-use Rattle.bits.specs.Below.{Lowest}
+use Rattle.bits.specs.Counting.{Lowest}
 use Rattle.bits.specs.BelowLaws.{every-below-ext}
 use Rattle.bits.specs.LowestLaws.{lowest-ext}
 use Rattle.bits.specs.CountLaws.{count-below-ext}
 use Rattle.bits.specs.CountJoinLaws.{count-below-without}
-use Rattle.lists.specs.Lists.{filter, first}
 use Rattle.lists.specs.AppendLaws.{all-map, found-map, first-map}
 use Rattle.lists.specs.PassingBelow.{passing-below, passing-all, passing-first, passing-first-none}
-use Rattle.sheet.specs.Sheet.{Sheet, Grant, same-grant}
 use Rattle.sheet.specs.Rows.{row-words, row-bits}
 use Rattle.sheet.specs.GrantLaws.{same-grant-equal, equal-same-grant}
-use Rattle.grants.specs.Fit.{fits, partners}
 use Rattle.grants.specs.FitLaws.{fits-itself}
-use Rattle.grants.specs.Reduction.{dominates, dominated}
 use Rattle.grants.specs.CellSets.{cell-grants}
 use Rattle.grants.specs.CellPlaces.{grant-of, marked, fit-in, near, Shown, Part}
 use Rattle.grants.specs.CellListLaws.{cell-of, cell-of-grant, marked-holds, cell-grants-by-cell, passing-grants-count}

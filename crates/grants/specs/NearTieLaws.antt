@@ -13,7 +13,7 @@ use lib.ListN.{getD}
 use Rattle.bits.specs.Bit.{bit, word-bits}
 use Rattle.bits.specs.BitLaws.{bit-of-zero}
 use Rattle.bits.specs.Truth.{not-both, and-intro}
-use Rattle.bits.specs.Below.{Lowest}
+use Rattle.bits.specs.Counting.{Lowest}
 use Rattle.bits.specs.BelowLaws.{below-or-from}
 use Rattle.grants.specs.CellPlaces.{marked}
 use Rattle.grants.specs.FitWordLaws.{marked-in-word}

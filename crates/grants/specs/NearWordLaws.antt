@@ -8,9 +8,9 @@ use mathlib.Core.List.{List}
 use lib.Arith.{digits-lt, digits-div}
 use lib.Dec.{eqb}
 use lib.ListN.{getD}
+use Rattle.spec.specs.Vocabulary.{every-below}
 use Rattle.bits.specs.Bit.{bit, word-bits}
 use Rattle.bits.specs.Truth.{implies, implies-intro, implies-elim, fails-unless, not-both, and-intro, and-left, and-right}
-use Rattle.bits.specs.Below.{every-below}
 use Rattle.bits.specs.BelowLaws.{every-below-add, every-below-intro, every-below-elim}
 use Rattle.sheet.specs.Rows.{row-words, row-bits, cell}
 use Rattle.grants.specs.CellSets.{in-cells}

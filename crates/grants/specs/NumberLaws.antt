@@ -5,11 +5,11 @@ use mathlib.Core.Path.{_≡_}
 use mathlib.Core.Bool.{false}
 use mathlib.Core.List.{List, List·Memᴰ}
 use lib.ListN.{length}
+use Rattle.spec.specs.Sheet.{Grant, same-grant}
+use Rattle.spec.specs.Cover.{grant-at}
 use Rattle.lists.specs.TestLaws.{member-at, place-of}
 use Rattle.lists.specs.Ordered.{Ordered}
-use Rattle.sheet.specs.Sheet.{Grant, same-grant}
 use Rattle.sheet.specs.GrantOrderLaws.{Before, ordered-grants-differ}
-use Rattle.grants.specs.Cover.{grant-at}
 
 pub grant-at-member : (l : List Grant) (i : ℕ) → i < length l → List·Memᴰ (grant-at l i) l
 grant-at-member l i k = member-at l i (record { user = 0; permission = 0 }) k

@@ -7,7 +7,7 @@ use mathlib.Core.Logic.{_≢_}
 use mathlib.Core.List.{List}
 use borrow.Author.Tests.{eq-eqb, ne-eqb}
 use lib.ListN.{length, getD}
-use Rattle.grants.specs.Reduction.{singles-of}
+use Rattle.spec.specs.Reduction.{singles-of}
 use Rattle.grants.specs.Log.{log-of}
 
 -- the singles among the first so many removals

@@ -12,6 +12,9 @@ use borrow.Author.Tests.{eq-eqb, ne-eqb, eqb-true, eqb-false}
 use lib.Dec.{eqb}
 use lib.ListN.{length, getD, set, List·getD-eq-default}
 use lib.Seq.{getD-set-same, getD-set-other}
+use Rattle.spec.specs.Sheet.{Sheet, same-grant}
+use Rattle.spec.specs.Fit.{without}
+use Rattle.spec.specs.Reduction.{Removal, single, tied}
 use Rattle.bits.specs.Bit.{bit, word-bits}
 use Rattle.bits.specs.BitLaws.{bit-of-zero}
 use Rattle.bits.specs.Truth.{passes-or-fails, not-both, same-truth}
@@ -20,10 +23,7 @@ use Rattle.bits.specs.CountJoinLaws.{count-below-without}
 use Rattle.bits.specs.BelowLaws.{below-or-from, last-or-below}
 use Rattle.lists.specs.AppendLaws.{filter-map}
 use Rattle.lists.specs.PassingBelow.{passing-below, passing-filter, passing-ext}
-use Rattle.sheet.specs.Sheet.{Sheet, same-grant}
 use Rattle.sheet.specs.Rows.{row-bits}
-use Rattle.grants.specs.Fit.{without}
-use Rattle.grants.specs.Reduction.{Removal, single, tied}
 use Rattle.grants.specs.CellSets.{cell-grants}
 use Rattle.grants.specs.CellPlaces.{cell-limit, grant-of, marked, Shown, Part}
 use Rattle.grants.specs.CellListLaws.{cell-grants-by-cell}

@@ -5,13 +5,13 @@ use native.Mathlib.Omega.{arith}
 use mathlib.Core.Path.{_≡_, ap, _∙_}
 use mathlib.Core.List.{List}
 use lib.ListN.{length}
-use Rattle.sheet.specs.Limits.{user-limit, grant-limit}
-use Rattle.sheet.specs.Sheet.{Sheet}
-use Rattle.grants.specs.Reduction.{Removal, reduction, kernel, singles-of, singles}
+use Rattle.spec.specs.Limits.{user-limit, grant-limit}
+use Rattle.spec.specs.Sheet.{Sheet}
+use Rattle.spec.specs.Reduction.{Removal, reduction, kernel, singles-of, singles}
 use Rattle.grants.specs.CellSets.{cell-grants}
 use Rattle.grants.specs.CellPlaces.{Shown, Part}
 use Rattle.grants.specs.Log.{log-of}
-use Rattle.grants.specs.ReductionWork.{Work, work-of, remaining-cells, Logged, Ready, Settled}
+use Rattle.grants.specs.ReductionWork.{Work, work-of, remaining-cells, Logged, WorkReady, Settled}
 use Rattle.grants.specs.ReductionWorkLaws.{part-all}
 use Rattle.grants.specs.declared.reduction.Reduced.{Reduced}
 
@@ -22,7 +22,7 @@ pub record Reducible (rows : List ℕ) (users : ℕ) : Type 0 where
 
 -- nothing is removed at first
 pub reducible-ready : {rows : List ℕ} {users : ℕ} (removed partner : List ℕ) → Reducible rows users → length removed ≡ grant-limit
-    → length partner ≡ grant-limit → Ready rows users (work-of rows removed partner 0)
+    → length partner ≡ grant-limit → WorkReady rows users (work-of rows removed partner 0)
 reducible-ready {rows} removed partner given long long-too =
     record {
       few-users = given .few-users;

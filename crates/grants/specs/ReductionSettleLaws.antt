@@ -9,14 +9,14 @@ use mathlib.Core.List.{List, map}
 use borrow.Author.Tests.{eq-eqb, ne-eqb}
 use lib.Dec.{eqb}
 use lib.ListN.{length, length-map}
+use Rattle.spec.specs.Limits.{user-limit}
+use Rattle.spec.specs.Sheet.{Sheet, grants}
+use Rattle.spec.specs.Reduction.{Reduction, visits, sweep, sweeps, reduction}
 use Rattle.bits.specs.Truth.{fails-unless}
-use Rattle.bits.specs.Below.{count-below}
+use Rattle.bits.specs.Counting.{count-below}
 use Rattle.bits.specs.CountLaws.{count-below-add, count-below-none-intro}
 use Rattle.lists.specs.PassingBelow.{passing-below, passing-length}
-use Rattle.sheet.specs.Limits.{user-limit}
-use Rattle.sheet.specs.Sheet.{Sheet, grants}
 use Rattle.sheet.specs.Rows.{row-bits}
-use Rattle.grants.specs.Reduction.{Reduction, visits, sweep, sweeps, reduction}
 use Rattle.grants.specs.CellSets.{cell-grants}
 use Rattle.grants.specs.CellPlaces.{cell-limit, grant-of, marked, Shown, Part}
 use Rattle.grants.specs.CellPlaceLaws.{row-bits-pos}
@@ -24,7 +24,7 @@ use Rattle.grants.specs.CellListLaws.{marked-holds, grants-by-cell, cell
 use Rattle.grants.specs.NearCells.{cells-of}
 use Rattle.grants.specs.NearLaws.{row-cells}
 use Rattle.grants.specs.ReductionVisitLaws.{cells-within}
-use Rattle.grants.specs.ReductionWork.{Work, state-of, remaining-cells, Ready, Visited, Settled}
+use Rattle.grants.specs.ReductionWork.{Work, state-of, remaining-cells, WorkReady, Visited, Settled}
 use Rattle.grants.specs.ReductionWorkLaws.{part-all, visited-ready, visited-grows}
 
 -- ---- the definition's sweeps
@@ -106,12 +106,12 @@ module _ {rows : List ℕ} {users : ℕ} {sheet : Sheet} (shown : Shown rows use
 
 -- sweeps go on
 pub record Settling (rows : List ℕ) (users : ℕ) (now : Work) : Type 0 where
-  pub ready : Ready rows users now
+  pub ready : WorkReady rows users now
   pub pending : (sheet : Sheet) → Shown rows users sheet → Pending sheet (state-of sheet now)
 
 module _ {rows : List ℕ} {users : ℕ} {before after : Work} (settling : Settling rows users before)
     (visited : Visited rows users (passing-below (cells-of users) (marked (before .left))) before after) where
-  after-ready : Ready rows users after
+  after-ready : WorkReady rows users after
   after-ready = visited-ready (settling .ready) visited
 
   -- as many removals more as grants fewer

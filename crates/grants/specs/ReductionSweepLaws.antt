@@ -11,12 +11,12 @@ use lib.ListN.{getD}
 use Rattle.bits.specs.Bit.{bit, word-bits}
 use Rattle.bits.specs.BitLaws.{bit-of-zero}
 use Rattle.bits.specs.Truth.{and-left, and-right, not-fails}
-use Rattle.bits.specs.Below.{Lowest}
+use Rattle.bits.specs.Counting.{Lowest}
 use Rattle.bits.specs.Word.{LowestDropped}
 use Rattle.lists.specs.PassingBelow.{passing-below, passing-ext, passing-only, passing-none, passing-lowest, passing-add}
 use Rattle.grants.specs.CellPlaces.{marked}
 use Rattle.grants.specs.FitWordLaws.{marked-in-word}
-use Rattle.grants.specs.ReductionWork.{Work, word-cells, Ready, Visited}
+use Rattle.grants.specs.ReductionWork.{Work, word-cells, WorkReady, Visited}
 use Rattle.grants.specs.ReductionWorkLaws.{none-visited, visited-then, visited-ready}
 
 no-cells : (i : ℕ) → word-cells i 0 ≡ []
@@ -33,18 +33,18 @@ lowest-cell-first i {w} {q} {rest} low dropped =
 -- ---- within a word
 
 -- a word without cells
-pub swept-empty : {rows : List ℕ} {users : ℕ} {start : Work} (i : ℕ) → Ready rows users start → getD (start .left) i 0 ≡ 0
+pub swept-empty : {rows : List ℕ} {users : ℕ} {start : Work} (i : ℕ) → WorkReady rows users start → getD (start .left) i 0 ≡ 0
     → Visited rows users (word-cells i (getD (start .left) i 0)) start start
 swept-empty i ready empty = rw (empty, no-cells i) (none-visited ready)
 
 -- the cells at the positions of w remain and are still to be visited, after which the whole word was
 pub record Sweeping (rows : List ℕ) (users i : ℕ) (whole : List ℕ) (start now : Work) (w : ℕ) : Type 0 where
-  pub ready : Ready rows users now
+  pub ready : WorkReady rows users now
   pub set : (q : ℕ) → q < word-bits → So (bit w q) → So (marked (now .left) (i * word-bits + q))
   pub then : (end : Work) → Visited rows users (word-cells i w) now end → Visited rows users whole start end
 
 module _ {rows : List ℕ} {users i : ℕ} where
-  pub sweeping-at-first : {start : Work} → Ready rows users start
+  pub sweeping-at-first : {start : Work} → WorkReady rows users start
       → Sweeping rows users i (word-cells i (getD (start .left) i 0)) start start (getD (start .left) i 0)
   sweeping-at-first {start} ready =
       record { ready = ready; set = λ q l p. marked-in-word (start .left) i q l ∙ p; then = λ end v. v }
@@ -75,7 +75,7 @@ abbrev pub Swept : List ℕ → ℕ → ℕ → Work → Work → Type 0
 Swept rows users i start now = Visited rows users (passing-below (i * word-bits) (marked (start .left))) start now
 
 module _ {rows : List ℕ} {users : ℕ} where
-  pub swept-none : {start : Work} → Ready rows users start → Swept rows users 0 start start
+  pub swept-none : {start : Work} → WorkReady rows users start → Swept rows users 0 start start
   unfolding passing-below
   swept-none ready = none-visited ready
 

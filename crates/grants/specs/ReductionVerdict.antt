@@ -4,10 +4,10 @@ use mathlib.Core.Path.{_≡_}
 use mathlib.Core.Logic.{_≢_}
 use mathlib.Core.Bool.{Bool, So, false}
 use mathlib.Core.List.{List}
-use Rattle.sheet.specs.Limits.{user-limit}
-use Rattle.sheet.specs.Sheet.{Sheet}
-use Rattle.grants.specs.Reduction.{stays, is-single, is-tied, verdict}
-use Rattle.grants.specs.Reduction as Reduction
+use Rattle.spec.specs.Limits.{user-limit}
+use Rattle.spec.specs.Sheet.{Sheet}
+use Rattle.spec.specs.Reduction.{stays, is-single, is-tied, verdict}
+use Rattle.spec.specs.Reduction as Reduction
 use Rattle.grants.specs.CellSets.{cell-grants}
 use Rattle.grants.specs.CellPlaces.{grant-of, marked, Shown, Part}
 use Rattle.grants.specs.NearCells.{cells-of}
@@ -52,6 +52,6 @@ NamesOther users it Single = Unit {0}
 NamesOther users it (Tied n) = (n .0 < cells-of users) × (it ≢ n .0)
 
 -- what is judged of it: the definition's verdict, in every sheet that the rows show
-pub record Judged (rows left : List ℕ) (users it : ℕ) (judged : Verdict) : Type 0 where
+pub record GrantJudged (rows left : List ℕ) (users it : ℕ) (judged : Verdict) : Type 0 where
   pub named : NamesOther users it judged
   pub right : (sheet : Sheet) → Shown rows users sheet → verdict-of judged ≡ verdict sheet (cell-grants sheet left) (grant-of it)

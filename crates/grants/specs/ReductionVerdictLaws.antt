@@ -9,11 +9,11 @@ use mathlib.Core.List.{List, [], _∷_}
 use borrow.Author.Tests.{eq-eqb}
 use lib.Dec.{eqb}
 use lib.ListN.{length}
+use Rattle.spec.specs.Vocabulary.{empty, filter}
+use Rattle.spec.specs.Sheet.{Sheet}
+use Rattle.spec.specs.Fit.{fits, partners}
+use Rattle.spec.specs.Reduction.{stays, is-single, is-tied, verdict}
 use Rattle.bits.specs.Truth.{not-both, not-fails, and-left, and-right}
-use Rattle.lists.specs.Lists.{empty, filter}
-use Rattle.sheet.specs.Sheet.{Sheet}
-use Rattle.grants.specs.Fit.{fits, partners}
-use Rattle.grants.specs.Reduction.{stays, is-single, is-tied, verdict}
 use Rattle.grants.specs.CellSets.{cell-grants}
 use Rattle.grants.specs.CellPlaces.{grant-of, marked, Shown, Part}
 use Rattle.grants.specs.NearCells.{cells-of, dominates-in, tie-at}

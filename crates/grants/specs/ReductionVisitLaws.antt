@@ -7,20 +7,20 @@ use mathlib.Core.Bool.{So, not, and-true}
 use mathlib.Core.List.{List, [], _∷_, List·Memᴰ·head}
 use borrow.Author.Tests.{eq-eqb, ne-eqb}
 use lib.Dec.{eqb}
+use Rattle.spec.specs.Limits.{user-limit}
+use Rattle.spec.specs.Sheet.{Sheet}
+use Rattle.spec.specs.Fit.{without}
+use Rattle.spec.specs.Reduction.{Reduction, carry-out, visit}
 use Rattle.bits.specs.Bit.{word-bits}
 use Rattle.bits.specs.Truth.{and-left}
 use Rattle.bits.specs.CountLaws.{count-below-pos}
-use Rattle.sheet.specs.Limits.{user-limit}
 use Rattle.sheet.specs.Rows.{row-words}
-use Rattle.sheet.specs.Sheet.{Sheet}
-use Rattle.grants.specs.Fit.{without}
-use Rattle.grants.specs.Reduction.{Reduction, carry-out, visit}
 use Rattle.grants.specs.CellSets.{cell-grants}
 use Rattle.grants.specs.CellPlaces.{cell-limit, grant-of, marked, Shown, Part}
 use Rattle.grants.specs.NearCells.{cells-of}
 use Rattle.grants.specs.Log.{log-of}
-use Rattle.grants.specs.ReductionVerdict.{Judged}
-use Rattle.grants.specs.ReductionWork.{Work, state-of, Ready, Visited, Removable, Removed}
+use Rattle.grants.specs.ReductionVerdict.{GrantJudged}
+use Rattle.grants.specs.ReductionWork.{Work, state-of, WorkReady, Visited, Removable, Removed}
 use Rattle.grants.specs.ReductionWorkLaws.{part-all, part-of-part}
 use Rattle.grants.specs.ReductionRemoveLaws.{removal-of, without-cell, log-grown, logged-grown, one-fewer}
 use Rattle.grants.specs.declared.judgement.Verdict.the-variants.{Stays, Single, Tied}
@@ -31,7 +31,7 @@ pub cells-within : {users : ℕ} → users ≤ user-limit → cells-of users ≤
 cells-within {users} h = mul-le-mul-right word-bits (mul-le-mul-right row-words h)
 
 -- a cell that remains can be removed: the log has room for it
-pub removable : {rows : List ℕ} {users it other : ℕ} {work : Work} → Ready rows users work → it < cells-of users → So (marked (work .left) it)
+pub removable : {rows : List ℕ} {users it other : ℕ} {work : Work} → WorkReady rows users work → it < cells-of users → So (marked (work .left) it)
     → other < cells-of users → Removable it other work
 removable {it} {work} ready inside set below =
     record {
@@ -53,8 +53,8 @@ without-it sheet before it other =
       removed = removal-of it other ∷ log-of (before .removed) (before .partner) (before .count);
     }
 
-module _ {rows : List ℕ} {users it : ℕ} {before : Work} (ready : Ready rows users before) where
-  pub visit-stays : Judged rows (before .left) users it Stays → Visited rows users (it ∷ []) before before
+module _ {rows : List ℕ} {users it : ℕ} {before : Work} (ready : WorkReady rows users before) where
+  pub visit-stays : GrantJudged rows (before .left) users it Stays → Visited rows users (it ∷ []) before before
   visit-stays judged =
       record {
         part = part-all (before .left);
@@ -87,12 +87,12 @@ module _ {rows : List ℕ} {users it : ℕ} {before : Work} (ready : Ready rows 
         at-it : it < cell-limit
         at-it = lt-of-lt-of-le inside (cells-within (ready .few-users))
 
-    pub visit-single : Judged rows (before .left) users it Single → Removed it it before after → Visited rows users (it ∷ []) before after
+    pub visit-single : GrantJudged rows (before .left) users it Single → Removed it it before after → Visited rows users (it ∷ []) before after
     visit-single judged removed =
         removed-visited removed (lt-of-lt-of-le inside (cells-within (ready .few-users)))
         (λ sheet shown. rw (eq-eqb it it refl) (ap (λ v. carry-out v (grant-of it) (state-of sheet before)) (judged .right sheet shown)))
 
-    pub visit-tied : {other : CellNo} → Judged rows (before .left) users it (Tied other) → Removed it (other .0) before after
+    pub visit-tied : {other : CellNo} → GrantJudged rows (before .left) users it (Tied other) → Removed it (other .0) before after
         → Visited rows users (it ∷ []) before after
     visit-tied {other} judged removed =
         removed-visited removed (lt-of-lt-of-le (judged .named .0) (cells-within (ready .few-users)))

@@ -6,12 +6,12 @@ use mathlib.Core.Bool.{So, not, _&&_}
 use mathlib.Core.List.{List, map, List·Memᴰ}
 use lib.Dec.{eqb}
 use lib.ListN.{length, getD}
+use Rattle.spec.specs.Limits.{user-limit, grant-limit}
+use Rattle.spec.specs.Sheet.{Sheet}
+use Rattle.spec.specs.Reduction.{Reduction, visits, reduction}
 use Rattle.bits.specs.Bit.{bit, word-bits}
-use Rattle.bits.specs.Below.{count-below}
+use Rattle.bits.specs.Counting.{count-below}
 use Rattle.lists.specs.PassingBelow.{passing-below}
-use Rattle.sheet.specs.Limits.{user-limit, grant-limit}
-use Rattle.sheet.specs.Sheet.{Sheet}
-use Rattle.grants.specs.Reduction.{Reduction, visits, reduction}
 use Rattle.grants.specs.CellSets.{cell-grants}
 use Rattle.grants.specs.CellPlaces.{cell-limit, grant-of, marked, Shown, Part}
 use Rattle.grants.specs.Log.{log-of}
@@ -47,7 +47,7 @@ pub record Logged (work : Work) : Type 0 where
   pub partner-cell : (i : ℕ) → i < work .count → getD (work .partner) i 0 < cell-limit
 
 -- the work can go on: only cells of the rows remain, and the log has room for all of them
-pub record Ready (rows : List ℕ) (users : ℕ) (work : Work) : Type 0 where
+pub record WorkReady (rows : List ℕ) (users : ℕ) (work : Work) : Type 0 where
   pub few-users : users ≤ user-limit
   pub part : Part (work .left) rows
   pub room : work .count + remaining-cells (work .left) ≤ grant-limit
@@ -63,7 +63,7 @@ pub record Visited (rows : List ℕ) (users : ℕ) (cells : List ℕ) (before af
 
 -- the work is done: what it says of every sheet that the rows show is the whole reduction
 pub record Settled (rows : List ℕ) (users : ℕ) (work : Work) : Type 0 where
-  pub ready : Ready rows users work
+  pub ready : WorkReady rows users work
   pub whole : (sheet : Sheet) → Shown rows users sheet → state-of sheet work ≡ reduction sheet
 
 -- a cell that remains can be removed, with the partner that it is tied to, or itself

@@ -4,12 +4,12 @@ use Prim.Native.Nat.{ℕ, _≤_}
 use native.Mathlib.Omega.{arith}
 use mathlib.Core.Path.{_≡_, refl, sym, ap, _∙_}
 use mathlib.Core.List.{List, [], _∷_, _++_, map, Memᴰ·append-left, Memᴰ·append-right}
+use Rattle.spec.specs.Sheet.{Sheet, Grant}
+use Rattle.spec.specs.Reduction.{Reduction, visit, visits}
 use Rattle.bits.specs.CountLaws.{count-below-mono}
 use Rattle.lists.specs.AppendLaws.{map-append}
-use Rattle.sheet.specs.Sheet.{Sheet, Grant}
-use Rattle.grants.specs.Reduction.{Reduction, visit, visits}
 use Rattle.grants.specs.CellPlaces.{cell-limit, grant-of, marked, Part}
-use Rattle.grants.specs.ReductionWork.{Work, state-of, Ready, Visited}
+use Rattle.grants.specs.ReductionWork.{Work, state-of, WorkReady, Visited}
 
 pub part-all : (left : List ℕ) → Part left left
 part-all left = record { held = λ n p. p }
@@ -22,7 +22,7 @@ visits-append sheet [] m r = refl
 visits-append sheet (it ∷ l) m r = visits-append sheet l m (visit sheet it r)
 
 module _ {rows : List ℕ} {users : ℕ} where
-  pub none-visited : {work : Work} → Ready rows users work → Visited rows users [] work work
+  pub none-visited : {work : Work} → WorkReady rows users work → Visited rows users [] work work
   none-visited {work} ready =
       record { part = part-all (work .left); kept = λ n out. refl; total = refl; logged = ready .logged; state = λ sheet shown. refl }
 
@@ -41,8 +41,8 @@ module _ {rows : List ℕ} {users : ℕ} where
             ∙ ap (λ l. visits sheet l (state-of sheet before)) (sym (map-append grant-of first then));
       }
 
-  pub visited-ready : {cells : List ℕ} {before after : Work} → Ready rows users before → Visited rows users cells before after
-      → Ready rows users after
+  pub visited-ready : {cells : List ℕ} {before after : Work} → WorkReady rows users before → Visited rows users cells before after
+      → WorkReady rows users after
   visited-ready ready v =
       record {
         few-users = ready .few-users;

@@ -9,13 +9,13 @@ use mathlib.Core.List.{List, [], _∷_, List·Memᴰ, List·Memᴰ·head, List·
 use mathlib.Core.Option.{Option, none, some}
 use lib.Dec.{eqb}
 use lib.ListN.{length}
+use Rattle.spec.specs.Vocabulary.{empty}
+use Rattle.spec.specs.Sheet.{Sheet, Grant, grants}
+use Rattle.spec.specs.Fit.{partners}
+use Rattle.spec.specs.Reduction.{Removal, single, tied, Reduction, dominated, is-single, tied-if, carry-out, visit, visits, sweep, sweeps, unreduced, reduction, kernel}
 use Rattle.bits.specs.BelowLaws.{last-or-below}
-use Rattle.lists.specs.Lists.{empty}
 use Rattle.lists.specs.TestLaws.{first-passes}
-use Rattle.sheet.specs.Sheet.{Sheet, Grant, grants}
-use Rattle.grants.specs.Fit.{partners}
 use Rattle.grants.specs.WithoutLaws.{without-member}
-use Rattle.grants.specs.Reduction.{Removal, single, tied, Reduction, dominated, is-single, tied-if, carry-out, visit, visits, sweep, sweeps, unreduced, reduction, kernel}
 use Rattle.grants.specs.Log.{removal-at, log-of}
 
 -- a removal of grants of a list

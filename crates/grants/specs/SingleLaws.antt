@@ -10,18 +10,18 @@ use mathlib.Core.List.{List}
 use borrow.Author.Tests.{eq-eqb, ne-eqb}
 use lib.Dec.{eqb, lit<}
 use lib.ListN.{length, getD}
+use Rattle.spec.specs.Vocabulary.{filter}
+use Rattle.spec.specs.Sheet.{Sheet}
+use Rattle.spec.specs.Fit.{fits}
 use Rattle.bits.specs.Bit.{bit, word-bits}
 use Rattle.bits.specs.BitLaws.{bit-of-zero}
 use Rattle.bits.specs.Truth.{and-intro}
-use Rattle.bits.specs.Below.{count-below}
+use Rattle.bits.specs.Counting.{count-below}
 use Rattle.bits.specs.BelowLaws.{below-or-from, some-below-elim}
 use Rattle.bits.specs.CountLaws.{count-below-pos, count-below-none-intro}
 use Rattle.bits.specs.CountJoinLaws.{count-below-one-intro, count-below-one-elim}
 use Rattle.bits.specs.Word.{LowestDropped}
 use Rattle.bits.specs.WordLaws.{some-bit, dropped-count}
-use Rattle.lists.specs.Lists.{filter}
-use Rattle.sheet.specs.Sheet.{Sheet}
-use Rattle.grants.specs.Fit.{fits}
 use Rattle.grants.specs.CellSets.{cell-grants}
 use Rattle.grants.specs.CellPlaces.{grant-of, marked, fit-in, near, CountedBelow, Shown, Part}
 use Rattle.grants.specs.FitWordLaws.{marked-in-word, near-count}

@@ -12,10 +12,10 @@ use lib.Arith.{digits-div, digits-mod, digits-lt}
 use lib.Dec.{eqb, ltb, lit<}
 use lib.ListN.{length, getD, set, length-map}
 use lib.Seq.{getD-set-same, getD-set-other}
+use Rattle.spec.specs.Sheet.{Sheet}
 use Rattle.bits.specs.BelowLaws.{below-or-from}
 use Rattle.bits.specs.Bit.{bit, word-bits}
 use Rattle.bits.specs.BitLaws.{bit-of-zero}
-use Rattle.sheet.specs.Sheet.{Sheet}
 use Rattle.grants.specs.CellPlaces.{grant-of, Shown}
 use Rattle.grants.specs.CoverArray.{fit-at-grants}
 use Rattle.grants.specs.TableWords.{table-row, table-limit, table-bit, fit-among, table-word, FirstBits, Table}

@@ -11,10 +11,10 @@ use lib.Arith.{digits-div, digits-mod}
 use lib.Dec.{eqb, ltb}
 use lib.ListN.{length, getD, set, replicate, length-set, getD-replicate}
 use lib.Seq.{getD-set-same, getD-set-other}
+use lib.Bits.{bitAnd}
 use Rattle.bits.specs.BelowLaws.{below-or-from}
 use Rattle.bits.specs.Bit.{bit, word-bits}
 use Rattle.bits.specs.BitLaws.{bit-of-zero, bit-and}
-use lib.Bits.{bitAnd}
 use Rattle.sheet.specs.Rows.{row-bits}
 use Rattle.grants.specs.TableWords.{table-row, table-limit, table-word, FirstBits}
 use Rattle.grants.specs.TableParts.{CellsFrom, user-holds-at, user-holds, permission-held-at, permission-held, ColumnsOf}

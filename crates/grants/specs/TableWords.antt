@@ -6,9 +6,9 @@ use mathlib.Core.Bool.{Bool, _&&_}
 use mathlib.Core.List.{List}
 use lib.Dec.{ltb}
 use lib.ListN.{length, getD}
+use Rattle.spec.specs.Sheet.{Sheet, Grant}
+use Rattle.spec.specs.Cover.{fit-at}
 use Rattle.bits.specs.Bit.{bit, word-bits}
-use Rattle.sheet.specs.Sheet.{Sheet, Grant}
-use Rattle.grants.specs.Cover.{fit-at}
 use Rattle.grants.specs.CellPlaces.{grant-of, fit-in}
 
 -- the words of a grant

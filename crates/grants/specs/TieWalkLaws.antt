@@ -5,7 +5,7 @@ use native.Mathlib.Omega.{arith}
 use mathlib.Core.Path.{_≡_}
 use mathlib.Core.Bool.{Bool}
 use Rattle.bits.specs.Bit.{bit, word-bits}
-use Rattle.bits.specs.Below.{Lowest}
+use Rattle.bits.specs.Counting.{Lowest}
 use Rattle.sheet.specs.Rows.{row-words}
 use Rattle.grants.specs.NearTieLaws.{none-in-words, none-then-lowest}
 use Rattle.grants.specs.PositionWalk.{Walk, walk-before, walk-ended}

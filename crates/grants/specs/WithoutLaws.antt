@@ -3,11 +3,11 @@ use mathlib.Core.Path.{_≡_, sym}
 use mathlib.Core.Logic.{_⊎_, inl, inr, ⊎-elim, _≢_}
 use mathlib.Core.Bool.{not, false}
 use mathlib.Core.List.{List, List·Memᴰ}
+use Rattle.spec.specs.Sheet.{Grant, same-grant}
+use Rattle.spec.specs.Fit.{without}
 use Rattle.bits.specs.Truth.{passes-or-fails, not-both, not-passes, not-fails}
 use Rattle.lists.specs.TestLaws.{filter-member, filter-kept}
-use Rattle.sheet.specs.Sheet.{Grant, same-grant}
 use Rattle.sheet.specs.GrantLaws.{same-grant-equal, equal-same-grant}
-use Rattle.grants.specs.Fit.{without}
 
 pub without-member : (it : Grant) (l : List Grant) {g : Grant} → List·Memᴰ g (without it l) → List·Memᴰ g l
 without-member it l m = filter-kept (λ h. not (same-grant it h)) l m .member

@@ -9,14 +9,14 @@ use mathlib.Core.List.{List, [], _∷_, _++_}
 use mathlib.Core.Option.{Option, none, some}
 use borrow.Author.Tests.{ltb-true, ltb-false, eqb-false, ne-eqb, le-leb, lt-leb}
 use lib.Dec.{eqb, ltb}
+use Rattle.spec.specs.Vocabulary.{least}
+use Rattle.spec.specs.Sheet.{Sheet, Grant}
+use Rattle.spec.specs.Fit.{partners}
+use Rattle.spec.specs.Witness.{fewest-partners}
 use Rattle.bits.specs.Truth.{passes-or-fails}
-use Rattle.lists.specs.Lists.{least}
 use Rattle.lists.specs.LeastLast.{or-lesser, least-last}
-use Rattle.sheet.specs.Sheet.{Sheet, Grant}
 use Rattle.sheet.specs.Rows.{row-bits}
 use Rattle.grants.specs.declared.choice.Choice.{Choice}
-use Rattle.grants.specs.Fit.{partners}
-use Rattle.grants.specs.Witness.{fewest-partners}
 use Rattle.grants.specs.CellSets.{cell-grants}
 use Rattle.grants.specs.CellPlaces.{grant-of, marked, Shown, Part}
 
@@ -36,13 +36,13 @@ abbrev pub better-of : Choice → ℕ → ℕ → Choice
 better-of best cell count = cond (eqb (best .partners) 0 || ltb count (best .partners)) (choose cell count) best
 
 -- a choice names a cell of left below an end
-pub record Standing (left : List ℕ) (end : ℕ) (choice : Choice) : Type 0 where
+pub record ChoiceWithin (left : List ℕ) (end : ℕ) (choice : Choice) : Type 0 where
   pub within : 0 < choice .partners → choice .cell .0 < end
   pub is-set : 0 < choice .partners → So (marked left (choice .cell .0))
 
 -- of the remaining grants of a sheet it is the one with the fewest partners
 pub record Fewest (rows left : List ℕ) (users : ℕ) (choice : Choice) : Type 0 where
-  pub standing : Standing left (users * row-bits) choice
+  pub standing : ChoiceWithin left (users * row-bits) choice
   pub is-fewest :
       (sheet : Sheet) → Shown rows users sheet → Part left rows → fewest-partners sheet (cell-grants sheet left) ≡ choice-of choice
 
@@ -96,13 +96,13 @@ module _ (measure : Grant → ℕ) (seen : List Grant) (best : Choice) (so-far :
 
 -- ---- a choice is a cell of left
 
-pub none-standing : (left : List ℕ) (end : ℕ) → Standing left end (no-choice)
+pub none-standing : (left : List ℕ) (end : ℕ) → ChoiceWithin left end (no-choice)
 none-standing left end = record { within = λ l. absurd (omega arith); is-set = λ l. absurd (omega arith) }
 
-pub better-standing : (left : List ℕ) (end : ℕ) (best : Choice) → Standing left end best → (n count : ℕ) → n < end → So (marked left n)
-    → Standing left end (better-of best n count)
+pub better-standing : (left : List ℕ) (end : ℕ) (best : Choice) → ChoiceWithin left end best → (n count : ℕ) → n < end → So (marked left n)
+    → ChoiceWithin left end (better-of best n count)
 better-standing left end best s n count l p = pick (eqb (best .partners) 0 || ltb count (best .partners))
   where
-    pick : (b : Bool) → Standing left end (cond b (choose n count) best)
+    pick : (b : Bool) → ChoiceWithin left end (cond b (choose n count) best)
     pick true = record { within = λ m. l; is-set = λ m. p }
     pick false = s

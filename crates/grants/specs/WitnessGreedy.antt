@@ -9,16 +9,16 @@ use mathlib.Core.Option.{some}
 use borrow.Author.Tests.{eqb-true, eq-eqb}
 use lib.Dec.{eqb}
 use lib.ListN.{replicate}
+use Rattle.spec.specs.Limits.{grant-limit}
+use Rattle.spec.specs.Sheet.{Sheet, Grant, same-grant}
+use Rattle.spec.specs.Fit.{fits, among}
+use Rattle.spec.specs.Witness.{fewest-partners, left-after, taken}
 use Rattle.bits.specs.Truth.{not-both, same-truth, and-left, or-cases}
 use Rattle.lists.specs.AppendLaws.{filter-map}
 use Rattle.lists.specs.PassingBelow.{passing-below, passing-filter, passing-ext}
-use Rattle.sheet.specs.Limits.{grant-limit}
-use Rattle.sheet.specs.Sheet.{Sheet, Grant, same-grant}
 use Rattle.sheet.specs.Rows.{row-bits}
 use Rattle.sheet.specs.GrantLaws.{same-grant-equal}
-use Rattle.grants.specs.Fit.{fits, among}
 use Rattle.grants.specs.FitLaws.{fits-itself}
-use Rattle.grants.specs.Witness.{fewest-partners, left-after, taken}
 use Rattle.grants.specs.CellSets.{cell-grants}
 use Rattle.grants.specs.CellPlaces.{grant-of, marked, fit-in, Shown, Part}
 use Rattle.grants.specs.CellListLaws.{marked-holds, cell-grants-by-cell}

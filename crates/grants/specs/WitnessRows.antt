@@ -6,18 +6,18 @@ use mathlib.Core.Logic.{⊎-elim}
 use mathlib.Core.Bool.{_||_}
 use mathlib.Core.List.{List, List·Memᴰ}
 use lib.ListN.{length, length-map}
+use Rattle.spec.specs.Limits.{grant-limit}
+use Rattle.spec.specs.Sheet.{Sheet, Grant, grants}
+use Rattle.spec.specs.Fit.{among}
+use Rattle.spec.specs.Reduction as reduction
+use Rattle.spec.specs.Witness.{taken, chosen, witness}
 use Rattle.bits.specs.Truth.{or-cases}
-use Rattle.bits.specs.Below.{count-below}
+use Rattle.bits.specs.Counting.{count-below}
 use Rattle.lists.specs.FilterLength.{filter-length}
 use Rattle.lists.specs.FilterSame.{filter-same}
 use Rattle.lists.specs.PassingBelow.{passing-below, passing-length}
-use Rattle.sheet.specs.Limits.{grant-limit}
-use Rattle.sheet.specs.Sheet.{Sheet, Grant, grants}
 use Rattle.sheet.specs.Rows.{row-bits}
 use Rattle.sheet.specs.GrantLaws.{grant-held}
-use Rattle.grants.specs.Fit.{among}
-use Rattle.grants.specs.Reduction as reduction
-use Rattle.grants.specs.Witness.{taken, chosen, witness}
 use Rattle.grants.specs.CellSets.{in-cells, cell-grants}
 use Rattle.grants.specs.CellPlaces.{grant-of, marked, Shown, Part}
 use Rattle.grants.specs.CellPlaceLaws.{cell-marked}

@@ -7,12 +7,12 @@ use mathlib.Core.List.{List, List·Memᴰ}
 use borrow.Author.Tests.{eqb-true, eq-eqb}
 use lib.Dec.{eqb}
 use lib.ListN.{getD, replicate}
+use Rattle.spec.specs.Sheet.{Sheet, Grant, grants}
+use Rattle.spec.specs.Fit.{among}
+use Rattle.spec.specs.Reduction.{singles-of}
 use Rattle.bits.specs.Truth.{same-truth}
-use Rattle.sheet.specs.Sheet.{Sheet, Grant, grants}
 use Rattle.sheet.specs.GrantLaws.{grant-held}
-use Rattle.grants.specs.Fit.{among}
 use Rattle.grants.specs.AmongLaws.{among-member}
-use Rattle.grants.specs.Reduction.{singles-of}
 use Rattle.grants.specs.CellPlaces.{grant-of, marked, Shown, Part}
 use Rattle.grants.specs.CellListLaws.{marked-holds}
 use Rattle.grants.specs.Log.{log-of}

@@ -6,14 +6,14 @@ use mathlib.Core.Bool.{not, _||_}
 use mathlib.Core.List.{List, [], _∷_}
 use mathlib.Core.Option.{none}
 use lib.ListN.{length}
+use Rattle.spec.specs.Vocabulary.{lesser, least}
+use Rattle.spec.specs.Sheet.{Sheet, Grant, same-grant}
+use Rattle.spec.specs.Fit.{fits, partners}
+use Rattle.spec.specs.Witness.{fewest-partners, left-after, taken}
 use Rattle.bits.specs.Truth.{or-left}
-use Rattle.lists.specs.Lists.{lesser, least}
 use Rattle.lists.specs.FilterLength.{filter-shorter}
 use Rattle.lists.specs.LeastLaws.{least-member}
-use Rattle.sheet.specs.Sheet.{Sheet, Grant, same-grant}
 use Rattle.sheet.specs.GrantLaws.{same-grant-refl}
-use Rattle.grants.specs.Fit.{fits, partners}
-use Rattle.grants.specs.Witness.{fewest-partners, left-after, taken}
 
 -- as many choices as there are grants are enough
 pub taken-enough : (sheet : Sheet) (m n : ℕ) (l : List Grant) → length l ≤ m → length l ≤ n → taken sheet m l ≡ taken sheet n l

@@ -11,19 +11,19 @@ use mathlib.Core.List.{List, _∷_, [], map, map-append}
 use borrow.Author.Tests.{eq-eqb, ne-eqb}
 use lib.Dec.{eqb}
 use lib.ListN.{length, getD}
+use Rattle.spec.specs.Vocabulary.{least}
+use Rattle.spec.specs.Limits.{user-limit}
+use Rattle.spec.specs.Sheet.{Sheet, Grant}
+use Rattle.spec.specs.Fit.{partners}
 use Rattle.bits.specs.Truth.{not-both}
-use Rattle.bits.specs.Below.{Lowest}
+use Rattle.bits.specs.Counting.{Lowest}
 use Rattle.bits.specs.BelowLaws.{below-or-from}
 use Rattle.bits.specs.Bit.{bit, word-bits}
 use Rattle.bits.specs.BitLaws.{bit-of-zero}
 use Rattle.bits.specs.Word.{LowestDropped}
-use Rattle.lists.specs.Lists.{least}
 use Rattle.lists.specs.PassingBelow.{passing-below, passing-until, passing-next}
-use Rattle.sheet.specs.Sheet.{Sheet, Grant}
-use Rattle.sheet.specs.Limits.{user-limit}
 use Rattle.sheet.specs.Rows.{row-words, row-bits}
 use Rattle.grants.specs.declared.choice.Choice.{Choice}
-use Rattle.grants.specs.Fit.{partners}
 use Rattle.grants.specs.CellSets.{cell-grants}
 use Rattle.grants.specs.CellPlaces.{grant-of, marked, Shown, Part}
 use Rattle.grants.specs.CellListLaws.{cell-grants-by-cell}
@@ -31,7 +31,7 @@ use Rattle.grants.specs.FitWordLaws.{marked-in-word}
 use Rattle.grants.specs.NearLaws.{partners-one-fewer}
 use Rattle.grants.specs.KernelWalk.{Skipped}
 use Rattle.grants.specs.Counts.{Counted, counted-grants}
-use Rattle.grants.specs.WitnessChoice.{no-choice, better-of, Standing, Fewest, Least, none-seen, one-more-seen, none-standing, better-standing}
+use Rattle.grants.specs.WitnessChoice.{no-choice, better-of, ChoiceWithin, Fewest, Least, none-seen, one-more-seen, none-standing, better-standing}
 
 -- how many partners a grant has among those of left
 abbrev pub partner-count : Sheet → List ℕ → Grant → ℕ
@@ -39,7 +39,7 @@ partner-count sheet left g = length (partners sheet (cell-grants sheet left) g)
 
 -- the best of the cells below n
 pub record Walked (rows left : List ℕ) (users : ℕ) (best : Choice) (n : ℕ) : Type 0 where
-  pub standing : Standing left (users * row-bits) best
+  pub standing : ChoiceWithin left (users * row-bits) best
   pub so-far :
       (sheet : Sheet) → Shown rows users sheet → Part left rows
       → Least (partner-count sheet left) (map grant-of (passing-below n (marked left))) best

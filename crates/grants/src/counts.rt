@@ -11,7 +11,7 @@ ghost use mathlib.Core.Path.{_≡_};
 ghost use mathlib.Core.Bool.{So};
 ghost use Prim.Native.Nat.{ℕ, _+_, _-_, _/_, _≤_, _<_};
 ghost use lib.ListN.{length, getD};
-ghost use Rattle.sheet.specs.Limits.{user-limit};
+ghost use Rattle.spec.specs.Limits.{user-limit};
 ghost use Rattle.bits.specs.Bit.{word-bits};
 ghost use Rattle.grants.specs.CellPlaces.{cell-words, cell-limit, marked};
 ghost use Rattle.grants.specs.CountChange.{at-position, Changed};

@@ -15,13 +15,13 @@ ghost use mathlib.Core.Bool.{So};
 ghost use Prim.Native.Nat.{ℕ, _+_, _*_, _/_, _<_, _≤_};
 ghost use lib.Dec.{eqb};
 ghost use lib.ListN.{length};
-ghost use Rattle.bits.specs.Below.{count-below};
+ghost use Rattle.spec.specs.Vocabulary.{filter};
+ghost use Rattle.spec.specs.Limits.{user-limit};
+ghost use Rattle.spec.specs.Sheet.{Sheet};
+ghost use Rattle.spec.specs.Fit.{fits};
+ghost use Rattle.bits.specs.Counting.{count-below};
 ghost use Rattle.bits.specs.Bit.{bit, word-bits};
-ghost use Rattle.lists.specs.Lists.{filter};
-ghost use Rattle.sheet.specs.Limits.{user-limit};
 ghost use Rattle.sheet.specs.Rows.{row-words};
-ghost use Rattle.sheet.specs.Sheet.{Sheet};
-ghost use Rattle.grants.specs.Fit.{fits};
 ghost use Rattle.grants.specs.CellSets.{cell-grants};
 ghost use Rattle.grants.specs.CellPlaces.{cell-words, cell-limit, grant-of, marked, Shown, Part};
 ghost use Rattle.grants.specs.Columns.{Columns};
@@ -29,7 +29,7 @@ ghost use Rattle.grants.specs.Insides.{Insides};
 ghost use Rattle.grants.specs.Misfits.{words-before};
 ghost use Rattle.grants.specs.NearCells.{cells-of, tie-at};
 ghost use Rattle.grants.specs.NearTieLaws.{Untried};
-ghost use Rattle.grants.specs.ReductionVerdict.{FoundIn, Judgeable, Judged};
+ghost use Rattle.grants.specs.ReductionVerdict.{FoundIn, Judgeable, GrantJudged};
 
 // The cell that a grant is tied to, if there is one.
 pub enum Found {
@@ -181,7 +181,7 @@ pub fn judge<'a>(
 ) -> Verdict
     requires { ⌜ Judgeable (now rows) (now left) users (it .0) × Columns (now rows) (now columns)
         × Insides (now rows) (now left) users (it .0 / word-bits) (now inside) ⌝ }
-    ensures { λ r. ⌜ Judged (now (rows .entry)) (now (left .entry)) users (it .0) r ⌝ }
+    ensures { λ r. ⌜ GrantJudged (now (rows .entry)) (now (left .entry)) users (it .0) r ⌝ }
 {
     if is_single(rows, columns, left, it) {
         return Verdict::Single;

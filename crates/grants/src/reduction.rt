@@ -15,18 +15,18 @@ ghost use mathlib.Core.Bool.{So};
 ghost use mathlib.Core.List.{[], _∷_};
 ghost use Prim.Native.Nat.{_*_, _/_, _<_, _≤_};
 ghost use lib.ListN.{length, getD};
+ghost use Rattle.spec.specs.Limits.{grant-limit};
+ghost use Rattle.spec.specs.Reduction.{singles-of};
 ghost use Rattle.bits.specs.Bit.{word-bits};
 ghost use Rattle.lists.specs.PassingBelow.{passing-below};
-ghost use Rattle.sheet.specs.Limits.{grant-limit};
 ghost use Rattle.sheet.specs.Rows.{row-words};
-ghost use Rattle.grants.specs.Reduction.{singles-of};
 ghost use Rattle.grants.specs.Log.{log-of};
 ghost use Rattle.grants.specs.CellPlaces.{marked};
 ghost use Rattle.grants.specs.Columns.{Columns};
 ghost use Rattle.grants.specs.Insides.{Insides};
 ghost use Rattle.grants.specs.NearCells.{cells-of};
 ghost use Rattle.grants.specs.ReductionResult.{Reducible, ReducedFrom};
-ghost use Rattle.grants.specs.ReductionWork.{work-of, word-cells, Ready, Visited, Settled, Removable, Removed};
+ghost use Rattle.grants.specs.ReductionWork.{work-of, word-cells, WorkReady, Visited, Settled, Removable, Removed};
 
 // The cells of the kernel, and the removals in order: the cell of each, and its partner's, which is its own where it was removed as single.
 #[repr(C)]
@@ -71,7 +71,7 @@ fn visit<'a>(
     count: usize,
     it: CellNo,
 ) -> usize
-    requires { ⌜ Ready (now rows) users (work-of (now left) (now removed) (now partner) count) × Columns (now rows) (now columns)
+    requires { ⌜ WorkReady (now rows) users (work-of (now left) (now removed) (now partner) count) × Columns (now rows) (now columns)
         × (it .0 < cells-of users) × So (marked (now left) (it .0)) × Insides (now rows) (now left) users (it .0 / word-bits) (now inside) ⌝ }
     ensures { λ r. ⌜ Visited (now (rows .entry)) users (it .0 ∷ []) (work-of (now (left .entry)) (now (removed .entry)) (now (partner .entry)) count)
         (work-of (now (left .exit)) (now (removed .exit)) (now (partner .exit)) r) ⌝ }
@@ -94,7 +94,7 @@ fn sweep_word<'a>(
     count: usize,
     i: usize,
 ) -> usize
-    requires { ⌜ Ready (now rows) users (work-of (now left) (now removed) (now partner) count) × Columns (now rows) (now columns)
+    requires { ⌜ WorkReady (now rows) users (work-of (now left) (now removed) (now partner) count) × Columns (now rows) (now columns)
         × (i < users * row-words) ⌝ }
     ensures { λ r. ⌜ Visited (now (rows .entry)) users (word-cells i (getD (now (left .entry)) i 0))
         (work-of (now (left .entry)) (now (removed .entry)) (now (partner .entry)) count)
@@ -134,7 +134,7 @@ fn sweep<'a>(
     users: usize,
     count: usize,
 ) -> usize
-    requires { ⌜ Ready (now rows) users (work-of (now left) (now removed) (now partner) count) × Columns (now rows) (now columns) ⌝ }
+    requires { ⌜ WorkReady (now rows) users (work-of (now left) (now removed) (now partner) count) × Columns (now rows) (now columns) ⌝ }
     ensures { λ r. ⌜ Visited (now (rows .entry)) users (passing-below (cells-of users) (marked (now (left .entry))))
         (work-of (now (left .entry)) (now (removed .entry)) (now (partner .entry)) count)
         (work-of (now (left .exit)) (now (removed .exit)) (now (partner .exit)) r) ⌝ }
@@ -157,7 +157,7 @@ fn sweeps<'a>(
     partner: &'a mut [u16; GRANT_LIMIT],
     users: usize,
 ) -> usize
-    requires { ⌜ Ready (now rows) users (work-of (now left) (now removed) (now partner) 0) × Columns (now rows) (now columns) × (now left ≡ now rows) ⌝ }
+    requires { ⌜ WorkReady (now rows) users (work-of (now left) (now removed) (now partner) 0) × Columns (now rows) (now columns) × (now left ≡ now rows) ⌝ }
     ensures { λ r. ⌜ Settled (now (rows .entry)) users (work-of (now (left .exit)) (now (removed .exit)) (now (partner .exit)) r) ⌝ }
 {
     let mut count = 0;

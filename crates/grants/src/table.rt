@@ -12,11 +12,11 @@ ghost use mathlib.Core.Bool.{So};
 ghost use mathlib.Core.List.{map};
 ghost use Prim.Native.Nat.{ℕ, _/_, _%_, _≤_, _<_};
 ghost use lib.ListN.{length, getD, take};
+ghost use Rattle.spec.specs.Limits.{grant-limit};
+ghost use Rattle.spec.specs.Sheet.{Sheet};
+ghost use Rattle.spec.specs.Reduction.{kernel};
 ghost use Rattle.bits.specs.Bit.{bit, word-bits};
-ghost use Rattle.sheet.specs.Limits.{grant-limit};
-ghost use Rattle.sheet.specs.Sheet.{Sheet};
 ghost use Rattle.sheet.specs.Rows.{row-bits};
-ghost use Rattle.grants.specs.Reduction.{kernel};
 ghost use Rattle.grants.specs.CellPlaces.{grant-of, Shown};
 ghost use Rattle.grants.specs.TableWords.{table-limit, FirstBits, Table};
 ghost use Rattle.grants.specs.TableParts.{CellsFrom, user-holds, permission-held, ColumnsOf};
@@ -109,19 +109,19 @@ fn columns<'a>(rows: &'a [u64], cells: &'a [u16], from: usize, some: u64) -> [u6
 }
 
 // A user, and the cells whose permissions the user holds, in two words.
-struct Held {
+struct HeldCells {
     user: usize,
     low: u64,
     high: u64,
 }
 
 // The user of a cell, and the cells whose permissions that user holds.
-fn held_by<'a>(rows: &'a [u64], cells: &'a [u16], it: u16) -> Held
+fn held_by<'a>(rows: &'a [u64], cells: &'a [u16], it: u16) -> HeldCells
     ensures { λ r. ⌜ HeldBy (now (rows .entry)) (now (cells .entry)) (it / row-bits) r ⌝ }
 {
     let low = held_word(rows, cells, 0, it);
     let high = held_word(rows, cells, WORD_BITS, it);
-    Held {
+    HeldCells {
         user: user_of(it).0,
         low,
         high,
@@ -129,7 +129,7 @@ fn held_by<'a>(rows: &'a [u64], cells: &'a [u16], it: u16) -> Held
 }
 
 // The same, where they may have been found already.
-fn held_again<'a>(last: Held, rows: &'a [u64], cells: &'a [u16], it: u16) -> Held
+fn held_again<'a>(last: HeldCells, rows: &'a [u64], cells: &'a [u16], it: u16) -> HeldCells
     requires { ⌜ HeldBy (now rows) (now cells) (last .user) last ⌝ }
     ensures { λ r. ⌜ HeldBy (now (rows .entry)) (now (cells .entry)) (it / row-bits) r ⌝ }
 {

@@ -3,7 +3,7 @@ use mathlib.Core.Path.{_≡_, refl, sym, ap, _∙_}
 use mathlib.Core.Bool.{Bool, true, false, _&&_, and-assoc}
 use mathlib.Core.List.{List, [], _∷_, _++_, map}
 use mathlib.Core.Option.{Option, none, some}
-use Rattle.lists.specs.Lists.{all, keep, filter, or-later, first}
+use Rattle.spec.specs.Vocabulary.{all, keep, filter, or-later, first}
 
 module _ {A : Type 0} where
   keep-append : (b : Bool) (a : A) (s t : List A) → keep b a s ++ t ≡ keep b a (s ++ t)

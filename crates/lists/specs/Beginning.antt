@@ -9,7 +9,7 @@ use mathlib.Core.Bool.{Bool}
 use mathlib.Core.List.{List, [], _∷_}
 use native.Mathlib.Nat.{le-of-eq, le-step, le-trans}
 use lib.ListN.{length}
-use Rattle.lists.specs.Placement.{used}
+use Rattle.spec.specs.Cover.{used}
 use Rattle.lists.specs.Classing.{Valid, Grown}
 use Rattle.lists.specs.PlacementLaws.{earlier-uses-fewer}
 

@@ -6,7 +6,7 @@ use mathlib.Core.Bool.{Bool, So, cond}
 use mathlib.Core.List.{List, [], _∷_}
 use lib.Dec.{eqb}
 use lib.ListN.{length}
-use Rattle.lists.specs.Placement.{used, joins}
+use Rattle.spec.specs.Cover.{used, joins}
 
 -- the class of number i in a placement, the latest placed first
 abbrev pub class-in : List ℕ → ℕ → ℕ

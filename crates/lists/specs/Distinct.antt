@@ -10,7 +10,7 @@ use borrow.Author.Tests.{ne-eqb}
 use lib.Dec.{eqb}
 use lib.ListN.{length}
 use Rattle.bits.specs.Truth.{or-fails}
-use Rattle.bits.specs.Below.{count-below}
+use Rattle.bits.specs.Counting.{count-below}
 use Rattle.bits.specs.CountLaws.{count-below-le}
 use Rattle.bits.specs.CountJoinLaws.{count-below-with}
 use Rattle.lists.specs.Ordered.{Ordered, ordered-append}

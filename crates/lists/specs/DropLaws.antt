@@ -9,7 +9,7 @@ use mathlib.Core.Bool.{Bool, _&&_}
 use mathlib.Core.List.{List, [], _∷_}
 use lib.ListN.{length, getD, drop, length-drop}
 use lib.Seq.{drop-drop, getD-drop, drop-cons}
-use Rattle.lists.specs.Lists.{all}
+use Rattle.spec.specs.Vocabulary.{all}
 
 module _ {A : Type 0} (l : List A) (n : ℕ) where
   pub left-below : (a : A) (rest : List A) → drop n l ≡ a ∷ rest → n < length l

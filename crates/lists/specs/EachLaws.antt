@@ -2,7 +2,7 @@
 use Prim.Native.Nat.{ℕ, _<_}
 use mathlib.Core.Logic.{⊎-elim}
 use mathlib.Core.List.{List, [], _∷_, map, List·Memᴰ, List·Memᴰ·not-nil, List·Memᴰ·cases-cons, Memᴰ·of-map}
-use Rattle.lists.specs.Lists.{list-of}
+use Rattle.spec.specs.Vocabulary.{list-of}
 use Rattle.lists.specs.ListOfLaws.{list-of-element}
 
 module _ {A : Type 0} where

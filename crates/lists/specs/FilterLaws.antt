@@ -2,7 +2,7 @@
 use mathlib.Core.Path.{_≡_, refl}
 use mathlib.Core.Bool.{Bool, true, false}
 use mathlib.Core.List.{List, [], _∷_, _++_}
-use Rattle.lists.specs.Lists.{keep, filter}
+use Rattle.spec.specs.Vocabulary.{keep, filter}
 
 module _ {A : Type 0} where
   keep-append : (b : Bool) (a : A) (l m : List A) → keep b a (l ++ m) ≡ keep b a l ++ m

@@ -7,7 +7,7 @@ use mathlib.Core.Logic.{_⊎_, inl, inr}
 use mathlib.Core.Bool.{Bool, true, false}
 use mathlib.Core.List.{List, [], _∷_, List·Memᴰ, List·Memᴰ·not-nil, List·Memᴰ·cases-cons}
 use lib.ListN.{length}
-use Rattle.lists.specs.Lists.{keep, filter}
+use Rattle.spec.specs.Vocabulary.{keep, filter}
 
 module _ {A : Type 0} where
   keep-length : (b : Bool) (a : A) (rest : List A) → length (keep b a rest) ≤ suc (length rest)

@@ -3,7 +3,7 @@
 use mathlib.Core.Path.{_≡_, refl}
 use mathlib.Core.Bool.{Bool}
 use mathlib.Core.List.{List, [], _∷_, List·Memᴰ, List·Memᴰ·head, List·Memᴰ·tail}
-use Rattle.lists.specs.Lists.{filter}
+use Rattle.spec.specs.Vocabulary.{filter}
 
 pub filter-same : {A : Type 0} (test also : A → Bool) (l : List A) → ((a : A) → List·Memᴰ a l → test a ≡ also a) → filter test l ≡ filter also l
 filter-same test also [] h = refl

@@ -10,9 +10,9 @@ use mathlib.Core.Option.{Option·getD}
 use native.Mathlib.Nat.{le-refl, le-of-lt}
 use native.Mathlib.Omega.{arith}
 use lib.ListN.{length}
-use Rattle.bits.specs.Below.{lowest-below}
+use Rattle.spec.specs.Vocabulary.{lowest-below}
+use Rattle.spec.specs.Cover.{used, joins, grouping}
 use Rattle.bits.specs.LowestLaws.{lowest-below-cases, lowest-below-intro, lowest-below-none-intro}
-use Rattle.lists.specs.Placement.{used, joins, grouping}
 use Rattle.lists.specs.Classing.{Valid, Grown}
 use Rattle.lists.specs.PlacementLaws.{class-below-used, joins-intro}
 

@@ -5,7 +5,7 @@ use mathlib.Core.List.{List, [], _∷_}
 use lib.ListN.{length}
 use native.Mathlib.Nat.{le-refl}
 use native.Mathlib.Omega.{arith}
-use Rattle.lists.specs.Placement.{used}
+use Rattle.spec.specs.Cover.{used}
 use Rattle.lists.specs.Classing.{Grown}
 
 pub grown-used-le : (placed : List ℕ) → Grown placed → used placed ≤ length placed

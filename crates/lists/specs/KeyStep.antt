@@ -6,10 +6,10 @@ use mathlib.Core.Bool.{false, So}
 use native.Mathlib.Nat.{le-step, lt-suc-self}
 use borrow.Author.Tests.{eqb-true, eq-eqb}
 use lib.Dec.{eqb}
+use Rattle.spec.specs.Cover.{used, joins}
 use Rattle.bits.specs.Truth.{not-both, fails-unless}
 use Rattle.bits.specs.BelowLaws.{some-below-intro}
 use Rattle.bits.specs.LowestLaws.{lowest-below-none-intro}
-use Rattle.lists.specs.Placement.{used, joins}
 use Rattle.lists.specs.Classing.{class-in}
 use Rattle.lists.specs.PlacementLaws.{class-in-latest, class-in-earlier, joins-elim, grown-member}
 use Rattle.lists.specs.GroupingLaws.{class-taken, grouping-length, grouping-grown}

@@ -10,8 +10,8 @@ use mathlib.Core.List.{List, [], _∷_, _++_}
 use mathlib.Core.Option.{Option, none, some}
 use borrow.Author.Tests.{leb-true, leb-false, le-leb, lt-leb}
 use lib.Dec.{leb}
+use Rattle.spec.specs.Vocabulary.{lesser, least}
 use Rattle.bits.specs.Truth.{passes-or-fails}
-use Rattle.lists.specs.Lists.{lesser, least}
 
 module _ {A : Type 0} (measure : A → ℕ) where
   -- what was found so far, unless a has a lesser measure

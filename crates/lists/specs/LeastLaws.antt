@@ -4,7 +4,7 @@ use mathlib.Core.Path.{refl}
 use mathlib.Core.Bool.{Bool, true, false, cond}
 use mathlib.Core.List.{List, [], _∷_, List·Memᴰ, List·Memᴰ·head, List·Memᴰ·tail}
 use lib.Dec.{leb}
-use Rattle.lists.specs.Lists.{lesser, least}
+use Rattle.spec.specs.Vocabulary.{lesser, least}
 
 module _ {A : Type 0} where
   -- of a list that is not empty

@@ -1,5 +1,4 @@
--- What the definitions of all crates are written with: lists under a Boolean test, lists in order, placements in classes, and words as bytes.
-pub mod Lists
+-- Laws of what the definitions are written with: lists under a Boolean test, lists in order, lists cut and joined, placements in classes.
 pub mod TestLaws
 pub mod Ordered
 pub mod ReverseLaws
@@ -22,7 +21,6 @@ pub mod Total
 pub mod SameLaws
 pub mod SameDropLaws
 pub mod TailLaws
-pub mod Placement
 pub mod Classing
 pub mod GrownLaws
 pub mod PlacementLaws
@@ -34,5 +32,4 @@ pub mod KeyLaws
 pub mod KeyStep
 pub mod Beginning
 pub mod Lexicographic
-pub mod Ascii
 pub mod PassingBelow

@@ -7,7 +7,7 @@ use mathlib.Core.Path.{_≡_, refl, sym, ap, _∙_}
 use mathlib.Core.List.{List, [], _∷_, _++_, map, List·Memᴰ, Memᴰ·cast}
 use lib.ListN.{length, getD}
 use lib.Seq.{ext-getD}
-use Rattle.lists.specs.Lists.{list-from, list-of}
+use Rattle.spec.specs.Vocabulary.{list-from, list-of}
 use Rattle.lists.specs.TestLaws.{member-at, place-of}
 
 module _ {A : Type 0} where

@@ -8,7 +8,7 @@ use mathlib.Core.Path.{_≡_, ap, _∙_}
 use mathlib.Core.Logic.{⊎-elim}
 use mathlib.Core.List.{List, [], _∷_, _++_, append-nil}
 use lib.ListN.{length, length-append}
-use Rattle.lists.specs.Lists.{list-of, concat}
+use Rattle.spec.specs.Vocabulary.{list-of, concat}
 use Rattle.lists.specs.JoinLaws.{concat-append}
 use Rattle.lists.specs.ListOfLaws.{list-of-last, list-of-same}
 

@@ -8,7 +8,7 @@ use mathlib.Core.Logic.{⊎-elim}
 use mathlib.Core.Bool.{Bool, true, false}
 use mathlib.Core.List.{List, [], _∷_, _++_, List·Memᴰ, List·Memᴰ·head, List·Memᴰ·tail, List·Memᴰ·append-cases}
 use lib.ListN.{length, getD}
-use Rattle.lists.specs.Lists.{keep, filter}
+use Rattle.spec.specs.Vocabulary.{keep, filter}
 use Rattle.lists.specs.TestLaws.{member-at, filter-kept}
 
 module _ {A : Type 0} where

@@ -12,9 +12,9 @@ use native.Mathlib.Omega.{arith}
 use borrow.Author.Tests.{eqb-true, eqb-false, eq-eqb, ne-eqb}
 use lib.Dec.{eqb}
 use lib.ListN.{length, length-append}
+use Rattle.spec.specs.Cover.{used, joins}
 use Rattle.bits.specs.Truth.{passes-or-fails, and-intro, and-left, and-right, implies-intro, implies-elim}
 use Rattle.bits.specs.BelowLaws.{last-or-below}
-use Rattle.lists.specs.Placement.{used, joins}
 use Rattle.lists.specs.Classing.{class-in, Valid, Grown, Classing}
 
 -- ---- the class of a number

@@ -6,8 +6,8 @@ use mathlib.Core.Bool.{Bool, false, _&&_}
 use mathlib.Core.List.{List}
 use lib.ListN.{length, drop, getD}
 use lib.Seq.{drop-cons}
+use Rattle.spec.specs.Vocabulary.{same-by}
 use Rattle.bits.specs.Truth.{fails-unless}
-use Rattle.lists.specs.Lists.{same-by}
 use Rattle.lists.specs.SameLaws.{same-by-length}
 
 module _ {A : Type 0} where

@@ -7,7 +7,7 @@ use mathlib.Core.Bool.{Bool, true, false}
 use mathlib.Core.List.{List, [], _∷_}
 use lib.ListN.{length, getD, take, drop}
 use lib.Seq.{drop-cons}
-use Rattle.lists.specs.Lists.{cut, ended-by}
+use Rattle.spec.specs.Vocabulary.{cut, ended-by}
 
 -- 0 where an element stops, else one more
 abbrev pub further : Bool → ℕ → ℕ

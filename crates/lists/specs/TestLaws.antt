@@ -11,8 +11,9 @@ use mathlib.Core.Option.{none, some}
 use borrow.Author.Tests.{eqb-true, eq-eqb}
 use lib.Dec.{eqb}
 use lib.ListN.{length, getD}
+use Rattle.spec.specs.Vocabulary.{any, all, keep, filter, first}
+use Rattle.spec.specs.Text.{same-bytes}
 use Rattle.bits.specs.Truth.{not-both, fails-unless, and-intro, and-left, and-right, or-left, or-right, or-cases}
-use Rattle.lists.specs.Lists.{any, all, keep, filter, first, same-bytes}
 
 module _ {A : Type 0} where
   pub all-intro : (test : A → Bool) (l : List A) → ((a : A) → List·Memᴰ a l → So (test a)) → So (all test l)

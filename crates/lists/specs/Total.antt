@@ -6,7 +6,7 @@ use native.Mathlib.Omega.{arith}
 use mathlib.Core.Path.{_≡_, refl, ap}
 use mathlib.Core.List.{List, [], _∷_, _++_, map, List·Memᴰ·head, List·Memᴰ·tail}
 use lib.ListN.{length, length-append}
-use Rattle.lists.specs.Lists.{joined, concat}
+use Rattle.spec.specs.Vocabulary.{joined, concat}
 use Rattle.lists.specs.EachLaws.{Each}
 
 module _ {A : Type 0} where

@@ -1,1 +1,1 @@
-// Lists with Boolean tests: definitions and laws only.
+// Laws of lists and placements only.

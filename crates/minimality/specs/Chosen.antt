@@ -7,17 +7,17 @@ use mathlib.Core.Logic.{_⊎_, inl, inr, ⊎-elim}
 use mathlib.Core.Bool.{So, false, not, _||_}
 use mathlib.Core.List.{List, [], _∷_, List·Memᴰ, List·Memᴰ·head, List·Memᴰ·tail, List·Memᴰ·not-nil, List·Memᴰ·cases-cons, Memᴰ·cast}
 use lib.ListN.{length}
+use Rattle.spec.specs.Vocabulary.{least, lesser}
+use Rattle.spec.specs.Sheet.{Sheet, Grant, same-grant}
+use Rattle.spec.specs.Fit.{fits, partners}
+use Rattle.spec.specs.Reduction.{kernel}
+use Rattle.spec.specs.Witness.{left-after, taken, chosen}
 use Rattle.bits.specs.Truth.{passes-or-fails, not-passes, not-fails, or-left, or-cases, or-fails-right}
-use Rattle.lists.specs.Lists.{least, lesser}
 use Rattle.lists.specs.TestLaws.{filter-member, filter-kept}
 use Rattle.lists.specs.Ordered.{Ordered}
 use Rattle.lists.specs.FilterLength.{filter-shorter}
 use Rattle.lists.specs.LeastLaws.{least-member}
-use Rattle.sheet.specs.Sheet.{Sheet, Grant, same-grant}
 use Rattle.sheet.specs.GrantLaws.{same-grant-refl, same-grant-equal}
-use Rattle.grants.specs.Fit.{fits, partners}
-use Rattle.grants.specs.Reduction.{kernel}
-use Rattle.grants.specs.Witness.{left-after, taken, chosen}
 use Rattle.minimality.specs.Removals.{Unfit}
 
 -- the grant that is taken from a list that is not empty

@@ -9,21 +9,19 @@ use mathlib.Core.List.{List, List·Memᴰ}
 use borrow.Author.Tests.{eq-eqb}
 use lib.Dec.{eqb}
 use lib.ListN.{length}
+use Rattle.spec.specs.Sheet.{Sheet, Grant, holds, grants}
+use Rattle.spec.specs.Cover.{used, grant-at}
+use Rattle.spec.specs.RoleSet.{product, Multiplies}
+use Rattle.spec.specs.Roles.{Classed, class-of, class-at, role-numbers, roles-of-classes}
 use Rattle.bits.specs.Truth.{same-truth}
 use Rattle.bits.specs.BelowLaws.{some-below-intro}
-use Rattle.lists.specs.Placement.{used}
 use Rattle.lists.specs.Classing.{class-in}
 use Rattle.lists.specs.PlacementLaws.{class-below-used}
 use Rattle.lists.specs.GroupingLaws.{grouping-length}
 use Rattle.lists.specs.KeyLaws.{KeyedBy, has-key, grouping-keyed, grouping-used-le, grouping-used-all}
-use Rattle.sheet.specs.Sheet.{Sheet, Grant, holds, grants}
 use Rattle.sheet.specs.GrantLaws.{held-grant}
 use Rattle.grants.specs.FitLaws.{fits-first}
-use Rattle.grants.specs.Cover.{grant-at}
 use Rattle.grants.specs.NumberLaws.{grant-at-member, member-number}
-use Rattle.roles.specs.RoleSet.{product, Multiplies}
-use Rattle.roles.specs.Classes.{Classed, class-of}
-use Rattle.roles.specs.Roles.{class-at, role-numbers, roles-of-classes}
 use Rattle.roles.specs.RoleLaws.{product-elim, product-intro}
 use Rattle.minimality.specs.GrantClassing.{ClassingOf}
 

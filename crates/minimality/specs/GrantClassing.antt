@@ -4,9 +4,9 @@ use mathlib.Core.Path.{_≡_}
 use mathlib.Core.Bool.{Bool, So, false}
 use mathlib.Core.List.{List, List·Memᴰ}
 use lib.ListN.{length}
-use Rattle.sheet.specs.Sheet.{Sheet, Grant}
-use Rattle.grants.specs.Fit.{fits}
-use Rattle.grants.specs.Cover.{grant-at}
+use Rattle.spec.specs.Sheet.{Sheet, Grant}
+use Rattle.spec.specs.Fit.{fits}
+use Rattle.spec.specs.Cover.{grant-at}
 
 -- a row for each user, and in each row a cell for each permission, as every accepted sheet has
 pub record Even (sheet : Sheet) : Type 0 where

@@ -4,18 +4,18 @@ use native.Mathlib.Omega.{arith}
 use mathlib.Core.Path.{_≡_}
 use mathlib.Core.Logic.{inl, inr}
 use mathlib.Core.List.{List·Memᴰ}
-use Rattle.lists.specs.Lists.{filter}
+use Rattle.spec.specs.Vocabulary.{filter}
+use Rattle.spec.specs.Sheet.{Sheet, Grant, grants}
+use Rattle.spec.specs.Fit.{among}
+use Rattle.spec.specs.Reduction.{kernel}
 use Rattle.lists.specs.TestLaws.{filter-member, filter-kept}
 use Rattle.lists.specs.Ordered.{Ordered, ordered-filter}
 use Rattle.lists.specs.OrderedUnique.{ordered-unique}
 use Rattle.lists.specs.Distinct.{Distinct}
-use Rattle.sheet.specs.Sheet.{Sheet, Grant, grants}
 use Rattle.sheet.specs.GrantLaws.{grant-held}
 use Rattle.sheet.specs.GrantOrderLaws.{Before, grants-ordered}
-use Rattle.grants.specs.Fit.{among}
 use Rattle.grants.specs.AmongLaws.{among-member, member-among}
 use Rattle.grants.specs.FitLaws.{Held}
-use Rattle.grants.specs.Reduction.{kernel}
 use Rattle.grants.specs.NumberLaws.{Different, ordered-different}
 use Rattle.minimality.specs.Removals.{remaining-ordered, remaining-distinct, remaining-granted, reduction-reached}
 

@@ -10,17 +10,16 @@ use mathlib.Core.List.{map, List·Memᴰ, Memᴰ·of-map}
 use borrow.Author.Tests.{ne-eqb}
 use lib.Dec.{eqb}
 use lib.ListN.{length, length-map}
+use Rattle.spec.specs.Sheet.{Sheet, Grant, permission-count, grants}
+use Rattle.spec.specs.Reduction.{kernel, singles}
+use Rattle.spec.specs.Cover.{used, grouping, grant-at, permission-at, first-best}
 use Rattle.bits.specs.Truth.{not-both}
 use Rattle.bits.specs.BelowLaws.{none-below-intro}
 use Rattle.lists.specs.Distinct.{Distinct, ordered-distinct, ordered-either, map-distinct, distinct-outside}
-use Rattle.lists.specs.Placement.{used, grouping}
 use Rattle.lists.specs.KeyLaws.{has-key, grouping-counts-keys}
-use Rattle.sheet.specs.Sheet.{Sheet, Grant, permission-count, grants}
 use Rattle.sheet.specs.GrantLaws.{grant-held}
 use Rattle.grants.specs.FitLaws.{one-permission-fits}
-use Rattle.grants.specs.Reduction.{kernel, singles}
 use Rattle.grants.specs.NumberLaws.{grant-at-member}
-use Rattle.grants.specs.Cover.{grant-at, permission-at, first-best}
 use Rattle.grants.specs.CoverLaws.{best-le-by-permission}
 use Rattle.minimality.specs.GrantClassing.{Even}
 use Rattle.minimality.specs.RoleSets.{even-permission-below}

@@ -7,16 +7,15 @@ use mathlib.Core.Logic.{⊎-elim}
 use mathlib.Core.Bool.{So}
 use mathlib.Core.List.{List, reverse, List·Memᴰ}
 use lib.ListN.{length}
+use Rattle.spec.specs.Sheet.{Sheet, Grant}
+use Rattle.spec.specs.Fit.{fits}
+use Rattle.spec.specs.Cover.{used, grant-at, fit-at}
+use Rattle.spec.specs.Roles.{paired, class-of}
 use Rattle.bits.specs.BelowLaws.{below-or-from}
-use Rattle.lists.specs.Placement.{used}
 use Rattle.lists.specs.Classing.{class-in, Valid, Grown, Classing}
 use Rattle.lists.specs.PlacementLaws.{class-below-used, valid-elim, grown-member}
-use Rattle.sheet.specs.Sheet.{Sheet, Grant}
-use Rattle.grants.specs.Fit.{fits}
 use Rattle.grants.specs.FitLaws.{Held, fits-symmetric, fits-itself}
-use Rattle.grants.specs.Cover.{grant-at, fit-at}
 use Rattle.grants.specs.NumberLaws.{grant-at-member, Numbered, member-number, Different}
-use Rattle.roles.specs.Classes.{paired, class-of}
 use Rattle.roles.specs.PairedLaws.{paired-class}
 use Rattle.minimality.specs.GrantClassing.{ClassingOf}
 use Rattle.minimality.specs.ClassRoles.{InClass}

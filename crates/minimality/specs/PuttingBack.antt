@@ -8,17 +8,17 @@ use mathlib.Core.Logic.{_⊎_, inl, inr, ⊎-elim}
 use mathlib.Core.Bool.{So}
 use mathlib.Core.List.{List, [], _∷_, map, reverse, List·Memᴰ, List·Memᴰ·head, List·Memᴰ·tail, List·Memᴰ·cases-cons, Memᴰ·cast}
 use lib.ListN.{length, length-reverse}
+use Rattle.spec.specs.Sheet.{Sheet, Grant, same-grant, grants}
+use Rattle.spec.specs.Fit.{fits, without}
+use Rattle.spec.specs.Reduction.{Removal, single, tied, Reduction, reduction, kernel, singles-of, singles}
+use Rattle.spec.specs.Cover.{used}
+use Rattle.spec.specs.Roles.{Classed, Classes, paired, class-of, put-back, put-all-back, kernel-classes, classes-of}
 use Rattle.bits.specs.Truth.{fails-unless}
 use Rattle.bits.specs.BelowLaws.{last-or-below}
 use Rattle.lists.specs.Distinct.{Distinct, reverse-member, reverse-only, reverse-distinct}
-use Rattle.lists.specs.Placement.{used}
-use Rattle.sheet.specs.Sheet.{Sheet, Grant, same-grant, grants}
 use Rattle.sheet.specs.GrantLaws.{same-grant-refl, same-grant-equal, grant-held}
-use Rattle.grants.specs.Fit.{fits, without}
 use Rattle.grants.specs.FitLaws.{Held, fits-symmetric, fits-itself}
 use Rattle.grants.specs.WithoutLaws.{without-member, without-differs, without-cases}
-use Rattle.grants.specs.Reduction.{Removal, single, tied, Reduction, reduction, kernel, singles-of, singles}
-use Rattle.roles.specs.Classes.{Classed, Classes, paired, class-of, put-back, put-all-back, kernel-classes, classes-of}
 use Rattle.minimality.specs.GrantClassing.{ClassingOf}
 use Rattle.minimality.specs.KernelLaws.{kernel-distinct}
 use Rattle.minimality.specs.ClassRoles.{InClass}

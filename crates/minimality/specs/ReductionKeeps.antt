@@ -9,11 +9,11 @@ use mathlib.Core.List.{List, List·Memᴰ}
 use borrow.Author.Tests.{ltb-true, ltb-false}
 use lib.Dec.{ltb}
 use lib.ListN.{length}
+use Rattle.spec.specs.Sheet.{Sheet, Grant, grants}
+use Rattle.spec.specs.Fit.{without}
+use Rattle.spec.specs.Reduction.{Reduction, kernel, singles-of, singles}
 use Rattle.bits.specs.Truth.{passes-or-fails, not-both}
-use Rattle.sheet.specs.Sheet.{Sheet, Grant, grants}
-use Rattle.grants.specs.Fit.{without}
 use Rattle.grants.specs.WithoutLaws.{without-member}
-use Rattle.grants.specs.Reduction.{Reduction, kernel, singles-of, singles}
 use Rattle.minimality.specs.GrantClassing.{ClassingOf}
 use Rattle.minimality.specs.Removals.{Alone, Reached, at-first, by-single, by-tie, reduction-reached}
 

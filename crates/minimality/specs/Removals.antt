@@ -9,17 +9,17 @@ use mathlib.Core.List.{List, [], _∷_, List·Memᴰ, List·Memᴰ·head, List·
 use mathlib.Core.Option.{Option, none, some}
 use lib.Dec.{eqb}
 use lib.ListN.{length}
+use Rattle.spec.specs.Vocabulary.{empty}
+use Rattle.spec.specs.Sheet.{Sheet, Grant, same-grant, grants}
+use Rattle.spec.specs.Fit.{fits, without, partners}
+use Rattle.spec.specs.Reduction.{Reduction, dominates, dominated, Verdict, stays, is-single, is-tied, tied-if, verdict, carry-out, visit, visits, sweep, sweeps, unreduced, reduction}
 use Rattle.bits.specs.Truth.{not-both, fails-unless, and-intro, and-left, and-right, or-right, or-cases, implies-elim, not-passes, not-fails}
-use Rattle.lists.specs.Lists.{empty}
 use Rattle.lists.specs.TestLaws.{Kept, all-elim, filter-member, first-passes}
 use Rattle.lists.specs.Ordered.{Ordered, ordered-filter}
 use Rattle.lists.specs.Distinct.{Distinct, ordered-distinct}
-use Rattle.sheet.specs.Sheet.{Sheet, Grant, same-grant, grants}
 use Rattle.sheet.specs.GrantLaws.{same-grant-refl, same-grant-equal}
 use Rattle.sheet.specs.GrantOrderLaws.{Before, before-differs, grants-ordered}
-use Rattle.grants.specs.Fit.{fits, without, partners}
 use Rattle.grants.specs.WithoutLaws.{without-member, without-fails, without-keeps}
-use Rattle.grants.specs.Reduction.{Reduction, dominates, dominated, Verdict, stays, is-single, is-tied, tied-if, verdict, carry-out, visit, visits, sweep, sweeps, unreduced, reduction}
 
 -- two grants do not fit
 abbrev pub Unfit : Sheet → Grant → Grant → Type 0

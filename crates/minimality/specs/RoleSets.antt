@@ -9,19 +9,20 @@ use mathlib.Core.Bool.{Bool, true, So, _&&_}
 use mathlib.Core.List.{List, List·Memᴰ}
 use mathlib.Core.Option.{Option·getD}
 use lib.ListN.{length}
+use Rattle.spec.specs.Vocabulary.{lowest-below}
+use Rattle.spec.specs.Sheet.{Sheet, Grant, holds, user-count, permission-count, grants}
+use Rattle.spec.specs.Fit.{fits}
+use Rattle.spec.specs.Cover.{grant-at}
+use Rattle.spec.specs.RoleSet.{RoleSet, product, Multiplies}
 use Rattle.bits.specs.Truth.{not-both, and-intro, and-left, and-right}
-use Rattle.bits.specs.Below.{lowest-below, Lowest}
+use Rattle.bits.specs.Counting.{Lowest}
 use Rattle.bits.specs.BelowLaws.{some-below-intro, below-or-from}
 use Rattle.bits.specs.LowestLaws.{lowest-below-found, lowest-below-intro}
 use Rattle.bits.specs.CountLaws.{count-below-all-intro}
 use Rattle.bits.specs.CountJoinLaws.{count-below-injects}
-use Rattle.sheet.specs.Sheet.{Sheet, Grant, holds, user-count, permission-count, grants}
 use Rattle.sheet.specs.GrantLaws.{grant-held, held-user-below, held-permission-below}
-use Rattle.grants.specs.Fit.{fits}
 use Rattle.grants.specs.FitLaws.{Held, fits-intro}
-use Rattle.grants.specs.Cover.{grant-at}
 use Rattle.grants.specs.NumberLaws.{grant-at-member}
-use Rattle.roles.specs.RoleSet.{RoleSet, product, Multiplies}
 use Rattle.minimality.specs.GrantClassing.{Even, ClassingOf, Independent}
 
 -- ---- the cells of an even sheet

@@ -10,11 +10,11 @@ use mathlib.Core.List.{List, [], _∷_, List·Memᴰ, List·Memᴰ·head, List·
 use borrow.Author.Tests.{eqb-true, eqb-false}
 use lib.Dec.{eqb}
 use lib.ListN.{length}
+use Rattle.spec.specs.Sheet.{Sheet, Grant, same-grant, grants}
+use Rattle.spec.specs.Reduction.{Reduction, Verdict, stays, is-single, is-tied, verdict, carry-out, visit, visits, sweep, sweeps, reduction}
 use Rattle.lists.specs.FilterLength.{filter-shorter}
 use Rattle.lists.specs.Distinct.{Distinct}
-use Rattle.sheet.specs.Sheet.{Sheet, Grant, same-grant, grants}
 use Rattle.sheet.specs.GrantLaws.{same-grant-refl}
-use Rattle.grants.specs.Reduction.{Reduction, Verdict, stays, is-single, is-tied, verdict, carry-out, visit, visits, sweep, sweeps, reduction}
 use Rattle.minimality.specs.Removals.{Reached, at-first, remaining-distinct, carry-out-leaves, sweep-reaches}
 
 -- a state is as it was, or fewer grants remain

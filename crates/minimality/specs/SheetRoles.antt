@@ -6,17 +6,15 @@ use native.Mathlib.Omega.{arith}
 use mathlib.Core.Path.{_≡_, sym, _∙_}
 use mathlib.Core.List.{List}
 use lib.ListN.{length}
-use Rattle.lists.specs.Placement.{used}
-use Rattle.sheet.specs.Sheet.{Sheet, permission-count, grants}
-use Rattle.grants.specs.Reduction.{reduction, kernel, singles}
-use Rattle.grants.specs.Witness.{witness}
-use Rattle.grants.specs.Cover.{grant-at, first-best}
+use Rattle.spec.specs.Sheet.{Sheet, permission-count, grants}
+use Rattle.spec.specs.Reduction.{reduction, kernel, singles}
+use Rattle.spec.specs.Witness.{witness}
+use Rattle.spec.specs.Cover.{used, grant-at, first-best}
+use Rattle.spec.specs.RoleSet.{RoleSet, Multiplies}
+use Rattle.spec.specs.Roles.{classes-of, roles-of, kernel-of}
 use Rattle.grants.specs.CoverLaws.{best-grouping-length, best-grouping-grown, best-grouping-valid}
-use Rattle.search.specs.Sound.{Whole}
+use Rattle.search.specs.SoundState.{Whole}
 use Rattle.search.specs.Complete.{Smallest}
-use Rattle.roles.specs.RoleSet.{RoleSet, Multiplies}
-use Rattle.roles.specs.Classes.{classes-of}
-use Rattle.roles.specs.Roles.{roles-of, kernel-of}
 use Rattle.minimality.specs.GrantClassing.{Even}
 use Rattle.minimality.specs.RoleSets.{role-set-classes, independent-bounds-role-sets}
 use Rattle.minimality.specs.ClassRoles.{classes-multiply, role-count-is-class-count}

@@ -3,11 +3,11 @@
 use mathlib.Core.Path.{_∙_}
 use mathlib.Core.Logic.{⊎-elim}
 use mathlib.Core.List.{List·Memᴰ, List·Memᴰ·not-nil, List·Memᴰ·cases-cons, Memᴰ·cast}
+use Rattle.spec.specs.Sheet.{Sheet, Grant, grants}
+use Rattle.spec.specs.Reduction.{Reduction, kernel, singles-of, singles}
 use Rattle.lists.specs.Ordered.{Ordered}
-use Rattle.sheet.specs.Sheet.{Sheet, Grant, grants}
 use Rattle.grants.specs.FitLaws.{fits-symmetric}
 use Rattle.grants.specs.WithoutLaws.{without-member}
-use Rattle.grants.specs.Reduction.{Reduction, kernel, singles-of, singles}
 use Rattle.minimality.specs.Removals.{Unfit, Reached, at-first, by-single, by-tie, remaining-granted, reduction-reached}
 
 -- which of two is named first does not matter

@@ -9,23 +9,22 @@ use mathlib.Core.Bool.{Bool, true, false, So, cond}
 use borrow.Author.Tests.{eqb-true}
 use lib.Dec.{eqb}
 use lib.ListN.{length}
-use Rattle.lists.specs.Placement.{used}
-use Rattle.sheet.specs.Sheet.{Sheet, permission-count}
-use Rattle.grants.specs.Reduction.{singles}
-use Rattle.grants.specs.Witness.{witness}
-use Rattle.grants.specs.Cover.{first-best}
-use Rattle.search.specs.Machine.{State, best-count, reaches-witness, search}
-use Rattle.search.specs.Sound.{Sound, sound-start, sound-search}
+use Rattle.spec.specs.Sheet.{Sheet, permission-count}
+use Rattle.spec.specs.Reduction.{singles}
+use Rattle.spec.specs.Witness.{witness}
+use Rattle.spec.specs.Cover.{used, first-best}
+use Rattle.spec.specs.Machine.{State, best-count, reaches-witness, search}
+use Rattle.spec.specs.RoleSet.{RoleSet, Multiplies}
+use Rattle.spec.specs.Roles.{roles-of, kernel-of, start-of, witnessed, searched, unsettled, bound-of, role-count, standing, bound}
+use Rattle.search.specs.SoundState.{SoundState, sound-start, sound-search}
 use Rattle.search.specs.Complete.{Passed, passed-start, passed-search, finished-is-smallest}
 use Rattle.search.specs.Best.{search-best-le}
-use Rattle.roles.specs.RoleSet.{RoleSet, Multiplies}
-use Rattle.roles.specs.Roles.{roles-of, kernel-of, start-of, witnessed, searched, unsettled, bound-of, role-count, standing, bound}
 use Rattle.minimality.specs.GrantClassing.{Even}
 use Rattle.minimality.specs.SheetRoles.{first-best-whole, roles-multiply, roles-counted, witness-bounds-role-sets, smallest-bounds-role-sets, roles-le-permissions}
 
 -- a state that searches of the sheet may come to
 pub record Searching (sheet : Sheet) (st : State) : Type 0 where
-  pub sound : Sound (kernel-of sheet) st
+  pub sound : SoundState (kernel-of sheet) st
   pub passed : Passed (kernel-of sheet) st
   pub no-worse : best-count st ≤ used (first-best sheet)
 

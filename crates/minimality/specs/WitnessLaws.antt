@@ -8,18 +8,18 @@ use mathlib.Core.Logic.{⊎-elim, _≢_}
 use mathlib.Core.Bool.{_||_}
 use mathlib.Core.List.{List, _++_, List·Memᴰ, List·Memᴰ·append-cases, Memᴰ·append-left, Memᴰ·append-right}
 use lib.ListN.{length, length-append}
+use Rattle.spec.specs.Sheet.{Sheet, Grant, grants}
+use Rattle.spec.specs.Fit.{among}
+use Rattle.spec.specs.Reduction.{singles}
+use Rattle.spec.specs.Witness.{chosen, witness}
 use Rattle.bits.specs.Truth.{not-both, or-left, or-right, or-cases}
 use Rattle.lists.specs.TestLaws.{filter-member, filter-kept, member-at}
 use Rattle.lists.specs.Ordered.{Ordered, ordered-places, ordered-append, ordered-filter}
 use Rattle.lists.specs.Distinct.{Distinct, ordered-distinct, ordered-either, distinct-within}
-use Rattle.sheet.specs.Sheet.{Sheet, Grant, grants}
 use Rattle.sheet.specs.GrantLaws.{grant-held}
 use Rattle.sheet.specs.GrantOrderLaws.{Before, grants-ordered}
-use Rattle.grants.specs.Fit.{among}
 use Rattle.grants.specs.AmongLaws.{among-member, member-among}
 use Rattle.grants.specs.FitLaws.{fits-itself}
-use Rattle.grants.specs.Reduction.{singles}
-use Rattle.grants.specs.Witness.{chosen, witness}
 use Rattle.minimality.specs.GrantClassing.{Independent}
 use Rattle.minimality.specs.Removals.{Unfit, grants-distinct}
 use Rattle.minimality.specs.KernelLaws.{kernel-granted}

@@ -6,7 +6,7 @@ use checker::BOOK_LIMIT;
 use porvuund::BudgetRead;
 use session::Session;
 use sheet::SHEET_LIMIT;
-ghost use Rattle.session.specs.Held.{Sound};
+ghost use Rattle.session.specs.CodeSession.{Sound};
 
 // One byte more than a sheet and a book have, by which longer ones are known.
 const SHEET_BUFFER: usize = SHEET_LIMIT + 1;

@@ -3,7 +3,7 @@ use crate::calls;
 use crate::say;
 use session::Session;
 ghost use Rattle.io.specs.Counts.{Counts};
-ghost use Rattle.session.specs.Held.{Sound};
+ghost use Rattle.session.specs.CodeSession.{Sound};
 
 // Where the first blank of a line stands, or where the line ends.
 fn first_blank(line: &[u8]) -> usize

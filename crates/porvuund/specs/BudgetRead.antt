@@ -11,11 +11,12 @@ use borrow.Author.Tests.{le-leb, lt-leb}
 use lib.Dec.{leb}
 use lib.ListN.{length, getD, drop}
 use lib.Seq.{drop-cons}
+use Rattle.spec.specs.Vocabulary.{all}
+use Rattle.spec.specs.Limits.{budget-limit}
+use Rattle.spec.specs.Text.{Bytes}
+use Rattle.spec.specs.Decimal.{is-digit, number-after, number-of}
+use Rattle.spec.specs.Program.{is-budget, budget-of}
 use Rattle.bits.specs.Truth.{fails-unless}
-use Rattle.lists.specs.Lists.{all}
-use Rattle.sheet.specs.Text.{Bytes}
-use Rattle.book.specs.Decimal.{is-digit, number-after, number-of}
-use Rattle.session.specs.Program.{budget-limit, is-budget, budget-of}
 use Rattle.porvuund.specs.declared.budget.BudgetRead.{BudgetRead}
 use Rattle.porvuund.specs.declared.budget.BudgetRead.the-variants.{Number, NoNumber}
 

@@ -4,9 +4,9 @@ use mathlib.Core.Bool.{cond}
 use mathlib.Core.Logic.{_≢_}
 use borrow.Author.Tests.{eq-eqb, ne-eqb}
 use lib.Dec.{eqb}
-use Rattle.sheet.specs.Text.{Bytes}
-use Rattle.checker.specs.Check.{CheckAnswer, check, Checks}
-use Rattle.session.specs.Program.{number-line}
+use Rattle.spec.specs.Text.{Bytes}
+use Rattle.spec.specs.Calls.{CheckAnswer, check, Checks}
+use Rattle.spec.specs.Program.{number-line}
 use Rattle.porvuund.specs.Lines.{pair-line}
 use Rattle.porvuund.specs.declared.calls.CheckNumbers.{CheckNumbers}
 

@@ -3,11 +3,11 @@ use Prim.Native.Nat.{ℕ, _+_, _*_, _^_, _≤_, _<_}
 use native.Mathlib.Omega.{arith}
 use mathlib.Core.List.{[], _∷_, _++_}
 use lib.ListN.{length, length-append}
+use Rattle.spec.specs.Text.{Bytes, comma, line-feed}
+use Rattle.spec.specs.Decimal.{decimal}
+use Rattle.spec.specs.Program.{number-line}
 use Rattle.bits.specs.Bit.{word-bits}
-use Rattle.sheet.specs.Text.{Bytes, comma, line-feed}
-use Rattle.book.specs.Decimal.{decimal}
 use Rattle.book.specs.DigitLaws.{word-digits, digits-of-word}
-use Rattle.session.specs.Program.{number-line}
 
 -- two numbers with a comma between, and a line feed
 abbrev pub pair-line : ℕ → ℕ → Bytes

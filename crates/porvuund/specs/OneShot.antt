@@ -5,9 +5,10 @@ use mathlib.Core.Path.{_≡_, refl, ap, _∙_}
 use mathlib.Core.Bool.{cond}
 use mathlib.Core.Logic.{_≢_}
 use borrow.Author.Tests.{eq-eqb, ne-eqb}
-use Rattle.sheet.specs.Text.{Bytes}
-use Rattle.sheet.specs.Refusal.{refusal, accepted}
-use Rattle.session.specs.Session.{Session, fresh, LoadAnswer, SearchAnswer, after-load, after-search, WriteAnswer, write-refused, write-answer, buffer-after, Loads, Searches, Writes}
+use Rattle.spec.specs.Text.{Bytes}
+use Rattle.spec.specs.Session.{Session, fresh}
+use Rattle.spec.specs.Refusal.{refusal, accepted}
+use Rattle.spec.specs.Calls.{LoadAnswer, SearchAnswer, after-load, after-search, WriteAnswer, write-refused, write-answer, buffer-after, Loads, Searches, Writes}
 use Rattle.session.specs.Demand1.{load-number-is-refusal}
 use Rattle.porvuund.specs.declared.calls.BookNumbers.{BookNumbers}
 

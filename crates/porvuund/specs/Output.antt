@@ -9,13 +9,14 @@ use borrow.Author.Tests.{eq-eqb, ne-eqb}
 use lib.Dec.{eqb}
 use lib.ListN.{length, take, drop, replicate, length-replicate}
 use lib.Seq.{take-at}
+use Rattle.spec.specs.Text.{Bytes}
+use Rattle.spec.specs.Session.{Session, session-book}
+use Rattle.spec.specs.Refusal.{first-number, refusal, accepted, write-causes}
+use Rattle.spec.specs.Calls.{WriteAnswer, write-refused, write-answer, buffer-after}
+use Rattle.spec.specs.Program.{budget-of, program-buffer, number-line, printed, program-output}
 use Rattle.bits.specs.Truth.{not-both}
-use Rattle.sheet.specs.Text.{Bytes}
-use Rattle.sheet.specs.Refusal.{first-number, refusal, accepted}
 use Rattle.book.specs.Written.{Written}
-use Rattle.session.specs.Session.{Session, WriteAnswer, write-refused, session-book, write-causes, write-answer, buffer-after}
 use Rattle.session.specs.Demand1.{demand-1}
-use Rattle.session.specs.Program.{budget-of, program-buffer, number-line, printed, program-output}
 use Rattle.porvuund.specs.OneShot.{searched-once, book-answer, book-buffer, Books}
 
 -- ---- a writing

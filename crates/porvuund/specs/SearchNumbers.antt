@@ -2,8 +2,9 @@
 use Prim.Native.Nat.{ℕ}
 use mathlib.Core.Path.{_≡_}
 use mathlib.Core.Option.{Option, none, some}
-use Rattle.roles.specs.Roles.{Standing, witnessed, searched, unsettled}
-use Rattle.session.specs.Session.{Session, SearchAnswer, search-answer, after-search, Searches}
+use Rattle.spec.specs.Roles.{Standing, witnessed, searched, unsettled}
+use Rattle.spec.specs.Session.{Session}
+use Rattle.spec.specs.Calls.{SearchAnswer, search-answer, after-search, Searches}
 use Rattle.porvuund.specs.declared.sessions.SearchNumbers.{SearchNumbers}
 
 -- 1 witnessed, 2 searched, 3 open, and 0 where no state is named

@@ -2,7 +2,7 @@
 ghost use mathlib.Core.Path.{_≡_};
 ghost use mathlib.Core.List.{[], _∷_};
 ghost use Prim.Native.Nat.{_+_, _-_, _*_, _≤_};
-ghost use Rattle.session.specs.Program.{budget-of};
+ghost use Rattle.spec.specs.Program.{budget-of};
 ghost use Rattle.porvuund.specs.BudgetRead.{budget-cap, capped, digits-read, budget-read};
 
 // One more than the greatest budget.

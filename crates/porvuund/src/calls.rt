@@ -1,6 +1,6 @@
 // A whole task in one call over bytes, as other languages link it.
 use session::Session;
-ghost use Rattle.checker.specs.Check.{Checks};
+ghost use Rattle.spec.specs.Calls.{Checks};
 ghost use Rattle.porvuund.specs.OneShot.{Books, book-said};
 ghost use Rattle.porvuund.specs.CheckOutput.{check-said};
 

@@ -1,8 +1,8 @@
 // Lines of numbers, as the programs print them.
 ghost use Prim.Native.Nat.{_≤_};
 ghost use lib.ListN.{length};
+ghost use Rattle.spec.specs.Program.{number-line};
 ghost use Rattle.book.specs.Written.{Written};
-ghost use Rattle.session.specs.Program.{number-line};
 ghost use Rattle.porvuund.specs.Lines.{pair-line};
 
 // Writes a number and a line feed.

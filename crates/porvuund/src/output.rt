@@ -6,8 +6,8 @@ use crate::lines::put_number_line;
 use crate::lines::put_pair_line;
 use checker::BOOK_LIMIT;
 ghost use mathlib.Core.List.{[], _∷_};
+ghost use Rattle.spec.specs.Program.{program-output};
 ghost use Rattle.book.specs.Written.{Written};
-ghost use Rattle.session.specs.Program.{program-output};
 ghost use Rattle.porvuund.specs.CheckOutput.{check-output};
 
 // The bytes of the book program's buffer: as many as the greatest book that the checker takes.

@@ -7,9 +7,10 @@ use session::Session;
 use session::WriteAnswer;
 ghost use mathlib.Core.Path.{_≡_};
 ghost use mathlib.Core.Logic.{_≢_};
-ghost use Rattle.session.specs.Session.{fresh, Loads, Writes};
+ghost use Rattle.spec.specs.Session.{fresh};
+ghost use Rattle.spec.specs.Calls.{Loads, Writes};
 ghost use Rattle.session.specs.Said.{load-said, write-said, state-said};
-ghost use Rattle.session.specs.Held.{view, Sound};
+ghost use Rattle.session.specs.CodeSession.{view, Sound};
 ghost use Rattle.porvuund.specs.SearchNumbers.{state-number, SearchesAs};
 
 // What a search answers, with a number for its state: 1 witnessed, 2 searched, 3 open, and 0 for none.

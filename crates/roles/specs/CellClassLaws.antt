@@ -11,13 +11,13 @@ use borrow.Author.Tests.{eqb-true, eqb-false, eq-eqb, ne-eqb}
 use lib.Dec.{eqb}
 use lib.ListN.{getD, set, replicate, length-set, length-replicate, getD-replicate}
 use lib.Seq.{getD-set-same, getD-set-other}
+use Rattle.spec.specs.Sheet.{same-grant}
+use Rattle.spec.specs.Roles.{Classed, Classes, class-of, put-back}
 use Rattle.bits.specs.Truth.{passes-or-fails, same-truth}
 use Rattle.lists.specs.ListOfLaws.{list-of-last}
-use Rattle.sheet.specs.Sheet.{same-grant}
 use Rattle.sheet.specs.GrantLaws.{same-grant-equal, equal-same-grant}
 use Rattle.grants.specs.CellPlaces.{cell-limit, grant-of}
 use Rattle.grants.specs.CellListLaws.{cell-of, cell-of-grant}
-use Rattle.roles.specs.Classes.{Classed, Classes, class-of, put-back}
 use Rattle.roles.specs.CellClasses.{ClassAt, ClassesAt, listed, paired-in, removal-of}
 
 -- ---- cells and grants

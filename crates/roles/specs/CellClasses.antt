@@ -5,13 +5,13 @@ use mathlib.Core.Bool.{cond}
 use mathlib.Core.List.{List, reverse}
 use lib.Dec.{eqb}
 use lib.ListN.{length, getD}
-use Rattle.lists.specs.Lists.{list-of}
+use Rattle.spec.specs.Vocabulary.{list-of}
+use Rattle.spec.specs.Sheet.{Grant}
+use Rattle.spec.specs.Reduction.{Removal, single, tied, Reduction}
+use Rattle.spec.specs.Roles.{Classed, Classes, paired, class-of, classes-of}
 use Rattle.lists.specs.LatestFirst.{latest-first}
-use Rattle.sheet.specs.Sheet.{Grant}
-use Rattle.grants.specs.Reduction.{Removal, single, tied, Reduction}
 use Rattle.grants.specs.CellPlaces.{cell-limit, grant-of}
 use Rattle.grants.specs.Log.{log-of}
-use Rattle.roles.specs.Classes.{Classed, Classes, paired, class-of, classes-of}
 
 -- the array has the class of each cell
 pub record ClassAt (class : List ℕ) (members : List Classed) : Type 0 where

@@ -7,12 +7,12 @@ use mathlib.Core.Path.{_≡_, refl, ap}
 use mathlib.Core.Bool.{Bool, true, false, cond}
 use mathlib.Core.List.{List, [], _∷_, reverse}
 use lib.ListN.{length, getD}
-use Rattle.lists.specs.Placement.{used}
+use Rattle.spec.specs.Sheet.{Grant, same-grant}
+use Rattle.spec.specs.Reduction.{Removal, single, tied}
+use Rattle.spec.specs.Cover.{used}
+use Rattle.spec.specs.Roles.{Classes, paired, class-of, put-back, put-all-back, kernel-classes, classes-of}
 use Rattle.lists.specs.LatestFirst.{latest-first}
-use Rattle.sheet.specs.Sheet.{Grant, same-grant}
-use Rattle.grants.specs.Reduction.{Removal, single, tied}
 use Rattle.grants.specs.Log.{log-of}
-use Rattle.roles.specs.Classes.{Classes, paired, class-of, put-back, put-all-back, kernel-classes, classes-of}
 use Rattle.roles.specs.CellClasses.{ClassAt, ClassesAt, listed, paired-in, removal-of, classes-in}
 
 -- ---- how great class numbers are

@@ -1,11 +1,7 @@
--- Roles: any role set and its product; the classes of all grants; the roles of a session; state and bound.
-pub mod RoleSet
-pub mod Classes
+-- Roles: the laws of classes, roles, state and bound, and what the code's words stand for.
 pub mod PairedLaws
-pub mod Roles
 pub mod RoleLaws
 pub mod RoleRows
-pub mod Cases
 pub mod StandingCases
 pub mod CellClasses
 pub mod CellClassLaws

@@ -8,15 +8,15 @@ use mathlib.Core.Logic.{⊎-elim}
 use mathlib.Core.Bool.{false}
 use mathlib.Core.List.{List, [], _∷_, reverse, reverse-reverse, List·Memᴰ, List·Memᴰ·head, List·Memᴰ·tail, List·Memᴰ·not-nil, List·Memᴰ·cases-cons, Memᴰ·cast}
 use lib.ListN.{length, length-reverse}
+use Rattle.spec.specs.Sheet.{Grant, same-grant}
+use Rattle.spec.specs.Cover.{grant-at}
+use Rattle.spec.specs.Roles.{Classed, paired, class-of}
 use Rattle.bits.specs.BelowLaws.{last-or-below}
 use Rattle.lists.specs.ReverseLaws.{reverse-first-is-last, reverse-rest-keeps}
 use Rattle.lists.specs.Classing.{class-in}
 use Rattle.lists.specs.PlacementLaws.{class-in-latest, class-in-earlier}
-use Rattle.sheet.specs.Sheet.{Grant, same-grant}
 use Rattle.sheet.specs.GrantLaws.{same-grant-refl}
-use Rattle.grants.specs.Cover.{grant-at}
 use Rattle.grants.specs.NumberLaws.{Different}
-use Rattle.roles.specs.Classes.{Classed, paired, class-of}
 
 -- a number of a list of grants, with its class in a placement
 pub record PairedAt (grants : List Grant) (placed : List ℕ) (x : Classed) : Type 0 where

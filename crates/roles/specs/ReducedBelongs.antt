@@ -5,8 +5,9 @@ use native.Mathlib.Omega.{arith}
 use mathlib.Core.Path.{_≡_, _∙_}
 use mathlib.Core.List.{List}
 use lib.ListN.{length}
-use Rattle.sheet.specs.Limits.{user-limit, grant-limit}
-use Rattle.sheet.specs.Sheet.{Sheet, grants}
+use Rattle.spec.specs.Limits.{user-limit, grant-limit}
+use Rattle.spec.specs.Sheet.{Sheet, grants}
+use Rattle.spec.specs.Roles.{roles-of}
 use Rattle.sheet.specs.Rows.{row-bits}
 use Rattle.grants.specs.CellPlaces.{Shown}
 use Rattle.grants.specs.CoverPlaced.{Placed}
@@ -14,7 +15,6 @@ use Rattle.grants.specs.KernelArray.{Listed}
 use Rattle.grants.specs.ReductionResult.{ReducedFrom}
 use Rattle.grants.specs.declared.kernel.Kernel.{Kernel}
 use Rattle.grants.specs.declared.reduction.Reduced.{Reduced}
-use Rattle.roles.specs.Roles.{roles-of}
 use Rattle.roles.specs.RolesInput.{Belongs}
 use Rattle.roles.specs.RolesInputLaws.{listed-taken}
 

@@ -7,17 +7,16 @@ use mathlib.Core.List.{List, reverse}
 use borrow.Author.Tests.{eqb-true, eq-eqb}
 use lib.Dec.{eqb}
 use lib.ListN.{length}
+use Rattle.spec.specs.Vocabulary.{any}
+use Rattle.spec.specs.Sheet.{Grant}
+use Rattle.spec.specs.Cover.{grant-at}
+use Rattle.spec.specs.RoleSet.{RoleSet, product}
+use Rattle.spec.specs.Roles.{paired, role-set}
 use Rattle.bits.specs.Truth.{and-intro, and-left, and-right}
 use Rattle.bits.specs.BelowLaws.{some-below-intro, some-below-elim}
-use Rattle.lists.specs.Lists.{any}
 use Rattle.lists.specs.TestLaws.{any-intro, any-elim}
 use Rattle.lists.specs.Classing.{class-in}
-use Rattle.sheet.specs.Sheet.{Grant}
-use Rattle.grants.specs.Cover.{grant-at}
-use Rattle.roles.specs.RoleSet.{RoleSet, product}
-use Rattle.roles.specs.Classes.{paired}
 use Rattle.roles.specs.PairedLaws.{paired-has, paired-only}
-use Rattle.roles.specs.Roles.{role-set}
 
 -- the roles of a placement of some grants
 abbrev pub placed-roles : List Grant → List ℕ → ℕ → RoleSet

@@ -8,17 +8,17 @@ use mathlib.Core.Bool.{Bool, true, false, _&&_, _||_, or-comm, and-comm, and-tru
 use mathlib.Core.List.{List}
 use lib.Dec.{eqb}
 use lib.ListN.{getD, replicate}
+use Rattle.spec.specs.Vocabulary.{any}
+use Rattle.spec.specs.Limits.{user-limit}
+use Rattle.spec.specs.Roles.{Classed}
 use Rattle.bits.specs.Bit.{word-bits}
 use Rattle.bits.specs.BitLaws.{bit-of-zero}
-use Rattle.lists.specs.Lists.{any}
-use Rattle.sheet.specs.Limits.{user-limit}
 use Rattle.sheet.specs.Rows.{row-words, row-bits, cell}
 use Rattle.sheet.specs.CellAdded.{CellAdded}
 use Rattle.sheet.specs.CellLaws.{word-of, word-below}
 use Rattle.search.specs.Gathered.{eqb-comm}
 use Rattle.grants.specs.CellPlaces.{cell-words, cell-limit, grant-of}
 use Rattle.grants.specs.CellPlaceLaws.{row-bits-pos, user-below}
-use Rattle.roles.specs.Classes.{Classed}
 use Rattle.roles.specs.CellClasses.{paired-in}
 use Rattle.roles.specs.CellClassLaws.{paired-next}
 

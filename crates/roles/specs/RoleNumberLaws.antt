@@ -12,10 +12,12 @@ use borrow.Author.Tests.{eqb-true, eqb-false, eq-eqb, ne-eqb}
 use lib.Dec.{eqb}
 use lib.ListN.{length, getD, set, replicate, length-set, length-replicate, getD-replicate}
 use lib.Seq.{getD-set-same, getD-set-other}
+use Rattle.spec.specs.Limits.{grant-limit}
+use Rattle.spec.specs.Cover.{used, grant-at}
+use Rattle.spec.specs.Roles.{Classed, class-of, class-at, role-numbers}
 use Rattle.bits.specs.Truth.{passes-or-fails, not-both, fails-unless}
 use Rattle.bits.specs.BelowLaws.{last-or-below, some-below-intro, some-below-elim, some-below-more}
 use Rattle.lists.specs.ListOfLaws.{length-list-of, getD-list-of}
-use Rattle.lists.specs.Placement.{used}
 use Rattle.lists.specs.Classing.{class-in}
 use Rattle.lists.specs.GrownLaws.{grown-used-le}
 use Rattle.lists.specs.PlacementLaws.{class-below-used}
@@ -23,12 +25,8 @@ use Rattle.lists.specs.GroupingLaws.{grouping-length, grouping-grown}
 use Rattle.lists.specs.KeyLaws.{same-key, has-key, by-key}
 use Rattle.lists.specs.KeyStep.{next-class, keyed-next, keyed-before, next-class-known, next-class-new}
 use Rattle.lists.specs.SameGrouping.{grouping-ext}
-use Rattle.sheet.specs.Limits.{grant-limit}
 use Rattle.grants.specs.CellPlaces.{grant-of}
-use Rattle.grants.specs.Cover.{grant-at}
 use Rattle.grants.specs.CoverPlaced.{Placed, none-placed, few-classes, one-placed}
-use Rattle.roles.specs.Classes.{Classed, class-of}
-use Rattle.roles.specs.Roles.{class-at, role-numbers}
 use Rattle.roles.specs.CellClasses.{ClassAt, listed, CellsBelow}
 use Rattle.roles.specs.RoleNumbers.{class-limit, no-role, class-key, role-from}
 

@@ -4,7 +4,7 @@ use mathlib.Core.Bool.{cond}
 use mathlib.Core.List.{List}
 use lib.Dec.{eqb}
 use lib.ListN.{getD}
-use Rattle.sheet.specs.Limits.{grant-limit}
+use Rattle.spec.specs.Limits.{grant-limit}
 
 -- the classes that there can be: one for each grant of the kernel, and one for each removal
 abbrev pub class-limit : ℕ

@@ -4,14 +4,14 @@ use Prim.Native.Nat.{ℕ, _≤_}
 use mathlib.Core.Path.{_≡_}
 use mathlib.Core.List.{List}
 use lib.ListN.{length}
-use Rattle.sheet.specs.Limits.{user-limit, grant-limit}
-use Rattle.sheet.specs.Sheet.{Sheet, grants}
+use Rattle.spec.specs.Limits.{user-limit, grant-limit}
+use Rattle.spec.specs.Sheet.{Sheet, grants}
+use Rattle.spec.specs.Reduction.{reduction, kernel}
+use Rattle.spec.specs.Roles.{roles-of}
 use Rattle.sheet.specs.Rows.{row-bits}
-use Rattle.grants.specs.Reduction.{reduction, kernel}
 use Rattle.grants.specs.CellPlaces.{Shown}
 use Rattle.grants.specs.CoverPlaced.{Placed}
 use Rattle.grants.specs.Log.{log-of}
-use Rattle.roles.specs.Roles.{roles-of}
 use Rattle.roles.specs.CellClasses.{listed}
 
 -- the arrays are those of a sheet and of a placement of its kernel, within the limits

@@ -10,25 +10,24 @@ use borrow.Author.Tests.{eqb-true}
 use lib.Dec.{eqb, lit<}
 use lib.ListN.{length, getD, take}
 use lib.Seq.{getD-take, length-take-le}
+use Rattle.spec.specs.Vocabulary.{list-of}
+use Rattle.spec.specs.Limits.{user-limit, grant-limit}
+use Rattle.spec.specs.Sheet.{Sheet, Grant, grants}
+use Rattle.spec.specs.Reduction.{single, tied, reduction, kernel}
+use Rattle.spec.specs.Cover.{used}
+use Rattle.spec.specs.Roles.{class-of, classes-of, roles-of-classes, roles-of}
 use Rattle.bits.specs.Bit.{word-bits}
 use Rattle.lists.specs.ListOfLaws.{list-of-same, list-of-places, list-of-member, map-list-of}
-use Rattle.lists.specs.Lists.{list-of}
-use Rattle.lists.specs.Placement.{used}
 use Rattle.lists.specs.LatestFirst.{latest-first}
 use Rattle.lists.specs.KeyLaws.{by-key}
-use Rattle.sheet.specs.Limits.{user-limit, grant-limit}
-use Rattle.sheet.specs.Sheet.{Sheet, Grant, grants}
 use Rattle.sheet.specs.GrantLaws.{grant-held}
 use Rattle.sheet.specs.Rows.{row-words, row-bits}
-use Rattle.grants.specs.Reduction.{single, tied, reduction, kernel}
 use Rattle.grants.specs.CellPlaces.{cell-limit, grant-of, Shown}
 use Rattle.grants.specs.CellPlaceLaws.{row-bits-pos}
 use Rattle.grants.specs.CellListLaws.{grants-by-cell, cell-grants-by-cell}
 use Rattle.grants.specs.KernelArray.{Listed}
 use Rattle.grants.specs.Log.{removal-at}
 use Rattle.grants.specs.RemovedGranted.{RemovalOf, reduction-granted, kernel-granted, logged-removal}
-use Rattle.roles.specs.Classes.{class-of, classes-of}
-use Rattle.roles.specs.Roles.{roles-of-classes, roles-of}
 use Rattle.roles.specs.CellClasses.{ClassAt, ClassesAt, CellsBelow, listed, reduction-in, classes-in}
 use Rattle.roles.specs.GoingBack.{class-below}
 use Rattle.roles.specs.RoleNumbers.{class-limit, class-key, KeysBelow}

@@ -5,15 +5,14 @@ use native.Mathlib.Nat.{lt-of-lt-of-le}
 use mathlib.Core.Path.{_≡_, sym, ap, _∙_}
 use mathlib.Core.List.{List}
 use lib.ListN.{length}
-use Rattle.lists.specs.Placement.{used}
+use Rattle.spec.specs.Cover.{used}
+use Rattle.spec.specs.RoleSet.{RoleSet}
+use Rattle.spec.specs.Roles.{Classed, roles-of-classes}
 use Rattle.lists.specs.PlacementLaws.{class-below-used}
 use Rattle.lists.specs.LatestFirst.{latest-first, latest-first-length, latest-first-class}
 use Rattle.lists.specs.KeyLaws.{by-key}
 use Rattle.sheet.specs.Rows.{row-bits}
 use Rattle.grants.specs.CoverPlaced.{Placed}
-use Rattle.roles.specs.Classes.{Classed}
-use Rattle.roles.specs.Roles.{roles-of-classes}
-use Rattle.roles.specs.RoleSet.{RoleSet}
 use Rattle.roles.specs.RoleRows.{RoleRows}
 use Rattle.roles.specs.CellClasses.{ClassAt, CellsBelow, listed, paired-in}
 use Rattle.roles.specs.RoleNumbers.{class-key}

@@ -1,5 +1,5 @@
 -- The states that the code names, as the definitions name them. Assumes nothing.
-use Rattle.roles.specs.Roles.{Standing, witnessed, searched, unsettled}
+use Rattle.spec.specs.Roles.{Standing, witnessed, searched, unsettled}
 use Rattle.roles.specs.declared.standing.Standing.{Standing as StandingValue}
 use Rattle.roles.specs.declared.standing.Standing.the-variants.{Witnessed, Searched, Open}
 

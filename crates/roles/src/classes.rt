@@ -4,11 +4,11 @@ use sheet::GRANT_LIMIT;
 ghost use mathlib.Core.Path.{_≡_};
 ghost use mathlib.Core.List.{[]};
 ghost use Prim.Native.Nat.{_+_, _<_, _≤_, _^_};
-ghost use Rattle.lists.specs.Placement.{used};
+ghost use Rattle.spec.specs.Limits.{grant-limit};
+ghost use Rattle.spec.specs.Cover.{used};
+ghost use Rattle.spec.specs.Roles.{Classes, put-back};
 ghost use Rattle.lists.specs.LatestFirst.{latest-first};
-ghost use Rattle.sheet.specs.Limits.{grant-limit};
 ghost use Rattle.grants.specs.CellPlaces.{cell-limit};
-ghost use Rattle.roles.specs.Classes.{Classes, put-back};
 ghost use Rattle.roles.specs.CellClasses.{ClassAt, ClassesAt, CellsBelow, removal-of, classes-in, paired-in};
 
 // Puts the classes of the kernel's grants into an array that has no class yet, each at its cell.

@@ -14,7 +14,7 @@ ghost use mathlib.Core.Path.{_≡_};
 ghost use mathlib.Core.Bool.{true};
 ghost use Prim.Native.Nat.{_<_, _≤_};
 ghost use lib.ListN.{length, getD};
-ghost use Rattle.sheet.specs.Limits.{grant-limit};
+ghost use Rattle.spec.specs.Limits.{grant-limit};
 ghost use Rattle.sheet.specs.Rows.{row-bits};
 ghost use Rattle.sheet.specs.CellAdded.{CellAdded};
 ghost use Rattle.sheet.specs.CellLaws.{word-of};

@@ -1,6 +1,6 @@
 // The state that a search names and a book says, and the bound beside it.
 ghost use mathlib.Core.Path.{_≡_};
-ghost use Rattle.roles.specs.Roles.{standing-of, bound-of};
+ghost use Rattle.spec.specs.Roles.{standing-of, bound-of};
 ghost use Rattle.roles.specs.StandingCases.{standing-case};
 
 pub enum Standing {

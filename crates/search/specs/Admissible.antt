@@ -5,9 +5,9 @@ use Prim.Native.Nat.{ℕ, suc, _≤_, zero-le, suc-le-suc}
 use mathlib.Core.List.{List, _∷_}
 use lib.ListN.{length}
 use native.Mathlib.Nat.{le-of-lt}
-use Rattle.lists.specs.Placement.{used}
+use Rattle.spec.specs.Cover.{used}
+use Rattle.spec.specs.Machine.{Kernel, State, depth, start, step, run, search}
 use Rattle.lists.specs.Classing.{Grown}
-use Rattle.search.specs.Machine.{Kernel, State, depth, start, step, run, search}
 use Rattle.search.specs.Steps.{Stepped, placing, improving, taking-back, closing, step-cases}
 use Rattle.search.specs.Runs.{run-keeps, search-keeps}
 

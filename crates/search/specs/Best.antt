@@ -6,8 +6,8 @@ use mathlib.Core.Path.{_≡_, refl, ap}
 use mathlib.Core.Logic.{_⊎_, inl, inr, ⊎-elim}
 use native.Mathlib.Nat.{le-refl, le-of-eq, le-of-lt, le-trans}
 use native.Mathlib.Omega.{arith}
-use Rattle.lists.specs.Placement.{used}
-use Rattle.search.specs.Machine.{Kernel, State, depth, best-count, step, run, search}
+use Rattle.spec.specs.Cover.{used}
+use Rattle.spec.specs.Machine.{Kernel, State, depth, best-count, step, run, search}
 use Rattle.search.specs.Steps.{Stepped, placing, improving, taking-back, closing, step-cases}
 use Rattle.search.specs.Runs.{run-keeps, search-keeps}
 

@@ -7,7 +7,7 @@ use mathlib.Core.Bool.{Bool}
 use mathlib.Core.List.{List}
 use borrow.Author.Tests.{eqb-true}
 use lib.ListN.{length}
-use Rattle.lists.specs.Placement.{used, grouping}
+use Rattle.spec.specs.Cover.{used, grouping}
 use Rattle.lists.specs.Classing.{Valid, Grown, Classing}
 use Rattle.lists.specs.PlacementLaws.{valid-mono}
 use Rattle.lists.specs.GroupingLaws.{grouping-length, grouping-grown, grouping-valid}

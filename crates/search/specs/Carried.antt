@@ -3,11 +3,12 @@
 use Prim.Native.Nat.{ℕ, _+_, _≤_}
 use mathlib.Core.Path.{_≡_}
 use mathlib.Core.List.{List}
-use Rattle.lists.specs.Placement.{used}
+use Rattle.spec.specs.Limits.{search-limit}
+use Rattle.spec.specs.Cover.{used}
+use Rattle.spec.specs.Machine.{Kernel, State, start, search}
 use Rattle.search.specs.declared.machine.Ran.{Ran}
-use Rattle.search.specs.Machine.{Kernel, State, search-limit, start, search}
 use Rattle.search.specs.Runs.{followed-by, search-add, search-steps-le}
-use Rattle.search.specs.View.{placed-of, kernel-given, view, view-ran, Stands, started}
+use Rattle.search.specs.View.{placed-of, kernel-given, view, view-ran, PositionStands, started}
 use Rattle.search.specs.TrailLaws.{trail-none}
 
 -- the first placement's class count is right
@@ -16,7 +17,7 @@ module _ (first : List ℕ) (size count singles witness : ℕ) (counted : count 
       → view (started first count singles witness) size ≡ start (kernel-given table size singles witness) (placed-of first size)
   started-view table = rw counted
 
-  pub started-stands : size ≤ search-limit → Stands size (started first count singles witness)
+  pub started-stands : size ≤ search-limit → PositionStands size (started first count singles witness)
   started-stands l =
       record {
         size-within = l;

@@ -11,8 +11,8 @@ use native.Mathlib.Omega.{arith}
 use borrow.Author.Tests.{lt-ltb, le-ltb, le-leb, lt-leb}
 use lib.Dec.{eqb, leb, ltb}
 use lib.ListN.{getD}
+use Rattle.spec.specs.Vocabulary.{every-below, lowest-below}
 use Rattle.bits.specs.Truth.{implies}
-use Rattle.bits.specs.Below.{every-below, lowest-below}
 use Rattle.bits.specs.BelowLaws.{below-or-from, last-or-below, every-below-ext, every-below-not}
 use Rattle.bits.specs.LowestLaws.{lowest-below-intro, lowest-below-none-intro}
 use Rattle.bits.specs.Bit.{word-bits}

@@ -7,11 +7,11 @@ use mathlib.Core.Bool.{Bool, false, So, and-true, and-eq-true-iff}
 use mathlib.Core.List.{List}
 use native.Mathlib.Omega.{arith}
 use borrow.Author.Tests.{ltb-true, lt-ltb, le-ltb}
+use Rattle.spec.specs.Vocabulary.{lowest-below}
+use Rattle.spec.specs.Cover.{used}
+use Rattle.spec.specs.Machine.{Kernel, State, depth, best-count, possible, choice}
 use Rattle.bits.specs.Truth.{fails-unless}
-use Rattle.bits.specs.Below.{lowest-below}
 use Rattle.bits.specs.BelowLaws.{below-or-from}
-use Rattle.lists.specs.Placement.{used}
-use Rattle.search.specs.Machine.{Kernel, State, depth, best-count, possible, choice}
 use Rattle.search.specs.View.{placed-of, kernel-given, class-end, joinable}
 use Rattle.bits.specs.CutLaws.{lowest-below-cut}
 use Rattle.search.specs.PlacedLaws.{length-placed-of}

@@ -11,15 +11,15 @@ use lib.ListN.{length}
 use native.Mathlib.Nat.{le-trans, eq-or-lt-of-le}
 use native.Mathlib.Omega.{arith}
 use borrow.Author.Tests.{lt-ltb, le-leb}
+use Rattle.spec.specs.Cover.{used}
+use Rattle.spec.specs.Machine.{Kernel, State, depth, best-count, reaches-witness, start, possible, step, run, search}
 use Rattle.bits.specs.Truth.{and-intro, not-both}
 use Rattle.bits.specs.BelowLaws.{below-or-from}
-use Rattle.lists.specs.Placement.{used}
-use Rattle.lists.specs.Classing.{Valid, Grown, Classing}
+use Rattle.lists.specs.Classing.{Classing}
 use Rattle.lists.specs.Beginning.{Begins, nothing-begins, begins-and-goes-on, begins-length-le, begins-used-le, begins-valid, begins-grown}
-use Rattle.search.specs.Machine.{Kernel, State, depth, best-count, reaches-witness, start, possible, step, run, search}
 use Rattle.search.specs.Steps.{Chosen, NoneChosen, Stepped, placing, improving, taking-back, closing, step-cases}
 use Rattle.search.specs.Runs.{run-keeps, search-keeps}
-use Rattle.search.specs.Sound.{Whole, Sound, sound-start, sound-step}
+use Rattle.search.specs.SoundState.{Whole, SoundState, sound-step}
 use Rattle.search.specs.Canonical.{canonical}
 
 -- a placement does not stand before a position: where it begins as the position does, its next class is not lower
@@ -65,7 +65,7 @@ next-is-possible kernel st x c r b =
     Prim.search (and-intro, lt-ltb, le-leb)
 
 -- where no class is possible, no better placement begins with what is placed
-none-goes-on : (kernel : Kernel) (st : State) (x : List ℕ) → Sound kernel st → NoneChosen kernel st → Better kernel st x
+none-goes-on : (kernel : Kernel) (st : State) (x : List ℕ) → SoundState kernel st → NoneChosen kernel st → Better kernel st x
     → Begins (st .placed) x → ⊥
 none-goes-on kernel st x s h r b = by-cases (begins-and-goes-on (st .placed) x b)
   where
@@ -85,7 +85,7 @@ placing-passes-none kernel st x c chosen r = (λ d b. zero-le, (not-lower, r .ah
         ⊎-elim (λ k. absurd (not-both (next-is-possible kernel st x d r b) (chosen .lowest d k))) (λ k. k) (below-or-from d c)
 
 -- taking back passes none, since no better placement begins with what was placed
-taking-back-passes-none : (kernel : Kernel) (st : State) (x : List ℕ) (a : ℕ) (earlier : List ℕ) → Sound kernel st
+taking-back-passes-none : (kernel : Kernel) (st : State) (x : List ℕ) (a : ℕ) (earlier : List ℕ) → SoundState kernel st
     → st .placed ≡ a ∷ earlier → NoneChosen kernel st → Better kernel st x → NotBefore x (suc a ∷ earlier)
 taking-back-passes-none kernel st x a earlier s e h r = (higher, n .1 .1)
   where
@@ -97,13 +97,13 @@ taking-back-passes-none kernel st x a earlier s e h r = (higher, n .1 .1)
         ⊎-elim (λ (i : a ≡ c). absurd (none-goes-on kernel st x s h r (rw (e, i) b))) (λ l. l) (eq-or-lt-of-le (n .1 .0 c b))
 
 -- closing passes none, since nothing at all is placed
-closing-leaves-none-better : (kernel : Kernel) (st : State) → Sound kernel st → Passed kernel st → st .placed ≡ [] → NoneChosen kernel st
+closing-leaves-none-better : (kernel : Kernel) (st : State) → SoundState kernel st → Passed kernel st → st .placed ≡ [] → NoneChosen kernel st
     → NoneBetter kernel (st .best)
 closing-leaves-none-better kernel st s p e h x w =
     ⊎-elim (λ l. absurd (none-goes-on kernel st x s h (still-ahead kernel st x p w l) (rw e (nothing-begins x)))) (λ l. l)
     (below-or-from (used x) (best-count st))
 
-pub passed-step : (kernel : Kernel) (st : State) → Sound kernel st → Passed kernel st → Passed kernel (step kernel st)
+pub passed-step : (kernel : Kernel) (st : State) → SoundState kernel st → Passed kernel st → Passed kernel (step kernel st)
 passed-step kernel st s p = by-cases (step-cases kernel st)
   where
     by-cases : {after : State} → Stepped kernel st after → Passed kernel after
@@ -122,19 +122,19 @@ passed-step kernel st s p = by-cases (step-cases kernel st)
 
 -- ---- runs and searches
 
-both-step : (kernel : Kernel) (st : State) → st .finished ≡ false → Sound kernel st × Passed kernel st
-    → Sound kernel (step kernel st) × Passed kernel (step kernel st)
+both-step : (kernel : Kernel) (st : State) → st .finished ≡ false → SoundState kernel st × Passed kernel st
+    → SoundState kernel (step kernel st) × Passed kernel (step kernel st)
 both-step kernel st e h = (sound-step kernel st (h .0), passed-step kernel st (h .0) (h .1))
 
-pub passed-run : (kernel : Kernel) (budget : ℕ) (st : State) → Sound kernel st → Passed kernel st
+pub passed-run : (kernel : Kernel) (budget : ℕ) (st : State) → SoundState kernel st → Passed kernel st
     → Passed kernel (run kernel budget st .state)
 passed-run kernel budget st s p =
-    run-keeps kernel (λ later. Sound kernel later × Passed kernel later) (both-step kernel) budget st (s, p) .1
+    run-keeps kernel (λ later. SoundState kernel later × Passed kernel later) (both-step kernel) budget st (s, p) .1
 
-pub passed-search : (kernel : Kernel) (budget : ℕ) (st : State) → Sound kernel st → Passed kernel st
+pub passed-search : (kernel : Kernel) (budget : ℕ) (st : State) → SoundState kernel st → Passed kernel st
     → Passed kernel (search kernel budget st .state)
 passed-search kernel budget st s p =
-    search-keeps kernel (λ later. Sound kernel later × Passed kernel later) (both-step kernel) budget st (s, p) .1
+    search-keeps kernel (λ later. SoundState kernel later × Passed kernel later) (both-step kernel) budget st (s, p) .1
 
 -- ---- what a finished machine says
 
@@ -148,14 +148,3 @@ none-better-is-smallest kernel best h count class classing =
 pub finished-is-smallest : (kernel : Kernel) (st : State) → Passed kernel st → So (st .finished)
     → So (reaches-witness kernel (st .best)) ⊎ Smallest kernel (st .best)
 finished-is-smallest kernel st p f = ⊎-elim inl (λ h. inr (none-better-is-smallest kernel (st .best) h)) (p .closed f)
-
--- so it is of a run from the start
-pub closed-is-smallest : (kernel : Kernel) (first : List ℕ) → Valid (kernel .fit) first → Grown first → length first ≡ kernel .size
-    → (budget : ℕ) → So (run kernel budget (start kernel first) .state .finished)
-    → So (reaches-witness kernel (run kernel budget (start kernel first) .state .best))
-    ⊎ ((count : ℕ) (class : ℕ → ℕ) → Classing (kernel .fit) (kernel .size) count class
-    → used (run kernel budget (start kernel first) .state .best) ≤ count)
-closed-is-smallest kernel first v g e budget f =
-    let sound = sound-start kernel first (record { size = e; valid = v; grown = g }) in
-    finished-is-smallest kernel (run kernel budget (start kernel first) .state)
-    (passed-run kernel budget (start kernel first) sound (passed-start kernel first)) f

@@ -8,13 +8,13 @@ use native.Mathlib.Omega.{arith}
 use lib.Dec.{eqb}
 use lib.ListN.{length, getD, set, length-set}
 use lib.Seq.{getD-set-same, getD-set-other}
-use Rattle.bits.specs.Below.{lowest-below}
+use Rattle.spec.specs.Vocabulary.{lowest-below}
+use Rattle.spec.specs.Machine.{step}
 use Rattle.bits.specs.LowestLaws.{lowest-below-ext}
 use Rattle.search.specs.declared.machine.Cursor.{Cursor}
 use Rattle.search.specs.declared.machine.Position.{Position}
-use Rattle.search.specs.Machine.{step}
 use Rattle.search.specs.Marks.{mark-limit}
-use Rattle.search.specs.View.{kernel-given, view, Stands, class-end, joinable, Placed, taken-back}
+use Rattle.search.specs.View.{kernel-given, view, PositionStands, class-end, joinable, CursorPlaced, taken-back}
 use Rattle.search.specs.Gathered.{Gathered, Joined, Left, gathered-more, gathered-fewer}
 use Rattle.search.specs.ChoiceLaws.{open-to, open-joinable}
 use Rattle.search.specs.Moves.{Looked, depth-le-limit, room-below-limit, closes, takes-back, places, improves}
@@ -25,7 +25,7 @@ at-position cursor classes best = record { cursor = cursor; classes = classes; b
 
 -- the position stands, and each class's members are gathered
 pub record Ready (size : ℕ) (at : Cursor) (classes best members : List ℕ) : Type 0 where
-  pub stands : Stands size (at-position at classes best)
+  pub stands : PositionStands size (at-position at classes best)
   pub classes-sized : length classes ≡ mark-limit
   pub gathered : Gathered classes (at .depth) members
 
@@ -82,7 +82,7 @@ module _ (table : List ℕ) (size singles witness : ℕ) {at : Cursor} {classes 
       latest = omega arith
 
   -- the next grant is placed in the class found, and joins it
-  module _ (l : class < end) (after : Cursor) (placed : Placed at class after) (joined : List ℕ) (joins : Joined members class (at .depth) joined) where
+  module _ (l : class < end) (after : Cursor) (placed : CursorPlaced at class after) (joined : List ℕ) (joins : Joined members class (at .depth) joined) where
     stored : at .depth < length classes
     stored = omega (arith, room-below-limit (r .stands) end ends (omega arith), r .classes-sized)
 

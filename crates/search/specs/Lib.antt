@@ -1,13 +1,10 @@
--- The search machine: its state, one step, a search within a budget; and what holds of every run. From `Marks` on: what the words and bytes of the
+-- The search machine: what holds of every step and every run. From `Marks` on: what the words and bytes of the
 -- code stand for (`View`), and why a step and a run of the code are the machine's.
-pub mod Machine
-pub mod Budget
-pub mod Cases
 pub mod Steps
 pub mod Runs
 pub mod Best
 pub mod Admissible
-pub mod Sound
+pub mod SoundState
 pub mod Canonical
 pub mod Complete
 pub mod Potential

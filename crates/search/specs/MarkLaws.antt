@@ -8,8 +8,8 @@ use native.Mathlib.Nat.{add-sub-of-le}
 use native.Mathlib.Omega.{arith}
 use borrow.Author.Tests.{lt-ltb, le-ltb, eqb-true, eq-eqb, ne-eqb}
 use lib.Dec.{eqb}
+use Rattle.spec.specs.Vocabulary.{every-below}
 use Rattle.bits.specs.Truth.{implies, same-truth}
-use Rattle.bits.specs.Below.{every-below}
 use Rattle.bits.specs.BelowLaws.{below-or-from, every-below-add, every-below-ext}
 use Rattle.bits.specs.Bit.{bit, word-bits}
 use Rattle.search.specs.declared.marks.Marks.{Marks}

@@ -10,13 +10,14 @@ use native.Mathlib.Omega.{arith}
 use borrow.Author.Tests.{eq-eqb, ne-eqb}
 use lib.Dec.{eqb}
 use lib.ListN.{length, getD, set}
-use Rattle.bits.specs.Below.{lowest-below}
-use Rattle.lists.specs.Placement.{used}
+use Rattle.spec.specs.Vocabulary.{lowest-below}
+use Rattle.spec.specs.Limits.{search-limit}
+use Rattle.spec.specs.Cover.{used}
+use Rattle.spec.specs.Machine.{State, choice, place, take-back-or-close, move, step}
 use Rattle.search.specs.declared.machine.Cursor.{Cursor}
 use Rattle.search.specs.declared.machine.Position.{Position}
-use Rattle.search.specs.Machine.{State, search-limit, choice, place, take-back, move, step}
 use Rattle.search.specs.Marks.{mark-limit}
-use Rattle.search.specs.View.{placed-of, kernel-given, view, Trail, Stands, class-end, joinable, Placed, taken-back}
+use Rattle.search.specs.View.{placed-of, kernel-given, view, Trail, PositionStands, class-end, joinable, CursorPlaced, taken-back}
 use Rattle.search.specs.PlacedLaws.{length-placed-of, placed-of-next, grown-class-le}
 use Rattle.search.specs.TrailLaws.{trail-used-le, trail-placed, trail-taken-back}
 use Rattle.search.specs.ClassEnd.{Tried, below-class-end, choice-below-end}
@@ -25,7 +26,7 @@ use Rattle.bits.specs.CutLaws.{getD-found, getD-missing}
 -- the view of a position moves as the machine does in one step, and the position stands
 abbrev pub Follows : List ℕ → ℕ → ℕ → ℕ → Position → Position → Type 0
 Follows table size singles witness before after =
-    (view after size ≡ step (kernel-given table size singles witness) (view before size)) × Stands size after
+    (view after size ≡ step (kernel-given table size singles witness) (view before size)) × PositionStands size after
 
 -- a class was found for the next grant below the end of the classes to try, or it is the end
 pub record Looked (table : List ℕ) (size : ℕ) (position : Position) (end class : ℕ) : Type 0 where
@@ -40,15 +41,15 @@ same-state p q r s i = record { placed = p i; next = q i; best = r i; finished =
 
 -- ---- how many there can be
 
-pub depth-le-limit : {size : ℕ} {p : Position} → Stands size p → p .cursor .depth ≤ mark-limit
+pub depth-le-limit : {size : ℕ} {p : Position} → PositionStands size p → p .cursor .depth ≤ mark-limit
 unfolding search-limit
 depth-le-limit s = omega (arith, s .size-within, s .trail .depth-within)
 
-pub class-below-limit : {size : ℕ} {p : Position} → Stands size p → (i : ℕ) → i < p .cursor .depth → getD (p .classes) i 0 < mark-limit
+pub class-below-limit : {size : ℕ} {p : Position} → PositionStands size p → (i : ℕ) → i < p .cursor .depth → getD (p .classes) i 0 < mark-limit
 class-below-limit {size} {p} s i l =
     omega (arith, depth-le-limit s, grown-class-le (p .classes) (p .cursor .depth) (s .trail .grown) l)
 
-module _ {size : ℕ} {p : Position} (s : Stands size p) where
+module _ {size : ℕ} {p : Position} (s : PositionStands size p) where
   -- a class below the end may be tried
   pub tried : {end c : ℕ} → end ≡ class-end (p .cursor .depth) size (p .cursor .used) (p .cursor .count) → c < end
       → Tried (p .cursor .depth) size (p .cursor .used) (p .cursor .count) c
@@ -68,7 +69,7 @@ module _ {size : ℕ} {p : Position} (s : Stands size p) where
 
 -- ---- what the machine chooses
 
-module _ (table : List ℕ) (size singles witness : ℕ) (p : Position) (s : Stands size p) {end class : ℕ} (w : Looked table size p end class) where
+module _ (table : List ℕ) (size singles witness : ℕ) (p : Position) (s : PositionStands size p) {end class : ℕ} (w : Looked table size p end class) where
   -- the machine's choice is what was looked for
   choice-looked : choice (kernel-given table size singles witness) (view p size)
       ≡ lowest-below end (joinable table (p .classes) (p .cursor .depth) (p .cursor .next))
@@ -85,7 +86,7 @@ module _ (table : List ℕ) (size singles witness : ℕ) (p : Position) (s : Sta
       ∙ getD-found (lowest-below end (joinable table (p .classes) (p .cursor .depth) (p .cursor .next))) end (w .finds) l)
 
   steps-by-taking-back : end ≤ class
-      → step (kernel-given table size singles witness) (view p size) ≡ take-back (view p size) (placed-of (p .classes) (p .cursor .depth))
+      → step (kernel-given table size singles witness) (view p size) ≡ take-back-or-close (view p size) (placed-of (p .classes) (p .cursor .depth))
   unfolding step
   steps-by-taking-back l =
       ap (move (kernel-given table size singles witness) (view p size))
@@ -132,7 +133,7 @@ module _ (table : List ℕ) (size singles witness : ℕ) (p : Position) (s : Sta
       latest = omega arith
 
   -- the next grant is placed in the class found
-  module _ (l : class < end) (stored : p .cursor .depth < length (p .classes)) (after : Cursor) (placed : Placed (p .cursor) class after) where
+  module _ (l : class < end) (stored : p .cursor .depth < length (p .classes)) (after : Cursor) (placed : CursorPlaced (p .cursor) class after) where
     placed-next : placed-of (set (p .classes) (p .cursor .depth) class) (after .depth) ≡ class ∷ placed-of (p .classes) (p .cursor .depth)
     placed-next =
         ap (placed-of (set (p .classes) (p .cursor .depth) class)) (placed .depth) ∙ placed-of-next (p .classes) (p .cursor .depth) class stored

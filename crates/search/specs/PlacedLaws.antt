@@ -10,9 +10,9 @@ use mathlib.Core.Logic.{⊎-elim}
 use lib.Dec.{eqb}
 use lib.ListN.{length, getD, set}
 use lib.Seq.{getD-set-same, getD-set-other}
-use Rattle.bits.specs.Below.{some-below}
+use Rattle.spec.specs.Vocabulary.{some-below}
+use Rattle.spec.specs.Cover.{used, joins}
 use Rattle.bits.specs.BelowLaws.{last-or-below}
-use Rattle.lists.specs.Placement.{used, joins}
 use Rattle.lists.specs.Classing.{Grown}
 use Rattle.lists.specs.GrownLaws.{grown-used-le}
 use Rattle.search.specs.View.{placed-of}

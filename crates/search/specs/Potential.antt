@@ -8,8 +8,8 @@ use mathlib.Core.List.{List, [], _∷_}
 use lib.ListN.{length}
 use native.Mathlib.Nat.{zero-add, add-zero, mul-zero, mul-left-comm, mul-le-mul-right, sub-zero, le-add-left}
 use native.Mathlib.Omega.{arith}
-use Rattle.search.specs.Machine.{Kernel, State, depth, start}
-use Rattle.search.specs.Budget.{factorial, factorials, enough}
+use Rattle.spec.specs.Machine.{Kernel, State, depth, start}
+use Rattle.spec.specs.Sequence.{factorial, factorials, enough}
 
 -- the most placings that can come from depth d with all classes 0 .. d to try, where rest grants are not placed
 abbrev pub placings : ℕ → ℕ → ℕ

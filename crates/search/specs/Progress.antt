@@ -10,11 +10,12 @@ use mathlib.Core.List.{List, _∷_}
 use lib.ListN.{length}
 use native.Mathlib.Nat.{le-refl, le-trans, le-of-eq, le-of-lt}
 use native.Mathlib.Omega.{arith}
+use Rattle.spec.specs.Limits.{search-limit}
+use Rattle.spec.specs.Machine.{Kernel, State, depth, start, step, run, search}
+use Rattle.spec.specs.Sequence.{enough}
 use Rattle.bits.specs.Truth.{passes-or-fails}
 use Rattle.bits.specs.BelowLaws.{below-or-from}
 use Rattle.lists.specs.GrownLaws.{grown-used-le}
-use Rattle.search.specs.Machine.{Kernel, State, depth, start, step, run, search, search-limit}
-use Rattle.search.specs.Budget.{enough}
 use Rattle.search.specs.Steps.{Chosen, Stepped, placing, improving, taking-back, closing, step-cases}
 use Rattle.search.specs.Runs.{run-finished, run-step, run-steps-le, run-settles, search-within}
 use Rattle.search.specs.Admissible.{Admissible, start-admissible, step-admissible}

@@ -10,9 +10,9 @@ use mathlib.Core.List.{List, [], _∷_, reverse, reverse-cons}
 use lib.ListN.{length}
 use native.Mathlib.Nat.{le-refl, le-step, eq-or-lt-of-le}
 use native.Mathlib.Omega.{arith}
+use Rattle.spec.specs.Machine.{Kernel, State, depth, start, step, run}
 use Rattle.bits.specs.Truth.{passes-or-fails, not-both, fails-unless}
 use Rattle.lists.specs.Lexicographic.{Before, before-irreflexive, before-trans, before-reverse, before-end}
-use Rattle.search.specs.Machine.{Kernel, State, depth, start, step, run}
 use Rattle.search.specs.Steps.{Stepped, placing, improving, taking-back, closing, step-cases}
 use Rattle.search.specs.Runs.{run-finished, run-step, run-none, run-goes-on, run-settles, run-last}
 

@@ -6,27 +6,27 @@ use mathlib.Core.Bool.{false, So}
 use native.Mathlib.Nat.{zero-add, add-zero, sub-zero, suc-add, add-suc}
 use native.Mathlib.Numerals.{add-one}
 use native.Mathlib.Omega.{arith}
+use Rattle.spec.specs.Machine.{Kernel, State, step, run}
 use Rattle.search.specs.declared.machine.Position.{Position}
-use Rattle.search.specs.Machine.{Kernel, State, step, run}
 use Rattle.search.specs.Runs.{run-none, run-step, run-finished, followed-by}
-use Rattle.search.specs.View.{view, Stands}
+use Rattle.search.specs.View.{view, PositionStands}
 
 -- a run from a state has led to a position
 pub record Running (kernel : Kernel) (budget : ℕ) (from : State) (position : Position) (steps : ℕ) : Type 0 where
   pub within : steps ≤ budget
-  pub stands : Stands (kernel .size) position
+  pub stands : PositionStands (kernel .size) position
   pub rest :
       run kernel budget from
       ≡ followed-by (record { state = view position (kernel .size); steps = steps }) (run kernel (budget - steps) (view position (kernel .size)))
 
 module _ (kernel : Kernel) (budget : ℕ) where
-  pub running-none : (position : Position) → Stands (kernel .size) position → Running kernel budget (view position (kernel .size)) position 0
+  pub running-none : (position : Position) → PositionStands (kernel .size) position → Running kernel budget (view position (kernel .size)) position 0
   running-none position s =
       record { within = omega arith; stands = s; rest = rw (sub-zero, zero-add) }
 
   module _ (from : State) {position : Position} {steps : ℕ} (running : Running kernel budget from position steps) where
     pub running-more : (after : Position) → steps < budget → position .cursor .finished ≡ false
-        → view after (kernel .size) ≡ step kernel (view position (kernel .size)) → Stands (kernel .size) after
+        → view after (kernel .size) ≡ step kernel (view position (kernel .size)) → PositionStands (kernel .size) after
         → Running kernel budget from after (steps + 1)
     running-more after l u moved s =
         let left : budget - steps ≡ suc (budget - (steps + 1)) = omega arith in

@@ -8,9 +8,10 @@ use mathlib.Core.Bool.{false, So}
 use native.Mathlib.Nat.{zero-add, suc-add, add-zero, add-sub-of-le}
 use native.Mathlib.Numerals.{add-one}
 use borrow.Author.Tests.{lt-ltb, le-ltb}
+use Rattle.spec.specs.Limits.{search-limit}
+use Rattle.spec.specs.Machine.{Kernel, State, step, Ran, no-step, one-more, run, search}
 use Rattle.bits.specs.Truth.{passes-or-fails, not-both}
 use Rattle.bits.specs.BelowLaws.{below-or-from}
-use Rattle.search.specs.Machine.{Kernel, State, step, Ran, no-step, one-more, run, search, search-limit}
 
 -- a finished state does not move
 pub run-finished : (kernel : Kernel) (budget : ℕ) (st : State) → So (st .finished) → run kernel budget st ≡ no-step st

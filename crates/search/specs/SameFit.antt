@@ -11,10 +11,11 @@ use mathlib.Core.Option.{Option, none, some}
 use borrow.Author.Tests.{ltb-true}
 use lib.Dec.{ltb}
 use lib.ListN.{length}
+use Rattle.spec.specs.Limits.{search-limit}
+use Rattle.spec.specs.Cover.{used, joins}
+use Rattle.spec.specs.Machine.{Kernel, State, Ran, depth, possible, choice, move, step, no-step, one-more, run, search}
 use Rattle.bits.specs.Truth.{passes-or-fails}
 use Rattle.bits.specs.LowestLaws.{lowest-below-ext}
-use Rattle.lists.specs.Placement.{used, joins}
-use Rattle.search.specs.Machine.{Kernel, State, Ran, depth, possible, choice, move, step, no-step, one-more, run, search, search-limit}
 
 -- two kernels that no search tells apart
 pub record SameKernel (one other : Kernel) : Type 0 where

@@ -10,9 +10,9 @@ use mathlib.Core.Option.{Option, none, some}
 use lib.Dec.{eqb}
 use native.Mathlib.Omega.{arith}
 use borrow.Author.Tests.{ltb-true, leb-true, eqb-true, eqb-false}
+use Rattle.spec.specs.Cover.{used, joins}
+use Rattle.spec.specs.Machine.{Kernel, State, depth, best-count, possible, choice, improved, placed-in, place, take-back-or-close, move, step}
 use Rattle.bits.specs.LowestLaws.{lowest-below-elim, lowest-below-none-elim}
-use Rattle.lists.specs.Placement.{used, joins}
-use Rattle.search.specs.Machine.{Kernel, State, depth, best-count, possible, choice, improved, placed-in, place, take-back, move, step}
 
 -- class c is the one in which grant d is placed
 pub record Chosen (kernel : Kernel) (st : State) (c : ℕ) : Type 0 where
@@ -31,8 +31,8 @@ NoneChosen kernel st = (c : ℕ) → c ≤ used (st .placed) → possible kernel
 pub data Stepped (kernel : Kernel) (st : State) : State → Type 0 where
   placing : (c : ℕ) → Chosen kernel st c → (suc (depth st) ≡ kernel .size → ⊥) → Stepped kernel st (placed-in st c)
   improving : (c : ℕ) → Chosen kernel st c → suc (depth st) ≡ kernel .size → Stepped kernel st (improved kernel (placed-in st c))
-  taking-back : (a : ℕ) (earlier : List ℕ) → st .placed ≡ a ∷ earlier → NoneChosen kernel st → Stepped kernel st (take-back st (a ∷ earlier))
-  closing : st .placed ≡ [] → NoneChosen kernel st → Stepped kernel st (take-back st [])
+  taking-back : (a : ℕ) (earlier : List ℕ) → st .placed ≡ a ∷ earlier → NoneChosen kernel st → Stepped kernel st (take-back-or-close st (a ∷ earlier))
+  closing : st .placed ≡ [] → NoneChosen kernel st → Stepped kernel st (take-back-or-close st [])
 
 -- what the choice of a class says of it
 pub chosen : (kernel : Kernel) (st : State) (c : ℕ) → choice kernel st ≡ some c → Chosen kernel st c
@@ -60,10 +60,10 @@ stepped-by-placing kernel st c w = by-size (eqb (suc (depth st)) (kernel .size))
     by-size true e = improving c w (eqb-true (suc (depth st)) (kernel .size) e)
     by-size false e = placing c w (eqb-false (suc (depth st)) (kernel .size) e)
 
-stepped-by-taking-back : (kernel : Kernel) (st : State) → NoneChosen kernel st → Stepped kernel st (take-back st (st .placed))
+stepped-by-taking-back : (kernel : Kernel) (st : State) → NoneChosen kernel st → Stepped kernel st (take-back-or-close st (st .placed))
 stepped-by-taking-back kernel st h = latest (st .placed) refl
   where
-    latest : (l : List ℕ) → st .placed ≡ l → Stepped kernel st (take-back st l)
+    latest : (l : List ℕ) → st .placed ≡ l → Stepped kernel st (take-back-or-close st l)
     latest [] e = closing e h
     latest (a ∷ earlier) e = taking-back a earlier e h
 

@@ -11,10 +11,10 @@ use borrow.Author.Tests.{eqb-true, eqb-false, eq-eqb, ne-eqb}
 use lib.Dec.{eqb}
 use lib.ListN.{length, getD, set}
 use lib.Seq.{getD-set-same, getD-set-other}
+use Rattle.spec.specs.Cover.{used}
 use Rattle.bits.specs.Truth.{passes-or-fails}
-use Rattle.bits.specs.Below.{one-if}
+use Rattle.bits.specs.Counting.{one-if}
 use Rattle.bits.specs.BelowLaws.{last-or-below}
-use Rattle.lists.specs.Placement.{used}
 use Rattle.lists.specs.GrownLaws.{grown-used-le}
 use Rattle.search.specs.declared.marks.Marks.{Marks}
 use Rattle.search.specs.Marks.{marked}

@@ -6,16 +6,17 @@ use mathlib.Core.Bool.{Bool, _&&_, cond}
 use mathlib.Core.List.{List, [], _∷_}
 use lib.Dec.{eqb, ltb, leb}
 use lib.ListN.{getD, replicate}
+use Rattle.spec.specs.Limits.{search-limit}
+use Rattle.spec.specs.Cover.{used, joins}
+use Rattle.spec.specs.Machine.{Kernel, State}
+use Rattle.spec.specs.Machine as machine
 use Rattle.bits.specs.Bit.{bit, word-bits}
-use Rattle.bits.specs.Below.{one-if}
-use Rattle.lists.specs.Placement.{used, joins}
+use Rattle.bits.specs.Counting.{one-if}
 use Rattle.lists.specs.Classing.{Grown}
 use Rattle.search.specs.declared.marks.Marks.{Marks}
 use Rattle.search.specs.declared.machine.Cursor.{Cursor}
 use Rattle.search.specs.declared.machine.Position.{Position}
 use Rattle.search.specs.declared.machine.Ran.{Ran}
-use Rattle.search.specs.Machine.{Kernel, State, search-limit}
-use Rattle.search.specs.Machine as machine
 use Rattle.search.specs.Marks.{kernel-words, mark-limit, marked}
 
 -- the classes of the first n grants in an array of class numbers, the latest first
@@ -54,7 +55,7 @@ pub record Trail (size depth in-use : ℕ) (opened : Marks) (classes : List ℕ)
   pub opened-marked : (i : ℕ) → i < depth → marked opened i ≡ eqb (getD classes i 0) (used (placed-of classes i))
 
 -- a position over a kernel that can be searched: its placed grants, and the class count of its best placement
-pub record Stands (size : ℕ) (position : Position) : Type 0 where
+pub record PositionStands (size : ℕ) (position : Position) : Type 0 where
   pub size-within : size ≤ search-limit
   pub trail : Trail size (position .cursor .depth) (position .cursor .used) (position .cursor .opened) (position .classes)
   pub best-counted : position .cursor .count ≡ used (placed-of (position .best) size)
@@ -85,7 +86,7 @@ abbrev pub joinable : List ℕ → List ℕ → ℕ → ℕ → ℕ → Bool
 joinable table classes d next c = leb next c && joins (fit-in table) d (placed-of classes d) c
 
 -- a cursor once its next grant is placed in a class
-pub record Placed (at : Cursor) (class : ℕ) (after : Cursor) : Type 0 where
+pub record CursorPlaced (at : Cursor) (class : ℕ) (after : Cursor) : Type 0 where
   pub depth : after .depth ≡ suc (at .depth)
   pub next : after .next ≡ 0
   pub in-use : after .used ≡ max (suc class) (at .used)

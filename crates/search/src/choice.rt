@@ -4,7 +4,7 @@ use crate::members;
 ghost use mathlib.Core.Path.{_≡_};
 ghost use mathlib.Core.Option.{Option·getD};
 ghost use Prim.Native.Nat.{_<_, _≤_};
-ghost use Rattle.bits.specs.Below.{lowest-below};
+ghost use Rattle.spec.specs.Vocabulary.{lowest-below};
 ghost use Rattle.search.specs.ChoiceLaws.{open-to};
 ghost use Rattle.search.specs.Marks.{mark-limit};
 ghost use Rattle.search.specs.View.{class-end};

@@ -5,7 +5,7 @@
 // by value and lent arrays, and both ways go through it. Beside the classes it keeps the members of each class as a table of words (members.rt), which follows
 // from the placed grants: a search gathers it when it begins, a step by itself each time.
 //
-// What a position's words and bytes stand for is its `view`, a state of specs/Machine.antt, and the contracts say that a step, a run and a search
+// What a position's words and bytes stand for is its `view`, a state of Machine in `spec`, and the contracts say that a step, a run and a search
 // move the view as the machine moves its state. Of a greater kernel a search makes no step, and whoever has one keeps its best placement elsewhere.
 mod choice;
 mod lent;

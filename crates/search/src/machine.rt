@@ -7,8 +7,9 @@ use crate::members;
 use crate::moves;
 ghost use mathlib.Core.Path.{_≡_};
 ghost use Prim.Native.Nat.{_<_, _≤_};
-ghost use Rattle.search.specs.Machine.{search-limit, step, run, search};
-ghost use Rattle.search.specs.View.{kernel-given, view, view-ran, Stands, started};
+ghost use Rattle.spec.specs.Limits.{search-limit};
+ghost use Rattle.spec.specs.Machine.{step, run, search};
+ghost use Rattle.search.specs.View.{kernel-given, view, view-ran, PositionStands, started};
 
 // Depth d, next try t, classes in use, class count b of the best placement, finished or not, and which grants opened a class.
 #[repr(C)]
@@ -21,7 +22,7 @@ pub struct Cursor {
     pub opened: Marks,
 }
 
-// The state of the machine: a cursor, the classes of the grants placed, and the best placement. Which positions stand for a state is said by `Stands`;
+// The state of the machine: a cursor, the classes of the grants placed, and the best placement. Which positions stand for a state is said by `PositionStands`;
 // whoever makes one otherwise than by `start` and the steps from there has to show it.
 #[repr(C)]
 pub struct Position {
@@ -76,9 +77,9 @@ impl Position {
         singles: usize,
         witness: usize,
     ) -> Position
-        requires { ⌜ Stands size self ⌝ }
+        requires { ⌜ PositionStands size self ⌝ }
         ensures { λ r. ⌜ view r size ≡ step (kernel-given (now (fit .entry)) size singles witness) (view self size) ⌝ }
-        ensures { λ r. ⌜ Stands size r ⌝ }
+        ensures { λ r. ⌜ PositionStands size r ⌝ }
     {
         let at = self.cursor;
         let mut classes = self.classes;
@@ -106,9 +107,9 @@ impl Position {
         witness: usize,
         budget: u32,
     ) -> Ran
-        requires { ⌜ Stands size self ⌝ }
+        requires { ⌜ PositionStands size self ⌝ }
         ensures { λ r. ⌜ view-ran r size ≡ run (kernel-given (now (fit .entry)) size singles witness) budget (view self size) ⌝ }
-        ensures { λ r. ⌜ Stands size (r .position) ⌝ }
+        ensures { λ r. ⌜ PositionStands size (r .position) ⌝ }
     {
         let mut at = self.cursor;
         let mut classes = self.classes;
@@ -141,9 +142,9 @@ impl Position {
         witness: usize,
         budget: u32,
     ) -> Ran
-        requires { ⌜ (size ≤ search-limit → Stands size self) ⌝ }
+        requires { ⌜ (size ≤ search-limit → PositionStands size self) ⌝ }
         ensures { λ r. ⌜ view-ran r size ≡ search (kernel-given (now (fit .entry)) size singles witness) budget (view self size) ⌝ }
-        ensures { λ r. ⌜ (size ≤ search-limit → Stands size (r .position)) ⌝ }
+        ensures { λ r. ⌜ (size ≤ search-limit → PositionStands size (r .position)) ⌝ }
         ensures { λ r. ⌜ (search-limit < size → r .position ≡ self) ⌝ }
     {
         if KERNEL_LIMIT < size {

@@ -9,7 +9,7 @@ ghost use Prim.Native.Nat.{_+_, _<_, _≤_};
 ghost use lib.Dec.{eqb};
 ghost use Rattle.search.specs.Lent.{Ready, Moved};
 ghost use Rattle.search.specs.Marks.{mark-limit};
-ghost use Rattle.search.specs.View.{Placed, taken-back};
+ghost use Rattle.search.specs.View.{CursorPlaced, taken-back};
 
 // Whether a number of classes plus singles equals w, with no sum that could wrap.
 pub fn reaches(count: usize, singles: usize, witness: usize) -> bool
@@ -27,7 +27,7 @@ impl Cursor {
         requires { ⌜ self .depth < mark-limit ⌝ }
         requires { ⌜ class ≤ self .used ⌝ }
         requires { ⌜ self .used < self .count ⌝ }
-        ensures { λ r. ⌜ Placed self class r ⌝ }
+        ensures { λ r. ⌜ CursorPlaced self class r ⌝ }
     {
         let d = self.depth;
         let opened = self.opened;

@@ -7,7 +7,7 @@ use borrow.Fn.Kinds.{PK, RK, Dens, In, Out, resT, endedOf}
 use contract.Lifetimes.{Lfts}
 use denote.Triple.Clauses.{AtExit}
 use denote.Ref.{now}
-use Rattle.session.specs.Demands.{OwedOfAll}
+use Rattle.spec.specs.Demands.{OwedOfAll}
 use Rattle.session.specs.CodeSequence.{Made, loads, searches, writes, event-of, CodeLed, code-demand-3}
 use Rattle.session.specs.declared.Session.{Session}
 use Rattle.session.proofs.Session.fresh.Kinds as fresh-kinds

@@ -8,26 +8,26 @@ use mathlib.Core.List.{List}
 use borrow.Author.Tests.{leb-true}
 use lib.Dec.{eqb, leb}
 use lib.ListN.{length, getD}
-use Rattle.lists.specs.Placement.{used}
+use Rattle.spec.specs.Limits.{search-limit}
+use Rattle.spec.specs.Text.{Bytes}
+use Rattle.spec.specs.Sheet.{sheet-of}
+use Rattle.spec.specs.Cover.{used, first-best}
+use Rattle.spec.specs.Machine.{State, best-count}
+use Rattle.spec.specs.Roles.{kernel-of, start-of}
+use Rattle.spec.specs.Session.{loaded}
 use Rattle.lists.specs.PlacementLaws.{class-below-used}
 use Rattle.lists.specs.GrownLaws.{grown-used-le}
 use Rattle.lists.specs.LatestFirst.{latest-first, latest-first-length, latest-first-class}
-use Rattle.sheet.specs.Text.{Bytes}
-use Rattle.sheet.specs.Sheet.{sheet-of}
-use Rattle.grants.specs.Cover.{first-best}
-use Rattle.search.specs.Machine.{State, best-count, search-limit}
-use Rattle.search.specs.View.{placed-of, started, Stands}
+use Rattle.search.specs.View.{placed-of, started, PositionStands}
 use Rattle.search.specs.View as position
 use Rattle.search.specs.Carried.{started-stands}
 use Rattle.search.specs.declared.machine.Position.{Position}
-use Rattle.roles.specs.Roles.{kernel-of, start-of}
 use Rattle.minimality.specs.SheetRoles.{first-best-whole}
 use Rattle.minimality.specs.StateBound.{searching-start}
-use Rattle.session.specs.Session.{loaded}
 use Rattle.session.specs.Prepared.{PreparedFor}
-use Rattle.session.specs.Held.{text-in, size-in, state-in, view, Holds}
+use Rattle.session.specs.CodeSession.{text-in, size-in, state-in, view, Holds}
 use Rattle.session.specs.declared.prepared.Prepared.{Prepared}
-use Rattle.session.specs.declared.Session.{Session as Held}
+use Rattle.session.specs.declared.Session.{Session as CodeSession}
 
 -- ---- the first cover
 
@@ -63,11 +63,11 @@ module _ {text : Bytes} {p : Prepared} (found : PreparedFor text p) where
 -- ---- the session
 
 -- the session of a text, from a copy of its bytes, what was found of them, and a position
-abbrev pub held-of : Bytes → List ℕ → Prepared → Position → Held
+abbrev pub held-of : Bytes → List ℕ → Prepared → Position → CodeSession
 held-of text copy found at = record { loaded = true; length = length text; text = copy; prepared = found; position = at }
 
 -- the session was made anew from this text
-pub record Anew (text : Bytes) (s : Held) : Type 0 where
+pub record Anew (text : Bytes) (s : CodeSession) : Type 0 where
   pub accepts : So (s .loaded)
   pub whole : s .length ≤ length (s .text)
   pub kept : text-in s ≡ text
@@ -76,7 +76,7 @@ pub record Anew (text : Bytes) (s : Held) : Type 0 where
   pub same : size-in s ≤ search-limit → placed-of first (size-in s) ≡ latest-first (s .prepared .first .classes) (size-in s)
   pub starts : s .position ≡ started first (s .prepared .first .used) (s .prepared .reduced .singles) (s .prepared .witness .count)
 
-module _ {text : Bytes} {s : Held} (anew : Anew text s) where
+module _ {text : Bytes} {s : CodeSession} (anew : Anew text s) where
   -- its machine is at the start
   state-anew : state-in s ≡ start-of (sheet-of text)
   state-anew = by-size (leb (size-in s) search-limit) refl
@@ -91,7 +91,7 @@ module _ {text : Bytes} {s : Held} (anew : Anew text s) where
   pub view-anew : view s ≡ loaded text (start-of (sheet-of text))
   view-anew = rw (anew .accepts, state-anew, anew .kept)
 
-  stands-anew : size-in s ≤ search-limit → Stands (size-in s) (s .position)
+  stands-anew : size-in s ≤ search-limit → PositionStands (size-in s) (s .position)
   stands-anew l =
       rw (anew .starts)
       (started-stands (anew .first) (size-in s) (s .prepared .first .used) (s .prepared .reduced .singles) (s .prepared .witness .count)

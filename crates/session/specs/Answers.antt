@@ -9,15 +9,16 @@ use borrow.Author.Tests.{eq-eqb, le-ltb}
 use lib.Dec.{eqb}
 use lib.ListN.{length, take, drop}
 use lib.Seq.{take-append-seam}
+use Rattle.spec.specs.Text.{Bytes}
+use Rattle.spec.specs.Sheet.{sheet-of}
+use Rattle.spec.specs.Machine.{State}
+use Rattle.spec.specs.Book.{book}
+use Rattle.spec.specs.Session.{Session, no-sheet, loaded, session-book}
+use Rattle.spec.specs.Refusal.{first-number, refusal, accepted, write-causes}
+use Rattle.spec.specs.Calls.{LoadAnswer, load-answer, search-answer, search-refused, WriteAnswer, write-refused, write-answer, buffer-after, Loads, Writes}
+use Rattle.spec.specs.Sequence.{WriteOutcome, brought-out}
+use Rattle.spec.specs.Demands.{LoadOwed}
 use Rattle.bits.specs.Truth.{not-both, passes-or-fails}
-use Rattle.sheet.specs.Text.{Bytes}
-use Rattle.sheet.specs.Sheet.{sheet-of}
-use Rattle.sheet.specs.Refusal.{first-number, refusal, accepted}
-use Rattle.search.specs.Machine.{State}
-use Rattle.book.specs.Book.{book}
-use Rattle.session.specs.Session.{Session, no-sheet, loaded, LoadAnswer, load-answer, search-answer, search-refused, WriteAnswer, write-refused, session-book, write-answer, write-causes, buffer-after, Loads, Writes}
-use Rattle.session.specs.Sequence.{Written, brought-out}
-use Rattle.session.specs.Demands.{LoadOwed}
 
 -- a load answers 0 exactly where its sheet is accepted
 pub load-number : (text : Bytes) → (load-answer text .number ≡ 0) ↔ So (accepted text)
@@ -71,7 +72,7 @@ front-is-the-book true number text buffer e z = take-append-seam text (drop (len
 front-is-the-book false number text buffer e z = absurd (not-both (eq-eqb number 0 z) (sym e))
 
 -- an accepted writing brings out the session's book, whole
-pub brings-the-book : (before : Session) (buffer : Bytes) (written : Written) (after : Session)
+pub brings-the-book : (before : Session) (buffer : Bytes) (written : WriteOutcome) (after : Session)
     → Writes before buffer (written .answer) (written .lent) after → written .answer .number ≡ 0 → brought-out written ≡ session-book before
 unfolding write-answer buffer-after
 brings-the-book before buffer written after h accepts =

@@ -6,42 +6,42 @@ use mathlib.Core.Path.{_≡_, sym, ap, _∙_}
 use mathlib.Core.Logic.{⊎-elim}
 use mathlib.Core.List.{List}
 use borrow.Author.Tests.{lt-leb}
+use Rattle.spec.specs.Limits.{permission-limit, grant-limit, search-limit}
+use Rattle.spec.specs.Sheet.{sheet-of}
+use Rattle.spec.specs.Cover.{first-best}
+use Rattle.spec.specs.Machine.{State}
+use Rattle.spec.specs.Roles.{roles-of, role-count, start-of}
 use Rattle.bits.specs.BelowLaws.{below-or-from}
 use Rattle.lists.specs.LatestFirst.{latest-first}
-use Rattle.sheet.specs.Limits.{permission-limit, grant-limit}
-use Rattle.sheet.specs.Sheet.{sheet-of}
 use Rattle.sheet.specs.Rows.{row-bits}
 use Rattle.sheet.specs.AcceptedFacts.{accepted-lawful}
-use Rattle.grants.specs.Cover.{first-best}
 use Rattle.grants.specs.CoverPlaced.{Placed}
-use Rattle.search.specs.Machine.{State, search-limit}
-use Rattle.roles.specs.Roles.{roles-of, role-count, start-of}
 use Rattle.roles.specs.RolesInput.{Belongs}
 use Rattle.roles.specs.ReducedBelongs.{reduced-belongs}
 use Rattle.book.specs.LaidLaws.{few-users}
 use Rattle.checker.specs.RoleLimit.{permissions-fit-a-row}
-use Rattle.session.specs.Held.{text-in, size-in, state-in, Holds}
+use Rattle.session.specs.CodeSession.{text-in, size-in, state-in, Holds}
 use Rattle.session.specs.BestOf.{BestOf}
 use Rattle.session.specs.MovedOn.{state-within}
 use Rattle.session.specs.CountsHeld.{roles-held, few-roles-held}
-use Rattle.session.specs.declared.Session.{Session as Held}
+use Rattle.session.specs.declared.Session.{Session as CodeSession}
 
 -- the state is the start where the kernel is too great to be searched, and its best placement is the first cover
-best-above : (s : Held) → search-limit < size-in s → state-in s .best ≡ first-best (sheet-of (text-in s))
+best-above : (s : CodeSession) → search-limit < size-in s → state-in s .best ≡ first-best (sheet-of (text-in s))
 unfolding start-of
 best-above s l = rw (lt-leb (size-in s) search-limit l)
 
 -- the best placement as an array, with its class count
-abbrev pub BestIn : Held → List ℕ → Type 0
+abbrev pub BestIn : CodeSession → List ℕ → Type 0
 BestIn s classes = Placed (state-in s .best) classes (size-in s) (s .position .cursor .count)
 
 -- the sheet's roles are found from these arrays and that one
-abbrev pub BelongsIn : Held → List ℕ → Type 0
+abbrev pub BelongsIn : CodeSession → List ℕ → Type 0
 BelongsIn s classes =
     Belongs (s .prepared .rows) (s .prepared .layout .users) (s .prepared .kernel .cells) (size-in s) classes (s .position .cursor .count)
     (s .prepared .reduced .removed) (s .prepared .reduced .partner) (s .prepared .reduced .count) (sheet-of (text-in s)) (state-in s .best)
 
-module _ {s : Held} (h : Holds s) where
+module _ {s : CodeSession} (h : Holds s) where
   -- the first cover, or the position's
   pub best-held : {classes : List ℕ} → BestOf (s .prepared .first .classes) (s .position .best) (size-in s) classes → BestIn s classes
   best-held {classes} b =

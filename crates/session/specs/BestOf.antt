@@ -3,8 +3,8 @@
 use Prim.Native.Nat.{ℕ, _≤_, _<_}
 use mathlib.Core.Path.{_≡_}
 use mathlib.Core.List.{List}
+use Rattle.spec.specs.Limits.{search-limit}
 use Rattle.lists.specs.LatestFirst.{latest-first}
-use Rattle.search.specs.Machine.{search-limit}
 use Rattle.search.specs.View.{placed-of}
 
 pub record BestOf (first best : List ℕ) (size : ℕ) (classes : List ℕ) : Type 0 where

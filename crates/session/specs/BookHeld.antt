@@ -5,24 +5,24 @@ use native.Mathlib.Omega.{arith}
 use mathlib.Core.Path.{_≡_, sym, ap, _∙_}
 use mathlib.Core.Bool.{So}
 use mathlib.Core.List.{List}
-use Rattle.sheet.specs.Sheet.{Sheet, Grant, sheet-of, permission-count, holds}
+use Rattle.spec.specs.Sheet.{Sheet, Grant, sheet-of, permission-count, holds}
+use Rattle.spec.specs.Roles.{roles-of, role-count}
+use Rattle.spec.specs.Book.{book}
 use Rattle.sheet.specs.Rows.{row-bits, cell}
 use Rattle.grants.specs.CellSets.{in-cells}
 use Rattle.grants.specs.CellPlaces.{marked, Shown, Part}
 use Rattle.grants.specs.CellPlaceLaws.{cell-marked}
 use Rattle.grants.specs.CellListLaws.{cell-of, grant-of-cell}
-use Rattle.roles.specs.Roles.{roles-of, role-count}
 use Rattle.roles.specs.RolesShown.{RolesAt}
-use Rattle.book.specs.Book.{book}
 use Rattle.book.specs.BookRows.{rows-book, rows-book-in}
 use Rattle.book.specs.LaidLaws.{permissions-fit}
 use Rattle.book.specs.RowsSaid.{GrantCells}
 use Rattle.book.specs.declared.counts.Counts.{Counts}
 use Rattle.checker.specs.RoleLimit.{permissions-fit-a-row}
-use Rattle.session.specs.Held.{text-in, state-in, Holds}
+use Rattle.session.specs.CodeSession.{text-in, state-in, Holds}
 use Rattle.session.specs.Counted.{CountsIn}
 use Rattle.session.specs.CountsHeld.{roles-held, few-roles-held}
-use Rattle.session.specs.declared.Session.{Session as Held}
+use Rattle.session.specs.declared.Session.{Session as CodeSession}
 
 -- a grant's cell by its number
 cell-by-number : (words : List ℕ) (g : Grant) → g .permission < row-bits → in-cells words g ≡ marked words (cell-of g)
@@ -38,7 +38,7 @@ part-granted {rows} {words} {sheet = sheet} shown fit part = record { held = λ 
         let g : Grant = record { user = u; permission = p } in
         sym (shown .cells .shows u p l) ∙ cell-by-number rows g l ∙ part .held (cell-of g) (sym (cell-by-number words g l) ∙ e)
 
-module _ {s : Held} (h : Holds s) where
+module _ {s : CodeSession} (h : Holds s) where
   room-for-permissions : permission-count (sheet-of (text-in s)) ≤ row-bits
   room-for-permissions = let laid = h .prepared .laid in omega (arith, permissions-fit laid, laid .permission-total)
 

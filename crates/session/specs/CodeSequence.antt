@@ -4,14 +4,15 @@ use Prim.Native.Nat.{ℕ}
 use mathlib.Core.Path.{_≡_, subst, sym}
 use mathlib.Core.List.{List, [], _∷_, map}
 use mathlib.Core.Logic.{_≢_}
-use Rattle.sheet.specs.Text.{Bytes}
-use Rattle.session.specs.Session.{fresh, Loads, Searches, Writes}
-use Rattle.session.specs.Sequence.{load, search, write, Event, Happens, Led}
-use Rattle.session.specs.Demands.{OwedOfAll}
+use Rattle.spec.specs.Text.{Bytes}
+use Rattle.spec.specs.Session.{fresh}
+use Rattle.spec.specs.Calls.{Loads, Searches, Writes}
+use Rattle.spec.specs.Sequence.{load, search, write, Event, Happens, Led}
+use Rattle.spec.specs.Demands.{OwedOfAll}
 use Rattle.session.specs.Demand3.{demand-3}
 use Rattle.session.specs.Said.{load-said, search-said, write-said}
-use Rattle.session.specs.Held.{view, Sound}
-use Rattle.session.specs.declared.Session.{Session as Held}
+use Rattle.session.specs.CodeSession.{view, Sound}
+use Rattle.session.specs.declared.Session.{Session as CodeSession}
 use Rattle.session.specs.declared.answers.LoadAnswer.{LoadAnswer}
 use Rattle.session.specs.declared.answers.SearchAnswer.{SearchAnswer}
 use Rattle.session.specs.declared.answers.WriteAnswer.{WriteAnswer}
@@ -32,7 +33,7 @@ event-of (writes buffer answer lent) =
 
 -- what the contract of the call ensures, of the value that it was made on and the value after it: the one that a load or a search handed back; a writing
 -- hands none back, and the value that it was made on is the one after it
-abbrev pub Ensured : Made → Held → Held → Type 0
+abbrev pub Ensured : Made → CodeSession → CodeSession → Type 0
 Ensured (loads text answer) before after =
     Loads (view before) text (load-said answer) (view after) × Sound after × (answer .number ≢ 0 → after ≡ before)
 Ensured (searches budget answer) before after =
@@ -41,34 +42,34 @@ Ensured (writes buffer answer lent) before after =
     Writes (view before) buffer (write-said answer) lent (view before) × (after ≡ before)
 
 -- what the contract of `Session::fresh` ensures
-abbrev pub Fresh : Held → Type 0
+abbrev pub Fresh : CodeSession → Type 0
 Fresh s = (view s ≡ fresh) × Sound s
 
 -- the calls, the latest first, that led from a fresh value to this one: each keeps its contract, which requires that its value came from the calls
-abbrev pub CodeLed : List Made → Held → Type 0
+abbrev pub CodeLed : List Made → CodeSession → Type 0
 CodeLed [] s = Fresh s
-CodeLed (made ∷ earlier) s = (before : Held) × CodeLed earlier before × (Sound before → Ensured made before s)
+CodeLed (made ∷ earlier) s = (before : CodeSession) × CodeLed earlier before × (Sound before → Ensured made before s)
 
 -- what a contract ensures is a step
-step-happens : (made : Made) (before after : Held) → Ensured made before after
+step-happens : (made : Made) (before after : CodeSession) → Ensured made before after
     → Happens (event-of made .call) (event-of made .outcome) (view before) (view after)
 step-happens (loads text answer) before after e = e .0
 step-happens (searches budget answer) before after e = e .0
 step-happens (writes buffer answer lent) before after e = rw (e .1) (e .0)
 
 -- and leaves a value that the next call may be made on
-step-sound : (made : Made) (before after : Held) → Sound before → Ensured made before after → Sound after
+step-sound : (made : Made) (before after : CodeSession) → Sound before → Ensured made before after → Sound after
 step-sound (loads text answer) before after s e = e .1
 step-sound (searches budget answer) before after s e = e .1
 step-sound (writes buffer answer lent) before after s e = subst Sound (sym (e .1)) s
 
-pub code-sound : (made : List Made) (s : Held) → CodeLed made s → Sound s
+pub code-sound : (made : List Made) (s : CodeSession) → CodeLed made s → Sound s
 code-sound [] s led = led .1
 code-sound (made ∷ earlier) s led =
     let sound = code-sound earlier (led .0) (led .1) in step-sound made (led .0) s sound (led .2 sound)
 
 -- the calls of the code are a sequence of demand 3
-pub code-led : (made : List Made) (s : Held) → CodeLed made s → Led (map event-of made) (view s)
+pub code-led : (made : List Made) (s : CodeSession) → CodeLed made s → Led (map event-of made) (view s)
 code-led [] s led = led .0
 code-led (made ∷ earlier) s led = (
   view (led .0),
@@ -77,5 +78,5 @@ code-led (made ∷ earlier) s led = (
 )
 
 -- demand 3 of the code
-pub code-demand-3 : (made : List Made) (s : Held) → CodeLed made s → OwedOfAll (map event-of made)
+pub code-demand-3 : (made : List Made) (s : CodeSession) → CodeLed made s → OwedOfAll (map event-of made)
 code-demand-3 made s led = demand-3 (map event-of made) (view s) (code-led made s led)

@@ -2,15 +2,15 @@
 use Prim.Native.Nat.{ℕ}
 use mathlib.Core.Path.{_≡_}
 use mathlib.Core.Bool.{Bool}
-use Rattle.sheet.specs.Sheet.{sheet-of}
-use Rattle.search.specs.Machine.{search}
+use Rattle.spec.specs.Sheet.{sheet-of}
+use Rattle.spec.specs.Machine.{search}
+use Rattle.spec.specs.Roles.{kernel-of, role-count, standing-of, bound-of, standing, bound}
 use Rattle.search.specs.declared.machine.Position.{Position}
 use Rattle.search.specs.declared.machine.Ran.{Ran}
-use Rattle.roles.specs.Roles.{kernel-of, role-count, standing-of, bound-of, standing, bound}
 use Rattle.roles.specs.StandingCases.{standing-case}
 use Rattle.book.specs.declared.counts.Counts.{Counts}
-use Rattle.session.specs.Held.{text-in, state-in, Holds}
-use Rattle.session.specs.declared.Session.{Session as Held}
+use Rattle.session.specs.CodeSession.{text-in, state-in, Holds}
+use Rattle.session.specs.declared.Session.{Session as CodeSession}
 
 -- state and bound beside so many roles and so many witness grants
 pub record CountsFrom (n w : ℕ) (finished : Bool) (counts : Counts) : Type 0 where
@@ -19,18 +19,18 @@ pub record CountsFrom (n w : ℕ) (finished : Bool) (counts : Counts) : Type 0 w
   pub standing : standing-case (counts .standing) ≡ standing-of n w finished
 
 -- roles, bound and state
-pub record CountsIn (s : Held) (counts : Counts) : Type 0 where
+pub record CountsIn (s : CodeSession) (counts : Counts) : Type 0 where
   pub roles : counts .roles ≡ role-count (sheet-of (text-in s)) (state-in s)
   pub bound : counts .bound ≡ bound (sheet-of (text-in s)) (state-in s)
   pub standing : standing-case (counts .standing) ≡ standing (sheet-of (text-in s)) (state-in s)
 
 -- the session with its search at another position
-abbrev pub moved-to : Held → Position → Held
+abbrev pub moved-to : CodeSession → Position → CodeSession
 moved-to s at =
     record { loaded = s .loaded; length = s .length; text = s .text; prepared = s .prepared; position = at }
 
 -- the search goes on as the machine does, and the session holds what it did
-pub record RanIn (s : Held) (budget : ℕ) (ran : Ran) : Type 0 where
+pub record RanIn (s : CodeSession) (budget : ℕ) (ran : Ran) : Type 0 where
   pub state : state-in (moved-to s (ran .position)) ≡ search (kernel-of (sheet-of (text-in s))) budget (state-in s) .state
   pub steps : ran .steps ≡ search (kernel-of (sheet-of (text-in s))) budget (state-in s) .steps
   pub holds : Holds (moved-to s (ran .position))

@@ -5,23 +5,23 @@ use native.Mathlib.Omega.{arith}
 use mathlib.Core.Path.{_≡_, ap, _∙_}
 use mathlib.Core.Bool.{Bool}
 use lib.ListN.{length}
-use Rattle.sheet.specs.Limits.{permission-limit}
-use Rattle.sheet.specs.Sheet.{sheet-of}
+use Rattle.spec.specs.Limits.{permission-limit}
+use Rattle.spec.specs.Sheet.{sheet-of}
+use Rattle.spec.specs.Witness.{witness}
+use Rattle.spec.specs.Roles.{standing-of, bound-of, role-count, standing, bound}
 use Rattle.sheet.specs.AcceptedFacts.{accepted-lawful}
-use Rattle.grants.specs.Witness.{witness}
-use Rattle.roles.specs.Roles.{standing-of, bound-of, role-count, standing, bound}
 use Rattle.book.specs.declared.counts.Counts.{Counts}
 use Rattle.minimality.specs.StateBound.{state-counted, state-le-permissions}
 use Rattle.session.specs.Believed.{accepted-even}
-use Rattle.session.specs.Held.{text-in, state-in, Holds}
+use Rattle.session.specs.CodeSession.{text-in, state-in, Holds}
 use Rattle.session.specs.Counted.{CountsFrom, CountsIn}
-use Rattle.session.specs.declared.Session.{Session as Held}
+use Rattle.session.specs.declared.Session.{Session as CodeSession}
 
 -- the best placement's classes and the singles
-abbrev pub roles-in : Held → ℕ
+abbrev pub roles-in : CodeSession → ℕ
 roles-in s = s .position .cursor .count + s .prepared .reduced .singles
 
-module _ {s : Held} (h : Holds s) where
+module _ {s : CodeSession} (h : Holds s) where
   pub roles-held : roles-in s ≡ role-count (sheet-of (text-in s)) (state-in s)
   roles-held =
       let single = h .prepared .reduced .single-count (sheet-of (text-in s)) (h .prepared .shown) in

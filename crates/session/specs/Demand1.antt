@@ -7,13 +7,13 @@ use mathlib.Core.List.{List}
 use mathlib.Core.Logic.{_≢_, ⊎-elim}
 use borrow.Author.Tests.{eqb-true, ne-eqb}
 use lib.Dec.{eqb}
+use Rattle.spec.specs.Text.{Bytes}
+use Rattle.spec.specs.Session.{Session, no-sheet, loaded}
+use Rattle.spec.specs.Refusal.{Cause, first-number, sheet-causes, refusal, accepted, check-causes, book-causes, search-causes, write-causes}
+use Rattle.spec.specs.Calls.{CheckAnswer, check, check-refused, Checks, LoadAnswer, load-answer, load-refused, after-load, SearchAnswer, search-answer, search-refused, after-search, WriteAnswer, write-answer, write-refused, buffer-after, Loads, Searches, Writes}
+use Rattle.spec.specs.Demands.{LowestThatApplies, Judged, Demand1}
 use Rattle.bits.specs.Truth.{passes-or-fails}
-use Rattle.sheet.specs.Text.{Bytes}
-use Rattle.sheet.specs.Refusal.{Cause, first-number, sheet-causes, refusal, accepted}
 use Rattle.sheet.specs.CauseLaws.{rising, none-lower, some-applies, sheet-causes-rise}
-use Rattle.checker.specs.Check.{CheckAnswer, check, check-causes, check-refused, book-causes, Checks}
-use Rattle.session.specs.Session.{Session, no-sheet, loaded, LoadAnswer, load-answer, load-refused, after-load, SearchAnswer, search-answer, search-causes, search-refused, after-search, WriteAnswer, write-answer, write-causes, write-refused, buffer-after, Loads, Searches, Writes}
-use Rattle.session.specs.Demands.{LowestThatApplies, Judged, Demand1}
 
 -- the first of rising causes is the lowest that applies
 first-is-lowest : (causes : List Cause) → So (rising 0 causes) → LowestThatApplies causes (first-number causes)

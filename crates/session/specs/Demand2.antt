@@ -1,13 +1,13 @@
 -- Demand 2. A load answers 0 exactly where its sheet keeps the rules, and the checker answers 0 exactly where its sheet keeps the rules and its
--- book is right for that sheet; both read what is said, and the checker answers its counts. What a writing brings out is owed by demand 3.
+-- book is right for that sheet; the checker answers its counts. What a writing brings out is owed by demand 3.
 use mathlib.Core.Path.{sym, _∙_}
 use mathlib.Core.List.{_∷_}
 use borrow.Author.Tests.{eqb-true, eq-eqb}
-use Rattle.sheet.specs.Refusal.{refusal}
+use Rattle.spec.specs.Refusal.{refusal}
+use Rattle.spec.specs.Sequence.{write}
+use Rattle.spec.specs.Demands.{Demand2}
 use Rattle.sheet.specs.Accepted.{accepts-sheets, reads-sheets}
-use Rattle.checker.specs.Exact.{accepts-books, reads-books, answers-counts}
-use Rattle.session.specs.Sequence.{write}
-use Rattle.session.specs.Demands.{Demand2}
+use Rattle.checker.specs.Exact.{accepts-books, answers-counts}
 use Rattle.session.specs.Demand1.{load-number-is-refusal}
 use Rattle.session.specs.Demand3.{demand-3}
 
@@ -20,9 +20,8 @@ demand-2 =
       );
       reads-sheets = reads-sheets;
       accepts-books = accepts-books;
-      reads-books = reads-books;
       answers-counts = answers-counts;
       own-books = λ buffer written earlier session led e.
           let owed = demand-3 (record { call = write buffer; outcome = written } ∷ earlier) session led .0 .book e in
-          (owed .text, owed .last, owed .believed .multiplies);
+          (owed .text, owed .believed .says, owed .last, owed .believed .right);
     }

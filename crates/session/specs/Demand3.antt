@@ -1,8 +1,7 @@
 -- Demand 3: one theorem about every sequence of loads, searches and writings on one session, refused ones included, from a fresh session.
 -- Every single book can be believed (`Believed`), and a sequence brings out only such books (`Owed`).
-use Rattle.session.specs.Demands.{Demand3}
-use Rattle.session.specs.Believed.{book-believed, book-says}
-use Rattle.session.specs.Owed.{demand-3-from-books}
+use Rattle.spec.specs.Demands.{Demand3}
+use Rattle.session.specs.Owed.{owed-of-all}
 
 pub demand-3 : Demand3
-demand-3 = demand-3-from-books book-believed book-says
+demand-3 = owed-of-all

@@ -1,9 +1,4 @@
--- The session: its calls and answers, sequences of calls, and the three demands.
-pub mod Session
-pub mod Program
-pub mod Sequence
-pub mod Demands
-pub mod Edges
+-- The three demands proved, and the session of the code: what it stands for, and that its calls are those of the demands.
 pub mod Reached
 pub mod Answers
 pub mod Believed
@@ -11,13 +6,14 @@ pub mod Owed
 pub mod Settled
 pub mod Demand1
 pub mod Demand3
+pub mod EverySequence
 pub mod CheckerAlone
 pub mod PlacedOnce
 pub mod Demand2
 pub mod Said
 pub mod Prepared
 pub mod Preparing
-pub mod Held
+pub mod CodeSession
 pub mod Anew
 pub mod Loading
 pub mod Counted

@@ -7,16 +7,17 @@ use mathlib.Core.Bool.{Bool, true, false, So, cond}
 use mathlib.Core.Logic.{_≢_}
 use borrow.Author.Tests.{eq-eqb, ne-eqb}
 use lib.ListN.{length}
-use Rattle.sheet.specs.Limits.{sheet-limit}
-use Rattle.sheet.specs.Text.{Bytes}
-use Rattle.sheet.specs.Sheet.{sheet-of}
-use Rattle.sheet.specs.Refusal.{refusal, accepted}
+use Rattle.spec.specs.Limits.{sheet-limit}
+use Rattle.spec.specs.Text.{Bytes}
+use Rattle.spec.specs.Sheet.{sheet-of}
+use Rattle.spec.specs.Machine.{State}
+use Rattle.spec.specs.Roles.{start-of}
+use Rattle.spec.specs.Session.{Session, no-sheet, loaded}
+use Rattle.spec.specs.Refusal.{refusal, accepted}
+use Rattle.spec.specs.Calls.{LoadAnswer, load-refused, load-counts, load-answer, after-load, Loads}
 use Rattle.sheet.specs.AcceptedFacts.{accepted-short}
-use Rattle.search.specs.Machine.{State}
-use Rattle.roles.specs.Roles.{start-of}
-use Rattle.session.specs.Session.{Session, no-sheet, loaded, LoadAnswer, load-refused, load-counts, load-answer, after-load, Loads}
-use Rattle.session.specs.Held.{text-in, state-in, view}
-use Rattle.session.specs.declared.Session.{Session as Held}
+use Rattle.session.specs.CodeSession.{text-in, state-in, view}
+use Rattle.session.specs.declared.Session.{Session as CodeSession}
 
 module _ (before : Session) (text : Bytes) where
   -- refused
@@ -40,7 +41,7 @@ pub unrefused-short : (text : Bytes) → refusal text ≡ 0 → length text ≤ 
 unrefused-short text none-applies = accepted-short text (eq-eqb (refusal text) 0 none-applies)
 
 -- the bytes of a session that stands for a sheet are the sheet's
-pub text-loaded : (s : Held) (text : Bytes) (st : State) → view s ≡ loaded text st → text-in s ≡ text
+pub text-loaded : (s : CodeSession) (text : Bytes) (st : State) → view s ≡ loaded text st → text-in s ≡ text
 text-loaded s text st e = by-case (s .loaded) (text-in s) (state-in s) e
   where
     by-case : (accepts : Bool) (own : Bytes) (at : State) → cond accepts (loaded own at) no-sheet ≡ loaded text st → own ≡ text

@@ -4,35 +4,36 @@ use Prim.Native.Nat.{ℕ, _≤_, _<_}
 use mathlib.Core.Path.{_≡_, sym, ap, _∙_}
 use mathlib.Core.Logic.{⊎-elim}
 use borrow.Author.Tests.{le-leb}
+use Rattle.spec.specs.Limits.{search-limit}
+use Rattle.spec.specs.Sheet.{sheet-of}
+use Rattle.spec.specs.Machine.{State, best-count, search, no-step}
+use Rattle.spec.specs.Machine as machine
+use Rattle.spec.specs.Roles.{kernel-of}
 use Rattle.bits.specs.BelowLaws.{below-or-from}
-use Rattle.sheet.specs.Sheet.{sheet-of}
-use Rattle.search.specs.Machine.{State, best-count, search, search-limit, no-step}
-use Rattle.search.specs.Machine as machine
-use Rattle.search.specs.View.{view, view-ran, Stands}
+use Rattle.search.specs.View.{view, view-ran, PositionStands}
 use Rattle.search.specs.SameFit.{search-same}
 use Rattle.search.specs.Runs.{search-above}
 use Rattle.search.specs.declared.machine.Position.{Position}
 use Rattle.search.specs.declared.machine.Ran.{Ran}
-use Rattle.roles.specs.Roles.{kernel-of}
 use Rattle.minimality.specs.StateBound.{searching-on}
-use Rattle.session.specs.Held.{text-in, size-in, state-in, Holds}
+use Rattle.session.specs.CodeSession.{text-in, size-in, state-in, Holds}
 use Rattle.session.specs.Counted.{moved-to, RanIn}
 use Rattle.session.specs.TableKernel.{table-kernel, same-kernel}
-use Rattle.session.specs.declared.Session.{Session as Held}
+use Rattle.session.specs.declared.Session.{Session as CodeSession}
 
 -- the state is that of the position where the kernel can be searched
-pub state-within : (s : Held) → size-in s ≤ search-limit → state-in s ≡ view (s .position) (size-in s)
+pub state-within : (s : CodeSession) → size-in s ≤ search-limit → state-in s ≡ view (s .position) (size-in s)
 state-within s l = rw (le-leb (size-in s) search-limit l)
 
 -- where the machine comes to within the budget
-abbrev ran-on : Held → ℕ → machine.Ran
+abbrev ran-on : CodeSession → ℕ → machine.Ran
 ran-on s budget = search (kernel-of (sheet-of (text-in s))) budget (state-in s)
 
-module _ {s : Held} (h : Holds s) (budget : ℕ) (ran : Ran)
+module _ {s : CodeSession} (h : Holds s) (budget : ℕ) (ran : Ran)
     (searched : view-ran ran (size-in s) ≡ search (table-kernel (s .prepared)) budget (view (s .position) (size-in s)))
   where
     -- once the position stands for the state that the machine came to
-    on-position : (size-in s ≤ search-limit → Stands (size-in s) (ran .position))
+    on-position : (size-in s ≤ search-limit → PositionStands (size-in s) (ran .position))
         → state-in (moved-to s (ran .position)) ≡ ran-on s budget .state → ran .steps ≡ ran-on s budget .steps
         → ran .position .cursor .count ≡ best-count (state-in (moved-to s (ran .position)))
         → ran .position .cursor .finished ≡ state-in (moved-to s (ran .position)) .finished → RanIn s budget ran
@@ -58,7 +59,7 @@ module _ {s : Held} (h : Holds s) (budget : ℕ) (ran : Ran)
         (view (s .position) (size-in s))
         ∙ ap (search (kernel-of (sheet-of (text-in s))) budget) (sym (state-within s l))
 
-    ran-within : size-in s ≤ search-limit → Stands (size-in s) (ran .position) → RanIn s budget ran
+    ran-within : size-in s ≤ search-limit → PositionStands (size-in s) (ran .position) → RanIn s budget ran
     ran-within l stands =
         let viewed = state-within (moved-to s (ran .position)) l in
         on-position (λ k. stands) (viewed ∙ ap (λ (r : machine.Ran). r .state) (as-the-machine l))
@@ -70,7 +71,7 @@ module _ {s : Held} (h : Holds s) (budget : ℕ) (ran : Ran)
     unfolding kernel-of
     no-step-above l = search-above (kernel-of (sheet-of (text-in s))) budget (state-in s) (rw (h .prepared .kernel-size) at l)
 
-    ran-above : search-limit < size-in s → (size-in s ≤ search-limit → Stands (size-in s) (ran .position)) → ran .position ≡ s .position
+    ran-above : search-limit < size-in s → (size-in s ≤ search-limit → PositionStands (size-in s) (ran .position)) → ran .position ≡ s .position
         → RanIn s budget ran
     ran-above l stands kept =
         let same : state-in (moved-to s (ran .position)) ≡ state-in s = ap (λ (at : Position). state-in (moved-to s at)) kept in
@@ -80,7 +81,7 @@ module _ {s : Held} (h : Holds s) (budget : ℕ) (ran : Ran)
         (ap (λ (at : Position). at .cursor .count) kept ∙ h .counted ∙ ap best-count (sym same))
         (ap (λ (at : Position). at .cursor .finished) kept ∙ h .finished ∙ ap (λ (st : State). st .finished) (sym same))
 
-    pub ran-in : (size-in s ≤ search-limit → Stands (size-in s) (ran .position)) → (search-limit < size-in s → ran .position ≡ s .position)
+    pub ran-in : (size-in s ≤ search-limit → PositionStands (size-in s) (ran .position)) → (search-limit < size-in s → ran .position ≡ s .position)
         → RanIn s budget ran
     ran-in stands kept =
         ⊎-elim (λ l. ran-above l stands (kept l)) (λ l. ran-within l (stands l)) (below-or-from search-limit (size-in s))

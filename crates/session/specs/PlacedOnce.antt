@@ -4,15 +4,16 @@ use Prim.Native.Nat.{ℕ, suc, _≤_, _<_}
 use native.Mathlib.Omega.{arith}
 use mathlib.Core.Path.{_≡_, ap}
 use mathlib.Core.Logic.{_≢_, ⊎-elim}
+use Rattle.spec.specs.Limits.{search-limit}
+use Rattle.spec.specs.Text.{Bytes}
+use Rattle.spec.specs.Sheet.{sheet-of}
+use Rattle.spec.specs.Cover.{first-best}
+use Rattle.spec.specs.Machine.{Ran, depth, run, start}
+use Rattle.spec.specs.Roles.{kernel-of, start-of}
+use Rattle.spec.specs.Calls.{searched-on}
 use Rattle.bits.specs.BelowLaws.{below-or-from}
-use Rattle.sheet.specs.Text.{Bytes}
-use Rattle.sheet.specs.Sheet.{sheet-of}
-use Rattle.grants.specs.Cover.{first-best}
-use Rattle.search.specs.Machine.{Ran, depth, run, start, search-limit}
 use Rattle.search.specs.Runs.{search-within, search-above}
 use Rattle.search.specs.Rising.{placed-once}
-use Rattle.roles.specs.Roles.{kernel-of, start-of}
-use Rattle.session.specs.Session.{searched-on}
 use Rattle.session.specs.Reached.{reached}
 
 -- the step after so much budget places a grant

@@ -1,12 +1,12 @@
 -- What a load finds of an accepted sheet: each part is what document 01 says of that sheet. Assumes nothing.
 use mathlib.Core.Path.{_≡_}
 use lib.ListN.{length}
-use Rattle.sheet.specs.Limits.{grant-limit}
-use Rattle.sheet.specs.Text.{Bytes}
-use Rattle.sheet.specs.Sheet.{sheet-of}
+use Rattle.spec.specs.Limits.{grant-limit}
+use Rattle.spec.specs.Text.{Bytes}
+use Rattle.spec.specs.Sheet.{sheet-of}
+use Rattle.spec.specs.Reduction.{kernel}
+use Rattle.spec.specs.Cover.{first-best}
 use Rattle.sheet.specs.LaidOut.{LaidOut}
-use Rattle.grants.specs.Reduction.{kernel}
-use Rattle.grants.specs.Cover.{first-best}
 use Rattle.grants.specs.CellPlaces.{Shown}
 use Rattle.grants.specs.ReductionResult.{ReducedFrom}
 use Rattle.grants.specs.KernelArray.{Listed}

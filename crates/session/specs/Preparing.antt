@@ -5,14 +5,14 @@ use mathlib.Core.Path.{_≡_, sym, ap, _∙_}
 use mathlib.Core.List.{List, map}
 use lib.ListN.{length, take, length-map}
 use lib.Seq.{length-take-le}
-use Rattle.sheet.specs.Limits.{user-limit, grant-limit}
-use Rattle.sheet.specs.Text.{Bytes}
-use Rattle.sheet.specs.Sheet.{Sheet, sheet-of, grants}
+use Rattle.spec.specs.Limits.{user-limit, grant-limit}
+use Rattle.spec.specs.Text.{Bytes}
+use Rattle.spec.specs.Sheet.{Sheet, sheet-of, grants}
+use Rattle.spec.specs.Reduction.{kernel, singles, singles-of}
 use Rattle.sheet.specs.AcceptedFacts.{Lawful, accepted-lawful}
 use Rattle.sheet.specs.LaidOut.{LaidOut}
 use Rattle.sheet.specs.RowsRead.{RowsRead}
 use Rattle.sheet.specs.declared.layout.Layout.{Layout}
-use Rattle.grants.specs.Reduction.{kernel, singles, singles-of}
 use Rattle.grants.specs.CellPlaces.{grant-of, Shown}
 use Rattle.grants.specs.CellLawful.{lawful-shown, lawful-reducible}
 use Rattle.grants.specs.ReductionResult.{Reducible, ReducedFrom, log-in}

@@ -8,17 +8,19 @@ use mathlib.Core.Bool.{Bool, true, false, So}
 use mathlib.Core.List.{List, [], _∷_}
 use mathlib.Core.Option.{Option, none, some}
 use mathlib.Core.Logic.{⊎-elim}
+use Rattle.spec.specs.Limits.{search-limit}
+use Rattle.spec.specs.Text.{Bytes}
+use Rattle.spec.specs.Sheet.{sheet-of}
+use Rattle.spec.specs.Machine.{Kernel, State, Ran, no-step}
+use Rattle.spec.specs.Machine
+use Rattle.spec.specs.Roles.{kernel-of, start-of}
+use Rattle.spec.specs.Session.{Session, no-sheet, loaded}
+use Rattle.spec.specs.Refusal.{accepted}
+use Rattle.spec.specs.Calls.{searched-on, after-load, after-search}
+use Rattle.spec.specs.Sequence.{Call, load, search, write, Event, Happens, Outcome, Led, last-accepted, budgets-given, calls}
 use Rattle.bits.specs.Truth.{passes-or-fails}
 use Rattle.bits.specs.BelowLaws.{below-or-from}
-use Rattle.sheet.specs.Text.{Bytes}
-use Rattle.sheet.specs.Sheet.{sheet-of}
-use Rattle.sheet.specs.Refusal.{accepted}
-use Rattle.search.specs.Machine.{Kernel, State, Ran, no-step, search-limit}
-use Rattle.search.specs.Machine
 use Rattle.search.specs.Runs.{run-none, search-within, search-above, search-add}
-use Rattle.roles.specs.Roles.{kernel-of, start-of}
-use Rattle.session.specs.Session.{Session, no-sheet, loaded, searched-on, after-load, after-search}
-use Rattle.session.specs.Sequence.{Call, load, search, write, Event, Happens, Outcome, Led, last-accepted, budgets-given, calls}
 
 -- the machine's state on an accepted sheet once so much budget was given
 unfoldable pub reached : Bytes → ℕ → State

@@ -1,8 +1,8 @@
 -- The answers of the code as document 01 has them. Assumes nothing.
 use mathlib.Core.Option.{Option, none, some}
-use Rattle.roles.specs.Roles.{Standing}
+use Rattle.spec.specs.Roles.{Standing}
+use Rattle.spec.specs.Calls.{LoadAnswer, SearchAnswer, WriteAnswer}
 use Rattle.roles.specs.StandingCases.{standing-case}
-use Rattle.session.specs.Session.{LoadAnswer, SearchAnswer, WriteAnswer}
 use Rattle.session.specs.declared.answers.LoadAnswer.{LoadAnswer as LoadValue}
 use Rattle.session.specs.declared.answers.SearchAnswer.{SearchAnswer as SearchValue}
 use Rattle.session.specs.declared.answers.WriteAnswer.{WriteAnswer as WriteValue}

@@ -4,23 +4,24 @@ use Prim.Native.Nat.{ℕ}
 use mathlib.Core.Path.{_≡_, refl, ap, _∙_}
 use mathlib.Core.Bool.{So, false}
 use mathlib.Core.Option.{some}
-use Rattle.search.specs.Machine.{State}
+use Rattle.spec.specs.Machine.{State}
+use Rattle.spec.specs.Session.{no-sheet, loaded}
+use Rattle.spec.specs.Calls.{SearchAnswer, search-refused, searched-on, search-answer, after-search, Searches}
 use Rattle.search.specs.declared.machine.Ran.{Ran}
 use Rattle.roles.specs.StandingCases.{standing-case}
 use Rattle.book.specs.declared.counts.Counts.{Counts}
-use Rattle.session.specs.Session.{no-sheet, loaded, SearchAnswer, search-refused, searched-on, search-answer, after-search, Searches}
-use Rattle.session.specs.Held.{text-in, state-in, view}
+use Rattle.session.specs.CodeSession.{text-in, state-in, view}
 use Rattle.session.specs.Counted.{CountsIn, moved-to, RanIn}
-use Rattle.session.specs.declared.Session.{Session as Held}
+use Rattle.session.specs.declared.Session.{Session as CodeSession}
 
-pub view-loaded : (s : Held) → So (s .loaded) → view s ≡ loaded (text-in s) (state-in s)
+pub view-loaded : (s : CodeSession) → So (s .loaded) → view s ≡ loaded (text-in s) (state-in s)
 view-loaded s p = rw p
 
-pub view-no-sheet : (s : Held) → s .loaded ≡ false → view s ≡ no-sheet
+pub view-no-sheet : (s : CodeSession) → s .loaded ≡ false → view s ≡ no-sheet
 view-no-sheet s f = rw f
 
 -- without a sheet
-pub searches-nothing : (s : Held) → s .loaded ≡ false → (budget : ℕ) (answer : SearchAnswer) → answer ≡ search-refused 10
+pub searches-nothing : (s : CodeSession) → s .loaded ≡ false → (budget : ℕ) (answer : SearchAnswer) → answer ≡ search-refused 10
     → Searches (view s) budget answer (view s)
 unfolding search-answer after-search
 searches-nothing s f budget answer e = rw (view-no-sheet s f) (record { answers = e; leaves = refl })
@@ -36,7 +37,7 @@ found-answer steps counts =
       standing = some (standing-case (counts .standing));
     }
 
-module _ {s : Held} {budget : ℕ} {ran : Ran} (on : RanIn s budget ran) where
+module _ {s : CodeSession} {budget : ℕ} {ran : Ran} (on : RanIn s budget ran) where
   found-answers : {counts : Counts} → CountsIn (moved-to s (ran .position)) counts
       → found-answer (ran .steps) counts ≡ search-answer (loaded (text-in s) (state-in s)) budget
   unfolding search-answer searched-on

@@ -8,15 +8,16 @@ use mathlib.Core.List.{List}
 use borrow.Author.Tests.{lt-ltb}
 use lib.Dec.{ltb}
 use lib.ListN.{length}
-use Rattle.sheet.specs.Text.{Bytes}
-use Rattle.sheet.specs.Sheet.{sheet-of}
-use Rattle.grants.specs.Reduction.{kernel}
-use Rattle.grants.specs.Cover.{fit-at}
+use Rattle.spec.specs.Limits.{search-limit}
+use Rattle.spec.specs.Text.{Bytes}
+use Rattle.spec.specs.Sheet.{sheet-of}
+use Rattle.spec.specs.Reduction.{kernel}
+use Rattle.spec.specs.Cover.{fit-at}
+use Rattle.spec.specs.Machine.{Kernel}
+use Rattle.spec.specs.Roles.{kernel-of}
 use Rattle.grants.specs.TableWords.{table-row, table-limit, table-bit}
-use Rattle.search.specs.Machine.{Kernel, search-limit}
 use Rattle.search.specs.View.{fit-in, kernel-given}
 use Rattle.search.specs.SameFit.{SameKernel}
-use Rattle.roles.specs.Roles.{kernel-of}
 use Rattle.session.specs.Prepared.{PreparedFor}
 use Rattle.session.specs.declared.prepared.Prepared.{Prepared}
 

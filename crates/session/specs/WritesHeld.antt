@@ -5,21 +5,23 @@ use mathlib.Core.Logic.{⊎-elim}
 use mathlib.Core.Bool.{Bool, false, So}
 use lib.Dec.{ltb}
 use lib.ListN.{length}
+use Rattle.spec.specs.Text.{Bytes}
+use Rattle.spec.specs.Sheet.{sheet-of}
+use Rattle.spec.specs.Machine.{State}
+use Rattle.spec.specs.Book.{book}
+use Rattle.spec.specs.Session.{loaded, session-book}
+use Rattle.spec.specs.Refusal.{write-causes}
+use Rattle.spec.specs.Calls.{WriteAnswer, write-refused, write-answer, buffer-after, Writes}
 use Rattle.bits.specs.Truth.{passes-or-fails}
-use Rattle.sheet.specs.Text.{Bytes}
-use Rattle.sheet.specs.Sheet.{sheet-of}
-use Rattle.search.specs.Machine.{State}
-use Rattle.book.specs.Book.{book}
 use Rattle.book.specs.Writing.{writing-number, writing-count, writing-of, buffer-of}
 use Rattle.book.specs.Writing as writing
 use Rattle.book.specs.declared.writing.Writing.{Writing}
-use Rattle.session.specs.Session.{loaded, WriteAnswer, write-refused, session-book, write-causes, write-answer, buffer-after, Writes}
-use Rattle.session.specs.Held.{text-in, state-in, view}
+use Rattle.session.specs.CodeSession.{text-in, state-in, view}
 use Rattle.session.specs.SearchedHeld.{view-loaded, view-no-sheet}
-use Rattle.session.specs.declared.Session.{Session as Held}
+use Rattle.session.specs.declared.Session.{Session as CodeSession}
 
 -- without a sheet
-pub writes-nothing : (s : Held) → s .loaded ≡ false → (buffer : Bytes) (answer : WriteAnswer) → answer ≡ write-refused 10
+pub writes-nothing : (s : CodeSession) → s .loaded ≡ false → (buffer : Bytes) (answer : WriteAnswer) → answer ≡ write-refused 10
     → Writes (view s) buffer answer buffer (view s)
 unfolding write-answer buffer-after write-causes
 writes-nothing s f buffer answer e = rw (view-no-sheet s f) (record { answers = e; fills = refl; leaves = refl })
@@ -42,7 +44,7 @@ module _ (text : Bytes) (st : State) (buffer : Bytes) where
   book-fills = ⊎-elim (λ (p : So short). rw p) (λ (f : short ≡ false). rw f) (passes-or-fails short)
 
 -- with one
-pub writes-held : (s : Held) → So (s .loaded) → {buffer after : Bytes} {w : Writing}
+pub writes-held : (s : CodeSession) → So (s .loaded) → {buffer after : Bytes} {w : Writing}
     → writing.Writes (book (sheet-of (text-in s)) (state-in s)) buffer w after → (answer : WriteAnswer) → answer ≡ written-answer w
     → Writes (view s) buffer answer after (view s)
 writes-held s p {buffer} written answer e =

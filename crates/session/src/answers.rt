@@ -5,11 +5,11 @@ use book::Writing;
 use roles::Standing;
 ghost use mathlib.Core.Path.{_≡_};
 ghost use mathlib.Core.Option.{some};
-ghost use Rattle.sheet.specs.Text.{Bytes};
-ghost use Rattle.sheet.specs.Sheet.{sheet-of};
+ghost use Rattle.spec.specs.Text.{Bytes};
+ghost use Rattle.spec.specs.Sheet.{sheet-of};
+ghost use Rattle.spec.specs.Calls.{load-refused, load-counts, search-refused, write-refused};
 ghost use Rattle.roles.specs.StandingCases.{standing-case};
 ghost use Rattle.book.specs.Writing.{writing-number, writing-count};
-ghost use Rattle.session.specs.Session.{load-refused, load-counts, search-refused, write-refused};
 ghost use Rattle.session.specs.Said.{load-said, search-said, write-said};
 ghost use Rattle.session.specs.Prepared.{PreparedFor};
 

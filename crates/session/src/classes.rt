@@ -5,8 +5,8 @@ use sheet::GRANT_LIMIT;
 ghost use mathlib.Core.Path.{_≡_};
 ghost use Prim.Native.Nat.{ℕ, _≤_, _<_};
 ghost use lib.ListN.{getD};
+ghost use Rattle.spec.specs.Limits.{search-limit};
 ghost use Rattle.lists.specs.LatestFirst.{latest-first};
-ghost use Rattle.search.specs.Machine.{search-limit};
 ghost use Rattle.search.specs.View.{placed-of};
 ghost use Rattle.session.specs.BestOf.{BestOf};
 

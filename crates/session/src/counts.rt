@@ -2,8 +2,8 @@
 use crate::Session;
 use book::Counts;
 ghost use Prim.Native.Nat.{_+_, _≤_};
-ghost use Rattle.sheet.specs.Limits.{permission-limit};
-ghost use Rattle.session.specs.Held.{Holds};
+ghost use Rattle.spec.specs.Limits.{permission-limit};
+ghost use Rattle.session.specs.CodeSession.{Holds};
 ghost use Rattle.session.specs.Counted.{CountsFrom, CountsIn};
 
 // Roles, bound and state, from the classes of the best placement, the singles, the witness's count and whether the search is finished.

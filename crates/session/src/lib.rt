@@ -2,7 +2,7 @@
 //
 // A session is a value: a load or a search takes one and hands back the next, with its answer; a writing changes none and hands back its answer alone; a
 // copy that is kept goes on as a sequence of its own. Each call says its whole answer, the session after it and, of a writing, every byte of the lent
-// buffer, by the records `Loads`, `Searches` and `Writes` of specs/Session.antt, which the sequence of demand 3 is made of; a sheet is lent to be read
+// buffer, by the records `Loads`, `Searches` and `Writes` of Calls in `spec`, which the sequence of demand 3 is made of; a sheet is lent to be read
 // only. A call asks only that the session came from these calls (`Sound`), which `fresh` establishes and each call keeps.
 mod answers;
 mod classes;

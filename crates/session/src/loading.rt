@@ -12,14 +12,15 @@ use sheet::Layout;
 use sheet::SHEET_LIMIT;
 ghost use mathlib.Core.Path.{_≡_};
 ghost use mathlib.Core.Logic.{_≢_};
-ghost use Rattle.sheet.specs.Sheet.{sheet-of};
-ghost use Rattle.sheet.specs.Refusal.{refusal};
+ghost use Rattle.spec.specs.Sheet.{sheet-of};
+ghost use Rattle.spec.specs.Roles.{start-of};
+ghost use Rattle.spec.specs.Session.{fresh, loaded};
+ghost use Rattle.spec.specs.Refusal.{refusal};
+ghost use Rattle.spec.specs.Calls.{Loads};
 ghost use Rattle.sheet.specs.LaidOut.{LaidOut};
 ghost use Rattle.sheet.specs.RowsRead.{RowsRead};
-ghost use Rattle.roles.specs.Roles.{start-of};
-ghost use Rattle.session.specs.Session.{fresh, loaded, Loads};
 ghost use Rattle.session.specs.Said.{load-said};
-ghost use Rattle.session.specs.Held.{view, Holds, Sound};
+ghost use Rattle.session.specs.CodeSession.{view, Holds, Sound};
 
 // The session after a load, and what the load answers.
 #[repr(C)]

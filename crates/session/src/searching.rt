@@ -5,9 +5,9 @@ use crate::counts::counts_of;
 use search::Ran;
 ghost use mathlib.Core.Path.{_≡_};
 ghost use mathlib.Core.Logic.{_≢_};
-ghost use Rattle.session.specs.Session.{Searches};
+ghost use Rattle.spec.specs.Calls.{Searches};
 ghost use Rattle.session.specs.Said.{search-said};
-ghost use Rattle.session.specs.Held.{view, Holds, Sound};
+ghost use Rattle.session.specs.CodeSession.{view, Holds, Sound};
 ghost use Rattle.session.specs.Counted.{RanIn};
 
 // The session after a search, and what the search answers.

@@ -3,7 +3,7 @@ use sheet::SHEET_LIMIT;
 ghost use mathlib.Core.Path.{_≡_};
 ghost use Prim.Native.Nat.{_≤_};
 ghost use lib.ListN.{length, take};
-ghost use Rattle.sheet.specs.Limits.{sheet-limit};
+ghost use Rattle.spec.specs.Limits.{sheet-limit};
 
 // A copy of a sheet's bytes, at the front.
 pub fn copied(s: &[u8]) -> [u8; SHEET_LIMIT]

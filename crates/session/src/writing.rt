@@ -10,15 +10,15 @@ use sheet::CELL_WORDS;
 use sheet::Layout;
 ghost use Prim.Native.Nat.{_≤_};
 ghost use lib.ListN.{length, take};
-ghost use Rattle.sheet.specs.Sheet.{sheet-of};
+ghost use Rattle.spec.specs.Sheet.{sheet-of};
+ghost use Rattle.spec.specs.Calls.{Writes};
 ghost use Rattle.sheet.specs.Rows.{row-bits};
 ghost use Rattle.sheet.specs.LaidOut.{LaidOut};
 ghost use Rattle.book.specs.RowsSaid.{GrantCells};
 ghost use Rattle.book.specs.BookRows.{rows-book};
 ghost use Rattle.book.specs.Writing as writing;
-ghost use Rattle.session.specs.Session.{Writes};
 ghost use Rattle.session.specs.Said.{write-said};
-ghost use Rattle.session.specs.Held.{view, Sound};
+ghost use Rattle.session.specs.CodeSession.{view, Sound};
 
 // Writes the book of the sheet that the first `count` bytes are, where the buffer is long enough.
 fn book_into<'a>(

@@ -3,10 +3,10 @@
 use mathlib.Core.Path.{_≡_}
 use mathlib.Core.Logic.{_↔_}
 use mathlib.Core.Bool.{So}
-use Rattle.sheet.specs.Text.{Bytes}
-use Rattle.sheet.specs.Sheet.{Sheet, sheet-of}
-use Rattle.sheet.specs.Refusal.{accepted}
-use Rattle.sheet.specs.Rules.{Keeps}
+use Rattle.spec.specs.Text.{Bytes}
+use Rattle.spec.specs.Sheet.{Sheet, sheet-of}
+use Rattle.spec.specs.Rules.{Keeps}
+use Rattle.spec.specs.Refusal.{accepted}
 use Rattle.sheet.specs.Unrefused.{accepted-unrefused, unrefused-accepted}
 use Rattle.sheet.specs.AcceptedKeeps.{unrefused-keeps}
 use Rattle.sheet.specs.KeepsLaws.{keeps-unrefused, sheet-read}

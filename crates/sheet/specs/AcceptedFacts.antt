@@ -6,12 +6,12 @@ use mathlib.Core.Path.{_≡_}
 use mathlib.Core.Bool.{So}
 use mathlib.Core.List.{[]}
 use lib.ListN.{length, getD}
+use Rattle.spec.specs.Limits.{sheet-limit, permission-limit, user-limit, grant-limit}
+use Rattle.spec.specs.Text.{Bytes}
+use Rattle.spec.specs.Sheet.{Sheet, sheet-of, user-count, permission-count, grants}
+use Rattle.spec.specs.Rules.{Name, Names, Keeps}
+use Rattle.spec.specs.Refusal.{accepted}
 use Rattle.lists.specs.TestLaws.{member-at}
-use Rattle.sheet.specs.Limits.{sheet-limit, permission-limit, user-limit, grant-limit}
-use Rattle.sheet.specs.Text.{Bytes}
-use Rattle.sheet.specs.Sheet.{Sheet, sheet-of, user-count, permission-count, grants}
-use Rattle.sheet.specs.Refusal.{accepted}
-use Rattle.sheet.specs.Rules.{Name, Names, Keeps}
 use Rattle.sheet.specs.TextLaws.{Field}
 use Rattle.sheet.specs.WrittenLaws.{spelled-field}
 use Rattle.sheet.specs.Accepted.{accepted-keeps}
@@ -39,6 +39,7 @@ pub record Lawful (sheet : Sheet) : Type 0 where
   pub few-grants : length (grants sheet) ≤ grant-limit
 
 pub keeps-lawful : (text : Bytes) (sheet : Sheet) → Keeps text sheet → Lawful sheet
+unfolding permission-limit user-limit grant-limit
 keeps-lawful text sheet k =
     record {
       some-permission = k .some-permission;
@@ -60,4 +61,5 @@ pub accepted-lawful : (text : Bytes) → So (accepted text) → Lawful (sheet-of
 accepted-lawful text p = keeps-lawful text (sheet-of text) (accepted-keeps text p)
 
 pub accepted-short : (text : Bytes) → So (accepted text) → length text ≤ sheet-limit
+unfolding sheet-limit
 accepted-short text p = accepted-keeps text p .short

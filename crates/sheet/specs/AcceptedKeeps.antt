@@ -7,11 +7,12 @@ use mathlib.Core.Path.{_≡_, sym, ap, _∙_}
 use mathlib.Core.Bool.{Bool, So}
 use mathlib.Core.List.{List, [], _∷_, tail, List·Memᴰ, Memᴰ·of-map}
 use lib.ListN.{length, length-map}
+use Rattle.spec.specs.Limits.{name-limit, sheet-limit, permission-limit, user-limit, grant-limit}
+use Rattle.spec.specs.Text.{Bytes, Line, name-byte, lines-of, text-of}
+use Rattle.spec.specs.Sheet.{first-field, first-line, is-one, sheet-of}
+use Rattle.spec.specs.Rules.{Name, Names, Keeps, sheet-text}
 use Rattle.lists.specs.TestLaws.{member-at}
 use Rattle.lists.specs.TailLaws.{tail-member, length-tail}
-use Rattle.sheet.specs.Text.{Bytes, Line, name-byte, lines-of, text-of}
-use Rattle.sheet.specs.Sheet.{first-field, first-line, is-one, sheet-of}
-use Rattle.sheet.specs.Rules.{Name, Names, Keeps, sheet-text}
 use Rattle.sheet.specs.TextLaws.{written-as-read-to-feed, read-byte, read-lines}
 use Rattle.sheet.specs.ByteLaws.{allowed-name-byte}
 use Rattle.sheet.specs.SheetLines.{cells, UserLine, sheet-text-lines, lines-spelled}
@@ -26,6 +27,7 @@ first-field-member : (line : Line) → 1 ≤ length line → List·Memᴰ (first
 first-field-member line h = member-at line 0 [] h
 
 spelled-name : (name : Bytes) → Sized name → ((b : ℕ) → List·Memᴰ b name → So (name-byte b)) → Name name
+unfolding name-limit
 spelled-name name s spelled = record { some-byte = s .some-byte; short = s .short; spelled = spelled }
 
 module _ (text : Bytes) (u : Unrefused text) where
@@ -98,6 +100,7 @@ module _ (text : Bytes) (u : Unrefused text) where
 
   -- the sheet that the bytes say keeps the rules
   pub unrefused-keeps : Keeps text (sheet-of text)
+  unfolding sheet-limit permission-limit user-limit grant-limit
   unrefused-keeps =
       record {
         written = written;

@@ -4,10 +4,10 @@ use mathlib.Core.Bool.{Bool, true, _&&_}
 use mathlib.Core.List.{List, [], _∷_, tail}
 use lib.Dec.{eqb}
 use lib.ListN.{length}
-use Rattle.lists.specs.Lists.{all}
-use Rattle.sheet.specs.Text.{Line}
-use Rattle.sheet.specs.Sheet.{first-field}
-use Rattle.sheet.specs.Refusal.{is-bit, name-length}
+use Rattle.spec.specs.Vocabulary.{all}
+use Rattle.spec.specs.Text.{Line}
+use Rattle.spec.specs.Sheet.{first-field, is-bit}
+use Rattle.spec.specs.Refusal.{has-name-length}
 use Rattle.sheet.specs.Cells.{ones-in, cells-of}
 use Rattle.sheet.specs.declared.cells.Cells.{Cells}
 use Rattle.sheet.specs.declared.body.Body.{Body}
@@ -29,7 +29,7 @@ add-read-line width body named cells =
 
 -- some lines and one more
 abbrev pub add-line : ℕ → Body → Line → Body
-add-line width body line = add-read-line width body (name-length (first-field line)) (cells-of (tail line))
+add-line width body line = add-read-line width body (has-name-length (first-field line)) (cells-of (tail line))
 
 -- some lines and others after them
 abbrev pub add-lines : ℕ → Body → List Line → Body
@@ -46,7 +46,7 @@ abbrev pub body-of : ℕ → List Line → Body
 body-of width lines =
     record {
       users = length lines;
-      names = all (λ line. name-length (first-field line)) lines;
+      names = all (λ line. has-name-length (first-field line)) lines;
       even = all (λ line. eqb (length (tail line)) width) lines;
       bits = all (λ line. all is-bit (tail line)) lines;
       ones = ones-after-names lines;

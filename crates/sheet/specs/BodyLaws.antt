@@ -8,10 +8,10 @@ use mathlib.Core.List.{List, [], _∷_, tail}
 use lib.Dec.{eqb}
 use lib.ListN.{length, getD, drop, drop-of-length-le}
 use lib.Seq.{drop-cons}
-use Rattle.lists.specs.Lists.{all}
-use Rattle.sheet.specs.Text.{Bytes, Line, lines-of}
-use Rattle.sheet.specs.Sheet.{first-field}
-use Rattle.sheet.specs.Refusal.{is-bit, name-length}
+use Rattle.spec.specs.Vocabulary.{all}
+use Rattle.spec.specs.Text.{Bytes, Line, lines-of}
+use Rattle.spec.specs.Sheet.{first-field, is-bit}
+use Rattle.spec.specs.Refusal.{has-name-length}
 use Rattle.sheet.specs.Places.{part}
 use Rattle.sheet.specs.FieldLaws.{line-fields, first-line-read}
 use Rattle.sheet.specs.ReadLine.{ReadLine}
@@ -41,7 +41,7 @@ add-lines-joined width body [] =
 add-lines-joined width body (line ∷ rest) =
     let later : Body = body-of width rest in
     add-lines-joined width (add-line width body line) rest
-    ∙ same-body (omega arith) (and-assoc (body .names) (name-length (first-field line)) (later .names))
+    ∙ same-body (omega arith) (and-assoc (body .names) (has-name-length (first-field line)) (later .names))
     (and-assoc (body .even) (eqb (length (tail line)) width) (later .even))
     (and-assoc (body .bits) (all is-bit (tail line)) (later .bits)) (omega arith)
 
@@ -69,7 +69,7 @@ body-starts text at width h =
 
 pub body-goes-on : (text : Bytes) (at width : ℕ) (body : Body) (from : ℕ) (r : LineRead) → BodyReading text at width body from
     → from < length text → ReadLine text from r
-    → BodyReading text at width (add-read-line width body (name-length (part from (r .to) text)) (r .cells)) (r .next)
+    → BodyReading text at width (add-read-line width body (has-name-length (part from (r .to) text)) (r .cells)) (r .next)
 body-goes-on text at width body from r reading h read =
     record {
       lines-to-come = rw (read .name .reads, read .cells) (rw (line-read text from r h read) at (reading .lines-to-come));

@@ -10,16 +10,15 @@ use borrow.Author.Tests.{eqb-true, eqb-false, eq-eqb}
 use lib.Dec.{eqb}
 use lib.ListN.{length, getD, set, length-set, drop, replicate, length-replicate, getD-replicate, List·getD-eq-default}
 use lib.Seq.{drop-cons, getD-set-same, getD-set-other}
+use Rattle.spec.specs.Text.{Bytes, same-name}
 use Rattle.bits.specs.Truth.{passes-or-fails, not-both, or-left, or-right, or-cases}
 use Rattle.bits.specs.BelowLaws.{last-or-below, below-or-from}
 use Rattle.bits.specs.Bit.{bit, word-bits}
 use Rattle.bits.specs.BitLaws.{bit-of-zero}
 use Rattle.lists.specs.TestLaws.{same-bytes-equal}
-use Rattle.sheet.specs.Text.{Bytes}
-use Rattle.sheet.specs.Refusal.{same-name}
 use Rattle.sheet.specs.NamesAt.{Inside, name-there}
 use Rattle.sheet.specs.NamesAtLaws.{inside-part}
-use Rattle.sheet.specs.Buckets.{bucket-count, bucket-words, spread, bucket-after, bucket-of, Noted, Standing}
+use Rattle.sheet.specs.Buckets.{bucket-count, bucket-words, spread, bucket-after, bucket-of, Noted, BitsNamed}
 use Rattle.sheet.specs.declared.places.Places.{Places}
 
 -- ---- the bucket of a name
@@ -112,6 +111,6 @@ one-noted table text places n w few noted with-bit =
 
 -- names that are noted before number n stand in the text
 pub noted-standing : {table : List ℕ} {text : Bytes} {places : Places} {n count : ℕ} → Noted table text places n → Inside text places count
-    → n ≤ count → Standing table text (places .from) (places .to)
+    → n ≤ count → BitsNamed table text (places .from) (places .to)
 noted-standing noted inside few =
     record { part = λ h k p l m s. inside-part inside (k * word-bits + p) (let before = noted .below h k p l m s in omega arith) }

@@ -4,10 +4,9 @@ use mathlib.Core.Bool.{Bool, So, _&&_}
 use mathlib.Core.List.{List, [], _∷_}
 use lib.ListN.{length, getD}
 use mathlib.Core.Path.{_≡_}
-use Rattle.bits.specs.Below.{some-below}
+use Rattle.spec.specs.Vocabulary.{some-below}
+use Rattle.spec.specs.Text.{Bytes, same-name}
 use Rattle.bits.specs.Bit.{bit, word-bits}
-use Rattle.sheet.specs.Text.{Bytes}
-use Rattle.sheet.specs.Refusal.{same-name}
 use Rattle.sheet.specs.NamesAt.{PartThere, name-there}
 use Rattle.sheet.specs.declared.places.Places.{Places}
 
@@ -40,7 +39,7 @@ pub record Noted (table : List ℕ) (text : Bytes) (places : Places) (n : ℕ) :
       → So (bit (getD table (bucket-of (name-there text places j) * bucket-words + j / word-bits) 0) (j % word-bits))
 
 -- each bit of the table is that of a name that stands in the text
-pub record Standing (table : List ℕ) (text : Bytes) (from to : List ℕ) : Type 0 where
+pub record BitsNamed (table : List ℕ) (text : Bytes) (from to : List ℕ) : Type 0 where
   pub part : (h k p : ℕ) → k < bucket-words → p < word-bits → So (bit (getD table (h * bucket-words + k) 0) p)
       → PartThere text from to (k * word-bits + p)
 

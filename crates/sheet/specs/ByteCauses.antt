@@ -8,12 +8,12 @@ use mathlib.Core.List.{List·Memᴰ}
 use borrow.Author.Tests.{ltb-false, le-ltb, eqb-true, eq-eqb, not-false}
 use lib.Dec.{eqb}
 use lib.ListN.{length}
+use Rattle.spec.specs.Vocabulary.{empty, all}
+use Rattle.spec.specs.Limits.{sheet-limit}
+use Rattle.spec.specs.Text.{Bytes, line-feed, allowed-byte, last-byte}
+use Rattle.spec.specs.Refusal.{too-long, bad-bytes}
 use Rattle.bits.specs.Truth.{or-fails, or-fails-left, or-fails-right}
-use Rattle.lists.specs.Lists.{empty, all}
 use Rattle.lists.specs.TestLaws.{all-intro, all-elim}
-use Rattle.sheet.specs.Limits.{sheet-limit}
-use Rattle.sheet.specs.Text.{Bytes, line-feed, allowed-byte}
-use Rattle.sheet.specs.Refusal.{last-byte, too-long, bad-bytes}
 
 -- 1: at most as many bytes as the limit
 pub short-enough : (text : Bytes) → (too-long text ≡ false) ↔ (length text ≤ sheet-limit)

@@ -6,8 +6,8 @@ use mathlib.Core.Logic.{⊎-elim}
 use mathlib.Core.Bool.{false, So, _||_}
 use borrow.Author.Tests.{leb-true, le-leb, eqb-true, eq-eqb}
 use lib.Dec.{eqb, leb}
+use Rattle.spec.specs.Text.{comma, line-feed, between, name-byte, allowed-byte}
 use Rattle.bits.specs.Truth.{not-both, fails-unless, and-intro, and-left, and-right, or-left, or-cases}
-use Rattle.sheet.specs.Text.{comma, line-feed, between, name-byte, allowed-byte}
 
 -- n lies between two bounds
 pub between-intro : (low high n : ℕ) → low ≤ n → n ≤ high → So (between low high n)

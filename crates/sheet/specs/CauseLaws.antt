@@ -9,9 +9,9 @@ use mathlib.Core.Bool.{Bool, true, false, So, _&&_}
 use mathlib.Core.List.{List, [], _∷_, List·Memᴰ, List·Memᴰ·head, List·Memᴰ·tail, List·Memᴰ·not-nil, List·Memᴰ·cases-cons}
 use borrow.Author.Tests.{ltb-true}
 use lib.Dec.{ltb}
+use Rattle.spec.specs.Text.{Bytes}
+use Rattle.spec.specs.Refusal.{Cause, first-number, sheet-causes}
 use Rattle.bits.specs.Truth.{not-both, and-left, and-right}
-use Rattle.sheet.specs.Text.{Bytes}
-use Rattle.sheet.specs.Refusal.{Cause, first-number, sheet-causes}
 
 -- the numbers rise from above low
 abbrev pub rising : ℕ → List Cause → Bool

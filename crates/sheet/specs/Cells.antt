@@ -3,11 +3,11 @@ use Prim.Native.Nat.{ℕ, _+_}
 use mathlib.Core.Bool.{true, _&&_}
 use mathlib.Core.List.{[], _∷_}
 use lib.ListN.{length}
-use Rattle.bits.specs.Below.{one-if}
-use Rattle.lists.specs.Lists.{all}
-use Rattle.sheet.specs.Text.{Bytes, Line}
-use Rattle.sheet.specs.Sheet.{is-one}
-use Rattle.sheet.specs.Refusal.{is-bit, name-length}
+use Rattle.spec.specs.Vocabulary.{all}
+use Rattle.spec.specs.Text.{Bytes, Line}
+use Rattle.spec.specs.Sheet.{is-one, is-bit}
+use Rattle.spec.specs.Refusal.{has-name-length}
+use Rattle.bits.specs.Counting.{one-if}
 use Rattle.sheet.specs.declared.cells.Cells.{Cells}
 
 -- no field
@@ -19,7 +19,7 @@ abbrev pub add-cell : Cells → Bytes → Cells
 add-cell cells field =
     record {
       count = cells .count + 1;
-      names = cells .names && name-length field;
+      names = cells .names && has-name-length field;
       bits = cells .bits && is-bit field;
       ones = cells .ones + one-if (is-one field);
     }
@@ -36,4 +36,4 @@ ones-in (field ∷ rest) = one-if (is-one field) + ones-in rest
 
 -- what some fields say
 abbrev pub cells-of : Line → Cells
-cells-of line = record { count = length line; names = all name-length line; bits = all is-bit line; ones = ones-in line }
+cells-of line = record { count = length line; names = all has-name-length line; bits = all is-bit line; ones = ones-in line }

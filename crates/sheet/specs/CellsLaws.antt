@@ -6,10 +6,11 @@ use mathlib.Core.Path.{_≡_, refl, sym, _∙_}
 use mathlib.Core.Bool.{Bool, true, false, _&&_, and-true, and-assoc}
 use mathlib.Core.List.{[], _∷_}
 use lib.ListN.{length}
-use Rattle.bits.specs.Below.{one-if}
-use Rattle.lists.specs.Lists.{all}
-use Rattle.sheet.specs.Text.{Line}
-use Rattle.sheet.specs.Refusal.{is-bit, name-length}
+use Rattle.spec.specs.Vocabulary.{all}
+use Rattle.spec.specs.Text.{Line}
+use Rattle.spec.specs.Sheet.{is-bit}
+use Rattle.spec.specs.Refusal.{has-name-length}
+use Rattle.bits.specs.Counting.{one-if}
 use Rattle.sheet.specs.Cells.{no-cells, add-cell, add-cells, ones-in, cells-of}
 use Rattle.sheet.specs.declared.cells.Cells.{Cells}
 
@@ -22,7 +23,7 @@ abbrev joined-cells : Cells → Line → Cells
 joined-cells cells line =
     record {
       count = cells .count + length line;
-      names = cells .names && all name-length line;
+      names = cells .names && all has-name-length line;
       bits = cells .bits && all is-bit line;
       ones = cells .ones + ones-in line;
     }
@@ -35,7 +36,7 @@ add-cells-joined cells [] =
     same-cells (omega arith) (sym (and-true (cells .names))) (sym (and-true (cells .bits))) (omega arith)
 add-cells-joined cells (field ∷ rest) =
     add-cells-joined (add-cell cells field) rest
-    ∙ same-cells (omega arith) (and-assoc (cells .names) (name-length field) (all name-length rest))
+    ∙ same-cells (omega arith) (and-assoc (cells .names) (has-name-length field) (all has-name-length rest))
     (and-assoc (cells .bits) (is-bit field) (all is-bit rest)) (omega arith)
 
 -- so fields added to none say what they say

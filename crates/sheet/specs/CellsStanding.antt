@@ -8,10 +8,10 @@ use mathlib.Core.Bool.{Bool, true, false}
 use mathlib.Core.List.{[], _∷_, _++_, append-assoc}
 use lib.ListN.{length, getD, drop, length-append, length-drop}
 use lib.Seq.{getD-drop, getD-at}
+use Rattle.spec.specs.Text.{Bytes, comma}
+use Rattle.spec.specs.Sheet.{cell-text}
 use Rattle.bits.specs.BelowLaws.{last-or-below}
 use Rattle.lists.specs.Listed.{listed, listed-suc, listed-even}
-use Rattle.sheet.specs.Text.{Bytes, comma}
-use Rattle.sheet.specs.Sheet.{cell-text}
 use Rattle.sheet.specs.CellsWord.{cell-byte, CellsStand}
 use Rattle.sheet.specs.Stands.{Stands, stands-nothing, stands-then, stands-byte}
 

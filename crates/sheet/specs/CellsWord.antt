@@ -5,8 +5,8 @@ use mathlib.Core.Path.{_≡_}
 use mathlib.Core.Bool.{Bool, true, false, So, _&&_, _||_}
 use lib.Dec.{eqb}
 use lib.ListN.{length, getD}
+use Rattle.spec.specs.Text.{Bytes, comma}
 use Rattle.bits.specs.Bit.{bit}
-use Rattle.sheet.specs.Text.{Bytes, comma}
 use Rattle.sheet.specs.declared.line_cells.CellsWord.{CellsWord}
 
 -- the byte of a cell

@@ -8,11 +8,11 @@ use mathlib.Core.Bool.{Bool, true, false, So, _&&_, _||_, or-false}
 use borrow.Author.Tests.{eqb-true, eq-eqb, ne-eqb}
 use lib.Dec.{eqb}
 use lib.ListN.{length, getD}
+use Rattle.spec.specs.Text.{Bytes, comma}
 use Rattle.bits.specs.Truth.{not-both, and-left, and-right, or-cases}
 use Rattle.bits.specs.Bit.{bit}
 use Rattle.bits.specs.BitLaws.{bit-of-zero}
 use Rattle.bits.specs.BelowLaws.{last-or-below}
-use Rattle.sheet.specs.Text.{Bytes, comma}
 use Rattle.sheet.specs.CellsWord.{cell-byte, cell-stands, CellsStand, CellsIn}
 
 -- no cell yet

@@ -11,10 +11,10 @@ use borrow.Author.Tests.{eqb-true, eqb-false, ne-eqb}
 use lib.Dec.{eqb}
 use lib.ListN.{length, getD, take, drop, length-drop, List·getD-eq-default}
 use lib.Seq.{drop-drop, getD-drop}
+use Rattle.spec.specs.Text.{Bytes, Line, comma, line-feed, fields, lines-of}
 use Rattle.bits.specs.Truth.{passes-or-fails, not-both}
 use Rattle.bits.specs.BelowLaws.{below-or-from}
 use Rattle.lists.specs.Span.{span, span-within, ended-first}
-use Rattle.sheet.specs.Text.{Bytes, Line, comma, line-feed, fields, lines-of}
 use Rattle.sheet.specs.Fields.{separator, field-from, field-read}
 use Rattle.sheet.specs.Places.{part}
 use Rattle.sheet.specs.declared.cursor.FieldRead.{FieldRead}

@@ -4,8 +4,8 @@ use Prim.Native.Nat.{ℕ, _+_, min}
 use mathlib.Core.Bool.{Bool, not, _||_}
 use lib.Dec.{eqb}
 use lib.ListN.{length, getD, drop}
+use Rattle.spec.specs.Text.{Bytes, comma, line-feed}
 use Rattle.lists.specs.Span.{span}
-use Rattle.sheet.specs.Text.{Bytes, comma, line-feed}
 use Rattle.sheet.specs.declared.cursor.FieldRead.{FieldRead}
 
 -- a byte ends a field

@@ -6,8 +6,8 @@ use mathlib.Core.Path.{_≡_, refl, sym, ap, _∙_}
 use mathlib.Core.Bool.{Bool, true, false}
 use mathlib.Core.List.{[], _∷_, tail}
 use lib.ListN.{length, getD, drop}
+use Rattle.spec.specs.Text.{Bytes, Line}
 use Rattle.lists.specs.DropLaws.{left-below, left-first, left-rest, none-left}
-use Rattle.sheet.specs.Text.{Bytes, Line}
 use Rattle.sheet.specs.Fields.{field-read}
 use Rattle.sheet.specs.FieldLaws.{line-fields, later-fields, FieldStep, field-step}
 use Rattle.sheet.specs.Places.{part, Part}

@@ -11,15 +11,13 @@ use borrow.Author.Tests.{ltb-false, not-true}
 use lib.Dec.{eqb, ltb}
 use lib.ListN.{length, getD, drop, set}
 use lib.Seq.{getD-set-same, getD-set-other}
+use Rattle.spec.specs.Limits.{permission-limit, user-limit}
+use Rattle.spec.specs.Text.{ascii, same-bytes, Bytes, comma, line-feed, line-text}
+use Rattle.spec.specs.Rules.{Name}
 use Rattle.bits.specs.Truth.{and-left, and-right}
 use Rattle.bits.specs.BelowLaws.{last-or-below}
-use Rattle.lists.specs.Ascii.{ascii}
-use Rattle.lists.specs.Lists.{same-bytes}
 use Rattle.lists.specs.TestLaws.{same-bytes-equal}
 use Rattle.lists.specs.Listed.{listed-suc, listed-same}
-use Rattle.sheet.specs.Limits.{permission-limit, user-limit}
-use Rattle.sheet.specs.Text.{Bytes, comma, line-feed, line-text}
-use Rattle.sheet.specs.Rules.{Name}
 use Rattle.sheet.specs.Places.{part}
 use Rattle.sheet.specs.NamesAt.{places-of, name-there, names-at}
 use Rattle.sheet.specs.Stands.{Stands, stands-then, stands-found, stands-part}

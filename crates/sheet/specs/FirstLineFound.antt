@@ -10,12 +10,11 @@ use borrow.Author.Tests.{eqb-true, le-ltb}
 use lib.Dec.{eqb, ltb}
 use lib.ListN.{length, getD, drop, drop-of-length-le, length-append}
 use lib.Seq.{drop-cons}
+use Rattle.spec.specs.Vocabulary.{concat}
+use Rattle.spec.specs.Text.{ascii, same-bytes, Bytes, comma, line-feed, line-text}
 use Rattle.bits.specs.Truth.{not-both, and-intro, and-right}
 use Rattle.bits.specs.BelowLaws.{below-or-from}
-use Rattle.lists.specs.Ascii.{ascii}
-use Rattle.lists.specs.Lists.{concat, same-bytes}
 use Rattle.lists.specs.TestLaws.{member-at}
-use Rattle.sheet.specs.Text.{Bytes, comma, line-feed, line-text}
 use Rattle.sheet.specs.Places.{part}
 use Rattle.sheet.specs.LineParts.{joined-in-parts}
 use Rattle.sheet.specs.Spelled.{NameReads}

@@ -8,11 +8,10 @@ use mathlib.Core.Bool.{false, So}
 use mathlib.Core.List.{[]}
 use mathlib.Core.Option.{some, none}
 use lib.ListN.{getD}
+use Rattle.spec.specs.Text.{Bytes, same-name}
 use Rattle.bits.specs.Truth.{not-both, fails-unless}
 use Rattle.bits.specs.BelowLaws.{last-or-below, below-or-from}
 use Rattle.lists.specs.TestLaws.{same-bytes-equal, equal-same-bytes}
-use Rattle.sheet.specs.Text.{Bytes}
-use Rattle.sheet.specs.Refusal.{same-name}
 use Rattle.sheet.specs.NamesAt.{name-there, names-at, name-number, found}
 use Rattle.sheet.specs.NamesAtLaws.{name-of, found-at, found-nothing}
 use Rattle.sheet.specs.RepeatsLaws.{Apart}

@@ -11,7 +11,7 @@ use lib.Dec.{eqb}
 use lib.Pow.{pow-pos, pow-lt}
 use Rattle.bits.specs.Truth.{not-both, passes-or-fails}
 use Rattle.bits.specs.BitLaws.{first-digit, bit-shift, bit-and, bit-ext, bit-of-zero, bit-one-shifted, one-shifted}
-use Rattle.bits.specs.Below.{one-if}
+use Rattle.bits.specs.Counting.{one-if}
 use Rattle.bits.specs.Bit.{bit}
 use Rattle.sheet.specs.declared.line_cells.CellsWord.{CellsWord}
 

@@ -8,11 +8,11 @@ use mathlib.Core.Path.{_≡_, refl, sym, ap, _∙_}
 use mathlib.Core.Logic.{⊎-elim}
 use mathlib.Core.Bool.{Bool, true, false, _||_, or-false}
 use lib.ListN.{length, getD}
-use Rattle.bits.specs.Below.{one-if}
+use Rattle.spec.specs.Text.{Bytes, comma}
+use Rattle.bits.specs.Counting.{one-if}
 use Rattle.bits.specs.BelowLaws.{below-or-from}
 use Rattle.bits.specs.Bit.{bit}
 use Rattle.bits.specs.BitLaws.{bit-above, bit-or, bit-shift-left, bit-shift-left-low}
-use Rattle.sheet.specs.Text.{Bytes, comma}
 use Rattle.sheet.specs.CellsWord.{cell-byte, CellsStand, CellsIn, WordOfCells}
 use Rattle.sheet.specs.FourRead.{no-cells, four-set, FourBytes, FourOf, one-if-small}
 use Rattle.sheet.specs.declared.line_cells.CellsWord.{CellsWord}

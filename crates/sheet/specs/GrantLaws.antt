@@ -10,10 +10,10 @@ use mathlib.Core.List.{List, [], _∷_, List·Memᴰ, List·Memᴰ·not-nil, Lis
 use borrow.Author.Tests.{eqb-true, eq-eqb}
 use lib.Dec.{eqb}
 use lib.ListN.{length, getD, List·getD-eq-default}
+use Rattle.spec.specs.Sheet.{Sheet, Grant, holds, same-grant, grants-of-row, grants-of-rows, grants}
 use Rattle.bits.specs.Truth.{not-both, and-intro, and-left, and-right}
 use Rattle.bits.specs.BelowLaws.{below-or-from}
 use Rattle.lists.specs.TestLaws.{keep-member, keep-later, keep-cases, member-at}
-use Rattle.sheet.specs.Sheet.{Sheet, Grant, holds, same-grant, grants-of-row, grants-of-rows, grants}
 
 -- ---- two grants are one
 

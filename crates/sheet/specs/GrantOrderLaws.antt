@@ -7,9 +7,9 @@ use mathlib.Core.Logic.{_⊎_, inl, inr}
 use mathlib.Core.Bool.{Bool, false}
 use mathlib.Core.List.{List, [], _∷_}
 use lib.ListN.{length, getD}
+use Rattle.spec.specs.Sheet.{Sheet, Grant, same-grant, grants-of-row, grants-of-rows, grants}
 use Rattle.bits.specs.Truth.{fails-unless}
 use Rattle.lists.specs.Ordered.{Ordered, ordered-places, ordered-append, ordered-keep}
-use Rattle.sheet.specs.Sheet.{Sheet, Grant, same-grant, grants-of-row, grants-of-rows, grants}
 use Rattle.sheet.specs.GrantLaws.{same-grant-equal, row-only, rows-only}
 
 -- g stands before h by user, then permission

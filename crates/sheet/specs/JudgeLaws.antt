@@ -8,16 +8,15 @@ use mathlib.Core.List.{List, [], _∷_, map, tail}
 use borrow.Author.Tests.{eqb-true, eq-eqb, leb-true, le-leb}
 use lib.Dec.{eqb, leb, ltb}
 use lib.ListN.{length, take, drop}
+use Rattle.spec.specs.Vocabulary.{all, repeats}
+use Rattle.spec.specs.Limits.{permission-limit, user-limit, grant-limit}
+use Rattle.spec.specs.Text.{ascii, same-bytes, Bytes, Line, comma, line-feed, between, fields, lines, lines-of, same-name}
+use Rattle.spec.specs.Sheet.{first-field, sheet-of, grants}
+use Rattle.spec.specs.Refusal.{too-long, bad-bytes, bad-first-line, bad-line-count, has-name-length, bad-name, uneven-line, bad-cell, name-twice, too-many-grants, refuse-if, refusal}
 use Rattle.bits.specs.Truth.{same-truth, and-right}
-use Rattle.lists.specs.Ascii.{ascii}
-use Rattle.lists.specs.Lists.{all, repeats, same-bytes}
 use Rattle.lists.specs.Span.{span}
 use Rattle.lists.specs.CutLaws.{parted-some}
 use Rattle.lists.specs.TailLaws.{length-tail}
-use Rattle.sheet.specs.Limits.{permission-limit, user-limit, grant-limit}
-use Rattle.sheet.specs.Text.{Bytes, Line, comma, line-feed, between, fields, lines, lines-of}
-use Rattle.sheet.specs.Sheet.{first-field, sheet-of, grants}
-use Rattle.sheet.specs.Refusal.{too-long, bad-bytes, bad-first-line, bad-line-count, name-length, bad-name, uneven-line, bad-cell, same-name, name-twice, too-many-grants, refuse-if, refusal}
 use Rattle.sheet.specs.Places.{part}
 use Rattle.sheet.specs.FieldLaws.{line-fields, first-line-read}
 use Rattle.sheet.specs.ReadLine.{ReadLine}
@@ -135,7 +134,7 @@ module _ (text : Bytes) (head : LineRead) (r : HeadRead text head) (body : Body)
 
   pub cause-5 : bad-name (sheet-of text) ≡ not (head .cells .names && body .names)
   unfolding bad-name sheet-of
-  cause-5 = rw (text-lines text head r, r .first .cells, others, all-map name-length first-field (lines-after text head))
+  cause-5 = rw (text-lines text head r, r .first .cells, others, all-map has-name-length first-field (lines-after text head))
 
   pub cause-6 : uneven-line (lines-of text) ≡ not (body .even)
   unfolding uneven-line

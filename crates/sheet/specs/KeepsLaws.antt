@@ -6,12 +6,11 @@ use mathlib.Core.Logic.{_⊎_, inl, inr}
 use mathlib.Core.Bool.{So}
 use mathlib.Core.List.{_∷_, Memᴰ·of-map}
 use lib.ListN.{length, length-map}
-use Rattle.lists.specs.Ascii.{ascii}
-use Rattle.lists.specs.Lists.{empty}
-use Rattle.sheet.specs.Text.{Bytes, comma, line-feed, allowed-byte, lines-of, text-of}
-use Rattle.sheet.specs.Sheet.{Sheet, cell-text, sheet-of}
-use Rattle.sheet.specs.Refusal.{last-byte}
-use Rattle.sheet.specs.Rules.{Name, Keeps, user-lines}
+use Rattle.spec.specs.Vocabulary.{empty}
+use Rattle.spec.specs.Limits.{permission-limit, user-limit, name-limit, sheet-limit, grant-limit}
+use Rattle.spec.specs.Text.{ascii, Bytes, comma, line-feed, allowed-byte, lines-of, text-of, last-byte}
+use Rattle.spec.specs.Sheet.{Sheet, cell-text, sheet-of}
+use Rattle.spec.specs.Rules.{Name, Keeps, user-lines}
 use Rattle.sheet.specs.TextBytes.{text-some, text-ends, text-byte, FieldByte}
 use Rattle.sheet.specs.ByteLaws.{name-byte-allowed, comma-allowed, line-feed-allowed}
 use Rattle.sheet.specs.SheetLines.{cell-is-bit, length-user-lines, sheet-lines, sheet-text-lines}
@@ -19,10 +18,10 @@ use Rattle.sheet.specs.ByteCauses.{GoodBytes}
 use Rattle.sheet.specs.LineCauses.{GoodFirstLine, GoodLineCount, EvenLines, BitLines}
 use Rattle.sheet.specs.NameCauses.{Sized, SizedNames, DistinctNames}
 use Rattle.sheet.specs.Unrefused.{Unrefused}
-use Rattle.sheet.specs.WrittenLaws.{user-row, Written, line-spelled, written-lines, written-sheet}
+use Rattle.sheet.specs.WrittenLaws.{user-row, SheetWritten, line-spelled, written-lines, written-sheet}
 
 -- what keeps the rules is written so
-pub keeps-written : (text : Bytes) (sheet : Sheet) → Keeps text sheet → Written text sheet
+pub keeps-written : (text : Bytes) (sheet : Sheet) → Keeps text sheet → SheetWritten text sheet
 keeps-written text sheet k =
     record {
       written = k .written;
@@ -58,14 +57,17 @@ module _ (text : Bytes) (sheet : Sheet) (k : Keeps text sheet) where
           name-byte-allowed b (line-spelled text sheet (keeps-written text sheet k) (f .line) (f .line-member) (f .field) (f .field-member) b (f .byte-member))
 
   keeps-first : GoodFirstLine (sheet-lines sheet)
+  unfolding permission-limit
   keeps-first = record { says-user = refl; some-permission = omega arith; few-permissions = omega arith }
 
   keeps-count : GoodLineCount (sheet-lines sheet)
+  unfolding user-limit
   keeps-count =
       let e = length-user-lines (sheet .users) (sheet .rows) (k .a-row-each) in
       record { some-user = omega arith; few-users = omega arith }
 
   keeps-sized : SizedNames sheet
+  unfolding name-limit
   keeps-sized =
       record {
         permissions = λ name m. sized (k .permission-names .each name m);
@@ -91,6 +93,7 @@ module _ (text : Bytes) (sheet : Sheet) (k : Keeps text sheet) where
 
   -- none of the nine causes applies
   pub keeps-unrefused : Unrefused text
+  unfolding sheet-limit grant-limit
   keeps-unrefused =
       record {
         short = k .short;

@@ -6,16 +6,15 @@ use mathlib.Core.Bool.{Bool, So, not, _&&_}
 use mathlib.Core.List.{[], _∷_, _++_}
 use borrow.Author.Tests.{eq-eqb}
 use lib.ListN.{length}
+use Rattle.spec.specs.Vocabulary.{repeats}
+use Rattle.spec.specs.Limits.{grant-limit, permission-limit, user-limit}
+use Rattle.spec.specs.Text.{ascii, Bytes, line-text, text-of, same-name}
+use Rattle.spec.specs.Sheet.{sheet-of}
+use Rattle.spec.specs.Rules.{user-lines}
+use Rattle.spec.specs.Refusal.{refusal, accepted}
 use Rattle.bits.specs.Truth.{and-intro, and-left, and-right}
-use Rattle.lists.specs.Ascii.{ascii}
-use Rattle.lists.specs.Lists.{repeats}
 use Rattle.lists.specs.TestLaws.{same-bytes-equal}
 use Rattle.lists.specs.SameLaws.{no-repeats}
-use Rattle.sheet.specs.Limits.{grant-limit}
-use Rattle.sheet.specs.Text.{Bytes, line-text, text-of}
-use Rattle.sheet.specs.Sheet.{sheet-of}
-use Rattle.sheet.specs.Refusal.{same-name, refusal, accepted}
-use Rattle.sheet.specs.Rules.{user-lines}
 use Rattle.sheet.specs.NamesAt.{Inside, places-of}
 use Rattle.sheet.specs.SheetLines.{sheet-text-lines}
 use Rattle.sheet.specs.Accepted.{accepted-keeps}
@@ -27,6 +26,7 @@ use Rattle.sheet.specs.KeptRead.{apart, layout-of, KeptAs, kept-read}
 
 module _ (text : Bytes) (p : So (accepted text)) where
   pub accepted-names : NamesFit (sheet-of text .permissions)
+  unfolding permission-limit
   accepted-names =
       let k = accepted-keeps text p in
       record { some-name = k .some-permission; few = k .few-permissions; each = k .permission-names .each }
@@ -35,6 +35,7 @@ module _ (text : Bytes) (p : So (accepted text)) where
   accepted-text = accepted-keeps text p .written ∙ sheet-text-lines (sheet-of text)
 
   pub accepted-fit : Fit (length (sheet-of text .permissions)) (sheet-of text .users) (sheet-of text .rows)
+  unfolding user-limit
   accepted-fit =
       let k = accepted-keeps text p in
       record { few = k .few-users; as-many = k .a-row-each; each = k .user-names .each; even = k .even-rows }

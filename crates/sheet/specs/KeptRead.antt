@@ -8,13 +8,13 @@ use mathlib.Core.List.{List, [], _∷_, _++_, append-nil, List·Memᴰ, List·Me
 use borrow.Author.Tests.{eqb-true, not-true}
 use lib.ListN.{getD, drop}
 use lib.Seq.{drop-length}
+use Rattle.spec.specs.Vocabulary.{repeats}
+use Rattle.spec.specs.Text.{Bytes, lines-of, text-of, same-name}
+use Rattle.spec.specs.Sheet.{sheet-of}
+use Rattle.spec.specs.Rules.{Keeps}
+use Rattle.spec.specs.Refusal.{refusal, accepted}
 use Rattle.bits.specs.Truth.{and-left, and-right}
-use Rattle.lists.specs.Lists.{repeats}
-use Rattle.sheet.specs.Text.{Bytes, lines-of, text-of}
-use Rattle.sheet.specs.Sheet.{sheet-of}
-use Rattle.sheet.specs.Refusal.{same-name, refusal, accepted}
-use Rattle.sheet.specs.Rules.{Keeps}
-use Rattle.sheet.specs.Places.{Placed}
+use Rattle.sheet.specs.Places.{NamesPlaced}
 use Rattle.sheet.specs.NamesAt.{places-of, names-at}
 use Rattle.sheet.specs.NamesAtLaws.{names-total, name-of}
 use Rattle.sheet.specs.TextLaws.{Lines, read-as-written, read-lines}
@@ -35,7 +35,7 @@ left-member (suc n) [] m = m
 left-member (suc n) (b ∷ l) m = List·Memᴰ·tail (left-member n l m)
 
 placed-at : (text : Bytes) (from to : List ℕ) (n : ℕ) → ((i : ℕ) → i < n → NameAt text (getD from i 0) (getD to i 0))
-    → Placed text (places-of from to) (names-at text (places-of from to) n)
+    → NamesPlaced text (places-of from to) (names-at text (places-of from to) n)
 placed-at text from to n each =
     record {
       each = λ i l.

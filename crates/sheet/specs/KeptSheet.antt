@@ -7,21 +7,20 @@ use mathlib.Core.Bool.{Bool, false, So}
 use mathlib.Core.List.{List, [], _∷_, _++_, append-nil, List·Memᴰ}
 use lib.ListN.{length, getD, replicate, length-replicate}
 use lib.Seq.{drop-length}
+use Rattle.spec.specs.Vocabulary.{repeats}
+use Rattle.spec.specs.Limits.{sheet-limit, permission-limit, user-limit, grant-limit}
+use Rattle.spec.specs.Text.{ascii, Bytes, Line, line-text, text-of, same-name}
+use Rattle.spec.specs.Sheet.{Sheet, sheet-of, grants}
+use Rattle.spec.specs.Rules.{Name, Keeps, user-lines, sheet-text}
+use Rattle.spec.specs.Refusal.{accepted}
 use Rattle.bits.specs.Bit.{bit}
-use Rattle.lists.specs.Ascii.{ascii}
-use Rattle.lists.specs.Lists.{repeats}
 use Rattle.lists.specs.TestLaws.{same-bytes-refl}
 use Rattle.lists.specs.SameLaws.{distinct-places}
 use Rattle.lists.specs.ListOfLaws.{length-list-of, list-of-element}
-use Rattle.sheet.specs.Limits.{sheet-limit, permission-limit, user-limit, grant-limit}
-use Rattle.sheet.specs.Text.{Bytes, Line, line-text, text-of}
-use Rattle.sheet.specs.Sheet.{Sheet, sheet-of, grants}
-use Rattle.sheet.specs.Refusal.{same-name, accepted}
-use Rattle.sheet.specs.Rules.{Name, Keeps, user-lines, sheet-text}
 use Rattle.sheet.specs.Rows.{row-words}
 use Rattle.sheet.specs.NamesAt.{Inside, places-of, name-there, names-at}
 use Rattle.sheet.specs.SheetLines.{sheet-text-lines}
-use Rattle.sheet.specs.WrittenLaws.{Written, written-sheet}
+use Rattle.sheet.specs.WrittenLaws.{SheetWritten, written-sheet}
 use Rattle.sheet.specs.Spelled.{NameAt}
 use Rattle.sheet.specs.FirstLine.{FirstLineStands}
 use Rattle.sheet.specs.UserLines.{Room, lines-at, LinesRead}
@@ -144,7 +143,7 @@ module _ (text : Bytes) (n : Notes) (s : LinesStand text n) where
       word-grants (n .users) (n .permissions) (n .words) (s .first .few) (λ u l. s .lines .each u l .narrow) ∙ sym (s .lines .counted)
 
   -- the text is that sheet's
-  pub noted-written : Written text (noted text n)
+  pub noted-written : SheetWritten text (noted text n)
   noted-written =
       record {
         written = bytes;
@@ -165,6 +164,7 @@ even-rows text n s row m =
 -- within the limits and with no name twice it keeps all rules
 pub noted-keeps : (text : Bytes) (n : Notes) → SheetStands text n → repeats same-name (noted text n .users) ≡ false
     → repeats same-name (noted text n .permissions) ≡ false → Keeps text (noted text n)
+unfolding sheet-limit permission-limit user-limit grant-limit
 noted-keeps text n s users-apart permissions-apart =
     let w = noted-written text n (s .stand) in
     let users = noted-users text n (s .stand) in

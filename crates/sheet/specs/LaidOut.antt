@@ -6,10 +6,10 @@ use mathlib.Core.Bool.{So}
 use mathlib.Core.Option.{Option, none, some}
 use mathlib.Core.List.{List}
 use lib.ListN.{length, getD, drop}
-use Rattle.sheet.specs.Text.{Bytes, lines-of}
-use Rattle.sheet.specs.Sheet.{sheet-of, user-count, permission-count, grants}
-use Rattle.sheet.specs.Refusal.{accepted}
-use Rattle.sheet.specs.Places.{Placed}
+use Rattle.spec.specs.Text.{Bytes, lines-of}
+use Rattle.spec.specs.Sheet.{sheet-of, user-count, permission-count, grants}
+use Rattle.spec.specs.Refusal.{accepted}
+use Rattle.sheet.specs.Places.{NamesPlaced}
 use Rattle.sheet.specs.NamesAt.{places-of}
 use Rattle.sheet.specs.declared.layout.Layout.{Layout}
 use Rattle.sheet.specs.declared.layout.FoundUser.{FoundUser}
@@ -23,20 +23,20 @@ pub record LaidOut (text : Bytes) (layout : Layout) : Type 0 where
   pub user-total : layout .users ≡ user-count (sheet-of text)
   pub permission-total : layout .permissions ≡ permission-count (sheet-of text)
   pub grant-total : layout .grants ≡ length (grants (sheet-of text))
-  pub user-names : Placed text (layout .«user_places») (sheet-of text .users)
-  pub permission-names : Placed text (layout .«permission_places») (sheet-of text .permissions)
+  pub user-names : NamesPlaced text (layout .«user_places») (sheet-of text .users)
+  pub permission-names : NamesPlaced text (layout .«permission_places») (sheet-of text .permissions)
   pub user-lines : (u : ℕ) → u < user-count (sheet-of text)
       → lines-of (drop (getD (layout .«user_places» .from) u 0) text) ≡ drop (suc u) (lines-of text)
 
 -- the text is an accepted sheet, and its users' names stand at these places
 pub record UsersAt (text : Bytes) (from to : List ℕ) : Type 0 where
   pub accepts : So (accepted text)
-  pub names : Placed text (places-of from to) (sheet-of text .users)
+  pub names : NamesPlaced text (places-of from to) (sheet-of text .users)
 
 -- the text is an accepted sheet, and its permissions' names stand at these places
 pub record PermissionsAt (text : Bytes) (from to : List ℕ) : Type 0 where
   pub accepts : So (accepted text)
-  pub names : Placed text (places-of from to) (sheet-of text .permissions)
+  pub names : NamesPlaced text (places-of from to) (sheet-of text .permissions)
 
 abbrev pub found-user : Option ℕ → FoundUser
 found-user none = user.Nothing

@@ -2,9 +2,9 @@
 use Prim.Native.Nat.{ℕ, _<_}
 use native.Mathlib.Omega.{arith}
 use mathlib.Core.List.{List}
-use Rattle.sheet.specs.Limits.{permission-limit, user-limit}
-use Rattle.sheet.specs.Text.{Bytes}
-use Rattle.sheet.specs.Sheet.{sheet-of, user-count, permission-count}
+use Rattle.spec.specs.Limits.{permission-limit, user-limit}
+use Rattle.spec.specs.Text.{Bytes}
+use Rattle.spec.specs.Sheet.{sheet-of, user-count, permission-count}
 use Rattle.sheet.specs.AcceptedFacts.{accepted-lawful}
 use Rattle.sheet.specs.NamesAt.{PartThere}
 use Rattle.sheet.specs.LaidOut.{LaidOut, UsersAt, PermissionsAt}

@@ -6,9 +6,9 @@ use mathlib.Core.Bool.{true, not, _||_}
 use mathlib.Core.List.{[], _∷_}
 use lib.Dec.{eqb}
 use lib.ListN.{length, getD}
-use Rattle.lists.specs.Lists.{all}
-use Rattle.sheet.specs.Text.{Bytes, line-feed, allowed-byte}
-use Rattle.sheet.specs.Refusal.{last-byte, bad-bytes}
+use Rattle.spec.specs.Vocabulary.{all}
+use Rattle.spec.specs.Text.{Bytes, line-feed, allowed-byte, last-byte}
+use Rattle.spec.specs.Refusal.{bad-bytes}
 
 -- the byte before the end
 abbrev pub byte-before-end : Bytes → ℕ

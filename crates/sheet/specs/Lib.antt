@@ -1,11 +1,6 @@
--- The grant sheet (user-permission assignment): its text, its rules, which user holds which permission, and its grants.
-pub mod Limits
-pub mod Text
-pub mod Sheet
+-- The grant sheet (user-permission assignment): the laws of its text, its rules and its grants, and what the code finds of it.
 pub mod GrantLaws
 pub mod GrantOrderLaws
-pub mod Refusal
-pub mod Rules
 pub mod Rows
 pub mod LastByteLaws
 pub mod Fields

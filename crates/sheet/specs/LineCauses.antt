@@ -8,14 +8,13 @@ use mathlib.Core.List.{List, tail, List·Memᴰ}
 use borrow.Author.Tests.{eqb-true, eq-eqb, not-false}
 use lib.Dec.{eqb}
 use lib.ListN.{length}
+use Rattle.spec.specs.Vocabulary.{all}
+use Rattle.spec.specs.Limits.{permission-limit, user-limit}
+use Rattle.spec.specs.Text.{ascii, same-bytes, Bytes, Line, between}
+use Rattle.spec.specs.Sheet.{first-field, first-line, is-bit}
+use Rattle.spec.specs.Refusal.{bad-first-line, bad-line-count, uneven-line, bad-cell}
 use Rattle.bits.specs.Truth.{and-intro, and-left, and-right}
-use Rattle.lists.specs.Ascii.{ascii}
-use Rattle.lists.specs.Lists.{all, same-bytes}
 use Rattle.lists.specs.TestLaws.{all-intro, all-elim, same-bytes-equal, equal-same-bytes}
-use Rattle.sheet.specs.Limits.{permission-limit, user-limit}
-use Rattle.sheet.specs.Text.{Bytes, Line, between}
-use Rattle.sheet.specs.Sheet.{first-field, first-line}
-use Rattle.sheet.specs.Refusal.{bad-first-line, bad-line-count, uneven-line, bad-cell, is-bit}
 use Rattle.sheet.specs.ByteLaws.{between-intro, between-low, between-high}
 
 -- 3: the first line is `user` and some permissions, no more than the limit

@@ -2,10 +2,10 @@
 use Prim.Native.Nat.{ℕ}
 use mathlib.Core.Path.{_≡_, sym, ap, _∙_}
 use mathlib.Core.List.{List, [], _∷_, _++_, map, append-nil}
-use Rattle.lists.specs.Lists.{list-of, joined, concat}
+use Rattle.spec.specs.Vocabulary.{list-of, joined, concat}
+use Rattle.spec.specs.Text.{Bytes, comma, line-feed, line-text}
 use Rattle.lists.specs.ListOfLaws.{map-list-of}
 use Rattle.lists.specs.Listed.{listed}
-use Rattle.sheet.specs.Text.{Bytes, comma, line-feed, line-text}
 
 -- fields by number, each behind a comma
 abbrev pub fields-text : ℕ → (ℕ → Bytes) → Bytes

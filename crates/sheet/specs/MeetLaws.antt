@@ -9,16 +9,15 @@ use mathlib.Core.List.{List}
 use borrow.Author.Tests.{eqb-true, ltb-true, lt-ltb}
 use lib.Dec.{eqb, ltb}
 use lib.ListN.{getD, set, replicate}
+use Rattle.spec.specs.Vocabulary.{repeats}
+use Rattle.spec.specs.Limits.{user-limit}
+use Rattle.spec.specs.Text.{Bytes, same-name}
 use Rattle.bits.specs.Truth.{passes-or-fails, not-both, fails-unless, and-intro, and-left, and-right}
-use Rattle.bits.specs.Below.{Lowest}
+use Rattle.bits.specs.Counting.{Lowest}
 use Rattle.bits.specs.BelowLaws.{last-or-below, some-below-intro, some-below-elim, some-below-ext, none-below-intro}
 use Rattle.bits.specs.Bit.{bit, word-bits}
 use Rattle.bits.specs.BitLaws.{bit-of-zero}
 use Rattle.bits.specs.Word.{LowestDropped}
-use Rattle.lists.specs.Lists.{repeats}
-use Rattle.sheet.specs.Limits.{user-limit}
-use Rattle.sheet.specs.Text.{Bytes}
-use Rattle.sheet.specs.Refusal.{same-name}
 use Rattle.sheet.specs.NamesAt.{Inside, name-there, names-at}
 use Rattle.sheet.specs.Buckets.{bucket-count, bucket-words, bucket-of, Noted, meets-at, meets-word, meets-bucket}
 use Rattle.sheet.specs.BucketLaws.{same-bucket, none-noted, one-noted}

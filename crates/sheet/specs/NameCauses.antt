@@ -7,14 +7,14 @@ use mathlib.Core.Bool.{Bool, false, So, _&&_, not}
 use mathlib.Core.List.{[], List·Memᴰ}
 use borrow.Author.Tests.{ltb-false, le-ltb, not-false}
 use lib.ListN.{length}
+use Rattle.spec.specs.Vocabulary.{all, repeats}
+use Rattle.spec.specs.Limits.{name-limit, grant-limit}
+use Rattle.spec.specs.Text.{Bytes, same-name}
+use Rattle.spec.specs.Sheet.{Sheet, grants}
+use Rattle.spec.specs.Refusal.{has-name-length, bad-name, name-twice, too-many-grants}
 use Rattle.bits.specs.Truth.{and-intro, and-left, and-right, or-fails, or-fails-left, or-fails-right}
-use Rattle.lists.specs.Lists.{all, repeats}
 use Rattle.lists.specs.TestLaws.{all-intro, all-elim, same-bytes-equal, same-bytes-refl}
 use Rattle.lists.specs.SameLaws.{DistinctPlaces, distinct-places, no-repeats}
-use Rattle.sheet.specs.Limits.{name-limit, grant-limit}
-use Rattle.sheet.specs.Text.{Bytes}
-use Rattle.sheet.specs.Sheet.{Sheet, grants}
-use Rattle.sheet.specs.Refusal.{name-length, bad-name, same-name, name-twice, too-many-grants}
 use Rattle.sheet.specs.ByteLaws.{between-intro, between-low, between-high}
 
 -- a name of some bytes, no more than the limit
@@ -22,8 +22,8 @@ pub record Sized (name : Bytes) : Type 0 where
   pub some-byte : 1 ≤ length name
   pub short : length name ≤ name-limit
 
-pub sized-name : (name : Bytes) → So (name-length name) ↔ Sized name
-unfolding name-length
+pub sized-name : (name : Bytes) → So (has-name-length name) ↔ Sized name
+unfolding has-name-length
 sized-name name = (
   λ p. record { some-byte = between-low 1 name-limit (length name) p; short = between-high 1 name-limit (length name) p },
   λ s. between-intro 1 name-limit (length name) (s .some-byte) (s .short),
@@ -39,23 +39,23 @@ unfolding bad-name
 sized-names sheet = (read, written)
   where
     front : Bool
-    front = all name-length (sheet .permissions)
+    front = all has-name-length (sheet .permissions)
 
     back : Bool
-    back = all name-length (sheet .users)
+    back = all has-name-length (sheet .users)
 
     read : bad-name sheet ≡ false → SizedNames sheet
     read e =
         let both : So (front && back) = not-false (front && back) e in
         record {
-          permissions = λ name m. sized-name name .0 (all-elim name-length (sheet .permissions) (and-left front back both) m);
-          users = λ name m. sized-name name .0 (all-elim name-length (sheet .users) (and-right front back both) m);
+          permissions = λ name m. sized-name name .0 (all-elim has-name-length (sheet .permissions) (and-left front back both) m);
+          users = λ name m. sized-name name .0 (all-elim has-name-length (sheet .users) (and-right front back both) m);
         }
 
     written : SizedNames sheet → bad-name sheet ≡ false
     written s =
-        ap not (and-intro front back (all-intro name-length (sheet .permissions) (λ name m. sized-name name .1 (s .permissions name m)))
-        (all-intro name-length (sheet .users) (λ name m. sized-name name .1 (s .users name m))))
+        ap not (and-intro front back (all-intro has-name-length (sheet .permissions) (λ name m. sized-name name .1 (s .permissions name m)))
+        (all-intro has-name-length (sheet .users) (λ name m. sized-name name .1 (s .users name m))))
 
 -- 8: no two users and no two permissions have one name
 pub record DistinctNames (sheet : Sheet) : Type 0 where

@@ -3,11 +3,9 @@ use Prim.Native.Nat.{ℕ, _≤_, _<_}
 use mathlib.Core.List.{List, []}
 use mathlib.Core.Option.{Option, none, some}
 use lib.ListN.{length, getD}
-use Rattle.bits.specs.Below.{lowest-below}
-use Rattle.lists.specs.Lists.{list-of}
-use Rattle.sheet.specs.Limits.{user-limit}
-use Rattle.sheet.specs.Text.{Bytes}
-use Rattle.sheet.specs.Refusal.{same-name}
+use Rattle.spec.specs.Vocabulary.{lowest-below, list-of}
+use Rattle.spec.specs.Limits.{user-limit}
+use Rattle.spec.specs.Text.{Bytes, same-name}
 use Rattle.sheet.specs.Places.{part}
 use Rattle.sheet.specs.declared.places.Places.{Places}
 use Rattle.sheet.specs.declared.lookup.Found.{Found}

@@ -6,11 +6,10 @@ use mathlib.Core.Bool.{false, So}
 use mathlib.Core.List.{List, []}
 use mathlib.Core.Option.{none, some}
 use lib.ListN.{length, getD}
+use Rattle.spec.specs.Limits.{user-limit}
+use Rattle.spec.specs.Text.{Bytes, same-name}
 use Rattle.bits.specs.LowestLaws.{lowest-below-intro, lowest-below-none-intro}
 use Rattle.lists.specs.ListOfLaws.{length-list-of, getD-list-of, list-of-same, list-of-places}
-use Rattle.sheet.specs.Limits.{user-limit}
-use Rattle.sheet.specs.Text.{Bytes}
-use Rattle.sheet.specs.Refusal.{same-name}
 use Rattle.sheet.specs.Places.{PlacedBelow}
 use Rattle.sheet.specs.NamesAt.{Inside, PartThere, name-there, names-at, name-number}
 use Rattle.sheet.specs.declared.places.Places.{Places}

@@ -4,15 +4,14 @@ use native.Mathlib.Omega.{arith}
 use mathlib.Core.Path.{_≡_, refl, sym, _∙_}
 use mathlib.Core.List.{List}
 use lib.ListN.{length}
+use Rattle.spec.specs.Limits.{permission-limit, user-limit}
+use Rattle.spec.specs.Text.{Bytes, same-name}
+use Rattle.spec.specs.Sheet.{sheet-of, user-count, permission-count}
+use Rattle.spec.specs.Rules.{Names}
 use Rattle.bits.specs.Truth.{fails-unless}
 use Rattle.lists.specs.TestLaws.{same-bytes-equal}
-use Rattle.sheet.specs.Limits.{permission-limit, user-limit}
-use Rattle.sheet.specs.Text.{Bytes}
-use Rattle.sheet.specs.Sheet.{sheet-of, user-count, permission-count}
-use Rattle.sheet.specs.Refusal.{same-name}
-use Rattle.sheet.specs.Rules.{Names}
 use Rattle.sheet.specs.AcceptedFacts.{accepted-lawful}
-use Rattle.sheet.specs.Places.{Placed}
+use Rattle.sheet.specs.Places.{NamesPlaced}
 use Rattle.sheet.specs.NamesAt.{Inside, places-of, name-there, names-at}
 use Rattle.sheet.specs.NamesAtLaws.{placed-names, placed-inside}
 use Rattle.sheet.specs.RepeatsLaws.{Apart}
@@ -25,7 +24,7 @@ pub record NamesThere (text : Bytes) (places : Places) (count : ℕ) (names : Li
   pub apart : Apart text places count
   pub same : names-at text places count ≡ names
 
-names-there : (text : Bytes) (places : Places) (names : List Bytes) → Placed text places names → Names names → length names ≤ user-limit
+names-there : (text : Bytes) (places : Places) (names : List Bytes) → NamesPlaced text places names → Names names → length names ≤ user-limit
     → NamesThere text places (length names) names
 names-there text places names placed lawful few =
     record {

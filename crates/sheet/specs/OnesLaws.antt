@@ -5,10 +5,10 @@ use mathlib.Core.Path.{_≡_, refl, ap, _∙_}
 use mathlib.Core.Bool.{Bool, true, false}
 use mathlib.Core.List.{List, [], _∷_, map, tail}
 use lib.ListN.{length, length-append}
-use Rattle.bits.specs.Below.{one-if}
-use Rattle.lists.specs.Lists.{keep}
-use Rattle.sheet.specs.Text.{Line}
-use Rattle.sheet.specs.Sheet.{is-one, grants-of-row, grants-of-rows}
+use Rattle.spec.specs.Vocabulary.{keep}
+use Rattle.spec.specs.Text.{Line}
+use Rattle.spec.specs.Sheet.{is-one, grants-of-row, grants-of-rows}
+use Rattle.bits.specs.Counting.{one-if}
 use Rattle.sheet.specs.Cells.{ones-in}
 use Rattle.sheet.specs.Body.{ones-after-names}
 

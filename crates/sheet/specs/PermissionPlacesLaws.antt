@@ -3,10 +3,10 @@ use Prim.Native.Nat.{ℕ, suc, _≤_, _<_}
 use native.Mathlib.Omega.{arith}
 use mathlib.Core.Bool.{Bool, true, false}
 use lib.ListN.{length}
-use Rattle.sheet.specs.Text.{Bytes}
+use Rattle.spec.specs.Text.{Bytes}
 use Rattle.sheet.specs.Fields.{field-read}
 use Rattle.sheet.specs.FieldsLeft.{fields-after, FieldsLeft, fields-start, field-below, field-there, fields-go-on, fields-end}
-use Rattle.sheet.specs.Places.{PlacedBelow, Placed}
+use Rattle.sheet.specs.Places.{PlacedBelow, NamesPlaced}
 use Rattle.sheet.specs.PlacesLaws.{HasRoom, note-place, note-room-kept, name-noted, none-noted}
 use Rattle.sheet.specs.declared.places.Places.{Places}
 
@@ -37,7 +37,7 @@ noting-fields-goes-on room text places n next noting few =
 
 -- at the end of the line all fields are noted
 pub noting-fields-ends : (room : ℕ) (text : Bytes) (places : Places) (n next : ℕ) → FieldsNoted room text places n true next
-    → Placed text places (fields-after text 0)
+    → NamesPlaced text places (fields-after text 0)
 noting-fields-ends room text places n next noting =
     let all : length (fields-after text 0) ≤ n = fields-end text 0 n next (noting .left) in
     record { each = λ i l. noting .noted .each i (omega arith) }

@@ -3,7 +3,7 @@ use Prim.Native.Nat.{ℕ, _-_, _≤_, _<_}
 use mathlib.Core.Path.{_≡_}
 use mathlib.Core.List.{List, []}
 use lib.ListN.{length, getD, take, drop}
-use Rattle.sheet.specs.Text.{Bytes}
+use Rattle.spec.specs.Text.{Bytes}
 use Rattle.sheet.specs.declared.places.Places.{Places}
 
 -- the bytes of a text from one place up to another
@@ -21,5 +21,5 @@ pub record PlacedBelow (n : ℕ) (text : Bytes) (places : Places) (names : List 
   pub each : (i : ℕ) → i < n → Part text (getD (places .from) i 0) (getD (places .to) i 0) (getD names i [])
 
 -- all names of a list stand in the text at these places
-abbrev pub Placed : Bytes → Places → List Bytes → Type 0
-Placed text places names = PlacedBelow (length names) text places names
+abbrev pub NamesPlaced : Bytes → Places → List Bytes → Type 0
+NamesPlaced text places names = PlacedBelow (length names) text places names

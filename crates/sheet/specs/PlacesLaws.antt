@@ -7,8 +7,8 @@ use mathlib.Core.Logic.{⊎-elim}
 use mathlib.Core.List.{List, []}
 use lib.ListN.{length, getD, set, length-set}
 use lib.Seq.{getD-set-same, getD-set-other}
+use Rattle.spec.specs.Text.{Bytes}
 use Rattle.bits.specs.BelowLaws.{last-or-below}
-use Rattle.sheet.specs.Text.{Bytes}
 use Rattle.sheet.specs.Places.{Part, PlacedBelow}
 use Rattle.sheet.specs.declared.places.Places.{Places}
 

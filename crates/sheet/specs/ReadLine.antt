@@ -3,8 +3,8 @@ use Prim.Native.Nat.{ℕ, suc, _+_, _≤_, _<_}
 use mathlib.Core.Path.{_≡_}
 use mathlib.Core.List.{tail}
 use lib.ListN.{length, drop}
-use Rattle.sheet.specs.Text.{Bytes}
-use Rattle.sheet.specs.Sheet.{first-field}
+use Rattle.spec.specs.Text.{Bytes}
+use Rattle.spec.specs.Sheet.{first-field}
 use Rattle.sheet.specs.Places.{Part}
 use Rattle.sheet.specs.FieldLaws.{line-fields, after-line}
 use Rattle.sheet.specs.Cells.{cells-of}

@@ -6,8 +6,8 @@ use mathlib.Core.Path.{_≡_, refl, sym, _∙_}
 use mathlib.Core.Bool.{Bool, true, false}
 use mathlib.Core.List.{tail}
 use lib.ListN.{length, drop}
-use Rattle.sheet.specs.Text.{Bytes}
-use Rattle.sheet.specs.Sheet.{first-field, is-one}
+use Rattle.spec.specs.Text.{Bytes}
+use Rattle.spec.specs.Sheet.{first-field, is-one}
 use Rattle.sheet.specs.Fields.{field-read}
 use Rattle.sheet.specs.Places.{part, Part}
 use Rattle.sheet.specs.FieldLaws.{line-fields, after-line, later-fields, after-field, field-step}

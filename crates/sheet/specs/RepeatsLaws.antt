@@ -6,11 +6,10 @@ use mathlib.Core.Path.{_≡_, refl}
 use mathlib.Core.Bool.{Bool, false, So}
 use mathlib.Core.List.{List, [], _∷_, List·Memᴰ}
 use lib.ListN.{length, getD}
+use Rattle.spec.specs.Vocabulary.{any, repeats}
+use Rattle.spec.specs.Text.{Bytes, same-name}
 use Rattle.bits.specs.Truth.{or-left, or-right, or-fails}
-use Rattle.lists.specs.Lists.{any, repeats}
 use Rattle.lists.specs.TestLaws.{any-intro, none-intro, member-at, place-of}
-use Rattle.sheet.specs.Text.{Bytes}
-use Rattle.sheet.specs.Refusal.{same-name}
 use Rattle.sheet.specs.NamesAt.{name-there, names-at}
 use Rattle.sheet.specs.NamesAtLaws.{names-total, name-of}
 use Rattle.sheet.specs.declared.places.Places.{Places}

@@ -4,8 +4,8 @@ use mathlib.Core.Path.{_≡_}
 use mathlib.Core.Bool.{Bool}
 use lib.ListN.{getD}
 use mathlib.Core.List.{List}
+use Rattle.spec.specs.Sheet.{Sheet, holds}
 use Rattle.bits.specs.Bit.{bit, word-bits}
-use Rattle.sheet.specs.Sheet.{Sheet, holds}
 
 -- words in a row
 unfoldable pub row-words : ℕ

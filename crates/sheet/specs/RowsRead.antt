@@ -3,7 +3,7 @@ use Prim.Native.Nat.{ℕ, _*_, _≤_}
 use mathlib.Core.Path.{_≡_}
 use mathlib.Core.List.{List}
 use lib.ListN.{getD}
-use Rattle.sheet.specs.Sheet.{Sheet, user-count}
+use Rattle.spec.specs.Sheet.{Sheet, user-count}
 use Rattle.sheet.specs.Rows.{row-words, RowsOf}
 
 -- the words hold the sheet's cells, and the words past the users' rows are 0

@@ -8,15 +8,12 @@ use mathlib.Core.Logic.{⊎-elim}
 use mathlib.Core.Bool.{Bool, true, false, So}
 use mathlib.Core.List.{List, [], _∷_, map, map-map, tail, List·Memᴰ, List·Memᴰ·head, List·Memᴰ·tail}
 use lib.ListN.{length, length-map}
+use Rattle.spec.specs.Text.{ascii, same-bytes, Bytes, Line, text-of}
+use Rattle.spec.specs.Sheet.{Sheet, first-field, first-line, is-one, cell-text, sheet-of-lines, is-bit}
+use Rattle.spec.specs.Rules.{user-lines, sheet-text}
 use Rattle.bits.specs.Truth.{or-cases}
-use Rattle.lists.specs.Ascii.{ascii}
-use Rattle.lists.specs.Lists.{same-bytes}
 use Rattle.lists.specs.TestLaws.{same-bytes-equal}
 use Rattle.lists.specs.JoinLaws.{map-fixed}
-use Rattle.sheet.specs.Text.{Bytes, Line, text-of}
-use Rattle.sheet.specs.Sheet.{Sheet, first-field, first-line, is-one, cell-text, sheet-of-lines}
-use Rattle.sheet.specs.Refusal.{is-bit}
-use Rattle.sheet.specs.Rules.{user-lines, sheet-text}
 
 -- ---- cells
 

@@ -8,13 +8,14 @@ use borrow.Author.Tests.{eqb-false, ne-eqb}
 use lib.Dec.{eqb}
 use lib.ListN.{length, drop}
 use lib.Seq.{drop-drop, drop-append-seam, take-append-seam}
+use Rattle.spec.specs.Vocabulary.{all}
+use Rattle.spec.specs.Limits.{name-limit}
+use Rattle.spec.specs.Text.{Bytes, comma, line-feed, name-byte}
+use Rattle.spec.specs.Rules.{Name}
+use Rattle.spec.specs.Refusal.{has-name-length}
 use Rattle.bits.specs.Truth.{and-intro, or-fails}
-use Rattle.lists.specs.Lists.{all}
 use Rattle.lists.specs.Span.{further, span}
 use Rattle.lists.specs.TestLaws.{all-intro}
-use Rattle.sheet.specs.Text.{Bytes, comma, line-feed, name-byte}
-use Rattle.sheet.specs.Refusal.{name-length}
-use Rattle.sheet.specs.Rules.{Name}
 use Rattle.sheet.specs.Places.{part}
 use Rattle.sheet.specs.NameCauses.{sized-name}
 use Rattle.sheet.specs.Fields.{separator}
@@ -42,6 +43,7 @@ span-of-name (c ∷ name) b rest spelled ends =
 
 pub name-found : (text : Bytes) (at : ℕ) (r : NameRead) (name : Bytes) (b : ℕ) (rest : Bytes) → NameReads text at r → Name name
     → So (separator b) → drop at text ≡ name ++ b ∷ rest → So (r .good) × (r .to ≡ at + length name)
+unfolding name-limit
 name-found text at r name b rest read n f e = (good, ends)
   where
     ends : r .to ≡ at + length name
@@ -54,6 +56,6 @@ name-found text at r name b rest read n f e = (good, ends)
 
     good : So (r .good)
     good =
-        read .judged ∙ ap (λ (l : Bytes). name-length l && all name-byte l) there
-        ∙ and-intro (name-length name) (all name-byte name) (sized-name name .1 (record { some-byte = n .some-byte; short = n .short }))
+        read .judged ∙ ap (λ (l : Bytes). has-name-length l && all name-byte l) there
+        ∙ and-intro (has-name-length name) (all name-byte name) (sized-name name .1 (record { some-byte = n .some-byte; short = n .short }))
         (all-intro name-byte name (n .spelled))

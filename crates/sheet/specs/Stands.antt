@@ -8,8 +8,8 @@ use borrow.Author.Tests.{ltb-true, eqb-true}
 use lib.Dec.{eqb, ltb}
 use lib.ListN.{length, getD, drop, take-append-drop}
 use lib.Seq.{drop-cons, drop-drop}
+use Rattle.spec.specs.Text.{Bytes}
 use Rattle.bits.specs.Truth.{and-left, and-right}
-use Rattle.sheet.specs.Text.{Bytes}
 use Rattle.sheet.specs.Places.{part}
 
 -- these bytes stand in the text at a place, and it goes on at the next

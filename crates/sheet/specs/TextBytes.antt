@@ -6,10 +6,9 @@ use mathlib.Core.Path.{_≡_, refl, _∙_}
 use mathlib.Core.Logic.{_⊎_, inl, inr, ⊎-elim}
 use mathlib.Core.Bool.{false, true≢false}
 use mathlib.Core.List.{List, [], _∷_, _++_, map, append-nil, List·Memᴰ, List·Memᴰ·append-cases, List·Memᴰ·eq-of-singleton, Memᴰ·of-map}
-use Rattle.lists.specs.Lists.{empty, joined}
+use Rattle.spec.specs.Vocabulary.{empty, joined}
+use Rattle.spec.specs.Text.{Bytes, Line, comma, line-feed, line-text, text-of, last-byte}
 use Rattle.lists.specs.JoinLaws.{InPart, concat-element, joined-element}
-use Rattle.sheet.specs.Text.{Bytes, Line, comma, line-feed, line-text, text-of}
-use Rattle.sheet.specs.Refusal.{last-byte}
 
 -- bytes with a byte among them are not empty
 some-before : (front : Bytes) (b : ℕ) (back : Bytes) → empty (front ++ b ∷ back) ≡ false

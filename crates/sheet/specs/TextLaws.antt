@@ -8,11 +8,10 @@ use mathlib.Core.List.{List, [], _∷_, map, map-map, List·Memᴰ, Memᴰ·of-m
 use borrow.Author.Tests.{eqb-true, eq-eqb}
 use lib.Dec.{eqb}
 use lib.ListN.{length}
-use Rattle.lists.specs.Lists.{joined, concat}
+use Rattle.spec.specs.Vocabulary.{joined, concat}
+use Rattle.spec.specs.Text.{last-byte, Bytes, Line, comma, line-feed, lines, fields, lines-of, text-of}
 use Rattle.lists.specs.JoinLaws.{joined-element, map-fixed}
 use Rattle.lists.specs.CutLaws.{Free, Parts, closed, ending, parted-joined, joined-parted, parted-some, ended-concat, concat-ended, parted-element, ended-element}
-use Rattle.sheet.specs.Refusal.{last-byte}
-use Rattle.sheet.specs.Text.{Bytes, Line, comma, line-feed, lines, fields, lines-of, text-of}
 
 -- a field that a line can hold: neither comma nor line feed stands in it
 pub record Field (field : Bytes) : Type 0 where

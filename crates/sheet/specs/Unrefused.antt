@@ -4,10 +4,10 @@ use Prim.Native.Nat.{_≤_}
 use mathlib.Core.Bool.{So}
 use borrow.Author.Tests.{eqb-true, eq-eqb}
 use lib.ListN.{length}
-use Rattle.sheet.specs.Limits.{sheet-limit, grant-limit}
-use Rattle.sheet.specs.Text.{Bytes, lines-of}
-use Rattle.sheet.specs.Sheet.{sheet-of, grants}
-use Rattle.sheet.specs.Refusal.{sheet-causes, refusal, accepted}
+use Rattle.spec.specs.Limits.{sheet-limit, grant-limit}
+use Rattle.spec.specs.Text.{Bytes, lines-of}
+use Rattle.spec.specs.Sheet.{sheet-of, grants}
+use Rattle.spec.specs.Refusal.{sheet-causes, refusal, accepted}
 use Rattle.sheet.specs.CauseLaws.{NoneApplies, zero-none-applies, none-applies-zero, sheet-causes-rise}
 use Rattle.sheet.specs.ByteCauses.{short-enough, GoodBytes, good-bytes}
 use Rattle.sheet.specs.LineCauses.{GoodFirstLine, good-first-line, GoodLineCount, good-line-count, EvenLines, even-lines, BitLines, bit-lines}

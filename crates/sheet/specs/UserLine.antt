@@ -6,12 +6,12 @@ use mathlib.Core.Bool.{Bool, false, So, _&&_}
 use mathlib.Core.List.{_∷_, _++_}
 use lib.Dec.{eqb, ltb}
 use lib.ListN.{length, getD, drop}
+use Rattle.spec.specs.Vocabulary.{list-of}
+use Rattle.spec.specs.Text.{Bytes, Line, line-feed, line-text}
+use Rattle.spec.specs.Sheet.{cell-text}
+use Rattle.spec.specs.Rules.{Name}
 use Rattle.bits.specs.Truth.{not-both}
 use Rattle.bits.specs.Bit.{bit}
-use Rattle.lists.specs.Lists.{list-of}
-use Rattle.sheet.specs.Text.{Bytes, Line, line-feed, line-text}
-use Rattle.sheet.specs.Sheet.{cell-text}
-use Rattle.sheet.specs.Rules.{Name}
 use Rattle.sheet.specs.Places.{part}
 use Rattle.sheet.specs.CellsWord.{CellsIn}
 use Rattle.sheet.specs.Stands.{Stands, stands-then, stands-found, stands-part}

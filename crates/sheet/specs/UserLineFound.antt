@@ -8,9 +8,9 @@ use borrow.Author.Tests.{lt-ltb, eq-eqb}
 use lib.Dec.{eqb, ltb}
 use lib.ListN.{length, getD, drop, length-append, length-drop}
 use lib.Seq.{getD-drop}
+use Rattle.spec.specs.Text.{Bytes, comma, line-feed}
+use Rattle.spec.specs.Sheet.{cell-text}
 use Rattle.bits.specs.Truth.{and-intro}
-use Rattle.sheet.specs.Text.{Bytes, comma, line-feed}
-use Rattle.sheet.specs.Sheet.{cell-text}
 use Rattle.sheet.specs.Fields.{separator}
 use Rattle.sheet.specs.CellsWord.{CellsStand}
 use Rattle.sheet.specs.CellsStanding.{cells-text, cells-length, cells-stand}

@@ -4,12 +4,12 @@ use mathlib.Core.Path.{_≡_}
 use mathlib.Core.Bool.{Bool, So}
 use mathlib.Core.List.{List, _++_, List·Memᴰ}
 use lib.ListN.{length, getD, drop}
-use Rattle.bits.specs.Below.{count-below, sum-below}
+use Rattle.spec.specs.Vocabulary.{list-of}
+use Rattle.spec.specs.Limits.{user-limit}
+use Rattle.spec.specs.Text.{Bytes, Line, text-of}
+use Rattle.spec.specs.Rules.{Name, user-lines}
+use Rattle.bits.specs.Counting.{count-below, sum-below}
 use Rattle.bits.specs.Bit.{bit, word-bits}
-use Rattle.lists.specs.Lists.{list-of}
-use Rattle.sheet.specs.Limits.{user-limit}
-use Rattle.sheet.specs.Text.{Bytes, Line, text-of}
-use Rattle.sheet.specs.Rules.{Name, user-lines}
 use Rattle.sheet.specs.Rows.{row-words}
 use Rattle.sheet.specs.Stands.{Stands}
 use Rattle.sheet.specs.UserLine.{UserAt, line-of}

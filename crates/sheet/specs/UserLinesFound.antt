@@ -7,14 +7,14 @@ use mathlib.Core.Bool.{Bool, false, So}
 use mathlib.Core.List.{List, [], map}
 use lib.ListN.{length, getD, drop, length-drop, drop-of-length-le}
 use lib.Seq.{drop-cons}
+use Rattle.spec.specs.Vocabulary.{list-of}
+use Rattle.spec.specs.Limits.{user-limit}
+use Rattle.spec.specs.Text.{Bytes, text-of}
+use Rattle.spec.specs.Sheet.{cell-text}
+use Rattle.spec.specs.Rules.{user-lines}
 use Rattle.bits.specs.BelowLaws.{below-or-from}
-use Rattle.lists.specs.Lists.{list-of}
 use Rattle.lists.specs.TestLaws.{member-at}
 use Rattle.lists.specs.ListOfLaws.{list-of-places, map-list-of}
-use Rattle.sheet.specs.Limits.{user-limit}
-use Rattle.sheet.specs.Text.{Bytes, text-of}
-use Rattle.sheet.specs.Sheet.{cell-text}
-use Rattle.sheet.specs.Rules.{user-lines}
 use Rattle.sheet.specs.UserLine.{Spells, UserLineReads}
 use Rattle.sheet.specs.UserLines.{Fit}
 use Rattle.sheet.specs.declared.user_line.UserLine.{UserLine}

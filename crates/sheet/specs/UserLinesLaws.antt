@@ -8,17 +8,17 @@ use mathlib.Core.Logic.{⊎-elim}
 use mathlib.Core.List.{List, [], _∷_, _++_, map, map-append, append-assoc, append-nil}
 use lib.ListN.{length, getD, drop, set, replicate, length-set, length-replicate, getD-replicate, List·getD-eq-default}
 use lib.Seq.{getD-set-same, getD-set-other, drop-at, drop-append-le}
-use Rattle.bits.specs.Below.{count-below, sum-below}
+use Rattle.spec.specs.Vocabulary.{concat}
+use Rattle.spec.specs.Limits.{user-limit}
+use Rattle.spec.specs.Text.{Bytes, Line, line-text, text-of}
+use Rattle.bits.specs.Counting.{count-below, sum-below}
 use Rattle.bits.specs.BelowLaws.{below-or-from, last-or-below}
 use Rattle.bits.specs.CountLaws.{count-below-le}
 use Rattle.bits.specs.SumLaws.{sum-below-ext, sum-below-le}
 use Rattle.bits.specs.StepLaws.{sum-below-step}
 use Rattle.bits.specs.Bit.{bit, word-bits}
-use Rattle.lists.specs.Lists.{concat}
 use Rattle.lists.specs.JoinLaws.{concat-append}
 use Rattle.lists.specs.ListOfLaws.{list-of-last, list-of-same, length-list-of}
-use Rattle.sheet.specs.Limits.{user-limit}
-use Rattle.sheet.specs.Text.{Bytes, Line, line-text, text-of}
 use Rattle.sheet.specs.Rows.{row-words}
 use Rattle.sheet.specs.Stands.{Stands, stands-nothing, stands-then}
 use Rattle.sheet.specs.UserLine.{UserAt, line-of, LineStands}

@@ -3,8 +3,8 @@ use Prim.Native.Nat.{ℕ, _<_}
 use mathlib.Core.Path.{_≡_}
 use mathlib.Core.List.{map}
 use lib.ListN.{length, getD, drop}
-use Rattle.sheet.specs.Text.{Bytes, lines-of}
-use Rattle.sheet.specs.Sheet.{first-field}
+use Rattle.spec.specs.Text.{Bytes, lines-of}
+use Rattle.spec.specs.Sheet.{first-field}
 use Rattle.sheet.specs.Places.{PlacedBelow}
 use Rattle.sheet.specs.declared.places.Places.{Places}
 

@@ -6,10 +6,10 @@ use mathlib.Core.Path.{_≡_, refl, sym, ap, _∙_}
 use mathlib.Core.Logic.{⊎-elim}
 use mathlib.Core.List.{[], _∷_, map}
 use lib.ListN.{length, getD, drop, set, drop-of-length-le, List·getD-map}
+use Rattle.spec.specs.Text.{Bytes, lines-of}
+use Rattle.spec.specs.Sheet.{first-field}
 use Rattle.bits.specs.BelowLaws.{last-or-below}
 use Rattle.lists.specs.DropLaws.{left-below, left-first, left-rest, none-left}
-use Rattle.sheet.specs.Text.{Bytes, lines-of}
-use Rattle.sheet.specs.Sheet.{first-field}
 use Rattle.sheet.specs.FieldLaws.{line-fields}
 use Rattle.sheet.specs.ReadLine.{ReadLine}
 use Rattle.sheet.specs.BodyLaws.{line-read}

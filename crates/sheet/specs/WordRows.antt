@@ -6,17 +6,17 @@ use mathlib.Core.Logic.{⊎-elim}
 use mathlib.Core.Bool.{Bool, true, false}
 use mathlib.Core.List.{List, [], _∷_, map}
 use lib.ListN.{length, getD, length-append, List·getD-eq-default}
-use Rattle.bits.specs.Below.{one-if, count-below, sum-below}
+use Rattle.spec.specs.Vocabulary.{keep, list-from, list-of}
+use Rattle.spec.specs.Text.{Bytes, Line}
+use Rattle.spec.specs.Sheet.{Sheet, cell-text, holds, user-count, grants-of-row, grants-of-rows}
+use Rattle.spec.specs.Rules.{user-lines}
+use Rattle.bits.specs.Counting.{one-if, count-below, sum-below}
 use Rattle.bits.specs.BelowLaws.{below-or-from}
 use Rattle.bits.specs.CountLaws.{count-below-add, count-below-first, count-below-none-intro}
 use Rattle.bits.specs.SumLaws.{sum-below-ext, sum-below-first}
 use Rattle.bits.specs.Bit.{bit, word-bits}
 use Rattle.bits.specs.BitLaws.{bit-of-zero}
-use Rattle.lists.specs.Lists.{keep, list-from, list-of}
 use Rattle.lists.specs.ListOfLaws.{list-of-first, list-of-same, length-list-of, getD-list-of, map-list-of}
-use Rattle.sheet.specs.Text.{Bytes, Line}
-use Rattle.sheet.specs.Sheet.{Sheet, cell-text, holds, user-count, grants-of-row, grants-of-rows}
-use Rattle.sheet.specs.Rules.{user-lines}
 use Rattle.sheet.specs.Rows.{row-words, row-bits, cell}
 use Rattle.sheet.specs.RowsRead.{RowsRead}
 

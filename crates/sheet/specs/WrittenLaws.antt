@@ -7,11 +7,10 @@ use mathlib.Core.Logic.{⊎-elim}
 use mathlib.Core.Bool.{Bool, true, false, So}
 use mathlib.Core.List.{List, [], _∷_, map, List·Memᴰ, List·Memᴰ·head, List·Memᴰ·tail, List·Memᴰ·not-nil, List·Memᴰ·cases-cons, Memᴰ·of-map}
 use lib.ListN.{length}
-use Rattle.lists.specs.Ascii.{ascii}
+use Rattle.spec.specs.Text.{ascii, Bytes, Line, name-byte, lines-of}
+use Rattle.spec.specs.Sheet.{Sheet, cell-text, sheet-of-lines, sheet-of}
+use Rattle.spec.specs.Rules.{Name, user-lines, sheet-text}
 use Rattle.lists.specs.TestLaws.{all-elim}
-use Rattle.sheet.specs.Text.{Bytes, Line, name-byte, lines-of}
-use Rattle.sheet.specs.Sheet.{Sheet, cell-text, sheet-of-lines, sheet-of}
-use Rattle.sheet.specs.Rules.{Name, user-lines, sheet-text}
 use Rattle.sheet.specs.TextLaws.{Field, read-as-written}
 use Rattle.sheet.specs.ByteLaws.{name-byte-no-comma, name-byte-no-line-feed}
 use Rattle.sheet.specs.SheetLines.{sheet-lines, sheet-text-lines, sheet-said}
@@ -64,13 +63,13 @@ user-row (name ∷ names) (row ∷ rows) line m = ⊎-elim here (λ n. later (us
         }
 
 -- these bytes are this sheet's, and its names are names
-pub record Written (text : Bytes) (sheet : Sheet) : Type 0 where
+pub record SheetWritten (text : Bytes) (sheet : Sheet) : Type 0 where
   pub written : text ≡ sheet-text sheet
   pub permissions-named : (name : Bytes) → List·Memᴰ name (sheet .permissions) → Name name
   pub users-named : (name : Bytes) → List·Memᴰ name (sheet .users) → Name name
   pub a-row-each : length (sheet .rows) ≡ length (sheet .users)
 
-module _ (text : Bytes) (sheet : Sheet) (w : Written text sheet) where
+module _ (text : Bytes) (sheet : Sheet) (w : SheetWritten text sheet) where
   first-spelled : (field : Bytes) → List·Memᴰ field (ascii "user" ∷ sheet .permissions) → Spelled field
   first-spelled field m b n =
       ⊎-elim (λ e. user-spelled b (rw e at n)) (λ p. w .permissions-named field p .spelled b n) (List·Memᴰ·cases-cons m)

@@ -6,7 +6,7 @@ use crate::line::read_line;
 ghost use mathlib.Core.Path.{_≡_};
 ghost use Prim.Native.Nat.{suc, _+_, _≤_, _<_, _^_};
 ghost use lib.ListN.{length, drop};
-ghost use Rattle.sheet.specs.Text.{lines-of};
+ghost use Rattle.spec.specs.Text.{lines-of};
 ghost use Rattle.sheet.specs.Body.{no-lines, add-read-line, body-of};
 
 // How many lines there are, whether each name is as long as a name, whether each line has as many fields as asked after its name, whether each of those is

@@ -6,11 +6,11 @@ use bits::WORD_BITS;
 ghost use mathlib.Core.Path.{_≡_};
 ghost use mathlib.Core.Bool.{So};
 ghost use Prim.Native.Nat.{ℕ, _+_, _≤_, _<_};
+ghost use Rattle.spec.specs.Vocabulary.{repeats};
+ghost use Rattle.spec.specs.Text.{same-name};
 ghost use Rattle.bits.specs.Bit.{bit, word-bits};
-ghost use Rattle.lists.specs.Lists.{repeats};
-ghost use Rattle.sheet.specs.Refusal.{same-name};
 ghost use Rattle.sheet.specs.NamesAt.{Inside, PartThere, places-of, names-at};
-ghost use Rattle.sheet.specs.Buckets.{bucket-count, bucket-words, bucket-of, Standing, meets-word, meets-bucket};
+ghost use Rattle.sheet.specs.Buckets.{bucket-count, bucket-words, bucket-of, BitsNamed, meets-word, meets-bucket};
 
 // How many buckets there are.
 const BUCKETS: usize = 128;
@@ -80,7 +80,7 @@ fn meets_bucket<'a, 'b>(
     words: usize,
     name: &'a [u8],
 ) -> bool
-    requires { ⌜ Standing (now table) (now s) (now from) (now to) × (bucket < bucket-count) × (words ≤ bucket-words) ⌝ }
+    requires { ⌜ BitsNamed (now table) (now s) (now from) (now to) × (bucket < bucket-count) × (words ≤ bucket-words) ⌝ }
     ensures { λ r. ⌜ r ≡ meets-bucket (now (s .entry)) (places-of (now (from .entry)) (now (to .entry))) (now (table .entry)) bucket words (now (name .entry)) ⌝ }
 {
     let mut k = 0;

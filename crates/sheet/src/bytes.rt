@@ -3,7 +3,7 @@ ghost use mathlib.Core.Path.{_≡_};
 ghost use mathlib.Core.Bool.{_&&_};
 ghost use lib.Dec.{eqb, ltb};
 ghost use lib.ListN.{length, getD};
-ghost use Rattle.sheet.specs.Text.{between, name-byte, allowed-byte};
+ghost use Rattle.spec.specs.Text.{between, name-byte, allowed-byte};
 ghost use Rattle.sheet.specs.Fields.{separator};
 
 pub const COMMA: u8 = b',';

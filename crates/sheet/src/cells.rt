@@ -4,9 +4,9 @@ use crate::names::same_bytes;
 ghost use mathlib.Core.Path.{_≡_};
 ghost use mathlib.Core.Bool.{_&&_};
 ghost use Prim.Native.Nat.{_≤_, _<_, _^_};
-ghost use Rattle.bits.specs.Below.{one-if};
-ghost use Rattle.sheet.specs.Sheet.{is-one};
-ghost use Rattle.sheet.specs.Refusal.{is-bit, name-length};
+ghost use Rattle.spec.specs.Sheet.{is-one, is-bit};
+ghost use Rattle.spec.specs.Refusal.{has-name-length};
+ghost use Rattle.bits.specs.Counting.{one-if};
 ghost use Rattle.sheet.specs.Cells.{no-cells, add-cell};
 
 // How many fields there are, whether each is as long as a name, whether each is `0` or `1`, and how many are `1`.
@@ -63,7 +63,7 @@ fn is_bit(field: &[u8]) -> bool
 
 // Whether a field is as long as a name.
 pub fn name_length(field: &[u8]) -> bool
-    ensures { λ r. ⌜ r ≡ name-length (now (field .entry)) ⌝ }
+    ensures { λ r. ⌜ r ≡ has-name-length (now (field .entry)) ⌝ }
 {
     if field.len() < 1 {
         return false;

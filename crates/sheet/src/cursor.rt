@@ -7,8 +7,8 @@ ghost use mathlib.Core.Bool.{not};
 ghost use Prim.Native.Nat.{_+_};
 ghost use lib.Dec.{eqb};
 ghost use lib.ListN.{getD, drop};
+ghost use Rattle.spec.specs.Text.{comma};
 ghost use Rattle.lists.specs.Span.{span};
-ghost use Rattle.sheet.specs.Text.{comma};
 ghost use Rattle.sheet.specs.Fields.{separator, field-read};
 
 // A place in a text.

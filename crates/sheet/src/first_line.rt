@@ -9,7 +9,7 @@ use crate::spelled::read_name;
 ghost use mathlib.Core.Path.{_≡_};
 ghost use mathlib.Core.Bool.{false};
 ghost use lib.ListN.{length};
-ghost use Rattle.sheet.specs.Limits.{user-limit};
+ghost use Rattle.spec.specs.Limits.{user-limit};
 ghost use Rattle.sheet.specs.FirstLine.{says-user, FirstLineRead};
 
 // Whether such a line stands there with some names and no more than there can be permissions, how many there are, and where the next line starts.

@@ -4,7 +4,7 @@ ghost use mathlib.Core.Path.{_≡_};
 ghost use Prim.Native.Nat.{_+_, _*_, _^_, _≤_, _<_};
 ghost use lib.Dec.{eqb};
 ghost use lib.ListN.{length};
-ghost use Rattle.bits.specs.Below.{one-if};
+ghost use Rattle.bits.specs.Counting.{one-if};
 ghost use Rattle.bits.specs.Bit.{bit, word-bits};
 ghost use Rattle.sheet.specs.CellsWord.{WordOfCells};
 ghost use Rattle.sheet.specs.FourRead.{four-set, four-word, FourBytes, FourOf};

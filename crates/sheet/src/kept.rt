@@ -9,8 +9,8 @@ use crate::places::Places;
 use crate::user_lines::read_user_lines;
 ghost use mathlib.Core.Path.{_≡_};
 ghost use mathlib.Core.Bool.{false, So, not, _&&_};
-ghost use Rattle.lists.specs.Lists.{repeats};
-ghost use Rattle.sheet.specs.Refusal.{same-name};
+ghost use Rattle.spec.specs.Vocabulary.{repeats};
+ghost use Rattle.spec.specs.Text.{same-name};
 ghost use Rattle.sheet.specs.NamesAt.{Inside, names-at};
 ghost use Rattle.sheet.specs.KeptSheet.{SheetRoom, notes-of, SheetLines};
 

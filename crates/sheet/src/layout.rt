@@ -10,7 +10,7 @@ ghost use mathlib.Core.Path.{_≡_};
 ghost use mathlib.Core.List.{[]};
 ghost use Prim.Native.Nat.{_<_};
 ghost use lib.ListN.{getD};
-ghost use Rattle.sheet.specs.Sheet.{sheet-of, user-count, permission-count};
+ghost use Rattle.spec.specs.Sheet.{sheet-of, user-count, permission-count};
 ghost use Rattle.sheet.specs.NamesAt.{name-number};
 ghost use Rattle.sheet.specs.LaidOut.{UsersAt, PermissionsAt, found-user, found-permission};
 

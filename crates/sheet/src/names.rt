@@ -1,7 +1,6 @@
 // Bytes compared, and what it means that two names are equal.
 ghost use mathlib.Core.Path.{_≡_};
-ghost use Rattle.lists.specs.Lists.{same-bytes};
-ghost use Rattle.sheet.specs.Refusal.{same-name};
+ghost use Rattle.spec.specs.Text.{same-bytes, same-name};
 
 // Whether two slices hold the same bytes.
 pub fn same_bytes<'a>(a: &'a [u8], b: &'a [u8]) -> bool

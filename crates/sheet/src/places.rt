@@ -5,10 +5,10 @@ use crate::line::read_line;
 ghost use Prim.Native.Nat.{suc, _≤_};
 ghost use mathlib.Core.List.{tail};
 ghost use lib.ListN.{length, drop};
-ghost use Rattle.sheet.specs.Limits.{user-limit};
-ghost use Rattle.sheet.specs.Text.{lines-of};
+ghost use Rattle.spec.specs.Limits.{user-limit};
+ghost use Rattle.spec.specs.Text.{lines-of};
 ghost use Rattle.sheet.specs.FieldLaws.{line-fields};
-ghost use Rattle.sheet.specs.Places.{Placed};
+ghost use Rattle.sheet.specs.Places.{NamesPlaced};
 ghost use Rattle.sheet.specs.PlacesLaws.{HasRoom};
 ghost use Rattle.sheet.specs.UserPlaces.{UserPlaces};
 
@@ -52,7 +52,7 @@ pub fn user_places(s: &[u8], at: usize) -> Places
 // Where the fields after the first of the first line stand.
 pub fn permission_places(s: &[u8]) -> Places
     requires { ⌜ length (tail (line-fields (now s))) ≤ user-limit ⌝ }
-    ensures { λ r. ⌜ Placed (now (s .entry)) r (tail (line-fields (now (s .entry)))) ⌝ }
+    ensures { λ r. ⌜ NamesPlaced (now (s .entry)) r (tail (line-fields (now (s .entry)))) ⌝ }
 {
     let first = Cursor { at: 0 }.field(s);
     let mut places = Places::none();

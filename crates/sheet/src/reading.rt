@@ -9,8 +9,8 @@ use crate::refusal::judge;
 use crate::rows::no_rows;
 ghost use mathlib.Core.Path.{_≡_};
 ghost use mathlib.Core.Bool.{So};
-ghost use Rattle.sheet.specs.Sheet.{sheet-of};
-ghost use Rattle.sheet.specs.Refusal.{refusal};
+ghost use Rattle.spec.specs.Sheet.{sheet-of};
+ghost use Rattle.spec.specs.Refusal.{refusal};
 ghost use Rattle.sheet.specs.LaidOut.{LaidOut};
 ghost use Rattle.sheet.specs.RowsRead.{RowsRead};
 

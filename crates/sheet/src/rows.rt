@@ -3,7 +3,7 @@ use crate::limits::CELL_WORDS;
 ghost use mathlib.Core.Path.{_≡_};
 ghost use Prim.Native.Nat.{_*_};
 ghost use lib.ListN.{replicate};
-ghost use Rattle.sheet.specs.Limits.{user-limit};
+ghost use Rattle.spec.specs.Limits.{user-limit};
 ghost use Rattle.sheet.specs.Rows.{row-words};
 
 // Rows with no cell set.

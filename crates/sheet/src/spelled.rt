@@ -6,9 +6,9 @@ ghost use mathlib.Core.Path.{_≡_};
 ghost use mathlib.Core.Bool.{_&&_};
 ghost use Prim.Native.Nat.{_≤_};
 ghost use lib.ListN.{length};
-ghost use Rattle.lists.specs.Lists.{all};
-ghost use Rattle.sheet.specs.Text.{name-byte};
-ghost use Rattle.sheet.specs.Refusal.{name-length};
+ghost use Rattle.spec.specs.Vocabulary.{all};
+ghost use Rattle.spec.specs.Text.{name-byte};
+ghost use Rattle.spec.specs.Refusal.{has-name-length};
 ghost use Rattle.sheet.specs.Spelled.{NameReads};
 
 // Where a field ends, and whether it is a name.
@@ -32,7 +32,7 @@ pub fn read_name(s: &[u8], at: usize) -> NameRead
 
 // Whether a field is a name: as long as one, and of the bytes of names.
 fn is_name(field: &[u8]) -> bool
-    ensures { λ r. ⌜ r ≡ (name-length (now (field .entry)) && all name-byte (now (field .entry))) ⌝ }
+    ensures { λ r. ⌜ r ≡ (has-name-length (now (field .entry)) && all name-byte (now (field .entry))) ⌝ }
 {
     if name_length(field) {
         has_name_bytes(field)

@@ -6,7 +6,7 @@ use roles::ROLE_WORDS;
 use roles::Standing;
 use sheet::CELL_WORDS;
 ghost use Prim.Native.Nat.{_≤_};
-ghost use Rattle.sheet.specs.Sheet.{sheet-of};
+ghost use Rattle.spec.specs.Sheet.{sheet-of};
 ghost use Rattle.sheet.specs.Rows.{row-bits};
 ghost use Rattle.book.specs.RowsSaid.{GrantCells};
 

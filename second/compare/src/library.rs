@@ -76,6 +76,15 @@ unsafe extern "C" {
     ) -> WriteNumbers;
 }
 
+/// `porvuund_fresh` as it is called on x86-64, with the place for the session that it hands back as its argument: so the
+/// caller can see which bytes of that place the library writes.
+mod into_place {
+    unsafe extern "C" {
+        #[link_name = "porvuund_fresh"]
+        pub fn fresh(place: *mut u8) -> *mut u8;
+    }
+}
+
 /// A session of the proved implementation. It is a value that goes into each call, and comes back from a load and
 /// a search; only the calls make one.
 #[derive(Clone)]
@@ -124,6 +133,20 @@ impl Implementation for Library {
         let CheckNumbers { number, roles, witness_lines } = checked;
         result(number, &[roles, witness_lines], CheckAnswer { roles, witness_lines })
     }
+}
+
+/// The bytes of a session as this crate declares it, and the bytes that the library itself gives one: the place of the last
+/// byte that a fresh session writes, whatever stood there before.
+pub fn session_bytes() -> (usize, usize) {
+    let declared = size_of::<Session>();
+    let written = |fill: u8| {
+        let mut place = vec![fill as u64 * 0x0101_0101_0101_0101; declared / 4];
+        // SAFETY: the place is aligned for a session and twice as long as one is declared to be.
+        unsafe { into_place::fresh(place.as_mut_ptr().cast()) };
+        let bytes: Vec<u8> = place.iter().flat_map(|word| word.to_ne_bytes()).collect();
+        bytes.iter().rposition(|byte| *byte != fill).map_or(0, |last| last + 1)
+    };
+    (declared, written(0x5a).max(written(0xa5)))
 }
 
 /// The book of a sheet after one search, written into a buffer by one call.

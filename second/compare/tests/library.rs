@@ -1,6 +1,6 @@
 //! The library of the proved implementation held to the second one, byte for byte.
 
-use compare::library::{Library, book, with_room};
+use compare::library::{Library, book, session_bytes, with_room};
 use second::refusal::Refusal;
 use second::script::lent_buffer;
 use second::session::Session;
@@ -10,6 +10,14 @@ use trials::damage;
 use trials::families;
 use trials::paper;
 use trials::tally::Tally;
+
+#[test]
+fn a_session_has_the_size_that_the_library_gives_it() {
+    with_room(|| {
+        let (declared, given) = session_bytes();
+        assert_eq!(declared, given, "the structs of compare/src/library/session.rs are not those of the library");
+    });
+}
 
 #[test]
 fn books_of_small_sheets() {

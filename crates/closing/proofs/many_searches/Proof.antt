@@ -3,9 +3,9 @@
 use Prim.Native.Nat.{_*_, _-_, _≤_}
 use native.Mathlib.Omega.{arith}
 use borrow.Author.Needs.{needs}
-use Rattle.search.specs.Machine.{search-limit}
+use Rattle.spec.specs.Limits.{search-limit}
 use Rattle.search.specs.Carried.{searched-steps-le}
-use Rattle.search.specs.View.{Stands, kernel-given, view}
+use Rattle.search.specs.View.{PositionStands, kernel-given, view}
 use Rattle.closing.specs.Crown.{grants, part, most}
 use Rattle.closing.proofs.many_searches.Statement.{statement}
 use Rattle.closing.proofs.many_searches.Tie as tie
@@ -15,7 +15,7 @@ unfolding search-limit
 few = omega arith
 
 abbrev Inv-loop : tie.InvT-loop
-Inv-loop fit position₀ steps₀ searches₀ position steps searches = Stands grants position × (steps ≤ part * searches) × (searches ≤ most)
+Inv-loop fit position₀ steps₀ searches₀ position steps searches = PositionStands grants position × (steps ≤ part * searches) × (searches ≤ most)
 
 abbrev μ-loop : tie.MeasureT-loop
 μ-loop fit position₀ steps₀ searches₀ position steps searches = most - searches

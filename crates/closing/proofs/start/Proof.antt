@@ -2,7 +2,7 @@
 use native.Mathlib.Omega.{arith}
 use borrow.Author.Needs.{needs}
 use Prim.Native.Nat.{_≤_}
-use Rattle.search.specs.Machine.{search-limit}
+use Rattle.spec.specs.Limits.{search-limit}
 use Rattle.search.specs.Carried.{started-stands}
 use Rattle.closing.specs.Crown.{users, grants}
 use Rattle.closing.proofs.start.Statement.{statement}

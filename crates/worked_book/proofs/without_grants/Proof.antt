@@ -2,10 +2,10 @@
 use borrow.Author.Needs.{needs}
 use native.Mathlib.Omega.{arith}
 use mathlib.Core.Path.{refl}
-use Rattle.bits.specs.Below.{every-below}
+use Rattle.spec.specs.Vocabulary.{every-below}
+use Rattle.spec.specs.Sheet.{sheet-of, sheet-of-lines}
 use Rattle.bits.specs.Bit.{bit}
 use Rattle.sheet.specs.Rows.{row-bits, row-words}
-use Rattle.sheet.specs.Sheet.{sheet-of, sheet-of-lines}
 use Rattle.book.specs.RowsSaid.{grant-cells-elim}
 use Rattle.worked_book.proofs.without_grants.Statement.{statement}
 use Rattle.worked_book.proofs.without_grants.Tie as tie

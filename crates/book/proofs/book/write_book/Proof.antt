@@ -5,18 +5,18 @@ use native.Mathlib.Omega.{arith}
 use mathlib.Core.List.{_++_}
 use mathlib.Core.Path.{_≡_, sym}
 use lib.ListN.{length}
-use Rattle.sheet.specs.Limits.{user-limit}
+use Rattle.spec.specs.Limits.{user-limit}
+use Rattle.spec.specs.Text.{Bytes, text-of}
+use Rattle.spec.specs.Sheet.{sheet-of}
+use Rattle.spec.specs.Book.{witness-block}
 use Rattle.sheet.specs.Rows.{row-bits, row-words}
-use Rattle.sheet.specs.Sheet.{sheet-of}
-use Rattle.sheet.specs.Text.{Bytes, text-of}
 use Rattle.grants.specs.CellSets.{cell-grants}
-use Rattle.book.specs.Book.{witness-block}
 use Rattle.book.specs.BookRows.{book-parts, rows-book}
 use Rattle.book.specs.CountsText.{counts-text}
 use Rattle.book.specs.LaidLaws.{few-users}
 use Rattle.book.specs.LineLaws.{line-end}
 use Rattle.book.specs.RowsSaid.{shown-roles, shown-users}
-use Rattle.book.specs.Written.{Ready, end-within, fits-as, front-fits, place-within, room-behind, then-same-length, then-written, with-rest, within-buffer, written-as}
+use Rattle.book.specs.Written.{WrittenSoFar, end-within, fits-as, front-fits, place-within, room-behind, then-same-length, then-written, with-rest, within-buffer, written-as}
 use Rattle.book.proofs.book.write_book.Statement.{statement}
 use Rattle.book.proofs.book.write_book.Tie as tie
 
@@ -66,7 +66,7 @@ first-entry c = c .before .before .before .before
 
 behind-first : (c : tie.After-put-counts)
     → let s = first-entry c in
-    Ready (first s) line-end (s .args .out .now) (c .put-counts .last .0) (c .put-counts .result)
+    WrittenSoFar (first s) line-end (s .args .out .now) (c .put-counts .last .0) (c .put-counts .result)
 behind-first c = record { written = c .put-counts .ensures; fits = first-room (first-entry c) }
 
 abbrev behind-counts : tie.After-put-empty-line → tie.After-put-counts
@@ -82,7 +82,7 @@ second-buffer c =
 
 at-second : (c : tie.After-put-empty-line)
     → let s = first-entry (behind-counts c) in
-    Ready (first s ++ line-end) (second s) (s .args .out .now) (second-buffer c) (second-start c)
+    WrittenSoFar (first s ++ line-end) (second s) (s .args .out .now) (second-buffer c) (second-start c)
 at-second c =
     let s = first-entry (behind-counts c) in
     record {
@@ -104,7 +104,7 @@ second-after c = with-rest (second-start (before-roles c)) (second-buffer (befor
 
 behind-second : (c : tie.After-put-roles)
     → let s = second-entry c in
-    Ready (up-to-second s) line-end (s .args .out .now) (second-after c) (second-end c)
+    WrittenSoFar (up-to-second s) line-end (s .args .out .now) (second-after c) (second-end c)
 behind-second c =
     record { written = then-written (at-second (before-roles c)) (c .put-roles .ensures); fits = second-room (second-entry c) }
 
@@ -119,7 +119,7 @@ third-buffer c = with-rest (second-end (behind-roles c)) (second-after (behind-r
 
 at-third : (c : tie.After-put-empty-line2)
     → let s = second-entry (behind-roles c) in
-    Ready (up-to-second s ++ line-end) (third s) (s .args .out .now) (third-buffer c) (third-start c)
+    WrittenSoFar (up-to-second s ++ line-end) (third s) (s .args .out .now) (third-buffer c) (third-start c)
 at-third c =
     let s = second-entry (behind-roles c) in
     record {
@@ -141,7 +141,7 @@ third-after c = with-rest (third-start (before-users c)) (third-buffer (before-u
 
 behind-third : (c : tie.After-put-users)
     → let s = third-entry c in
-    Ready (up-to-third s) line-end (s .args .out .now) (third-after c) (third-end c)
+    WrittenSoFar (up-to-third s) line-end (s .args .out .now) (third-after c) (third-end c)
 behind-third c =
     record { written = then-written (at-third (before-users c)) (c .put-users .ensures); fits = third-room (third-entry c) }
 
@@ -154,7 +154,7 @@ fourth-entry c = third-entry (behind-users c)
 at-fourth : (c : tie.After-put-empty-line3)
     → let s = fourth-entry c in
     let a = behind-users c in
-    Ready (up-to-third s ++ line-end) (fourth s) (s .args .out .now)
+    WrittenSoFar (up-to-third s ++ line-end) (fourth s) (s .args .out .now)
     (with-rest (third-end a) (third-after a) (c .put-empty-line3 .last .0)) (third-end a + c .put-empty-line3 .result)
 at-fourth c =
     record { written = then-written (behind-third (behind-users c)) (c .put-empty-line3 .ensures); fits = room (fourth-entry c) }

@@ -2,7 +2,7 @@
 use borrow.Author.Needs.{needs}
 use native.Mathlib.Omega.{arith}
 use lib.ListN.{length-set}
-use Rattle.sheet.specs.Text.{comma}
+use Rattle.spec.specs.Text.{comma}
 use Rattle.book.specs.CellsWritten.{cell-field-length, cell-written}
 use Rattle.book.proofs.cells.put_cell.Statement.{statement}
 use Rattle.book.proofs.cells.put_cell.Tie as tie

@@ -6,10 +6,10 @@ use native.Mathlib.Omega.{arith}
 use mathlib.Core.List.{List}
 use mathlib.Core.Path.{_≡_, ap, sym, _∙_}
 use lib.ListN.{length}
+use Rattle.spec.specs.Text.{Bytes}
 use Rattle.bits.specs.Bit.{bit}
 use Rattle.lists.specs.Listed.{listed, listed-same, listed-even}
 use Rattle.sheet.specs.Rows.{cell, row-bits, row-words}
-use Rattle.sheet.specs.Text.{Bytes}
 use Rattle.book.specs.CellsText.{cell-field}
 use Rattle.book.specs.CellsWritten.{cell-field-length}
 use Rattle.book.specs.ListedWritten.{Listing, listing-ends, part-ready, part-within, part-written}

@@ -5,13 +5,12 @@ use native.Mathlib.Omega.{arith}
 use mathlib.Core.List.{_++_}
 use mathlib.Core.Path.{sym}
 use lib.ListN.{length}
-use Rattle.lists.specs.Ascii.{ascii}
-use Rattle.sheet.specs.Text.{Bytes}
+use Rattle.spec.specs.Text.{ascii, Bytes}
+use Rattle.spec.specs.Decimal.{decimal}
 use Rattle.roles.specs.StandingCases.{standing-case}
 use Rattle.book.specs.CountsLaws.{counts-parts}
 use Rattle.book.specs.CountsText.{standing-text}
-use Rattle.book.specs.Decimal.{decimal}
-use Rattle.book.specs.Written.{Ready, end-within, fits-as, front-fits, place-within, room-behind, then-same-length, then-written, with-rest, within-buffer, written-as}
+use Rattle.book.specs.Written.{WrittenSoFar, end-within, fits-as, front-fits, place-within, room-behind, then-same-length, then-written, with-rest, within-buffer, written-as}
 use Rattle.book.proofs.counts.put_counts.Statement.{statement}
 use Rattle.book.proofs.counts.put_counts.Tie as tie
 
@@ -37,12 +36,12 @@ abbrev first : tie.After-put-counted2 → tie.After-put-counted
 first c = c .before .before .before .before .before
 
 behind-roles : (c : tie.After-put-counted)
-    → Ready (front (start c)) (bound (start c)) (start c .args .out .now) (c .put-counted .last .0) (c .put-counted .result)
+    → WrittenSoFar (front (start c)) (bound (start c)) (start c .args .out .now) (c .put-counted .last .0) (c .put-counted .result)
 behind-roles c = record { written = c .put-counted .ensures; fits = front-room (start c) }
 
 behind-bound : (c : tie.After-put-counted2)
     → let a = first c in
-    Ready (front (start a) ++ bound (start a)) (state (start a)) (start a .args .out .now)
+    WrittenSoFar (front (start a) ++ bound (start a)) (state (start a)) (start a .args .out .now)
     (with-rest (a .put-counted .result) (a .put-counted .last .0) (c .put-counted2 .last .0)) (a .put-counted .result + c .put-counted2 .result)
 behind-bound c = record { written = then-written (behind-roles (first c)) (c .put-counted2 .ensures); fits = room (start (first c)) }
 

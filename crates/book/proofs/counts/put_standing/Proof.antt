@@ -1,7 +1,7 @@
 -- `counts::put_standing`: the word of each case, between a comma and the line feed.
 use borrow.Author.Needs.{needs}
 use mathlib.Core.Path.{ap, sym}
-use Rattle.sheet.specs.Text.{Bytes}
+use Rattle.spec.specs.Text.{Bytes}
 use Rattle.roles.specs.StandingCases.{standing-case}
 use Rattle.roles.specs.declared.standing.Standing.{Standing as StandingValue}
 use Rattle.book.specs.CountsText.{standing-text}

@@ -2,7 +2,7 @@
 use borrow.Author.Needs.{needs}
 use native.Mathlib.Omega.{arith}
 use mathlib.Core.Path.{ap, refl, sym}
-use Rattle.sheet.specs.Text.{Bytes}
+use Rattle.spec.specs.Text.{Bytes}
 use Rattle.roles.specs.StandingCases.{standing-case}
 use Rattle.roles.specs.declared.standing.Standing.{Standing as StandingValue}
 use Rattle.book.specs.CountsText.{standing-text}

@@ -2,10 +2,10 @@
 use Prim.Native.Nat.{ℕ, _<_}
 use native.Mathlib.Omega.{arith}
 use mathlib.Core.Path.{sym}
-use Rattle.book.specs.DigitLaws.{one-digit}
-use Rattle.book.specs.DigitsMeasured.{one-digit-more}
 use borrow.Fn.Kinds.{In}
 use borrow.Fn.PlainCycle.{Measures, is, falls, and}
+use Rattle.book.specs.DigitLaws.{one-digit}
+use Rattle.book.specs.DigitsMeasured.{one-digit-more}
 use Rattle.book.proofs.decimal.decimal_length.Reads as decimal-length
 use Rattle.book.proofs.decimal.decimal_length.Kinds as decimal-length-kinds
 use Rattle.book.proofs.decimal.+decimal_length.Lts-decimal_length as lts

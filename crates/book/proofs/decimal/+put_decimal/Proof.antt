@@ -3,10 +3,10 @@ use borrow.Author.Needs.{needs}
 use Prim.Native.Nat.{ℕ, _<_}
 use native.Mathlib.Omega.{arith}
 use lib.ListN.{length}
-use Rattle.book.specs.DigitLaws.{one-digit, digit-more}
-use Rattle.book.specs.DigitsWritten.{first-digit-written, last-digit-written}
 use borrow.Fn.Kinds.{In}
 use borrow.Fn.PlainCycle.{Measures, is, falls, and}
+use Rattle.book.specs.DigitLaws.{one-digit, digit-more}
+use Rattle.book.specs.DigitsWritten.{first-digit-written, last-digit-written}
 use Rattle.book.proofs.decimal.put_decimal.Reads as put-decimal
 use Rattle.book.proofs.decimal.put_decimal.Kinds as put-decimal-kinds
 use Rattle.book.proofs.decimal.+put_decimal.Lts-put_decimal as lts

@@ -4,9 +4,9 @@ use Prim.Native.Nat.{_≤_}
 use native.Mathlib.Omega.{arith}
 use mathlib.Core.List.{_++_}
 use lib.ListN.{length}
-use Rattle.sheet.specs.Text.{Bytes}
-use Rattle.book.specs.Decimal.{decimal}
-use Rattle.book.specs.Written.{Ready, end-within, front-fits, room-behind, then-same-length, then-written, within-buffer}
+use Rattle.spec.specs.Text.{Bytes}
+use Rattle.spec.specs.Decimal.{decimal}
+use Rattle.book.specs.Written.{WrittenSoFar, end-within, front-fits, room-behind, then-same-length, then-written, within-buffer}
 use Rattle.book.proofs.decimal.put_counted.Statement.{statement}
 use Rattle.book.proofs.decimal.put_counted.Tie as tie
 
@@ -23,7 +23,7 @@ abbrev start : tie.After-put-bytes → tie.Start
 start c = c .before .before .before .before
 
 behind-mark : (c : tie.After-put-bytes)
-    → Ready (mark (start c)) (number (start c)) (start c .args .out .now) (c .put-bytes .last .0) (c .put-bytes .result)
+    → WrittenSoFar (mark (start c)) (number (start c)) (start c .args .out .now) (c .put-bytes .last .0) (c .put-bytes .result)
 behind-mark c = record { written = c .put-bytes .ensures; fits = fits (start c) }
 
 put-bytes-requires : tie.Need-put-bytes-requires

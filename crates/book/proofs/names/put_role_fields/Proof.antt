@@ -2,9 +2,9 @@
 use borrow.Author.Needs.{needs}
 use Prim.Native.Nat.{_-_}
 use native.Mathlib.Omega.{arith}
+use Rattle.spec.specs.Book.{role-name}
 use Rattle.book.specs.LineLaws.{behind-comma}
 use Rattle.book.specs.ListedWritten.{Listing, listing-ends, listing-starts, part-ready, part-within, part-written}
-use Rattle.book.specs.Words.{role-name}
 use Rattle.book.specs.Written.{room-behind, within-buffer}
 use Rattle.book.proofs.names.put_role_fields.Statement.{statement}
 use Rattle.book.proofs.names.put_role_fields.Tie as tie

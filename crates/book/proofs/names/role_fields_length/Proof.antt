@@ -1,11 +1,11 @@
 -- `names::role_fields_length`: a turn adds the length of name i and of its comma.
 use Prim.Native.Nat.{_-_}
 use native.Mathlib.Omega.{arith}
+use Rattle.spec.specs.Book.{role-name}
 use Rattle.sheet.specs.Rows.{row-bits, row-words}
 use Rattle.book.specs.LengthsMeasured.{field-measured}
 use Rattle.book.specs.LineLaws.{behind-comma}
 use Rattle.book.specs.Measured.{Adding, adding-ends, adding-starts, measured-within, part-added, piece-most}
-use Rattle.book.specs.Words.{role-name}
 use Rattle.book.proofs.names.role_fields_length.Statement.{statement}
 use Rattle.book.proofs.names.role_fields_length.Tie as tie
 

@@ -3,12 +3,12 @@ use borrow.Author.Needs.{needs}
 use native.Mathlib.Omega.{arith}
 use mathlib.Core.List.{[], _∷_}
 use lib.ListN.{set}
-use Rattle.sheet.specs.Text.{comma}
-use Rattle.book.specs.Written.{Ready, byte-written, nothing-written, room-behind, then-same-length, then-written, within-buffer}
+use Rattle.spec.specs.Text.{comma}
+use Rattle.book.specs.Written.{WrittenSoFar, byte-written, nothing-written, room-behind, then-same-length, then-written, within-buffer}
 use Rattle.book.proofs.put.put_field.Statement.{statement}
 use Rattle.book.proofs.put.put_field.Tie as tie
 
-behind-the-comma : (c : tie.Start) → Ready (comma ∷ []) (c .args .field .now) (c .args .out .now) (set (c .args .out .now) 0 comma) 1
+behind-the-comma : (c : tie.Start) → WrittenSoFar (comma ∷ []) (c .args .field .now) (c .args .out .now) (set (c .args .out .now) 0 comma) 1
 behind-the-comma c =
     record { written = byte-written [] comma (omega arith) (nothing-written (c .args .out .now)); fits = c .pre }
 

@@ -3,11 +3,10 @@ use Prim.Native.Nat.{_-_, _≤_}
 use native.Mathlib.Omega.{arith}
 use mathlib.Core.Path.{ap, sym}
 use lib.ListN.{length}
+use Rattle.spec.specs.Limits.{name-limit}
+use Rattle.spec.specs.Sheet.{sheet-of, permission-name}
 use Rattle.sheet.specs.LaidOutLaws.{permissions-at}
-use Rattle.sheet.specs.Limits.{name-limit}
 use Rattle.sheet.specs.Rows.{row-bits, row-words}
-use Rattle.sheet.specs.Sheet.{sheet-of}
-use Rattle.book.specs.Book.{permission-name}
 use Rattle.book.specs.LaidLaws.{permission-counted, permission-name-short, permissions-fit}
 use Rattle.book.specs.LengthsMeasured.{field-measured, role-name-most}
 use Rattle.book.specs.LineLaws.{behind-comma}

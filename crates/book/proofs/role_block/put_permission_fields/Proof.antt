@@ -3,9 +3,8 @@ use borrow.Author.Needs.{needs}
 use Prim.Native.Nat.{_-_}
 use native.Mathlib.Omega.{arith}
 use mathlib.Core.Path.{ap, sym}
+use Rattle.spec.specs.Sheet.{sheet-of, permission-name}
 use Rattle.sheet.specs.LaidOutLaws.{permissions-at}
-use Rattle.sheet.specs.Sheet.{sheet-of}
-use Rattle.book.specs.Book.{permission-name}
 use Rattle.book.specs.LaidLaws.{permission-counted}
 use Rattle.book.specs.LineLaws.{behind-comma}
 use Rattle.book.specs.ListedWritten.{Listing, listing-ends, listing-starts, part-ready, part-within, part-written}

@@ -4,14 +4,14 @@ use Prim.Native.Nat.{_+_}
 use native.Mathlib.Omega.{arith}
 use mathlib.Core.List.{_++_}
 use mathlib.Core.Path.{_≡_, sym}
-use Rattle.sheet.specs.Text.{Bytes, line-text}
+use Rattle.spec.specs.Text.{Bytes, line-text}
+use Rattle.spec.specs.Book.{role-name}
 use Rattle.book.specs.CellsText.{cells-text}
 use Rattle.book.specs.LineLaws.{line-end}
 use Rattle.book.specs.LineWritten.{LineRoom, behind-fields, behind-name, name-fits}
 use Rattle.book.specs.RowsSaid.{role-line}
 use Rattle.book.specs.ShownLaws.{role-line-parts}
-use Rattle.book.specs.Words.{role-name}
-use Rattle.book.specs.Written.{Ready, Written, byte-same-length, byte-within, fits-as, place-within, room-behind, then-byte, with-rest, within-buffer, written-as}
+use Rattle.book.specs.Written.{WrittenSoFar, Written, byte-same-length, byte-within, fits-as, place-within, room-behind, then-byte, with-rest, within-buffer, written-as}
 use Rattle.book.proofs.role_block.put_role_line.Statement.{statement}
 use Rattle.book.proofs.role_block.put_role_line.Tie as tie
 
@@ -35,12 +35,12 @@ written : (c : tie.After-put-role-name) → Written (name (start c)) (start c .a
 written c = c .put-role-name .ensures
 
 behind-first : (c : tie.After-put-role-name)
-    → Ready (name (start c)) (fields (start c)) (start c .args .out .now) (c .put-role-name .last .0) (c .put-role-name .result)
+    → WrittenSoFar (name (start c)) (fields (start c)) (start c .args .out .now) (c .put-role-name .last .0) (c .put-role-name .result)
 behind-first c = behind-name (room (start c)) (written c)
 
 behind-second : (c : tie.After-put-cells)
     → let a = c .before .before .before .before in
-    Ready (name (start a) ++ fields (start a)) line-end (start a .args .out .now)
+    WrittenSoFar (name (start a) ++ fields (start a)) line-end (start a .args .out .now)
     (with-rest (a .put-role-name .result) (a .put-role-name .last .0) (c .put-cells .last .0)) (a .put-role-name .result + c .put-cells .result)
 behind-second c =
     let a = c .before .before .before .before in

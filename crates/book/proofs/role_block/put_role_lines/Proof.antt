@@ -2,8 +2,8 @@
 use borrow.Author.Needs.{needs}
 use Prim.Native.Nat.{_-_}
 use native.Mathlib.Omega.{arith}
+use Rattle.spec.specs.Text.{line-text}
 use Rattle.sheet.specs.Rows.{row-words}
-use Rattle.sheet.specs.Text.{line-text}
 use Rattle.book.specs.ListedWritten.{Listing, listing-ends, listing-starts, part-ready, part-within, part-written}
 use Rattle.book.specs.RowsSaid.{role-line}
 use Rattle.book.specs.Written.{room-behind, within-buffer}

@@ -5,13 +5,13 @@ use native.Mathlib.Omega.{arith}
 use mathlib.Core.List.{_++_}
 use mathlib.Core.Path.{_≡_, sym}
 use lib.ListN.{length}
+use Rattle.spec.specs.Text.{Bytes, line-text, text-of}
+use Rattle.spec.specs.Sheet.{sheet-of}
 use Rattle.lists.specs.Listed.{listed}
-use Rattle.sheet.specs.Sheet.{sheet-of}
-use Rattle.sheet.specs.Text.{Bytes, line-text, text-of}
 use Rattle.book.specs.LaidLaws.{permissions-fit}
 use Rattle.book.specs.RowsSaid.{role-line, shown-roles}
 use Rattle.book.specs.ShownLaws.{roles-heading, roles-parts}
-use Rattle.book.specs.Written.{Ready, end-within, fits-as, front-fits, room-behind, then-same-length, then-written, within-buffer, written-as}
+use Rattle.book.specs.Written.{WrittenSoFar, end-within, fits-as, front-fits, room-behind, then-same-length, then-written, within-buffer, written-as}
 use Rattle.book.proofs.role_block.put_roles.Statement.{statement}
 use Rattle.book.proofs.role_block.put_roles.Tie as tie
 
@@ -32,7 +32,7 @@ abbrev start : tie.After-put-roles-heading → tie.Start
 start c = c .before .before .before .before .before
 
 behind-heading : (c : tie.After-put-roles-heading)
-    → Ready (heading (start c)) (lines (start c)) (start c .args .out .now) (c .put-roles-heading .last .0) (c .put-roles-heading .result)
+    → WrittenSoFar (heading (start c)) (lines (start c)) (start c .args .out .now) (c .put-roles-heading .last .0) (c .put-roles-heading .result)
 behind-heading c = record { written = c .put-roles-heading .ensures; fits = fits (start c) }
 
 put-roles-heading-requires : tie.Need-put-roles-heading-requires

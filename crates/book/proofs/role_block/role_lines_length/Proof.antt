@@ -2,8 +2,8 @@
 use Prim.Native.Nat.{_-_, ℕ}
 use native.Mathlib.Omega.{arith}
 use mathlib.Core.List.{List, []}
+use Rattle.spec.specs.Text.{line-text}
 use Rattle.sheet.specs.Rows.{row-bits, row-words}
-use Rattle.sheet.specs.Text.{line-text}
 use Rattle.book.specs.LengthsMeasured.{role-line-measured}
 use Rattle.book.specs.Measured.{Adding, adding-ends, adding-starts, line-most, measured-within, part-added}
 use Rattle.book.specs.RowsSaid.{role-line}

@@ -4,15 +4,14 @@ use Prim.Native.Nat.{_+_}
 use native.Mathlib.Omega.{arith}
 use mathlib.Core.List.{_++_}
 use mathlib.Core.Path.{_≡_, sym}
-use Rattle.sheet.specs.Sheet.{sheet-of}
-use Rattle.sheet.specs.Text.{Bytes, line-text}
-use Rattle.book.specs.Book.{user-name}
+use Rattle.spec.specs.Text.{Bytes, line-text}
+use Rattle.spec.specs.Sheet.{sheet-of, user-name}
 use Rattle.book.specs.CellsText.{cells-text}
 use Rattle.book.specs.LineLaws.{line-end}
 use Rattle.book.specs.LineWritten.{LineRoom, behind-fields, behind-name, name-fits}
 use Rattle.book.specs.RowsSaid.{user-line}
 use Rattle.book.specs.ShownLaws.{user-line-parts}
-use Rattle.book.specs.Written.{Ready, Written, byte-same-length, byte-within, fits-as, place-within, room-behind, then-byte, with-rest, within-buffer, written-as}
+use Rattle.book.specs.Written.{WrittenSoFar, Written, byte-same-length, byte-within, fits-as, place-within, room-behind, then-byte, with-rest, within-buffer, written-as}
 use Rattle.book.proofs.user_block.put_user_line.Statement.{statement}
 use Rattle.book.proofs.user_block.put_user_line.Tie as tie
 
@@ -37,12 +36,12 @@ written : (c : tie.After-put-bytes) → Written (name (start c)) (start c .args 
 written c = written-as (c .before .before .user-name-in .ensures) (c .put-bytes .ensures)
 
 behind-first : (c : tie.After-put-bytes)
-    → Ready (name (start c)) (fields (start c)) (start c .args .out .now) (c .put-bytes .last .0) (c .put-bytes .result)
+    → WrittenSoFar (name (start c)) (fields (start c)) (start c .args .out .now) (c .put-bytes .last .0) (c .put-bytes .result)
 behind-first c = behind-name (room (start c)) (written c)
 
 behind-second : (c : tie.After-put-cells)
     → let a = c .before .before .before .before in
-    Ready (name (start a) ++ fields (start a)) line-end (start a .args .out .now)
+    WrittenSoFar (name (start a) ++ fields (start a)) line-end (start a .args .out .now)
     (with-rest (a .put-bytes .result) (a .put-bytes .last .0) (c .put-cells .last .0)) (a .put-bytes .result + c .put-cells .result)
 behind-second c =
     let a = c .before .before .before .before in

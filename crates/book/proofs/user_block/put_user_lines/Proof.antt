@@ -2,10 +2,10 @@
 use borrow.Author.Needs.{needs}
 use Prim.Native.Nat.{_-_}
 use native.Mathlib.Omega.{arith}
+use Rattle.spec.specs.Text.{line-text}
+use Rattle.spec.specs.Sheet.{sheet-of}
 use Rattle.sheet.specs.LaidOutLaws.{users-at}
 use Rattle.sheet.specs.Rows.{row-words}
-use Rattle.sheet.specs.Sheet.{sheet-of}
-use Rattle.sheet.specs.Text.{line-text}
 use Rattle.book.specs.LaidLaws.{user-counted}
 use Rattle.book.specs.ListedWritten.{Listing, listing-ends, listing-starts, part-ready, part-within, part-written}
 use Rattle.book.specs.RowsSaid.{user-line}

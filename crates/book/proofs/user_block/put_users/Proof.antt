@@ -5,12 +5,12 @@ use native.Mathlib.Omega.{arith}
 use mathlib.Core.List.{_++_}
 use mathlib.Core.Path.{_≡_, sym}
 use lib.ListN.{length}
+use Rattle.spec.specs.Text.{Bytes, line-text, text-of}
+use Rattle.spec.specs.Sheet.{sheet-of}
 use Rattle.lists.specs.Listed.{listed}
-use Rattle.sheet.specs.Sheet.{sheet-of}
-use Rattle.sheet.specs.Text.{Bytes, line-text, text-of}
 use Rattle.book.specs.RowsSaid.{shown-users, user-line}
 use Rattle.book.specs.ShownLaws.{users-heading, users-parts}
-use Rattle.book.specs.Written.{Ready, end-within, fits-as, front-fits, room-behind, then-same-length, then-written, within-buffer, written-as}
+use Rattle.book.specs.Written.{WrittenSoFar, end-within, fits-as, front-fits, room-behind, then-same-length, then-written, within-buffer, written-as}
 use Rattle.book.proofs.user_block.put_users.Statement.{statement}
 use Rattle.book.proofs.user_block.put_users.Tie as tie
 
@@ -31,7 +31,7 @@ abbrev start : tie.After-put-users-heading → tie.Start
 start c = c .before .before .before .before .before
 
 behind-heading : (c : tie.After-put-users-heading)
-    → Ready (heading (start c)) (lines (start c)) (start c .args .out .now) (c .put-users-heading .last .0) (c .put-users-heading .result)
+    → WrittenSoFar (heading (start c)) (lines (start c)) (start c .args .out .now) (c .put-users-heading .last .0) (c .put-users-heading .result)
 behind-heading c = record { written = c .put-users-heading .ensures; fits = fits (start c) }
 
 put-users-heading-requires : tie.Need-put-users-heading-requires

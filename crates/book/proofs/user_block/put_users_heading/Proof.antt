@@ -3,13 +3,12 @@ use borrow.Author.Needs.{needs}
 use Prim.Native.Nat.{_+_}
 use native.Mathlib.Omega.{arith}
 use mathlib.Core.List.{_++_}
-use Rattle.lists.specs.Ascii.{ascii}
+use Rattle.spec.specs.Text.{ascii, Bytes}
+use Rattle.spec.specs.Book.{role-name}
 use Rattle.lists.specs.Listed.{listed}
-use Rattle.sheet.specs.Text.{Bytes}
 use Rattle.book.specs.LineLaws.{behind-comma, line-end}
 use Rattle.book.specs.LineWritten.{LineRoom, behind-fields, behind-name, name-fits}
-use Rattle.book.specs.Words.{role-name}
-use Rattle.book.specs.Written.{Ready, Written, byte-same-length, byte-within, place-within, room-behind, then-byte, with-rest, within-buffer}
+use Rattle.book.specs.Written.{WrittenSoFar, Written, byte-same-length, byte-within, place-within, room-behind, then-byte, with-rest, within-buffer}
 use Rattle.book.proofs.user_block.put_users_heading.Statement.{statement}
 use Rattle.book.proofs.user_block.put_users_heading.Tie as tie
 
@@ -30,12 +29,12 @@ written : (c : tie.After-put-bytes) → Written (name (start c)) (start c .args 
 written c = c .put-bytes .ensures
 
 behind-first : (c : tie.After-put-bytes)
-    → Ready (name (start c)) (fields (start c)) (start c .args .out .now) (c .put-bytes .last .0) (c .put-bytes .result)
+    → WrittenSoFar (name (start c)) (fields (start c)) (start c .args .out .now) (c .put-bytes .last .0) (c .put-bytes .result)
 behind-first c = behind-name (room (start c)) (written c)
 
 behind-second : (c : tie.After-put-role-fields)
     → let a = c .before .before .before .before in
-    Ready (name (start a) ++ fields (start a)) line-end (start a .args .out .now)
+    WrittenSoFar (name (start a) ++ fields (start a)) line-end (start a .args .out .now)
     (with-rest (a .put-bytes .result) (a .put-bytes .last .0) (c .put-role-fields .last .0)) (a .put-bytes .result + c .put-role-fields .result)
 behind-second c =
     let a = c .before .before .before .before in

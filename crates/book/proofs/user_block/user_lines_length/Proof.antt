@@ -4,11 +4,11 @@ use native.Mathlib.Omega.{arith}
 use mathlib.Core.List.{List, []}
 use mathlib.Core.Path.{ap, sym}
 use lib.ListN.{length}
+use Rattle.spec.specs.Limits.{name-limit, user-limit}
+use Rattle.spec.specs.Text.{line-text}
+use Rattle.spec.specs.Sheet.{sheet-of}
 use Rattle.sheet.specs.LaidOutLaws.{users-at}
-use Rattle.sheet.specs.Limits.{name-limit, user-limit}
 use Rattle.sheet.specs.Rows.{row-bits, row-words}
-use Rattle.sheet.specs.Sheet.{sheet-of}
-use Rattle.sheet.specs.Text.{line-text}
 use Rattle.book.specs.LaidLaws.{few-users, user-counted, user-name-short}
 use Rattle.book.specs.LengthsMeasured.{user-line-measured}
 use Rattle.book.specs.Measured.{Adding, adding-ends, adding-starts, line-most, measured-within, part-added}

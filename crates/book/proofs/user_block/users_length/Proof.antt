@@ -3,8 +3,8 @@ use borrow.Author.Needs.{needs}
 use native.Mathlib.Omega.{arith}
 use mathlib.Core.List.{[]}
 use mathlib.Core.Path.{refl, sym}
-use Rattle.lists.specs.Ascii.{ascii}
-use Rattle.sheet.specs.Sheet.{sheet-of}
+use Rattle.spec.specs.Text.{ascii}
+use Rattle.spec.specs.Sheet.{sheet-of}
 use Rattle.book.specs.LengthsMeasured.{block-measured}
 use Rattle.book.specs.Measured.{measured-as}
 use Rattle.book.specs.ShownLaws.{users-parts}

@@ -4,8 +4,8 @@ use Prim.Native.Nat.{_≤_}
 use native.Mathlib.Omega.{arith}
 use mathlib.Core.Path.{ap, sym}
 use lib.ListN.{length}
-use Rattle.sheet.specs.Limits.{name-limit}
-use Rattle.sheet.specs.Sheet.{sheet-of}
+use Rattle.spec.specs.Limits.{name-limit}
+use Rattle.spec.specs.Sheet.{sheet-of}
 use Rattle.book.specs.LaidLaws.{placed-permission-name-short, placed-user-name-short}
 use Rattle.book.specs.LengthsMeasured.{cell-line-measured}
 use Rattle.book.specs.Written.{fits-as}

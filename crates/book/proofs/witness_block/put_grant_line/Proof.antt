@@ -4,12 +4,11 @@ use Prim.Native.Nat.{_+_}
 use native.Mathlib.Omega.{arith}
 use mathlib.Core.List.{_++_}
 use mathlib.Core.Path.{ap, sym}
-use Rattle.sheet.specs.Sheet.{sheet-of}
-use Rattle.sheet.specs.Text.{Bytes}
-use Rattle.book.specs.Book.{permission-name, user-name}
+use Rattle.spec.specs.Text.{Bytes}
+use Rattle.spec.specs.Sheet.{sheet-of, permission-name, user-name}
 use Rattle.book.specs.LineLaws.{behind-comma, line-end}
 use Rattle.book.specs.LineWritten.{LineRoom, behind-fields, behind-name, name-fits}
-use Rattle.book.specs.Written.{Ready, Written, byte-same-length, byte-within, fits-as, place-within, room-behind, then-byte, with-rest, within-buffer, written-as}
+use Rattle.book.specs.Written.{WrittenSoFar, Written, byte-same-length, byte-within, fits-as, place-within, room-behind, then-byte, with-rest, within-buffer, written-as}
 use Rattle.book.proofs.witness_block.put_grant_line.Statement.{statement}
 use Rattle.book.proofs.witness_block.put_grant_line.Tie as tie
 
@@ -30,12 +29,12 @@ written : (c : tie.After-put-bytes) → Written (name (start c)) (start c .args 
 written c = written-as (c .before .before .before .user-name-in .ensures) (c .put-bytes .ensures)
 
 behind-first : (c : tie.After-put-bytes)
-    → Ready (name (start c)) (fields (start c)) (start c .args .out .now) (c .put-bytes .last .0) (c .put-bytes .result)
+    → WrittenSoFar (name (start c)) (fields (start c)) (start c .args .out .now) (c .put-bytes .last .0) (c .put-bytes .result)
 behind-first c = behind-name (room (start c)) (written c)
 
 behind-second : (c : tie.After-put-field)
     → let a = c .before .before .before .before in
-    Ready (name (start a) ++ fields (start a)) line-end (start a .args .out .now)
+    WrittenSoFar (name (start a) ++ fields (start a)) line-end (start a .args .out .now)
     (with-rest (a .put-bytes .result) (a .put-bytes .last .0) (c .put-field .last .0)) (a .put-bytes .result + c .put-field .result)
 behind-second c =
     let a = c .before .before .before .before in

@@ -5,15 +5,14 @@ use native.Mathlib.Omega.{arith}
 use mathlib.Core.List.{_++_}
 use mathlib.Core.Path.{_≡_, sym}
 use lib.ListN.{length}
-use Rattle.lists.specs.Ascii.{ascii}
+use Rattle.spec.specs.Text.{ascii, Bytes, text-of}
+use Rattle.spec.specs.Sheet.{sheet-of}
+use Rattle.spec.specs.Book.{witness-block}
 use Rattle.lists.specs.Listed.{listed}
 use Rattle.sheet.specs.AcceptedFacts.{accepted-lawful}
-use Rattle.sheet.specs.Sheet.{sheet-of}
-use Rattle.sheet.specs.Text.{Bytes, text-of}
 use Rattle.grants.specs.CellSets.{cell-grants}
-use Rattle.book.specs.Book.{witness-block}
 use Rattle.book.specs.WitnessText.{witness-parts, witness-row}
-use Rattle.book.specs.Written.{Ready, end-within, fits-as, front-fits, room-behind, then-same-length, then-written, within-buffer, written-as}
+use Rattle.book.specs.Written.{WrittenSoFar, end-within, fits-as, front-fits, room-behind, then-same-length, then-written, within-buffer, written-as}
 use Rattle.book.proofs.witness_block.put_witness.Statement.{statement}
 use Rattle.book.proofs.witness_block.put_witness.Tie as tie
 
@@ -36,7 +35,7 @@ abbrev start : tie.After-put-bytes → tie.Start
 start c = c .before .before .before .before .before .before
 
 behind-heading : (c : tie.After-put-bytes)
-    → Ready (heading (start c)) (lines (start c)) (start c .args .out .now) (c .put-bytes .last .0) (c .put-bytes .result)
+    → WrittenSoFar (heading (start c)) (lines (start c)) (start c .args .out .now) (c .put-bytes .last .0) (c .put-bytes .result)
 behind-heading c = record { written = c .put-bytes .ensures; fits = fits (start c) }
 
 slice-aggregate-put-bytes : tie.Need-slice-aggregate-put-bytes

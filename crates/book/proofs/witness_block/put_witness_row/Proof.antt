@@ -5,9 +5,9 @@ use Prim.Native.Nat.{_-_, _<_}
 use native.Mathlib.Omega.{arith}
 use mathlib.Core.Bool.{Bool, So}
 use mathlib.Core.Path.{ap, sym}
+use Rattle.spec.specs.Text.{Bytes}
+use Rattle.spec.specs.Sheet.{sheet-of}
 use Rattle.sheet.specs.Rows.{cell, row-words}
-use Rattle.sheet.specs.Sheet.{sheet-of}
-use Rattle.sheet.specs.Text.{Bytes}
 use Rattle.book.specs.LaidLaws.{placed-permissions-fit}
 use Rattle.book.specs.ListedWritten.{Listing, listing-ends, listing-starts, part-ready, part-within, part-written}
 use Rattle.book.specs.SkippedParts.{listing-past, none-said}

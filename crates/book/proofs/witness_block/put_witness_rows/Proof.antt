@@ -2,9 +2,9 @@
 use borrow.Author.Needs.{needs}
 use Prim.Native.Nat.{_-_}
 use native.Mathlib.Omega.{arith}
+use Rattle.spec.specs.Sheet.{sheet-of}
 use Rattle.sheet.specs.LaidOutLaws.{permissions-at, users-at}
 use Rattle.sheet.specs.Rows.{row-words}
-use Rattle.sheet.specs.Sheet.{sheet-of}
 use Rattle.book.specs.LaidLaws.{user-counted}
 use Rattle.book.specs.ListedWritten.{Listing, listing-ends, listing-starts, part-ready, part-within, part-written}
 use Rattle.book.specs.WitnessText.{witness-row}

@@ -2,8 +2,8 @@
 use borrow.Author.Needs.{needs}
 use native.Mathlib.Omega.{arith}
 use mathlib.Core.Path.{sym}
+use Rattle.spec.specs.Sheet.{sheet-of}
 use Rattle.sheet.specs.AcceptedFacts.{accepted-lawful}
-use Rattle.sheet.specs.Sheet.{sheet-of}
 use Rattle.book.specs.Measured.{measured-as}
 use Rattle.book.specs.WitnessText.{witness-parts}
 use Rattle.book.proofs.witness_block.witness_length.Statement.{statement}

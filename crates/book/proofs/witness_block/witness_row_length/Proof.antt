@@ -3,9 +3,9 @@ use Prim.Native.Nat.{_-_, _<_}
 use native.Mathlib.Omega.{arith}
 use mathlib.Core.Bool.{Bool, So}
 use mathlib.Core.Path.{ap, sym}
+use Rattle.spec.specs.Text.{Bytes}
+use Rattle.spec.specs.Sheet.{sheet-of}
 use Rattle.sheet.specs.Rows.{cell, row-bits, row-words}
-use Rattle.sheet.specs.Sheet.{sheet-of}
-use Rattle.sheet.specs.Text.{Bytes}
 use Rattle.book.specs.LaidLaws.{placed-permissions-fit}
 use Rattle.book.specs.Measured.{Adding, adding-ends, adding-starts, measured-as, measured-within, part-added, piece-most}
 use Rattle.book.specs.SkippedParts.{adding-past, none-said}

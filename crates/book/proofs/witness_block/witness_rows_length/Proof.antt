@@ -1,10 +1,10 @@
 -- `witness_block::witness_rows_length`: a turn adds the length of row i.
 use Prim.Native.Nat.{_-_}
 use native.Mathlib.Omega.{arith}
+use Rattle.spec.specs.Limits.{user-limit}
+use Rattle.spec.specs.Sheet.{sheet-of}
 use Rattle.sheet.specs.LaidOutLaws.{permissions-at, users-at}
-use Rattle.sheet.specs.Limits.{user-limit}
 use Rattle.sheet.specs.Rows.{row-words}
-use Rattle.sheet.specs.Sheet.{sheet-of}
 use Rattle.book.specs.LaidLaws.{few-users, user-counted}
 use Rattle.book.specs.Measured.{Adding, adding-ends, adding-starts, line-most, measured-within, part-added}
 use Rattle.book.specs.WitnessText.{witness-row}

@@ -1,7 +1,7 @@
 -- `writing::write_if_room`: the length is known before anything is written, and decides which case it is.
 use borrow.Author.Needs.{needs}
 use native.Mathlib.Omega.{arith}
-use Rattle.sheet.specs.Text.{Bytes}
+use Rattle.spec.specs.Text.{Bytes}
 use Rattle.book.specs.BookRows.{rows-book}
 use Rattle.book.specs.Writing.{refused-short, written-whole}
 use Rattle.book.proofs.writing.write_if_room.Statement.{statement}

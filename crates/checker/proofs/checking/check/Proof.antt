@@ -2,9 +2,8 @@
 use native.Mathlib.Omega.{arith}
 use mathlib.Core.Path.{_≡_, sym, _∙_}
 use borrow.Author.Needs.{needs}
-use Rattle.checker.specs.Form.{book-limit}
 use lib.ListN.{length}
-use Rattle.sheet.specs.Limits.{user-limit}
+use Rattle.spec.specs.Limits.{book-limit, user-limit}
 use Rattle.sheet.specs.Rows.{row-words}
 use Rattle.checker.specs.CheckSteps.{users-within, refused-for-sheet, refused-too-long}
 use Rattle.checker.proofs.checking.check.Statement.{statement}

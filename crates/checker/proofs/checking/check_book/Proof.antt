@@ -2,9 +2,9 @@
 use Prim.Native.Nat.{_*_}
 use native.Mathlib.Omega.{arith}
 use borrow.Author.Needs.{needs}
-use Rattle.sheet.specs.Sheet.{Sheet, sheet-of}
+use Rattle.spec.specs.Limits.{role-limit}
+use Rattle.spec.specs.Sheet.{Sheet, sheet-of}
 use Rattle.sheet.specs.Rows.{row-words}
-use Rattle.checker.specs.Form.{role-limit}
 use Rattle.checker.specs.CountSteps.{CountsAt}
 use Rattle.checker.specs.BookRead.{FrontRead, no-counts-written, no-roles-written}
 use Rattle.checker.specs.CheckSteps.{zeros-blank, refused-for-form}

@@ -6,10 +6,9 @@ use mathlib.Core.List.{List}
 use borrow.Author.Tests.{not-true, not-false}
 use borrow.Author.Needs.{needs}
 use lib.ListN.{length, length-replicate}
-use Rattle.sheet.specs.Limits.{user-limit}
-use Rattle.sheet.specs.Sheet.{Sheet, sheet-of}
+use Rattle.spec.specs.Limits.{user-limit, role-limit}
+use Rattle.spec.specs.Sheet.{Sheet, sheet-of}
 use Rattle.sheet.specs.Rows.{row-words, cell}
-use Rattle.checker.specs.Form.{role-limit}
 use Rattle.checker.specs.Steps.{Reads}
 use Rattle.checker.specs.Pieces.{users-part}
 use Rattle.checker.specs.WitnessSteps.{WitnessPart}

@@ -2,7 +2,7 @@
 use native.Mathlib.Omega.{arith}
 use mathlib.Core.Path.{sym, _∙_}
 use borrow.Author.Needs.{needs}
-use Rattle.sheet.specs.Text.{comma}
+use Rattle.spec.specs.Text.{comma}
 use Rattle.checker.specs.Ended.{Ended}
 use Rattle.checker.specs.CountSteps.{count-at, no-comma-behind, no-count}
 use Rattle.checker.proofs.counts_block.count_field.Statement.{statement}

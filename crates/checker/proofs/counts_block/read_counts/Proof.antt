@@ -1,6 +1,6 @@
 -- `counts_block::read_counts`: the line of names, the two counts, the state and the empty line, one after the other.
 use borrow.Author.Needs.{needs}
-use Rattle.lists.specs.Ascii.{ascii}
+use Rattle.spec.specs.Text.{ascii}
 use Rattle.roles.specs.StandingCases.{standing-case}
 use Rattle.checker.specs.Steps.{Reads}
 use Rattle.checker.specs.StepLaws.{misses-first}

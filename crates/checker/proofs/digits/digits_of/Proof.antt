@@ -5,8 +5,8 @@ use mathlib.Core.Path.{_≡_, refl, sym, ap, _∙_}
 use mathlib.Core.Bool.{So}
 use mathlib.Core.List.{[]}
 use lib.ListN.{length, getD, drop, drop-of-length-le}
+use Rattle.spec.specs.Decimal.{is-digit}
 use Rattle.sheet.specs.ByteLaws.{between-intro, between-low, between-high}
-use Rattle.book.specs.Decimal.{is-digit}
 use Rattle.checker.specs.Capped.{count-cap, digits-read, digits-next-at, digits-off-at}
 use Rattle.checker.specs.declared.digits.CountRead.the-variants.{Count}
 use Rattle.checker.proofs.digits.digits_of.Statement.{statement}

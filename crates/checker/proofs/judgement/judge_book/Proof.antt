@@ -6,11 +6,11 @@ use mathlib.Core.Bool.{So}
 use borrow.Author.Tests.{not-true, not-false}
 use borrow.Author.Needs.{needs}
 use lib.ListN.{length}
-use Rattle.sheet.specs.Sheet.{Sheet, sheet-of, user-count, permission-count}
+use Rattle.spec.specs.Sheet.{Sheet, sheet-of, user-count, permission-count}
+use Rattle.spec.specs.Book.{Said}
+use Rattle.spec.specs.Refusal.{counts-agree, product-agrees, witness-agrees}
 use Rattle.sheet.specs.Rows.{row-words, row-bits}
 use Rattle.sheet.specs.AcceptedFacts.{Lawful, accepted-lawful}
-use Rattle.book.specs.Book.{Said}
-use Rattle.checker.specs.Check.{counts-agree, product-agrees, witness-stands}
 use Rattle.checker.specs.RoleLimit.{roles-fit-a-row, permissions-fit-a-row}
 use Rattle.checker.specs.BookSays.{Says, counts-as-said, product-as-said, lines-as-said, witness-as-said, confirmed-as, judged-13, judged-14, judged-15, judged-right}
 use Rattle.checker.proofs.judgement.judge_book.Statement.{statement}
@@ -53,7 +53,7 @@ rows c says s =
     rw (start .pre .0 .2) at (c .rows-agree .ensures) ∙ product-as-said s (start .args .rows .now) (start .pre .0 .1 .rows) (wide start) (lawful start)
 
 lines : (c : tie.After-witness-stands) (says : Said) → Said-here (agreed (counted (judged c))) says
-    → c .witness-stands .result ≡ witness-stands (sheet (agreed (counted (judged c)))) (says .witness)
+    → c .witness-stands .result ≡ witness-agrees (sheet (agreed (counted (judged c)))) (says .witness)
 lines c says s =
     let start = agreed (counted (judged c)) in
     c .witness-stands .ensures

@@ -5,10 +5,10 @@ use mathlib.Core.Path.{_≡_}
 use mathlib.Core.List.{[], _∷_}
 use borrow.Author.Needs.{needs}
 use lib.ListN.{length, getD}
+use Rattle.spec.specs.Text.{Bytes, comma}
+use Rattle.spec.specs.Sheet.{sheet-of}
 use Rattle.lists.specs.Listed.{listed}
-use Rattle.sheet.specs.Text.{Bytes, comma}
 use Rattle.sheet.specs.LaidOutLaws.{permissions-at}
-use Rattle.sheet.specs.Sheet.{sheet-of}
 use Rattle.book.specs.LineLaws.{behind-comma}
 use Rattle.checker.specs.Steps.{Reads}
 use Rattle.checker.specs.StepLaws.{reads-nothing, reads-then, reads-more, misses-first, misses-second, misses-known}

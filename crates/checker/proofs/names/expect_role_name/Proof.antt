@@ -5,7 +5,7 @@ use borrow.Author.Needs.{needs}
 use Prim.Native.Nat.{_≤_}
 use lib.ListN.{length, take}
 use lib.Seq.{take-at, length-take-le}
-use Rattle.book.specs.Words.{role-name}
+use Rattle.spec.specs.Book.{role-name}
 use Rattle.checker.specs.RoleLimit.{roles-fit-a-row, role-name-short}
 use Rattle.checker.proofs.names.expect_role_name.Statement.{statement}
 use Rattle.checker.proofs.names.expect_role_name.Tie as tie

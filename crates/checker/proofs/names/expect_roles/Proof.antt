@@ -4,8 +4,8 @@ use native.Mathlib.Omega.{arith}
 use mathlib.Core.Path.{_≡_}
 use mathlib.Core.List.{[], _∷_}
 use borrow.Author.Needs.{needs}
-use Rattle.sheet.specs.Text.{Bytes, comma}
-use Rattle.book.specs.Words.{role-name}
+use Rattle.spec.specs.Text.{Bytes, comma}
+use Rattle.spec.specs.Book.{role-name}
 use Rattle.book.specs.LineLaws.{behind-comma}
 use Rattle.checker.specs.Steps.{Reads}
 use Rattle.checker.specs.StepLaws.{reads-nothing, reads-then, reads-more, misses-first, misses-second, misses-known}

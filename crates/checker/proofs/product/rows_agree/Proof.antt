@@ -4,7 +4,7 @@ use native.Mathlib.Omega.{arith}
 use mathlib.Core.Path.{_≡_, refl, sym, _∙_}
 use mathlib.Core.Bool.{Bool, So}
 use borrow.Author.Tests.{not-true, not-false}
-use Rattle.bits.specs.Below.{every-below}
+use Rattle.spec.specs.Vocabulary.{every-below}
 use Rattle.bits.specs.BelowLaws.{missed-below-intro}
 use Rattle.bits.specs.StepLaws.{every-below-step}
 use Rattle.bits.specs.Truth.{and-intro}

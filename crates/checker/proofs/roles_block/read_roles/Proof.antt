@@ -1,7 +1,7 @@
 -- `roles_block::read_roles`: the line of names, then the lines of the roles.
 use native.Mathlib.Omega.{arith}
 use borrow.Author.Needs.{needs}
-use Rattle.sheet.specs.Sheet.{sheet-of}
+use Rattle.spec.specs.Sheet.{sheet-of}
 use Rattle.sheet.specs.AcceptedFacts.{accepted-lawful}
 use Rattle.checker.specs.Steps.{Reads}
 use Rattle.checker.specs.Pieces.{roles-heading}

@@ -1,6 +1,6 @@
 -- `roles_block::role_line`: the role's name, then its cells.
 use borrow.Author.Needs.{needs}
-use Rattle.book.specs.Words.{role-name}
+use Rattle.spec.specs.Book.{role-name}
 use Rattle.checker.specs.Steps.{Reads}
 use Rattle.checker.specs.LineSteps.{no-name, name-then-cells}
 use Rattle.checker.proofs.roles_block.role_line.Statement.{statement}

@@ -4,8 +4,8 @@ use native.Mathlib.Omega.{arith}
 use mathlib.Core.Path.{_≡_, refl, _∙_}
 use borrow.Author.Needs.{needs}
 use lib.ListN.{length}
-use Rattle.book.specs.Words.{role-name}
-use Rattle.checker.specs.Form.{role-limit}
+use Rattle.spec.specs.Limits.{role-limit}
+use Rattle.spec.specs.Book.{role-name}
 use Rattle.checker.specs.RoleLimit.{row-within}
 use Rattle.checker.specs.RoleSteps.{roles-end, roles-full, roles-off}
 use Rattle.checker.specs.RowSteps.{LinesBelow, lines-start, lines-more}

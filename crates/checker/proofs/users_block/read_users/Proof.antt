@@ -1,7 +1,7 @@
 -- `users_block::read_users`: the line of names, the lines of the users and the empty line, one after the other.
 use native.Mathlib.Omega.{arith}
 use borrow.Author.Needs.{needs}
-use Rattle.sheet.specs.Sheet.{sheet-of}
+use Rattle.spec.specs.Sheet.{sheet-of}
 use Rattle.sheet.specs.Rows.{cell}
 use Rattle.checker.specs.Steps.{Reads}
 use Rattle.checker.specs.Pieces.{users-heading}

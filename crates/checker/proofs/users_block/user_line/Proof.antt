@@ -1,7 +1,6 @@
 -- `users_block::user_line`: the user's name, then the cells.
 use borrow.Author.Needs.{needs}
-use Rattle.sheet.specs.Sheet.{sheet-of}
-use Rattle.book.specs.Book.{user-name}
+use Rattle.spec.specs.Sheet.{sheet-of, user-name}
 use Rattle.checker.specs.Steps.{Reads}
 use Rattle.checker.specs.LineSteps.{no-name, name-then-cells}
 use Rattle.checker.proofs.users_block.user_line.Statement.{statement}

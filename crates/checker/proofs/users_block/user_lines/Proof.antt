@@ -4,9 +4,8 @@ use native.Mathlib.Omega.{arith}
 use mathlib.Core.Path.{_≡_, refl, _∙_}
 use borrow.Author.Needs.{needs}
 use lib.ListN.{length}
+use Rattle.spec.specs.Sheet.{sheet-of, user-count, user-name}
 use Rattle.sheet.specs.LaidOutLaws.{users-at}
-use Rattle.sheet.specs.Sheet.{sheet-of, user-count}
-use Rattle.book.specs.Book.{user-name}
 use Rattle.checker.specs.RoleLimit.{row-within}
 use Rattle.checker.specs.RowSteps.{LinesBelow, lines-start, lines-more}
 use Rattle.checker.specs.UserSteps.{users-off}

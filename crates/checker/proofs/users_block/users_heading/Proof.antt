@@ -1,7 +1,7 @@
 -- `users_block::users_heading`: the word, the names and the line feed, one after the other.
 use mathlib.Core.List.{_++_}
 use borrow.Author.Needs.{needs}
-use Rattle.lists.specs.Ascii.{ascii}
+use Rattle.spec.specs.Text.{ascii}
 use Rattle.book.specs.LineLaws.{line-end}
 use Rattle.checker.specs.Steps.{Reads}
 use Rattle.checker.specs.StepLaws.{reads-then, expects-then, misses-first, misses-second}

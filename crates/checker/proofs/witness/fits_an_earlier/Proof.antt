@@ -3,11 +3,11 @@ use Prim.Native.Nat.{ℕ, _-_, _≤_}
 use native.Mathlib.Omega.{arith}
 use mathlib.Core.Path.{_≡_, refl, sym, _∙_}
 use mathlib.Core.Bool.{Bool, false}
+use Rattle.spec.specs.Vocabulary.{some-below}
+use Rattle.spec.specs.Limits.{role-limit}
 use Rattle.bits.specs.Truth.{or-fails}
-use Rattle.bits.specs.Below.{some-below}
 use Rattle.bits.specs.BelowLaws.{some-below-intro}
 use Rattle.bits.specs.StepLaws.{some-below-step}
-use Rattle.checker.specs.Form.{role-limit}
 use Rattle.checker.specs.WitnessWords.{line-of, lines-fit, fits-earlier}
 use Rattle.checker.proofs.witness.fits_an_earlier.Statement.{statement}
 use Rattle.checker.proofs.witness.fits_an_earlier.Tie as tie

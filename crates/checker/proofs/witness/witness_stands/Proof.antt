@@ -4,11 +4,11 @@ use native.Mathlib.Omega.{arith}
 use mathlib.Core.Path.{_≡_, refl, sym, ap, _∙_}
 use mathlib.Core.Bool.{Bool, So, _&&_, not, and-false}
 use borrow.Author.Tests.{not-true, not-false}
+use Rattle.spec.specs.Vocabulary.{every-below}
+use Rattle.spec.specs.Limits.{role-limit}
 use Rattle.bits.specs.Truth.{and-intro, not-passes}
-use Rattle.bits.specs.Below.{every-below}
 use Rattle.bits.specs.BelowLaws.{missed-below-intro}
 use Rattle.bits.specs.StepLaws.{every-below-step}
-use Rattle.checker.specs.Form.{role-limit}
 use Rattle.checker.specs.WitnessWords.{line-of, line-held, fits-earlier, line-stands, lines-stand}
 use Rattle.checker.proofs.witness.witness_stands.Statement.{statement}
 use Rattle.checker.proofs.witness.witness_stands.Tie as tie

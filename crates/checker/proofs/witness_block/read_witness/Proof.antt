@@ -1,7 +1,7 @@
 -- `witness_block::read_witness`: the line of names, then the lines to the end of the book.
 use borrow.Author.Needs.{needs}
-use Rattle.lists.specs.Ascii.{ascii}
-use Rattle.sheet.specs.Sheet.{sheet-of}
+use Rattle.spec.specs.Text.{ascii}
+use Rattle.spec.specs.Sheet.{sheet-of}
 use Rattle.checker.specs.Steps.{Reads}
 use Rattle.checker.specs.WitnessSteps.{no-witness-heading, heading-then-lines}
 use Rattle.checker.proofs.witness_block.read_witness.Statement.{statement}

@@ -3,8 +3,8 @@ use Prim.Native.Nat.{_+_}
 use native.Mathlib.Omega.{arith}
 use mathlib.Core.Path.{sym, _∙_}
 use borrow.Author.Needs.{needs}
-use Rattle.sheet.specs.Text.{comma, line-feed}
-use Rattle.sheet.specs.Sheet.{sheet-of}
+use Rattle.spec.specs.Text.{comma, line-feed}
+use Rattle.spec.specs.Sheet.{sheet-of}
 use Rattle.sheet.specs.AcceptedFacts.{Lawful, accepted-lawful}
 use Rattle.checker.specs.Ended.{Ended}
 use Rattle.checker.specs.NameFound.{user-found, user-unknown, permission-found, permission-unknown}

@@ -5,10 +5,10 @@ use mathlib.Core.Logic.{⊎-elim}
 use borrow.Author.Tests.{lt-ltb, le-ltb}
 use borrow.Author.Needs.{needs}
 use lib.ListN.{length}
-use Rattle.sheet.specs.Sheet.{sheet-of}
+use Rattle.spec.specs.Limits.{role-limit}
+use Rattle.spec.specs.Sheet.{sheet-of}
 use Rattle.sheet.specs.AcceptedFacts.{accepted-lawful}
 use Rattle.sheet.specs.LaidOutLaws.{users-at, permissions-at}
-use Rattle.checker.specs.Form.{role-limit}
 use Rattle.checker.specs.StepLaws.{reads-place}
 use Rattle.checker.specs.WitnessList.{named-grant}
 use Rattle.checker.specs.WitnessLineSteps.{WitnessAt}

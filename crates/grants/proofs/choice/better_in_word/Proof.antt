@@ -3,8 +3,8 @@ use borrow.Author.Needs.{needs}
 use Prim.Native.Nat.{ℕ, _*_, _≤_, _<_}
 use native.Mathlib.Omega.{arith}
 use mathlib.Core.List.{List}
+use Rattle.spec.specs.Limits.{user-limit}
 use Rattle.bits.specs.Bit.{word-bits}
-use Rattle.sheet.specs.Limits.{user-limit}
 use Rattle.sheet.specs.Rows.{row-words}
 use Rattle.grants.specs.Counts.{Counted}
 use Rattle.grants.specs.WitnessWalk.{Walked, InWord, word-starts, word-goes-on, word-ends}

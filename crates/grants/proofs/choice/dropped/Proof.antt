@@ -4,7 +4,7 @@ use Prim.Native.Nat.{_*_, _-_, _≤_}
 use native.Mathlib.Omega.{arith}
 use mathlib.Core.Path.{_≡_, refl}
 use lib.ListN.{length, length-set}
-use Rattle.sheet.specs.Limits.{user-limit}
+use Rattle.spec.specs.Limits.{user-limit}
 use Rattle.sheet.specs.Rows.{row-words}
 use Rattle.grants.specs.CellPlaces.{cell-words}
 use Rattle.grants.specs.WitnessCells.{left-over, left-over-word}

@@ -3,9 +3,9 @@ use Prim.Native.Nat.{_+_, _≤_}
 use native.Mathlib.Omega.{arith}
 use mathlib.Core.Path.{_≡_, _∙_}
 use borrow.Author.Tests.{ltb-false}
+use Rattle.spec.specs.Limits.{user-limit}
 use Rattle.bits.specs.Bit.{bit, word-bits}
 use Rattle.bits.specs.CountLaws.{count-below-le}
-use Rattle.sheet.specs.Limits.{user-limit}
 use Rattle.sheet.specs.Rows.{row-words}
 use Rattle.grants.specs.Columns.{near-in-word}
 use Rattle.grants.specs.ColumnLaws.{word-sum, word-sum-dropped, word-sum-of-none, near-sum-le, near-word-count}

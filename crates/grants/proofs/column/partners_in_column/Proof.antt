@@ -4,9 +4,9 @@ use Prim.Native.Nat.{_*_, _%_, _-_, _≤_}
 use native.Mathlib.Nat.{mod-lt}
 use native.Mathlib.Omega.{arith}
 use mathlib.Core.Path.{_≡_, refl}
-use Rattle.bits.specs.Below.{sum-below}
+use Rattle.spec.specs.Limits.{user-limit}
+use Rattle.bits.specs.Counting.{sum-below}
 use Rattle.bits.specs.Bit.{word-bits}
-use Rattle.sheet.specs.Limits.{user-limit}
 use Rattle.sheet.specs.Rows.{row-words, row-bits}
 use Rattle.grants.specs.CellPlaces.{CountedBelow}
 use Rattle.grants.specs.CellPlaceLaws.{row-bits-pos}

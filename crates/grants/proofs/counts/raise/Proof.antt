@@ -1,8 +1,8 @@
 -- `grants::counts::raise`: the counts at the positions of w are still to be raised. The lowest is next, and its position is dropped.
 use Prim.Native.Nat.{_+_, _*_}
 use native.Mathlib.Omega.{arith}
+use Rattle.spec.specs.Limits.{user-limit}
 use Rattle.bits.specs.Bit.{word-bits}
-use Rattle.sheet.specs.Limits.{user-limit}
 use Rattle.sheet.specs.Rows.{row-words}
 use Rattle.grants.specs.CountChange.{Changing, change-starts, change-goes-on, change-ends, lowest-at}
 use Rattle.grants.proofs.counts.raise.Statement.{statement}

@@ -3,8 +3,8 @@ use Prim.Native.Nat.{_-_, _/_}
 use native.Mathlib.Omega.{arith}
 use mathlib.Core.Path.{_∙_}
 use mathlib.Core.Bool.{So}
+use Rattle.spec.specs.Limits.{user-limit}
 use Rattle.bits.specs.Bit.{word-bits}
-use Rattle.sheet.specs.Limits.{user-limit}
 use Rattle.sheet.specs.Rows.{row-words}
 use Rattle.grants.specs.CountChange.{at-position, lowest-at}
 use Rattle.grants.specs.FitCounts.{UsersChanging, users-start, users-go-on, users-end}

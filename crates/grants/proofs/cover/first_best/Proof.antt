@@ -3,7 +3,7 @@ use borrow.Author.Needs.{needs}
 use mathlib.Core.Path.{_≡_, sym}
 use lib.ListN.{length, take}
 use lib.Seq.{length-take-le}
-use Rattle.sheet.specs.Limits.{grant-limit}
+use Rattle.spec.specs.Limits.{grant-limit}
 use Rattle.grants.specs.CoverArray.{none-to-place, placed-of-kernel}
 use Rattle.grants.proofs.cover.first_best.Statement.{statement}
 use Rattle.grants.proofs.cover.first_best.Tie as tie

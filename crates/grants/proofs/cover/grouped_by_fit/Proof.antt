@@ -6,7 +6,7 @@ use native.Mathlib.Omega.{arith}
 use mathlib.Core.Path.{_≡_, refl, _∙_}
 use mathlib.Core.Logic.{inl, inr}
 use lib.ListN.{length, getD, length-set}
-use Rattle.sheet.specs.Limits.{grant-limit}
+use Rattle.spec.specs.Limits.{grant-limit}
 use Rattle.sheet.specs.Rows.{row-words, row-bits}
 use Rattle.grants.specs.CellPlaceLaws.{row-bits-pos}
 use Rattle.grants.specs.CoverRelation.{user-at-cell, permission-at-cell, HeldCells, user-room, user-has-room}

@@ -4,7 +4,7 @@ use native.Mathlib.Omega.{arith}
 use mathlib.Core.Path.{_≡_, refl, sym, _∙_}
 use mathlib.Core.Bool.{So}
 use borrow.Author.Tests.{not-true, not-false}
-use Rattle.bits.specs.Below.{every-below}
+use Rattle.spec.specs.Vocabulary.{every-below}
 use Rattle.bits.specs.Bit.{word-bits}
 use Rattle.sheet.specs.Rows.{row-words, row-bits}
 use Rattle.grants.specs.NearWordLaws.{every-in-word, every-next-word, every-word-fails}

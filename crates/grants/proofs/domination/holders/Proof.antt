@@ -1,7 +1,7 @@
 -- `grants::domination::holders`: the positions past the users' words are cut off, where the word has any.
 use borrow.Author.Needs.{needs}
 use native.Mathlib.Omega.{arith}
-use Rattle.sheet.specs.Limits.{user-limit}
+use Rattle.spec.specs.Limits.{user-limit}
 use Rattle.sheet.specs.Rows.{row-words, row-bits}
 use Rattle.grants.specs.MisfitLaws.{whole-word-holds, cut-word-holds}
 use Rattle.grants.proofs.domination.holders.Statement.{statement}

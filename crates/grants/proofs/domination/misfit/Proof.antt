@@ -1,8 +1,8 @@
 -- `grants::domination::misfit`: none of the users' words before those at word j of the column is a misfit, so the first position found is that of the first.
 use Prim.Native.Nat.{_*_, _-_, _≤_}
 use native.Mathlib.Omega.{arith}
+use Rattle.spec.specs.Limits.{user-limit}
 use Rattle.bits.specs.Bit.{word-bits}
-use Rattle.sheet.specs.Limits.{user-limit}
 use Rattle.sheet.specs.Rows.{row-words, row-bits}
 use Rattle.grants.specs.Columns.{column-words}
 use Rattle.grants.specs.MisfitWalkLaws.{NoMisfitBefore, first-misfit, no-misfit-then, no-misfit-first}

@@ -1,7 +1,7 @@
 -- `grants::domination::suspects`: a misfit is a holder of the other's permission. Where both grants have one user, what is in that user's row fits it if its user holds its permission.
 use borrow.Author.Needs.{needs}
 use native.Mathlib.Omega.{arith}
-use Rattle.sheet.specs.Limits.{user-limit}
+use Rattle.spec.specs.Limits.{user-limit}
 use Rattle.sheet.specs.Rows.{row-words, row-bits}
 use Rattle.grants.specs.MisfitLaws.{suspects-all, suspects-apart}
 use Rattle.grants.proofs.domination.suspects.Statement.{statement}

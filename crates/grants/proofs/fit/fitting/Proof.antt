@@ -6,9 +6,9 @@ use native.Mathlib.Omega.{arith}
 use mathlib.Core.Path.{sym, _∙_}
 use mathlib.Core.Bool.{and-true, and-false}
 use lib.ListN.{getD}
+use Rattle.spec.specs.Limits.{user-limit}
 use Rattle.bits.specs.Bit.{bit}
 use Rattle.bits.specs.BitLaws.{bit-of-zero}
-use Rattle.sheet.specs.Limits.{user-limit}
 use Rattle.sheet.specs.Rows.{row-words, row-bits}
 use Rattle.grants.specs.CellPlaceLaws.{fit-by-word}
 use Rattle.grants.proofs.fit.fitting.Statement.{statement}

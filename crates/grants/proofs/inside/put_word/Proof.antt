@@ -4,8 +4,8 @@ use native.Mathlib.Omega.{arith}
 use Prim.Native.Nat.{_/_}
 use mathlib.Core.Path.{_∙_}
 use lib.ListN.{length-set}
+use Rattle.spec.specs.Limits.{user-limit}
 use Rattle.bits.specs.Bit.{word-bits}
-use Rattle.sheet.specs.Limits.{user-limit}
 use Rattle.sheet.specs.Rows.{row-words}
 use Rattle.grants.specs.WitnessWords.{cell-put-in}
 use Rattle.grants.proofs.inside.put_word.Statement.{statement}

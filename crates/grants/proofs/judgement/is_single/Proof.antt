@@ -3,9 +3,9 @@ use borrow.Author.Needs.{needs}
 use native.Mathlib.Omega.{arith}
 use mathlib.Core.Path.{sym, _∙_}
 use borrow.Author.Tests.{eq-eqb, ne-eqb, not-true}
+use Rattle.spec.specs.Limits.{user-limit}
 use Rattle.bits.specs.Truth.{not-both}
 use Rattle.bits.specs.WordLaws.{some-bit-pos}
-use Rattle.sheet.specs.Limits.{user-limit}
 use Rattle.sheet.specs.Rows.{row-words}
 use Rattle.grants.specs.SingleLaws.{one-of-two, alone-in-word}
 use Rattle.grants.proofs.judgement.is_single.Statement.{statement}

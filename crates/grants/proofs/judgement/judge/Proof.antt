@@ -5,9 +5,9 @@ use mathlib.Core.Path.{_≡_, refl, sym, _∙_}
 use borrow.Author.Tests.{eqb-true, eqb-false}
 use lib.Dec.{eqb}
 use lib.ListN.{length}
-use Rattle.lists.specs.Lists.{filter}
-use Rattle.sheet.specs.Sheet.{Sheet}
-use Rattle.grants.specs.Fit.{fits}
+use Rattle.spec.specs.Vocabulary.{filter}
+use Rattle.spec.specs.Sheet.{Sheet}
+use Rattle.spec.specs.Fit.{fits}
 use Rattle.grants.specs.CellSets.{cell-grants}
 use Rattle.grants.specs.CellPlaces.{grant-of, Shown}
 use Rattle.grants.specs.ReductionVisitLaws.{cells-within}

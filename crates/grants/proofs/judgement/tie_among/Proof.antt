@@ -5,10 +5,10 @@ use Prim.Native.Nat.{_+_, _*_, _<_}
 use mathlib.Core.Path.{sym, _∙_}
 use lib.Bits.{bitAnd}
 use lib.ListN.{getD}
+use Rattle.spec.specs.Limits.{user-limit}
 use Rattle.bits.specs.Bit.{bit, word-bits}
 use Rattle.bits.specs.BitLaws.{bit-and}
 use Rattle.bits.specs.Truth.{and-left}
-use Rattle.sheet.specs.Limits.{user-limit}
 use Rattle.sheet.specs.Rows.{row-words, row-bits}
 use Rattle.grants.specs.NearCells.{tie-at}
 use Rattle.grants.specs.MisfitLaws.{holder-within}

@@ -6,8 +6,8 @@ use mathlib.Core.Path.{_≡_}
 use mathlib.Core.List.{List}
 use borrow.Author.Tests.{ltb-true, ltb-false}
 use lib.ListN.{getD}
+use Rattle.spec.specs.Limits.{user-limit, grant-limit}
 use Rattle.bits.specs.Bit.{word-bits}
-use Rattle.sheet.specs.Limits.{user-limit, grant-limit}
 use Rattle.sheet.specs.Rows.{row-words}
 use Rattle.grants.specs.KernelList.{ListedTo, WordRest, word-starts, next-listed, word-listed, word-cut}
 use Rattle.grants.proofs.kernel.list_word.Statement.{statement}

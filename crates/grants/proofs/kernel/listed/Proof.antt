@@ -2,9 +2,9 @@
 use Prim.Native.Nat.{_*_, _-_, _≤_}
 use native.Mathlib.Omega.{arith}
 use mathlib.Core.Path.{_≡_, refl}
+use Rattle.spec.specs.Limits.{user-limit, grant-limit}
 use Rattle.bits.specs.Bit.{word-bits}
 use Rattle.grants.specs.KernelList.{ListedTo, none-listed, all-listed}
-use Rattle.sheet.specs.Limits.{user-limit, grant-limit}
 use Rattle.sheet.specs.Rows.{row-words, row-bits}
 use Rattle.grants.proofs.kernel.listed.Statement.{statement}
 use Rattle.grants.proofs.kernel.listed.Tie as tie

@@ -2,10 +2,10 @@
 use Prim.Native.Nat.{_+_, _*_, _/_, _-_, _≤_}
 use native.Mathlib.Omega.{arith}
 use mathlib.Core.Path.{_≡_}
+use Rattle.spec.specs.Limits.{user-limit}
 use Rattle.bits.specs.Bit.{word-bits}
 use Rattle.grants.specs.CellPlaces.{marked}
 use Rattle.grants.specs.KernelWalk.{Skipped, passed-word, found-in-word}
-use Rattle.sheet.specs.Limits.{user-limit}
 use Rattle.sheet.specs.Rows.{row-words, row-bits}
 use Rattle.grants.proofs.kernel.next_cell.Statement.{statement}
 use Rattle.grants.proofs.kernel.next_cell.Tie as tie

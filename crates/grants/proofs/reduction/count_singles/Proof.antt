@@ -3,7 +3,7 @@ use Prim.Native.Nat.{_-_, _≤_}
 use native.Mathlib.Omega.{arith}
 use mathlib.Core.Path.{_≡_, refl}
 use mathlib.Core.Logic.{⊎-elim}
-use Rattle.sheet.specs.Limits.{grant-limit}
+use Rattle.spec.specs.Limits.{grant-limit}
 use Rattle.grants.specs.ReductionLogLaws.{single-count, one-single-more, no-single-more}
 use Rattle.grants.proofs.reduction.count_singles.Statement.{statement}
 use Rattle.grants.proofs.reduction.count_singles.Tie as tie

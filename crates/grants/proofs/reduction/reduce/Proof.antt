@@ -3,7 +3,7 @@ use borrow.Author.Needs.{needs}
 use Prim.Native.Nat.{ℕ}
 use mathlib.Core.Path.{refl}
 use lib.ListN.{replicate, length-replicate}
-use Rattle.sheet.specs.Limits.{grant-limit}
+use Rattle.spec.specs.Limits.{grant-limit}
 use Rattle.grants.specs.ReductionResult.{reducible-ready, settled-reduced}
 use Rattle.grants.proofs.reduction.reduce.Statement.{statement}
 use Rattle.grants.proofs.reduction.reduce.Tie as tie

@@ -4,7 +4,7 @@ use native.Mathlib.Omega.{arith}
 use mathlib.Core.Path.{refl}
 use lib.ListN.{length-set}
 use lib.Seq.{getD-set-same, getD-set-other}
-use Rattle.sheet.specs.Limits.{user-limit, grant-limit}
+use Rattle.spec.specs.Limits.{user-limit, grant-limit}
 use Rattle.sheet.specs.Rows.{row-words}
 use Rattle.grants.specs.ReductionRemoveLaws.{bit-cleared}
 use Rattle.grants.proofs.reduction.remove.Statement.{statement}

@@ -2,7 +2,7 @@
 use native.Mathlib.Omega.{arith}
 use lib.Arith.{digits-lt, digits-div}
 use lib.ListN.{getD}
-use Rattle.sheet.specs.Limits.{user-limit}
+use Rattle.spec.specs.Limits.{user-limit}
 use Rattle.sheet.specs.Rows.{row-words}
 use Rattle.grants.specs.Insides.{Insides}
 use Rattle.grants.specs.InsideLaws.{insides-found, insides-kept}

@@ -1,7 +1,7 @@
 -- `grants::reduction::sweeps`: each sweep but the last removes a grant, so the removals rise, and there is room for no more of them than grants.
 use Prim.Native.Nat.{_-_}
 use native.Mathlib.Omega.{arith}
-use Rattle.sheet.specs.Limits.{grant-limit}
+use Rattle.spec.specs.Limits.{grant-limit}
 use Rattle.grants.specs.ReductionWork.{work-of}
 use Rattle.grants.specs.ReductionWorkLaws.{visited-ready, visited-grows}
 use Rattle.grants.specs.ReductionSettleLaws.{Settling, pending-at-first, settling-done, settling-next}

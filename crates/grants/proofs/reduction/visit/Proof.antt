@@ -1,6 +1,6 @@
 -- `grants::reduction::visit`: what is judged of the grant is carried out.
 use borrow.Author.Needs.{needs}
-use Rattle.grants.specs.ReductionVerdict.{Judged}
+use Rattle.grants.specs.ReductionVerdict.{GrantJudged}
 use Rattle.grants.specs.ReductionVisitLaws.{removable, visit-stays, visit-single, visit-tied}
 use Rattle.grants.specs.declared.judgement.Verdict.the-variants.{Tied}
 use Rattle.grants.proofs.reduction.visit.Statement.{statement}
@@ -25,7 +25,7 @@ enum-known-other c = search needs
 
 -- what is judged of a grant that is tied
 judged-tied : (c : tie.After-other) →
-    let a = c .before .before .before .before .args in Judged (a .rows .now) (a .left .now) (a .users) (a .it .0) (Tied (c .other .given .0 .0))
+    let a = c .before .before .before .before .args in GrantJudged (a .rows .now) (a .left .now) (a .users) (a .it .0) (Tied (c .other .given .0 .0))
 judged-tied c = rw (c .other .given .1) at (c .before .before .judge .ensures)
 
 remove-requires-2 : tie.Need-remove-requires-2

@@ -3,7 +3,7 @@ use borrow.Author.Needs.{needs}
 use native.Mathlib.Omega.{arith}
 use mathlib.Core.Path.{_≡_}
 use lib.ListN.{length}
-use Rattle.sheet.specs.Limits.{user-limit}
+use Rattle.spec.specs.Limits.{user-limit}
 use Rattle.sheet.specs.Rows.{row-words}
 use Rattle.grants.specs.CellPlaces.{cell-words}
 use Rattle.grants.specs.WitnessWords.{cell-put-in}

@@ -3,7 +3,7 @@ use borrow.Author.Needs.{needs}
 use Prim.Native.Nat.{_*_}
 use native.Mathlib.Omega.{arith}
 use mathlib.Core.Path.{_≡_}
-use Rattle.sheet.specs.Limits.{grant-limit, user-limit}
+use Rattle.spec.specs.Limits.{grant-limit, user-limit}
 use Rattle.sheet.specs.Rows.{row-words, row-bits}
 use Rattle.grants.specs.CellSets.{cell-grants}
 use Rattle.grants.specs.CellPlaces.{cell-words}

@@ -6,8 +6,8 @@ use native.Mathlib.Nat.{sub-zero}
 use native.Mathlib.Omega.{arith}
 use mathlib.Core.Path.{_≡_, refl, _∙_}
 use borrow.Author.Tests.{eq-eqb, ne-eqb}
-use Rattle.sheet.specs.Limits.{grant-limit, user-limit}
-use Rattle.sheet.specs.Sheet.{Sheet}
+use Rattle.spec.specs.Limits.{grant-limit, user-limit}
+use Rattle.spec.specs.Sheet.{Sheet}
 use Rattle.sheet.specs.Rows.{row-words, row-bits}
 use Rattle.grants.specs.CellSets.{cell-grants}
 use Rattle.grants.specs.CellPlaces.{cell-limit, cell-words, Shown, Part}

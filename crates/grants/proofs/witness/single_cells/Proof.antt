@@ -6,9 +6,9 @@ use mathlib.Core.Path.{_≡_}
 use mathlib.Core.Logic.{⊎-elim}
 use borrow.Author.Tests.{ne-eqb}
 use lib.ListN.{getD}
-use Rattle.sheet.specs.Limits.{grant-limit, user-limit}
+use Rattle.spec.specs.Limits.{grant-limit, user-limit}
+use Rattle.spec.specs.Reduction.{singles-of}
 use Rattle.sheet.specs.Rows.{row-words}
-use Rattle.grants.specs.Reduction.{singles-of}
 use Rattle.grants.specs.Log.{log-of}
 use Rattle.grants.specs.CellPlaces.{cell-words, cell-limit}
 use Rattle.grants.specs.WitnessSingles.{CellsOf, no-singles, single-put-in, tied-left-out}

@@ -1,8 +1,8 @@
 -- `show::set_bits`: each word adds at most as many as it has positions.
 use Prim.Native.Nat.{_*_, _-_, _≤_}
+use native.Mathlib.Omega.{arith}
 use Rattle.bits.specs.Bit.{bit, word-bits}
 use Rattle.bits.specs.CountLaws.{count-below-le}
-use native.Mathlib.Omega.{arith}
 use Rattle.limits.proofs.show.set_bits.Statement.{statement}
 use Rattle.limits.proofs.show.set_bits.Tie as tie
 

@@ -1,7 +1,7 @@
 -- `calls::porvuund_book`: each call takes the session that the one before left, and a load's number is the sheet's.
 use borrow.Author.Needs.{needs}
 use mathlib.Core.Path.{_≡_, sym, _∙_}
-use Rattle.sheet.specs.Refusal.{refusal}
+use Rattle.spec.specs.Refusal.{refusal}
 use Rattle.porvuund.specs.OneShot.{loaded-number, refused-by-load, written-after}
 use Rattle.porvuund.proofs.calls.porvuund_book.Statement.{statement}
 use Rattle.porvuund.proofs.calls.porvuund_book.Tie as tie

@@ -2,9 +2,9 @@
 use borrow.Author.Needs.{needs}
 use native.Mathlib.Omega.{arith}
 use mathlib.Core.List.{[], _∷_}
-use Rattle.sheet.specs.Text.{Bytes, line-feed}
-use Rattle.book.specs.Decimal.{decimal}
-use Rattle.book.specs.Written.{Ready, front-fits, byte-within, then-byte}
+use Rattle.spec.specs.Text.{Bytes, line-feed}
+use Rattle.spec.specs.Decimal.{decimal}
+use Rattle.book.specs.Written.{WrittenSoFar, front-fits, byte-within, then-byte}
 use Rattle.porvuund.proofs.lines.put_number_line.Statement.{statement}
 use Rattle.porvuund.proofs.lines.put_number_line.Tie as tie
 
@@ -15,7 +15,7 @@ abbrev start : tie.After-put-decimal → tie.Start
 start c = c .before .before .before
 
 behind-digits : (c : tie.After-put-decimal)
-    → Ready (number (start c)) (line-feed ∷ []) (start c .args .out .now) (c .put-decimal .last .0) (c .put-decimal .result)
+    → WrittenSoFar (number (start c)) (line-feed ∷ []) (start c .args .out .now) (c .put-decimal .last .0) (c .put-decimal .result)
 behind-digits c = record { written = c .put-decimal .ensures; fits = start c .pre }
 
 put-decimal-requires : tie.Need-put-decimal-requires

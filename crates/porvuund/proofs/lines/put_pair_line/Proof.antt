@@ -4,10 +4,10 @@ use native.Mathlib.Omega.{arith}
 use Prim.Native.Nat.{_+_, _≤_}
 use mathlib.Core.List.{[], _∷_, _++_}
 use lib.ListN.{length, set}
-use Rattle.sheet.specs.Text.{Bytes, comma}
-use Rattle.book.specs.Decimal.{decimal}
-use Rattle.book.specs.Written.{Ready, front-fits, byte-within, then-byte, within-buffer, room-behind, end-within, then-same-length, then-written}
-use Rattle.session.specs.Program.{number-line}
+use Rattle.spec.specs.Text.{Bytes, comma}
+use Rattle.spec.specs.Decimal.{decimal}
+use Rattle.spec.specs.Program.{number-line}
+use Rattle.book.specs.Written.{WrittenSoFar, front-fits, byte-within, then-byte, within-buffer, room-behind, end-within, then-same-length, then-written}
 use Rattle.porvuund.proofs.lines.put_pair_line.Statement.{statement}
 use Rattle.porvuund.proofs.lines.put_pair_line.Tie as tie
 
@@ -24,12 +24,12 @@ abbrev start : tie.After-put-decimal → tie.Start
 start c = c .before .before .before
 
 behind-first : (c : tie.After-put-decimal)
-    → Ready (first (start c)) (comma ∷ []) (start c .args .out .now) (c .put-decimal .last .0) (c .put-decimal .result)
+    → WrittenSoFar (first (start c)) (comma ∷ []) (start c .args .out .now) (c .put-decimal .last .0) (c .put-decimal .result)
 behind-first c = record { written = c .put-decimal .ensures; fits = front-room (start c) }
 
 behind-comma : (c : tie.After-slice-known2)
     → let a = c .before .before in
-    Ready (first (start a) ++ comma ∷ []) (second (start a)) (start a .args .out .now)
+    WrittenSoFar (first (start a) ++ comma ∷ []) (second (start a)) (start a .args .out .now)
     (set (a .put-decimal .last .0) (a .put-decimal .result) comma) (a .put-decimal .result + 1)
 behind-comma c =
     let a = c .before .before in

@@ -4,9 +4,9 @@ use native.Mathlib.Omega.{arith}
 use mathlib.Core.Path.{_≡_, sym}
 use mathlib.Core.List.{[], _∷_}
 use lib.ListN.{length}
-use Rattle.checker.specs.Form.{book-limit}
+use Rattle.spec.specs.Limits.{book-limit}
+use Rattle.spec.specs.Program.{program-buffer, budget-of}
 use Rattle.book.specs.Written.{written-as}
-use Rattle.session.specs.Program.{program-buffer, budget-of}
 use Rattle.porvuund.specs.OneShot.{Books, book-said}
 use Rattle.porvuund.specs.Output.{output-written, output-refused}
 use Rattle.porvuund.specs.Lines.{number-line-length}

@@ -2,7 +2,7 @@
 -- the latest that is left, and opens at most one class.
 use Prim.Native.Nat.{_+_, _≤_, _-_}
 use native.Mathlib.Omega.{arith}
-use Rattle.sheet.specs.Limits.{grant-limit}
+use Rattle.spec.specs.Limits.{grant-limit}
 use Rattle.grants.specs.Log.{log-of}
 use Rattle.roles.specs.CellClasses.{classes-in}
 use Rattle.roles.specs.GoingBack.{GoingBack, going-back-starts, going-back-on, going-back-ends}

@@ -1,7 +1,7 @@
 -- `roles::put_back`: the class written at the cell is the one that the definition gives the grant that is put back, by the same test.
 use native.Mathlib.Omega.{arith}
 use borrow.Author.Needs.{needs}
-use Rattle.sheet.specs.Limits.{user-limit}
+use Rattle.spec.specs.Limits.{user-limit}
 use Rattle.sheet.specs.Rows.{row-words}
 use Rattle.roles.specs.CellClassLaws.{single-written, tied-written}
 use Rattle.roles.proofs.classes.put_back.Statement.{statement}

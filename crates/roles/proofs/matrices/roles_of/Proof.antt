@@ -3,12 +3,12 @@
 use mathlib.Core.Path.{_≡_, refl, sym, ap, _∙_}
 use borrow.Author.Needs.{needs}
 use lib.ListN.{length}
-use Rattle.lists.specs.Placement.{used}
-use Rattle.sheet.specs.Limits.{grant-limit, user-limit}
+use Rattle.spec.specs.Limits.{grant-limit, user-limit}
+use Rattle.spec.specs.Reduction.{reduction}
+use Rattle.spec.specs.Cover.{used}
+use Rattle.spec.specs.Roles.{classes-of}
 use Rattle.sheet.specs.Rows.{row-words}
 use Rattle.grants.specs.CellPlaces.{cell-limit}
-use Rattle.grants.specs.Reduction.{reduction}
-use Rattle.roles.specs.Classes.{classes-of}
 use Rattle.roles.specs.CellClassLaws.{no-classes}
 use Rattle.roles.specs.RolesInputLaws.{kernel-below, removed-below, partner-below, all-listed, all-below, classes-below, roles-few, all-class-at, roles-belong}
 use Rattle.roles.proofs.matrices.roles_of.Statement.{statement}

@@ -4,7 +4,7 @@ use Prim.Native.Nat.{_≤_, _<_, _-_}
 use native.Mathlib.Omega.{arith}
 use mathlib.Core.Path.{_≡_, refl, _∙_}
 use lib.ListN.{getD}
-use Rattle.sheet.specs.Limits.{grant-limit, user-limit}
+use Rattle.spec.specs.Limits.{grant-limit, user-limit}
 use Rattle.sheet.specs.Rows.{row-words}
 use Rattle.grants.specs.CellPlaces.{cell-limit}
 use Rattle.roles.specs.RoleNumbers.{class-limit, class-key}

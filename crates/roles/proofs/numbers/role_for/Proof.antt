@@ -2,7 +2,7 @@
 use native.Mathlib.Omega.{arith}
 use borrow.Author.Tests.{eq-eqb, ne-eqb}
 use lib.ListN.{getD}
-use Rattle.sheet.specs.Limits.{grant-limit}
+use Rattle.spec.specs.Limits.{grant-limit}
 use Rattle.roles.specs.RoleNumbers.{no-role}
 use Rattle.roles.proofs.numbers.role_for.Statement.{statement}
 use Rattle.roles.proofs.numbers.role_for.Tie as tie

@@ -1,7 +1,7 @@
 -- `roles::role_of`: a grant's number is below the array's length, so its role is the element there.
 use native.Mathlib.Omega.{arith}
 use borrow.Author.Needs.{needs}
-use Rattle.sheet.specs.Limits.{grant-limit}
+use Rattle.spec.specs.Limits.{grant-limit}
 use Rattle.roles.proofs.rows.role_of.Statement.{statement}
 use Rattle.roles.proofs.rows.role_of.Tie as tie
 

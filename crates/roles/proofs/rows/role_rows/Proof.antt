@@ -4,7 +4,7 @@ use Prim.Native.Nat.{ℕ, _≤_, _<_, _-_}
 use native.Mathlib.Omega.{arith}
 use mathlib.Core.Path.{_≡_, sym, _∙_}
 use lib.ListN.{length, getD, length-replicate}
-use Rattle.sheet.specs.Limits.{grant-limit, user-limit}
+use Rattle.spec.specs.Limits.{grant-limit, user-limit}
 use Rattle.sheet.specs.Rows.{row-words, row-bits}
 use Rattle.grants.specs.CellPlaces.{cell-words, cell-limit}
 use Rattle.roles.specs.CellClasses.{paired-in}

@@ -4,7 +4,7 @@ use native.Mathlib.Omega.{arith}
 use mathlib.Core.Path.{_≡_, refl}
 use borrow.Author.Needs.{needs}
 use lib.ListN.{length}
-use Rattle.sheet.specs.Limits.{sheet-limit}
+use Rattle.spec.specs.Limits.{sheet-limit}
 use Rattle.session.specs.Anew.{first-class-below, held-of, Anew, view-anew, holds-anew}
 use Rattle.session.specs.Loading.{unrefused-short}
 use Rattle.session.specs.Prepared.{PreparedFor}

@@ -3,12 +3,12 @@
 use native.Mathlib.Omega.{arith}
 use mathlib.Core.Path.{_≡_, refl, sym, ap, _∙_}
 use borrow.Author.Needs.{needs}
-use Rattle.sheet.specs.Text.{Bytes}
-use Rattle.sheet.specs.Sheet.{sheet-of}
-use Rattle.roles.specs.Roles.{start-of}
-use Rattle.session.specs.Session.{LoadAnswer, load-counts}
+use Rattle.spec.specs.Text.{Bytes}
+use Rattle.spec.specs.Sheet.{sheet-of}
+use Rattle.spec.specs.Roles.{start-of}
+use Rattle.spec.specs.Calls.{LoadAnswer, load-counts}
 use Rattle.session.specs.Said.{load-said}
-use Rattle.session.specs.Held.{text-in}
+use Rattle.session.specs.CodeSession.{text-in}
 use Rattle.session.specs.Loading.{refused-loads, accepted-loads, text-loaded}
 use Rattle.session.proofs.Session.load.Statement.{statement}
 use Rattle.session.proofs.Session.load.Tie as tie

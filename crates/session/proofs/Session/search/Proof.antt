@@ -3,7 +3,7 @@
 use mathlib.Core.Path.{refl, ap}
 use borrow.Author.Needs.{needs}
 use borrow.Author.Tests.{not-true, not-false}
-use Rattle.session.specs.Session.{SearchAnswer}
+use Rattle.spec.specs.Calls.{SearchAnswer}
 use Rattle.session.specs.Said.{search-said}
 use Rattle.session.specs.SearchedHeld.{searches-nothing, searches-held}
 use Rattle.session.proofs.Session.search.Statement.{statement}

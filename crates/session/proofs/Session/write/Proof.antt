@@ -4,20 +4,20 @@
 use borrow.Author.Needs.{needs}
 use borrow.Author.Tests.{not-true, not-false}
 use mathlib.Core.Bool.{So}
-use Rattle.sheet.specs.Sheet.{sheet-of}
+use Rattle.spec.specs.Sheet.{sheet-of}
 use Rattle.session.specs.Said.{write-said}
-use Rattle.session.specs.Held.{text-in, state-in, Holds}
+use Rattle.session.specs.CodeSession.{text-in, state-in, Holds}
 use Rattle.session.specs.Counted.{CountsIn}
 use Rattle.session.specs.CountsHeld.{few-roles-held, counts-held}
 use Rattle.session.specs.BestHeld.{BelongsIn, best-held, best-belongs}
 use Rattle.session.specs.BookHeld.{witness-cells-granted, room-for-roles, book-held}
 use Rattle.session.specs.WritesHeld.{writes-nothing, writes-held}
-use Rattle.session.specs.declared.Session.{Session as Held}
+use Rattle.session.specs.declared.Session.{Session as CodeSession}
 use Rattle.session.proofs.Session.write.Statement.{statement}
 use Rattle.session.proofs.Session.write.Tie as tie
 
 -- where a sheet is loaded
-abbrev self : tie.Else1 → Held
+abbrev self : tie.Else1 → CodeSession
 self e = e .before .before .args .t1
 
 loaded : (e : tie.Else1) → So (self e .loaded)

@@ -2,7 +2,7 @@
 use borrow.Author.Needs.{needs}
 use native.Mathlib.Omega.{arith}
 use mathlib.Core.Path.{refl}
-use Rattle.search.specs.Machine.{search-limit}
+use Rattle.spec.specs.Limits.{search-limit}
 use Rattle.session.proofs.classes.best_of.Statement.{statement}
 use Rattle.session.proofs.classes.best_of.Tie as tie
 

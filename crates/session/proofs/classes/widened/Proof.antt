@@ -4,8 +4,7 @@ use native.Mathlib.Omega.{arith}
 use native.Mathlib.Numerals.{add-one}
 use mathlib.Core.Path.{_≡_, refl, _∙_, sym}
 use lib.ListN.{length, length-set}
-use Rattle.sheet.specs.Limits.{grant-limit}
-use Rattle.search.specs.Machine.{search-limit}
+use Rattle.spec.specs.Limits.{grant-limit, search-limit}
 use Rattle.session.specs.ClassesCopied.{ClassesCopied, none-copied, one-copied, copied-placement, placed-latest}
 use Rattle.session.proofs.classes.widened.Statement.{statement}
 use Rattle.session.proofs.classes.widened.Tie as tie

@@ -2,7 +2,7 @@
 use mathlib.Core.Path.{refl}
 use native.Mathlib.Omega.{arith}
 use borrow.Author.Needs.{needs}
-use Rattle.sheet.specs.Limits.{permission-limit}
+use Rattle.spec.specs.Limits.{permission-limit}
 use Rattle.session.proofs.counts.counts_at.Statement.{statement}
 use Rattle.session.proofs.counts.counts_at.Tie as tie
 

@@ -3,8 +3,8 @@
 use borrow.Author.Needs.{needs}
 use mathlib.Core.Path.{_≡_}
 use lib.ListN.{length}
-use Rattle.sheet.specs.Limits.{grant-limit}
-use Rattle.sheet.specs.Sheet.{sheet-of}
+use Rattle.spec.specs.Limits.{grant-limit}
+use Rattle.spec.specs.Sheet.{sheet-of}
 use Rattle.session.specs.Preparing.{laid-lawful, laid-shown, kernel-cells, kernel-counted, kernel-placed}
 use Rattle.session.proofs.prepared.prepare.Statement.{statement}
 use Rattle.session.proofs.prepared.prepare.Tie as tie

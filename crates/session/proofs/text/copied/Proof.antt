@@ -5,7 +5,7 @@ use native.Mathlib.Numerals.{add-one}
 use mathlib.Core.Path.{_≡_, refl}
 use lib.ListN.{length, take, length-set}
 use lib.Seq.{take-suc, take-suc-set, take-length}
-use Rattle.sheet.specs.Limits.{sheet-limit}
+use Rattle.spec.specs.Limits.{sheet-limit}
 use Rattle.session.proofs.text.copied.Statement.{statement}
 use Rattle.session.proofs.text.copied.Tie as tie
 

@@ -5,12 +5,12 @@ use mathlib.Core.Path.{_≡_, refl, sym, _∙_}
 use mathlib.Core.Bool.{Bool, false}
 use mathlib.Core.List.{List}
 use lib.ListN.{getD}
+use Rattle.spec.specs.Vocabulary.{some-below}
+use Rattle.spec.specs.Text.{Bytes}
 use Rattle.bits.specs.Truth.{or-fails}
-use Rattle.bits.specs.Below.{some-below}
 use Rattle.bits.specs.BelowLaws.{some-below-intro}
 use Rattle.bits.specs.StepLaws.{some-below-step}
 use Rattle.bits.specs.Bit.{word-bits}
-use Rattle.sheet.specs.Text.{Bytes}
 use Rattle.sheet.specs.NamesAt.{places-of}
 use Rattle.sheet.specs.Buckets.{bucket-words, meets-word, meets-bucket}
 use Rattle.sheet.specs.declared.places.Places.{Places}

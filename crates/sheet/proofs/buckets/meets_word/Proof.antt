@@ -2,7 +2,7 @@
 use Prim.Native.Nat.{_+_}
 use native.Mathlib.Omega.{arith}
 use mathlib.Core.Path.{sym, _∙_}
-use Rattle.sheet.specs.Limits.{user-limit}
+use Rattle.spec.specs.Limits.{user-limit}
 use Rattle.sheet.specs.NamesAt.{PartThere, places-of}
 use Rattle.sheet.specs.MeetLaws.{Walked, none-walked, lowest-met, lowest-walked, all-walked}
 use Rattle.sheet.proofs.buckets.meets_word.Statement.{statement}

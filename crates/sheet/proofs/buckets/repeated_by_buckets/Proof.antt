@@ -4,8 +4,8 @@ use Prim.Native.Nat.{_-_, _/_, _≤_, _<_}
 use native.Mathlib.Omega.{arith}
 use native.Mathlib.Numerals.{add-one}
 use mathlib.Core.Path.{_≡_, sym, _∙_}
+use Rattle.spec.specs.Limits.{user-limit}
 use Rattle.bits.specs.Bit.{word-bits}
-use Rattle.sheet.specs.Limits.{user-limit}
 use Rattle.sheet.specs.NamesAt.{places-of}
 use Rattle.sheet.specs.NamesAtLaws.{inside-part}
 use Rattle.sheet.specs.Buckets.{bucket-count, bucket-words}

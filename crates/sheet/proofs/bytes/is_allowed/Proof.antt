@@ -1,7 +1,7 @@
 -- `bytes::is_allowed`: a byte of a name is allowed, and any other is where it ends a field.
 use borrow.Author.Needs.{needs}
 use mathlib.Core.Path.{sym, _∙_}
-use Rattle.sheet.specs.Text.{allowed-byte}
+use Rattle.spec.specs.Text.{allowed-byte}
 use Rattle.sheet.proofs.bytes.is_allowed.Statement.{statement}
 use Rattle.sheet.proofs.bytes.is_allowed.Tie as tie
 

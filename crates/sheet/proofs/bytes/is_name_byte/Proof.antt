@@ -6,7 +6,7 @@ use Prim.Native.Char.{code}
 use mathlib.Core.Path.{_≡_, sym, _∙_}
 use mathlib.Core.Bool.{Bool, _||_}
 use lib.Dec.{eqb}
-use Rattle.sheet.specs.Text.{name-byte}
+use Rattle.spec.specs.Text.{name-byte}
 use Rattle.sheet.proofs.bytes.is_name_byte.Statement.{statement}
 use Rattle.sheet.proofs.bytes.is_name_byte.Tie as tie
 

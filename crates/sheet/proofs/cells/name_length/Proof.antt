@@ -1,15 +1,15 @@
 -- `cells::name_length`: the two ends of the range in turn.
 use borrow.Author.Tests.{lt-leb, le-leb}
-use Rattle.sheet.specs.Refusal.{name-length}
+use Rattle.spec.specs.Refusal.{has-name-length}
 use Rattle.sheet.proofs.cells.name_length.Statement.{statement}
 use Rattle.sheet.proofs.cells.name_length.Tie as tie
 
 returns : tie.Need-returns
-unfolding name-length
+unfolding has-name-length
 returns c = rw (lt-leb _ _ (c .if1 .taken))
 
 returns-2 : tie.Need-returns-2
-unfolding name-length
+unfolding has-name-length
 returns-2 c = rw (le-leb _ _ (c .if1 .left))
 
 pub name-length-spec : {M : Type 1} → statement M

@@ -79,8 +79,8 @@ module _ {M : Type 1} (𝓤 : URA M) (H : Heap 𝓤) (A : Atoms 𝓤) (W : Given
     abbrev lifetime : NamedLft
     lifetime = namedLft 1 0 tt κs
 
-    abbrev Held : RattleType
-    Held = reader-type.the-row lifetime
+    abbrev ReaderHeld : RattleType
+    ReaderHeld = reader-type.the-row lifetime
 
     -- the machine values of the sheet, of both arguments and of the reader
     abbrev sheet-val : Val
@@ -123,10 +123,10 @@ module _ {M : Type 1} (𝓤 : URA M) (H : Heap 𝓤) (A : Atoms 𝓤) (W : Given
     Field r u = ‵ (field-type.the-row .own r (u ∷ []))
 
     reader-asked : ent 𝓤 (onEntry 𝓤 H A next-field.signature κs (q, tt) (reader, tt) (reader-val ∷ [], tt)) (Nexts .pre called)
-    reader-asked = qed W (Token ∷ ‵ (owns (Held ∷ []) (reader, tt) (reader-val ∷ [], tt)) ∷ []) ∵ join ! $ frame ! $ done !
+    reader-asked = qed W (Token ∷ ‵ (owns (ReaderHeld ∷ []) (reader, tt) (reader-val ∷ [], tt)) ∷ []) ∵ join ! $ frame ! $ done !
 
     -- the reference and the place's facts are what the reader owns
-    reader-made : ent 𝓤 (sem 𝓤 H A Lent) (sem 𝓤 H A (Held .own reader (reader-val ∷ [])))
+    reader-made : ent 𝓤 (sem 𝓤 H A Lent) (sem 𝓤 H A (ReaderHeld .own reader (reader-val ∷ [])))
     reader-made =
         qed W (‵ Lent ∷ []) ∵
         nothing ! $ owned ! usize (Is usize) (uint-makes 𝓤 H A W w64) place _ (refl, fits) $ fjoin ! $ move ! (1 ∷ 0 ∷ []) $ fjoin ! $
@@ -138,7 +138,7 @@ module _ {M : Type 1} (𝓤 : URA M) (H : Heap 𝓤) (A : Atoms 𝓤) (W : Given
         qed W (Token ∷ ‵ (owns (ShrSlice (named 0) κ u8 ∷ usize ∷ []) (sheet, (place, tt)) passed) ∷ []) ∵
         move ! (1 ∷ []) $ fsplit ! $ move ! (1 ∷ []) $ drop ! $
         use1 W (‵ Lent ⊛ ‵ Lent) (shr-slice-copy 𝓤 H A W (named 0) κ u8 .twice sheet (sheet-val ∷ [])) $ split ! $
-        use1 W (‵ (Held .own reader (reader-val ∷ []))) reader-made $ nothing ! $ move ! (1 ∷ 0 ∷ []) $ fjoin ! $
+        use1 W (‵ (ReaderHeld .own reader (reader-val ∷ []))) reader-made $ nothing ! $ move ! (1 ∷ 0 ∷ []) $ fjoin ! $
         -- [the reader's; the sheet's; the token]
         move ! (2 ∷ 0 ∷ []) $ use2 W (raw (Nexts .pre called)) reader-asked $ frame ! $ done !
 

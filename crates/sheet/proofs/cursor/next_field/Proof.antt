@@ -64,8 +64,8 @@ use Rattle.sheet.proofs.cursor.next_field.Code as code
 abbrev lifetime : Lfts 1 → NamedLft
 lifetime κs = namedLft 1 0 tt κs
 
-abbrev Held : Lfts 1 → RattleType
-Held κs = reader-type.the-row (lifetime κs)
+abbrev ReaderHeld : Lfts 1 → RattleType
+ReaderHeld κs = reader-type.the-row (lifetime κs)
 
 abbrev Made : Lfts 1 → Declared
 Made κs = reader-type.the-type (lifetime κs)
@@ -74,7 +74,7 @@ abbrev made-laws : (κs : Lfts 1) → struct-laws.Laws (Made κs)
 made-laws κs = reader-laws.the-laws (lifetime κs)
 
 abbrev stayed : Stays (next-field.ended .signature .params) (next-field.ended .kept)
-stayed = (stay-none Held yes, tt)
+stayed = (stay-none ReaderHeld yes, tt)
 
 module _ {M : Type 1} (𝓤 : URA M) (H : Heap 𝓤) (A : Atoms 𝓤) (W : Given 𝓤 H A) (mem : Memory → SProp 𝓤) (run : Routine → Fun 𝓤) where
   -- the two contracts: what is to be shown, and what is known of the callee
@@ -100,7 +100,7 @@ module _ {M : Type 1} (𝓤 : URA M) (H : Heap 𝓤) (A : Atoms 𝓤) (W : Given
     fields = (reader .sheet, (reader .at, tt))
 
     abbrev Whole : Fml
-    Whole = Held κs .own reader (reader-val ∷ [])
+    Whole = ReaderHeld κs .own reader (reader-val ∷ [])
 
     abbrev Sheet : Fml
     Sheet = ownAt (Made κs .parts) (made-laws κs) 0 (reader .sheet)
@@ -140,7 +140,7 @@ module _ {M : Type 1} (𝓤 : URA M) (H : Heap 𝓤) (A : Atoms 𝓤) (W : Given
     -- one copy of what the reader owns is opened for the call, and the other is kept
     taken-apart : reader .at < 2 ^ 64 → ent 𝓤 Entry (sep 𝓤 (Reads .pre called) (sem 𝓤 H A Whole))
     taken-apart fits =
-        qed W (Token ∷ ‵ (owns (Held κs ∷ []) (reader, tt) (reader-val ∷ [], tt)) ∷ []) ∵
+        qed W (Token ∷ ‵ (owns (ReaderHeld κs ∷ []) (reader, tt) (reader-val ∷ [], tt)) ∷ []) ∵
         move ! (1 ∷ []) $ fsplit ! $ move ! (1 ∷ []) $ drop ! $
         use1 W (‵ Whole ⊛ ‵ Whole) (struct-laws.copy (Made κs) (reader-laws.the-copy (lifetime κs)) 𝓤 H A W .twice reader (reader-val ∷ [])) $ split ! $
         use1 W (given (reader-val ∷ [] ≡ reader-val ∷ []) (‵ (all-own (Made κs .parts) (made-laws κs) fields)))
@@ -194,7 +194,7 @@ module _ {M : Type 1} (𝓤 : URA M) (H : Heap 𝓤) (A : Atoms 𝓤) (W : Given
   meets : (𝓣 : Tables 𝓤 H) → Triple 𝓤 (𝓣 .C #read-field) Reads
       → Meets 𝓤 H A next-field.signature (WpFn 𝓤 H (𝓣 .C) (𝓣 .Λ) code.function) (next-field.spec 𝓤 H A mem run)
   meets 𝓣 reads =
-      walk-meets 𝓤 H A next-field.ended stayed W (goes-none 𝓤 H A W 1 Held yes (λ κs x f. refl), tt) shown
+      walk-meets 𝓤 H A next-field.ended stayed W (goes-none 𝓤 H A W 1 ReaderHeld yes (λ κs x f. refl), tt) shown
       (WpFn 𝓤 H (𝓣 .C) (𝓣 .Λ) code.function) (WpFn-mono 𝓤 H (W .laws) 𝓣 code.function)
       (walks (𝓣 .C) (𝓣 .Λ) (fmOf 𝓤 H (W .laws) 𝓣) reads)
 

@@ -8,9 +8,9 @@ use mathlib.Core.List.{[], _∷_}
 use borrow.Author.Tests.{not-true, not-false}
 use lib.Dec.{eqb, ltb}
 use lib.ListN.{length, getD, length-set}
+use Rattle.spec.specs.Limits.{permission-limit, user-limit}
+use Rattle.spec.specs.Text.{comma, line-feed}
 use Rattle.bits.specs.Truth.{not-both}
-use Rattle.sheet.specs.Limits.{permission-limit, user-limit}
-use Rattle.sheet.specs.Text.{comma, line-feed}
 use Rattle.sheet.specs.Stands.{stands-found}
 use Rattle.sheet.specs.Spelled.{NameAt, name-read}
 use Rattle.sheet.specs.SpelledFound.{behind}

@@ -2,8 +2,8 @@
 use native.Mathlib.Omega.{arith}
 use borrow.Author.Tests.{lt-ltb, le-ltb}
 use lib.ListN.{length}
-use Rattle.sheet.specs.FirstLine.{says-user}
 use borrow.Author.Needs.{needs}
+use Rattle.sheet.specs.FirstLine.{says-user}
 use Rattle.sheet.proofs.first_line.starts_with_user.Statement.{statement}
 use Rattle.sheet.proofs.first_line.starts_with_user.Tie as tie
 

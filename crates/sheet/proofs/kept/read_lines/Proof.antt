@@ -4,17 +4,17 @@ use mathlib.Core.Path.{_≡_, refl}
 use mathlib.Core.Bool.{So}
 use borrow.Author.Tests.{not-true, not-false}
 use lib.ListN.{length, drop}
+use borrow.Author.Needs.{needs}
+use Rattle.spec.specs.Limits.{sheet-limit, permission-limit, grant-limit}
+use Rattle.spec.specs.Text.{text-of}
+use Rattle.spec.specs.Sheet.{sheet-of}
+use Rattle.spec.specs.Rules.{user-lines}
+use Rattle.spec.specs.Refusal.{accepted}
 use Rattle.bits.specs.Truth.{not-both}
-use Rattle.sheet.specs.Limits.{sheet-limit, permission-limit, grant-limit}
-use Rattle.sheet.specs.Text.{text-of}
-use Rattle.sheet.specs.Sheet.{sheet-of}
-use Rattle.sheet.specs.Refusal.{accepted}
-use Rattle.sheet.specs.Rules.{user-lines}
 use Rattle.sheet.specs.AcceptedFacts.{accepted-short}
 use Rattle.sheet.specs.FirstLine.{FirstLineStands}
 use Rattle.sheet.specs.KeptSheet.{Notes, LinesStand}
 use Rattle.sheet.specs.KeptFound.{accepted-names, accepted-text, accepted-fit, accepted-users, accepted-grants}
-use borrow.Author.Needs.{needs}
 use Rattle.sheet.proofs.kept.read_lines.Statement.{statement}
 use Rattle.sheet.proofs.kept.read_lines.Tie as tie
 

@@ -1,7 +1,7 @@
 -- `layout::find_permission_in`: the names at the permissions' places are the permissions' names, no two of them equal, and what was found there is the permission's number.
 use borrow.Author.Needs.{needs}
 use mathlib.Core.Path.{sym, _∙_}
-use Rattle.sheet.specs.Sheet.{sheet-of}
+use Rattle.spec.specs.Sheet.{sheet-of}
 use Rattle.sheet.specs.NamesAt.{places-of, name-number}
 use Rattle.sheet.specs.NamesThere.{NamesThere, permissions-there}
 use Rattle.sheet.specs.FoundLaws.{permission-at, permission-nowhere}

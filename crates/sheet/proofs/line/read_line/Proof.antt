@@ -5,8 +5,8 @@ use mathlib.Core.Path.{refl, sym}
 use mathlib.Core.Bool.{false}
 use borrow.Author.Tests.{not-false}
 use lib.ListN.{length}
+use Rattle.spec.specs.Text.{Bytes}
 use Rattle.bits.specs.Truth.{not-fails}
-use Rattle.sheet.specs.Text.{Bytes}
 use Rattle.sheet.specs.FieldLaws.{FieldStep, field-step}
 use Rattle.sheet.specs.ReadLineLaws.{Reading, first-field-part, reading-starts, reading-goes-on, reading-ends}
 use Rattle.sheet.proofs.line.read_line.Statement.{statement}

@@ -1,7 +1,7 @@
 -- `lookup::part_at`: both lists have a place for the number, and the part between the two places lies within the sheet.
 use borrow.Author.Needs.{needs}
 use native.Mathlib.Omega.{arith}
-use Rattle.sheet.specs.Limits.{user-limit}
+use Rattle.spec.specs.Limits.{user-limit}
 use Rattle.sheet.proofs.lookup.part_at.Statement.{statement}
 use Rattle.sheet.proofs.lookup.part_at.Tie as tie
 

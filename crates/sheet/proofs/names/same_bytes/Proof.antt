@@ -7,7 +7,7 @@ use mathlib.Core.Path.{_≡_, refl, sym, _∙_}
 use borrow.Author.Tests.{eq-eqb, ne-eqb}
 use lib.Dec.{eqb}
 use lib.ListN.{length, drop, drop-of-length-le}
-use Rattle.lists.specs.Lists.{same-bytes}
+use Rattle.spec.specs.Text.{same-bytes}
 use Rattle.lists.specs.SameDropLaws.{same-by-drop, other-lengths-differ}
 use Rattle.sheet.proofs.names.same_bytes.Statement.{statement}
 use Rattle.sheet.proofs.names.same_bytes.Tie as tie

@@ -6,9 +6,9 @@ use native.Mathlib.Numerals.{add-one}
 use mathlib.Core.Bool.{false}
 use borrow.Author.Tests.{not-false}
 use lib.ListN.{length}
+use Rattle.spec.specs.Limits.{user-limit}
+use Rattle.spec.specs.Text.{Bytes}
 use Rattle.bits.specs.Truth.{not-fails}
-use Rattle.sheet.specs.Limits.{user-limit}
-use Rattle.sheet.specs.Text.{Bytes}
 use Rattle.sheet.specs.FieldLaws.{FieldStep}
 use Rattle.sheet.specs.FieldsLeft.{field-next, field-below}
 use Rattle.sheet.specs.PermissionPlacesLaws.{FieldsNoted, noting-fields-starts, noting-fields-goes-on, noting-fields-ends}

@@ -3,7 +3,7 @@ use Prim.Native.Nat.{suc, _-_, _<_}
 use native.Mathlib.Omega.{arith}
 use native.Mathlib.Numerals.{add-one}
 use lib.ListN.{length}
-use Rattle.sheet.specs.Limits.{user-limit}
+use Rattle.spec.specs.Limits.{user-limit}
 use Rattle.sheet.specs.UserPlacesLaws.{Noting, noting-starts, noting-below, noting-goes-on, noting-ends}
 use Rattle.sheet.proofs.places.user_places.Statement.{statement}
 use Rattle.sheet.proofs.places.user_places.Tie as tie

@@ -1,11 +1,11 @@
 -- `reading::read`: the lines of a sheet are found and no name stands twice exactly where it is accepted, and then what was noted is the sheet's.
 use mathlib.Core.Path.{_≡_, sym, _∙_}
-use Rattle.sheet.specs.Limits.{user-limit}
-use Rattle.sheet.specs.Refusal.{refusal}
+use borrow.Author.Needs.{needs}
+use Rattle.spec.specs.Limits.{user-limit}
+use Rattle.spec.specs.Refusal.{refusal}
 use Rattle.sheet.specs.KeptSheet.{Notes, notes-of, new-sheet-room}
 use Rattle.sheet.specs.KeptRead.{layout-of, KeptAs}
 use Rattle.sheet.specs.KeptFound.{kept-inside, kept-unrefused, kept-as}
-use borrow.Author.Needs.{needs}
 use Rattle.sheet.proofs.reading.read.Statement.{statement}
 use Rattle.sheet.proofs.reading.read.Tie as tie
 

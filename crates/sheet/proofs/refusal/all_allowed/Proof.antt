@@ -5,9 +5,9 @@ use native.Mathlib.Numerals.{add-one}
 use mathlib.Core.Path.{_≡_, refl, sym, _∙_}
 use borrow.Author.Tests.{not-true, not-false}
 use lib.ListN.{length, drop, drop-of-length-le}
-use Rattle.lists.specs.Lists.{all}
+use Rattle.spec.specs.Vocabulary.{all}
+use Rattle.spec.specs.Text.{allowed-byte}
 use Rattle.lists.specs.DropLaws.{all-left}
-use Rattle.sheet.specs.Text.{allowed-byte}
 use Rattle.sheet.proofs.refusal.all_allowed.Statement.{statement}
 use Rattle.sheet.proofs.refusal.all_allowed.Tie as tie
 

@@ -1,7 +1,7 @@
 -- `refusal::good_first_line`: the two tests in turn.
 use borrow.Author.Needs.{needs}
 use mathlib.Core.Path.{sym, _∙_}
-use Rattle.sheet.specs.Limits.{permission-limit}
+use Rattle.spec.specs.Limits.{permission-limit}
 use Rattle.sheet.proofs.refusal.good_first_line.Statement.{statement}
 use Rattle.sheet.proofs.refusal.good_first_line.Tie as tie
 

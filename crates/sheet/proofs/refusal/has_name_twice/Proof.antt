@@ -5,9 +5,9 @@ use native.Mathlib.Omega.{arith}
 use mathlib.Core.Path.{_≡_, refl, sym, ap, _∙_}
 use mathlib.Core.List.{List, map, tail}
 use lib.ListN.{length, drop, length-map}
-use Rattle.sheet.specs.Limits.{permission-limit, user-limit}
-use Rattle.sheet.specs.Text.{Bytes, lines-of}
-use Rattle.sheet.specs.Sheet.{first-field}
+use Rattle.spec.specs.Limits.{permission-limit, user-limit}
+use Rattle.spec.specs.Text.{Bytes, lines-of}
+use Rattle.spec.specs.Sheet.{first-field}
 use Rattle.sheet.specs.FieldLaws.{line-fields}
 use Rattle.sheet.specs.NamesAt.{names-at}
 use Rattle.sheet.specs.NamesAtLaws.{placed-names, placed-inside}

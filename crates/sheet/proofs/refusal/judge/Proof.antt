@@ -6,13 +6,11 @@ use mathlib.Core.Path.{_≡_, sym, ap, _∙_}
 use mathlib.Core.Bool.{Bool, not}
 use borrow.Author.Tests.{lt-ltb, le-ltb, not-false}
 use lib.Dec.{ltb}
+use Rattle.spec.specs.Limits.{permission-limit, user-limit, grant-limit}
+use Rattle.spec.specs.Text.{ascii, same-bytes, Bytes, between, lines-of}
+use Rattle.spec.specs.Sheet.{sheet-of}
+use Rattle.spec.specs.Refusal.{too-long, bad-first-line, bad-line-count, bad-name, uneven-line, bad-cell, name-twice, too-many-grants, refusal}
 use Rattle.bits.specs.Truth.{and-right}
-use Rattle.lists.specs.Ascii.{ascii}
-use Rattle.lists.specs.Lists.{same-bytes}
-use Rattle.sheet.specs.Limits.{permission-limit, user-limit, grant-limit}
-use Rattle.sheet.specs.Text.{Bytes, between, lines-of}
-use Rattle.sheet.specs.Sheet.{sheet-of}
-use Rattle.sheet.specs.Refusal.{too-long, bad-first-line, bad-line-count, bad-name, uneven-line, bad-cell, name-twice, too-many-grants, refusal}
 use Rattle.sheet.specs.Places.{part}
 use Rattle.sheet.specs.JudgeLaws.{within-high, causes-from-2, causes-from-3, causes-from-4, causes-from-5, causes-from-6, causes-from-7, causes-from-8, causes-from-9, refusal-in-turn, HeadRead, cause-3, cause-4, cause-5, cause-6, cause-7, cause-8, cause-9}
 use Rattle.sheet.proofs.refusal.judge.Statement.{statement}

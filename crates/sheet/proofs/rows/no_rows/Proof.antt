@@ -1,6 +1,6 @@
 -- `rows::no_rows`: the array is as many zeros as it is written with.
 use mathlib.Core.Path.{refl}
-use Rattle.sheet.specs.Limits.{user-limit}
+use Rattle.spec.specs.Limits.{user-limit}
 use Rattle.sheet.specs.Rows.{row-words}
 use Rattle.sheet.proofs.rows.no_rows.Statement.{statement}
 use Rattle.sheet.proofs.rows.no_rows.Tie as tie

@@ -5,9 +5,9 @@ use native.Mathlib.Numerals.{add-one}
 use mathlib.Core.Path.{_≡_, refl, sym, _∙_}
 use borrow.Author.Tests.{not-true, not-false}
 use lib.ListN.{length, drop, drop-of-length-le}
-use Rattle.lists.specs.Lists.{all}
+use Rattle.spec.specs.Vocabulary.{all}
+use Rattle.spec.specs.Text.{name-byte}
 use Rattle.lists.specs.DropLaws.{all-left}
-use Rattle.sheet.specs.Text.{name-byte}
 use Rattle.sheet.proofs.spelled.has_name_bytes.Statement.{statement}
 use Rattle.sheet.proofs.spelled.has_name_bytes.Tie as tie
 

@@ -5,10 +5,10 @@ use native.Mathlib.Numerals.{add-one}
 use mathlib.Core.Path.{_≡_, refl}
 use borrow.Author.Tests.{not-true, not-false}
 use lib.ListN.{length}
+use Rattle.spec.specs.Limits.{user-limit}
 use Rattle.bits.specs.Truth.{not-both}
 use Rattle.bits.specs.CountLaws.{count-below-le}
 use Rattle.bits.specs.Bit.{bit, word-bits}
-use Rattle.sheet.specs.Limits.{user-limit}
 use Rattle.sheet.specs.UserLine.{LineStands}
 use Rattle.sheet.specs.UserLines.{LinesRead}
 use Rattle.sheet.specs.UserLinesFound.{LinesLeft, few-left, left-next, line-found}

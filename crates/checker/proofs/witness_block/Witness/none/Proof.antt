@@ -1,6 +1,6 @@
 -- `Witness::none`: as many empty places as there can be roles.
 use mathlib.Core.Path.{refl}
-use Rattle.checker.specs.Form.{role-limit}
+use Rattle.spec.specs.Limits.{role-limit}
 use Rattle.checker.proofs.witness_block.Witness.none.Statement.{statement}
 use Rattle.checker.proofs.witness_block.Witness.none.Tie as tie
 

@@ -2,7 +2,7 @@
 use Prim.Native.Nat.{_≤_, _<_}
 use mathlib.Core.Path.{refl, sym}
 use native.Mathlib.Omega.{arith}
-use Rattle.search.specs.Machine.{search-limit}
+use Rattle.spec.specs.Limits.{search-limit}
 use Rattle.search.specs.Runs.{search-within, search-above}
 use Rattle.search.specs.View.{kernel-given, view}
 use Rattle.search.proofs.machine.Position.search.Statement.{statement}

@@ -1,6 +1,6 @@
 -- `Places::none`: both arrays are as long as they are written.
 use mathlib.Core.Path.{refl}
-use Rattle.sheet.specs.Limits.{user-limit}
+use Rattle.spec.specs.Limits.{user-limit}
 use Rattle.sheet.proofs.places.Places.none.Statement.{statement}
 use Rattle.sheet.proofs.places.Places.none.Tie as tie
 

@@ -1,0 +1,137 @@
+-- "Around the edges": the paper's edge cases and the four slips to shut out, computed together from the definitions. Assumes nothing.
+use Rattle.spec.specs.Vocabulary.{ℕ, some, List, [], _∷_, map, lowest-below}
+use mathlib.Core.Path.{_≡_, refl}
+use Rattle.spec.specs.Limits.{budget-limit, book-limit}
+use Rattle.spec.specs.Text.{Bytes, ascii}
+use Rattle.spec.specs.Sheet.{Grant, sheet-of}
+use Rattle.spec.specs.Reduction.{kernel}
+use Rattle.spec.specs.Witness.{witness}
+use Rattle.spec.specs.Machine.{depth, search}
+use Rattle.spec.specs.Roles.{Standing, witnessed, searched, unsettled, kernel-of, start-of, role-count, bound, standing}
+use Rattle.spec.specs.Decimal.{decimal}
+use Rattle.spec.specs.Book.{book}
+use Rattle.spec.specs.Session.{Session, no-sheet, loaded, fresh, session-book}
+use Rattle.spec.specs.Refusal.{refusal, write-causes}
+use Rattle.spec.specs.Calls.{LoadAnswer, load-answer, load-refused, after-load, SearchAnswer, search-answer, search-refused, searched-on, after-search, write-answer, buffer-after}
+use Rattle.spec.specs.Program.{is-budget, budget-of, program-buffer, printed, program-output}
+
+-- a sheet to load into a fresh session, and the budget of one search after it
+record Trial : Type 0 where
+  sheet : Bytes
+  budget : ℕ
+
+-- what they answer, the witness of the sheet, and how many grants are placed then
+record Finding : Type 0 where
+  load : LoadAnswer
+  witness : List Grant
+  search : SearchAnswer
+  placed : ℕ
+
+placed-in-session : Session → ℕ
+placed-in-session no-sheet = 0
+placed-in-session (loaded text st) = depth st
+
+session-witness : Session → List Grant
+unfolding witness sheet-of
+session-witness no-sheet = []
+session-witness (loaded text st) = witness (sheet-of text)
+
+finding : Trial → Finding
+unfolding load-answer search-answer after-load after-search placed-in-session session-witness searched-on refusal sheet-of kernel witness start-of kernel-of search role-count bound standing
+finding trial =
+    let session : Session = after-load fresh (trial .sheet) in
+    record {
+      load = load-answer (trial .sheet);
+      witness = session-witness session;
+      search = search-answer session (trial .budget);
+      placed = placed-in-session (after-search session (trial .budget));
+    }
+
+-- the sheet of the paper's example
+worked : Bytes
+worked = ascii "user,rec,id,map\nann,1,1,0\nbo,0,1,1\ncy,1,1,1\n"
+
+-- n users each lacking only their own permission
+crown-of-three : Bytes
+crown-of-three = ascii "user,a,b,c\nx,0,1,1\ny,1,0,1\nz,1,1,0\n"
+
+crown-of-four : Bytes
+crown-of-four = ascii "user,a,b,c,d\nw,0,1,1,1\nx,1,0,1,1\ny,1,1,0,1\nz,1,1,1,0\n"
+
+-- a sheet whose search finds a better placement in step 14, and closes in step 45. Were the classes in use not held below the new
+-- class count, step 17 would go another way; were class number b - 1 opened, step 20
+improves : Bytes
+improves =
+    ascii "user,a,b,c,d,e,f,g\nq,1,1,0,1,0,1,1\nr,1,1,0,1,1,1,1\ns,0,1,1,1,1,1,1\nt,1,1,0,1,0,1,0\nu,1,0,1,0,0,1,1\nv,1,1,1,0,1,1,1\nw,1,0,1,0,1,1,1\n"
+
+trial : Bytes → ℕ → Trial
+trial sheet budget = record { sheet = sheet; budget = budget }
+
+-- counts of an accepted load
+counts : ℕ → ℕ → ℕ → ℕ → ℕ → LoadAnswer
+counts users permissions grants kernel witness =
+    record { number = 0; users = users; permissions = permissions; grants = grants; kernel = kernel; witness = witness }
+
+-- figures of an accepted search
+figures : ℕ → ℕ → ℕ → Standing → SearchAnswer
+figures steps roles bound standing = record { number = 0; steps = steps; roles = roles; bound = bound; standing = some standing }
+
+trials : List Trial
+unfolding trial worked crown-of-three crown-of-four improves
+trials =
+    trial worked 0
+    ∷ trial (ascii "user,a\nx,0\n") 0
+    ∷ trial (ascii "user,a,b\nx,1,1\n") 0
+    ∷ trial crown-of-three 5
+    ∷ trial crown-of-four 0
+    ∷ trial crown-of-four 1
+    ∷ trial (ascii "user,a\nabcdefghijklmnop,1\n") 0
+    ∷ trial (ascii "user,a\nabcdefghijklmnopq,1\n") 0
+    ∷ trial (ascii "user,a\nAnn,1\nann,0\n") 0
+    ∷ trial [] 0
+    ∷ trial (ascii "user,a,b\nx,1,1\ny,1,1\n") 0
+    ∷ trial improves 17
+    ∷ trial improves 20
+    ∷ trial improves 100
+    ∷ []
+
+-- the grant of a user and a permission
+at : ℕ → ℕ → Grant
+at u p = record { user = u; permission = p }
+
+found : LoadAnswer → List Grant → SearchAnswer → ℕ → Finding
+found load witness search placed = record { load = load; witness = witness; search = search; placed = placed }
+
+crown-witness : List Grant
+unfolding at
+crown-witness = at 0 1 ∷ at 1 2 ∷ at 2 0 ∷ []
+
+improves-witness : List Grant
+unfolding at
+improves-witness = at 0 6 ∷ at 1 4 ∷ at 2 2 ∷ at 3 3 ∷ []
+
+-- the starred cases of "Around the edges" in its order, then a sheet for each slip
+edges : map finding trials ≡
+    found (counts 3 3 7 0 2) (at 0 0 ∷ at 1 2 ∷ []) (figures 0 2 2 witnessed) 0
+    ∷ found (counts 1 1 0 0 0) [] (figures 0 0 0 witnessed) 0
+    ∷ found (counts 1 2 2 0 1) (at 0 1 ∷ []) (figures 0 1 1 witnessed) 0
+    ∷ found (counts 3 3 6 6 3) crown-witness (figures 0 3 3 witnessed) 0
+    ∷ found (counts 4 4 12 12 3) crown-witness (figures 0 4 3 unsettled) 0
+    ∷ found (counts 4 4 12 12 3) crown-witness (figures 1 4 3 unsettled) 1
+    ∷ found (counts 1 1 1 0 1) (at 0 0 ∷ []) (figures 0 1 1 witnessed) 0
+    ∷ found (load-refused 5) [] (search-refused 10) 0
+    ∷ found (counts 2 1 1 0 1) (at 0 0 ∷ []) (figures 0 1 1 witnessed) 0
+    ∷ found (load-refused 2) [] (search-refused 10) 0
+    ∷ found (counts 2 2 4 0 1) (at 1 1 ∷ []) (figures 0 1 1 witnessed) 0
+    ∷ found (counts 7 7 36 10 4) improves-witness (figures 17 5 4 unsettled) 7
+    ∷ found (counts 7 7 36 10 4) improves-witness (figures 20 5 4 unsettled) 4
+    ∷ found (counts 7 7 36 10 4) improves-witness (figures 45 5 5 searched) 0
+    ∷ []
+unfolding finding trials counts figures found at crown-witness improves-witness lowest-below
+edges = refl
+
+-- the worked example's whole book from the sheet's bytes
+worked-book : program-output worked [] ≡
+    ascii "roles,bound,state\n2,2,witnessed\n\nrole,rec,id,map\nR1,1,1,0\nR2,0,1,1\n\nuser,R1,R2\nann,1,0\nbo,0,1\ncy,1,1\n\nuser,permission\nann,rec\nbo,map\n"
+unfolding program-output printed program-buffer book-limit write-answer write-causes buffer-after worked lowest-below budget-of is-budget budget-limit after-load after-search searched-on session-book refusal sheet-of kernel-of start-of search book decimal
+worked-book = refl

@@ -1,0 +1,58 @@
+-- State, bound and roles on small sheets, computed from the definitions. Assumes nothing.
+-- Three users of whom the third holds all: the second role has the lowest grant (1,1), which is tied, so it is numbered after the first.
+use Rattle.spec.specs.Vocabulary.{ℕ, Bool, true, false, List, [], _∷_, lowest-below, list-of}
+use mathlib.Core.Path.{_≡_, refl}
+use Rattle.spec.specs.Text.{ascii}
+use Rattle.spec.specs.Sheet.{Sheet}
+use Rattle.spec.specs.Reduction.{reduction}
+use Rattle.spec.specs.RoleSet.{RoleSet}
+use Rattle.spec.specs.Roles.{Standing, witnessed, searched, unsettled, classes-of, standing-of, bound-of, roles-of}
+
+-- what four roles say with three or four witness grants, before and after the search is finished
+record Says : Type 0 where
+  standing : Standing
+  bound : ℕ
+
+says : ℕ → Bool → Says
+says w finished = record { standing = standing-of 4 w finished; bound = bound-of (standing-of 4 w finished) 4 w }
+
+standings : says 3 false ∷ says 3 true ∷ says 4 false ∷ says 4 true ∷ []
+    ≡ record { standing = unsettled; bound = 3 }
+    ∷ record { standing = searched; bound = 4 }
+    ∷ record { standing = witnessed; bound = 4 }
+    ∷ record { standing = witnessed; bound = 4 }
+    ∷ []
+unfolding says
+standings = refl
+
+-- the worked example's sheet; its kernel is empty, and so is the placement
+worked : Sheet
+worked =
+    record {
+      users = ascii "ann" ∷ ascii "bo" ∷ ascii "cy" ∷ [];
+      permissions = ascii "rec" ∷ ascii "id" ∷ ascii "map" ∷ [];
+      rows = (true ∷ true ∷ false ∷ []) ∷ (false ∷ true ∷ true ∷ []) ∷ (true ∷ true ∷ true ∷ []) ∷ [];
+    }
+
+-- a role set as two tables
+record Tables : Type 0 where
+  count : ℕ
+  has : List (List Bool)
+  gives : List (List Bool)
+
+tables : ℕ → ℕ → RoleSet → Tables
+tables users permissions roles =
+    record {
+      count = roles .count;
+      has = list-of users (λ u. list-of (roles .count) (roles .has u));
+      gives = list-of (roles .count) (λ r. list-of permissions (roles .gives r));
+    }
+
+worked-roles : tables 3 3 (roles-of worked [])
+    ≡ record {
+      count = 2;
+      has = (true ∷ false ∷ []) ∷ (false ∷ true ∷ []) ∷ (true ∷ true ∷ []) ∷ [];
+      gives = (true ∷ true ∷ false ∷ []) ∷ (false ∷ true ∷ true ∷ []) ∷ [];
+    }
+unfolding tables roles-of reduction classes-of worked lowest-below
+worked-roles = refl

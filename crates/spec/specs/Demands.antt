@@ -1,0 +1,118 @@
+-- The customer's three demands as statements. The numbers that they speak of stand here and in `Rules` and `Right` as the paper has them, and
+-- not by the names that the tests and the machine use. Assumes nothing.
+use Rattle.spec.specs.Vocabulary.{ℕ, _+_, _≤_, _≡_, _≢_, _⊎_, _↔_, So, none, some, List, [], _∷_, List·Memᴰ, length}
+use Rattle.spec.specs.Text.{Bytes}
+use Rattle.spec.specs.Sheet.{Sheet, sheet-of}
+use Rattle.spec.specs.Rules.{Keeps}
+use Rattle.spec.specs.Reduction.{kernel-size}
+use Rattle.spec.specs.RoleSet.{RoleSet, Multiplies}
+use Rattle.spec.specs.Roles.{witnessed, searched, unsettled}
+use Rattle.spec.specs.Book.{Said}
+use Rattle.spec.specs.Right.{Right}
+use Rattle.spec.specs.Session.{Session}
+use Rattle.spec.specs.Refusal.{Cause, sheet-causes, search-causes, write-causes, check-causes, accepted}
+use Rattle.spec.specs.Calls.{LoadAnswer, load-answer, load-refused, SearchAnswer, search-refused, WriteAnswer, write-refused, CheckAnswer, check, check-refused, confirmed, Loads, Searches, Writes, Checks}
+use Rattle.spec.specs.Sequence.{Call, load, search, write, WriteOutcome, Outcome, Event, Led, calls, last-accepted, budgets-given, enough, brought-out}
+
+-- number is the lowest of the causes that apply, and 0 exactly where none applies
+pub record LowestThatApplies (causes : List Cause) (number : ℕ) : Type 0 where
+  pub none-lower : (cause : Cause) → List·Memᴰ cause causes → So (cause .applies) → (number ≢ 0) × (number ≤ cause .number)
+  pub applies : number ≢ 0 → (cause : Cause) × List·Memᴰ cause causes × So (cause .applies) × (cause .number ≡ number)
+
+-- what a call owes whose answer has this number: it is the lowest that applies, and a refusal changes nothing
+pub record Judged (causes : List Cause) (number : ℕ) (Unchanged : Type 0) : Type 0 where
+  pub lowest : LowestThatApplies causes number
+  pub unchanged : number ≢ 0 → Unchanged
+
+-- demand 1: every sheet, budget, book and lent buffer, however wrong, gets a result or the lowest refusal number that applies,
+-- and a refusal returns that number and counts 0 and leaves the session and every lent byte untouched
+pub record Demand1 : Type 0 where
+  pub loads : (before after : Session) (text : Bytes) (answer : LoadAnswer) → Loads before text answer after
+      → Judged (sheet-causes text) (answer .number) ((answer ≡ load-refused (answer .number)) × (after ≡ before))
+  pub searches : (before after : Session) (budget : ℕ) (answer : SearchAnswer) → Searches before budget answer after
+      → Judged (search-causes before) (answer .number) ((answer ≡ search-refused (answer .number)) × (after ≡ before))
+  pub writes : (before after : Session) (buffer lent : Bytes) (answer : WriteAnswer) → Writes before buffer answer lent after
+      → Judged (write-causes before buffer) (answer .number)
+      ((answer ≡ write-refused (answer .number)) × (lent ≡ buffer) × (after ≡ before))
+  pub checks : (sheet book : Bytes) (answer : CheckAnswer) → Checks sheet book answer
+      → Judged (check-causes sheet book) (answer .number) (answer ≡ check-refused (answer .number))
+
+-- demand 2: a sheet is accepted exactly when it keeps the rules, and is then read as the sheet it is; the checker accepts a book,
+-- whoever wrote it, exactly when form, counts, product and witness are right, and answers its counts; and each book that a writing
+-- brings out is right for the sheet of the last accepted load: so its two matrices multiply to that sheet, cell for cell
+pub record Demand2 : Type 0 where
+  pub accepts-sheets : (text : Bytes) → (load-answer text .number ≡ 0) ↔ ((sheet : Sheet) × Keeps text sheet)
+  pub reads-sheets : (text : Bytes) (sheet : Sheet) → Keeps text sheet → sheet-of text ≡ sheet
+  pub accepts-books : (text book : Bytes)
+      → (check text book .number ≡ 0) ↔ ((sheet : Sheet) × (says : Said) × Keeps text sheet × Right sheet book says)
+  pub answers-counts : (text book : Bytes) (sheet : Sheet) (says : Said) → Keeps text sheet → Right sheet book says
+      → check text book ≡ confirmed says
+  pub own-books : (buffer : Bytes) (written : WriteOutcome) (earlier : List Event) (session : Session)
+      → Led (record { call = write buffer; outcome = written } ∷ earlier) session → written .answer .number ≡ 0
+      → (text : Bytes) × (says : Said) × (last-accepted (calls earlier) ≡ some text) × Right (sheet-of text) (brought-out written) says
+
+-- what every book owes that was brought out for the sheet of the last accepted load, through what it says
+pub record Believed (text book : Bytes) : Type 0 where
+  pub says : Said
+  -- form, counts, product and witness are right: the book is what is written where this is said, and it multiplies to the sheet
+  pub right : Right (sheet-of text) book says
+  -- every role set with that product has at least as many roles as the book's bound
+  pub bounded : (roles : RoleSet) → Multiplies roles (sheet-of text) → says .bound ≤ roles .count
+  -- where it says `witnessed` or `searched`, every such set has at least as many roles as the book
+  pub smallest : (says .standing ≡ witnessed) ⊎ (says .standing ≡ searched)
+      → (roles : RoleSet) → Multiplies roles (sheet-of text) → says .count ≤ roles .count
+  -- the checker accepts it
+  pub confirmed-by-check : check text book ≡ confirmed says
+
+-- a kernel of k grants is searched, and so much was given that the search of it must have ended
+pub record BudgetsSuffice (k given : ℕ) : Type 0 where
+  pub searchable : k ≤ 128
+  pub sufficient : enough k ≤ given
+
+-- what is owed of a book that an accepted writing brought out, after the earlier calls
+pub record BookOwed (book : Bytes) (earlier : List Call) : Type 0 where
+  -- the sheet of the last accepted load
+  pub text : Bytes
+  pub last : last-accepted earlier ≡ some text
+  pub believed : Believed text book
+  -- once the budgets since that load add up, no book says `open`
+  pub settled : BudgetsSuffice (kernel-size (sheet-of text)) (budgets-given earlier) → believed .says .standing ≢ unsettled
+
+-- what is owed of a load: it answers 0 exactly where its sheet is accepted
+abbrev pub LoadOwed : Bytes → LoadAnswer → Type 0
+LoadOwed text answer = (answer .number ≡ 0) ↔ So (accepted text)
+
+-- what is owed of a search, after the earlier calls
+pub record SearchOwed (budget : ℕ) (answer : SearchAnswer) (earlier : List Call) : Type 0 where
+  -- 10 with no accepted sheet, and no refusal otherwise
+  pub sheetless : last-accepted earlier ≡ none → answer ≡ search-refused 10
+  pub answered : (text : Bytes) → last-accepted earlier ≡ some text → answer .number ≡ 0
+  -- once the budgets since that load add up, the answering one included, no search answers `open`
+  pub settled : (text : Bytes) → last-accepted earlier ≡ some text
+      → BudgetsSuffice (kernel-size (sheet-of text)) (budget + budgets-given earlier) → answer .standing ≢ some unsettled
+
+-- what is owed of a writing, after the earlier calls
+pub record WriteOwed (buffer : Bytes) (written : WriteOutcome) (earlier : List Call) : Type 0 where
+  -- 10 with no accepted sheet, and no refusal otherwise of a buffer of as many bytes as the checker takes
+  pub sheetless : last-accepted earlier ≡ none → written .answer ≡ write-refused 10
+  pub answered : (text : Bytes) → last-accepted earlier ≡ some text → 65_536 ≤ length buffer → written .answer .number ≡ 0
+  pub book : written .answer .number ≡ 0 → BookOwed (brought-out written) earlier
+
+-- what is owed of one outcome, after the earlier calls
+abbrev pub Owed : (call : Call) → Outcome call → List Call → Type 0
+Owed (load text) answer earlier = LoadOwed text answer
+Owed (search budget) answer earlier = SearchOwed budget answer earlier
+Owed (write buffer) written earlier = WriteOwed buffer written earlier
+
+-- what is owed of all outcomes of a sequence
+abbrev pub OwedOfAll : List Event → Type 0
+OwedOfAll [] = Unit {0}
+OwedOfAll (event ∷ earlier) = Owed (event .call) (event .outcome) (calls earlier) × OwedOfAll earlier
+
+-- demand 3: one claim about every sequence of loads, searches and writings on one session, refused ones included, from a fresh session
+abbrev pub Demand3 : Type 0
+Demand3 = (events : List Event) (session : Session) → Led events session → OwedOfAll events
+
+-- and no sequence is left out: whatever the calls are, there are events and a session to which they led with exactly those calls
+abbrev pub EverySequenceHappens : Type 0
+EverySequenceHappens = (made : List Call) → (events : List Event) × (session : Session) × Led events session × (calls events ≡ made)

@@ -1,0 +1,40 @@
+-- What must be believed: document 01 as definitions, in its order, and the three demands. There is no law here, and nothing about how the code
+-- holds its data. Who reads these files and document 01 side by side, and trusts the toolchain, needs to read nothing else.
+
+-- what sentences are said with
+pub mod Vocabulary
+-- every limit, once
+pub mod Limits
+-- "The sheet": its text, what it says, its rules
+pub mod Text
+pub mod Sheet
+pub mod Rules
+-- "Fitting"
+pub mod Fit
+-- "Reduction"
+pub mod Reduction
+-- "Witness"
+pub mod Witness
+-- "First cover"
+pub mod Cover
+-- "The search machine"
+pub mod Machine
+-- "Roles and state": any role set and its product; classes, roles, state and bound
+pub mod RoleSet
+pub mod Roles
+-- "The book": counts in decimal; what a book says and its bytes
+pub mod Decimal
+pub mod Book
+-- "The checker": the form, and what a book of the form says; what makes a book right
+pub mod Form
+pub mod Right
+-- "Refused, and how": a session, the causes, the calls with their answers, and the book program
+pub mod Session
+pub mod Refusal
+pub mod Calls
+pub mod Program
+-- "The sequence of demand 3", and the demands
+pub mod Sequence
+pub mod Demands
+-- "Around the edges": the paper's cases, computed
+pub mod Cases

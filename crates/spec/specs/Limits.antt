@@ -1,0 +1,40 @@
+-- The limits of document 01. Each stands here once, for all tests and for the machine; the rules and the demands say their numbers themselves
+-- and do not share these names, so that a limit set wrong here is no longer what the demands ask. Assumes nothing.
+use Rattle.spec.specs.Vocabulary.{ℕ}
+
+-- the bytes of a sheet
+unfoldable pub sheet-limit : ℕ
+sheet-limit = 40_960
+
+-- the permissions of a sheet
+unfoldable pub permission-limit : ℕ
+permission-limit = 64
+
+-- the users of a sheet
+unfoldable pub user-limit : ℕ
+user-limit = 256
+
+-- the bytes of a name
+unfoldable pub name-limit : ℕ
+name-limit = 16
+
+-- the grants of a sheet
+unfoldable pub grant-limit : ℕ
+grant-limit = 2_048
+
+-- the greatest kernel that is searched
+unfoldable pub search-limit : ℕ
+search-limit = 128
+
+-- the greatest budget
+unfoldable pub budget-limit : ℕ
+budget-limit = 4_294_967_295
+
+-- the roles of a book: as many as a sheet has permissions, since no cover needs more
+unfoldable pub role-limit : ℕ
+unfolding permission-limit
+role-limit = permission-limit
+
+-- the bytes of a book that the checker takes
+unfoldable pub book-limit : ℕ
+book-limit = 65_536

@@ -1,0 +1,163 @@
+-- "Refused, and how": the causes of the paper's table, and the lowest number that applies. Each cause is judged on the whole by itself.
+-- Assumes nothing.
+use Rattle.spec.specs.Vocabulary.{ℕ, suc, Bool, true, false, _&&_, _||_, not, Bool·beq, List, [], _∷_, _++_, tail, eqb, ltb, length, every-below, empty, any, all, repeats}
+use Rattle.spec.specs.Limits.{sheet-limit, permission-limit, user-limit, name-limit, grant-limit, book-limit}
+use Rattle.spec.specs.Text.{Bytes, Line, ascii, same-bytes, between, last-byte, line-feed, allowed-byte, same-name, lines-of}
+use Rattle.spec.specs.Sheet.{Sheet, Grant, first-field, first-line, is-bit, sheet-of, user-count, permission-count, holds, held, grants}
+use Rattle.spec.specs.Fit.{fits}
+use Rattle.spec.specs.RoleSet.{RoleSet, product}
+use Rattle.spec.specs.Roles.{Standing, witnessed, searched, unsettled}
+use Rattle.spec.specs.Book.{Said}
+use Rattle.spec.specs.Form.{form, said}
+use Rattle.spec.specs.Session.{Session, no-sheet, loaded, session-book}
+
+-- a cause of the paper's table: its number, and whether it applies
+pub record Cause : Type 0 where
+  pub number : ℕ
+  pub applies : Bool
+
+-- the number, where the cause applies, else what comes later
+abbrev pub refuse-if : Bool → ℕ → ℕ → ℕ
+refuse-if true number later = number
+refuse-if false number later = later
+
+-- the number of the first cause that applies, and 0 where none does: with rising numbers, the lowest
+abbrev pub first-number : List Cause → ℕ
+first-number [] = 0
+first-number (cause ∷ later) = refuse-if (cause .applies) (cause .number) (first-number later)
+
+-- 1: sheet above 40,960 bytes
+unfoldable pub too-long : Bytes → Bool
+unfolding sheet-limit
+too-long text = ltb sheet-limit (length text)
+
+-- 2: empty, last byte no line feed, or byte not allowed
+unfoldable pub bad-bytes : Bytes → Bool
+unfolding allowed-byte
+bad-bytes text = empty text || not (eqb (last-byte text) line-feed) || not (all allowed-byte text)
+
+-- 3: first field not `user`, or first line not of 2 to 65 fields
+unfoldable pub bad-first-line : List Line → Bool
+unfolding permission-limit
+bad-first-line lines =
+    not
+    (same-bytes (first-field (first-line lines)) (ascii "user")
+    && between 2 (suc permission-limit) (length (first-line lines)))
+
+-- 4: user lines not 1 to 256
+unfoldable pub bad-line-count : List Line → Bool
+unfolding user-limit
+bad-line-count lines = not (between 1 user-limit (length (tail lines)))
+
+-- a name is of 1 to 16 bytes
+unfoldable pub has-name-length : Bytes → Bool
+unfolding name-limit
+has-name-length name = between 1 name-limit (length name)
+
+-- 5: name not of 1 to 16 bytes
+unfoldable pub bad-name : Sheet → Bool
+unfolding has-name-length
+bad-name sheet = not (all has-name-length (sheet .permissions) && all has-name-length (sheet .users))
+
+-- 6: line with another field count than the first
+unfoldable pub uneven-line : List Line → Bool
+uneven-line lines = not (all (λ line. eqb (length line) (length (first-line lines))) (tail lines))
+
+-- 7: field after a user name not `0` or `1`
+unfoldable pub bad-cell : List Line → Bool
+bad-cell lines = not (all (λ line. all is-bit (tail line)) (tail lines))
+
+-- 8: two users or two permissions of one name; a user and a permission may share one
+unfoldable pub name-twice : Sheet → Bool
+name-twice sheet = repeats same-name (sheet .users) || repeats same-name (sheet .permissions)
+
+-- 9: above 2,048 grants
+unfoldable pub too-many-grants : Sheet → Bool
+unfolding grant-limit
+too-many-grants sheet = ltb grant-limit (length (grants sheet))
+
+-- the causes for which a sheet is refused
+unfoldable pub sheet-causes : Bytes → List Cause
+unfolding too-long bad-bytes bad-first-line bad-line-count bad-name uneven-line bad-cell name-twice too-many-grants sheet-of
+sheet-causes text =
+    let lines : List Line = lines-of text in
+    let sheet : Sheet = sheet-of text in
+    record { number = 1; applies = too-long text }
+    ∷ record { number = 2; applies = bad-bytes text }
+    ∷ record { number = 3; applies = bad-first-line lines }
+    ∷ record { number = 4; applies = bad-line-count lines }
+    ∷ record { number = 5; applies = bad-name sheet }
+    ∷ record { number = 6; applies = uneven-line lines }
+    ∷ record { number = 7; applies = bad-cell lines }
+    ∷ record { number = 8; applies = name-twice sheet }
+    ∷ record { number = 9; applies = too-many-grants sheet }
+    ∷ []
+
+-- the lowest number of 1 to 9 that applies to the sheet, and 0 where none does
+unfoldable pub refusal : Bytes → ℕ
+unfolding sheet-causes
+refusal text = first-number (sheet-causes text)
+
+-- a sheet is accepted exactly when none of 1 to 9 applies
+abbrev pub accepted : Bytes → Bool
+accepted text = eqb (refusal text) 0
+
+-- 10: search or book with no accepted sheet
+abbrev pub lacks-sheet : Session → Bool
+lacks-sheet no-sheet = true
+lacks-sheet (loaded text st) = false
+
+abbrev pub search-causes : Session → List Cause
+search-causes session = record { number = 10; applies = lacks-sheet session } ∷ []
+
+-- 11: buffer shorter than the book
+unfoldable pub write-causes : Session → Bytes → List Cause
+write-causes session buffer =
+    record { number = 10; applies = lacks-sheet session }
+    ∷ record { number = 11; applies = ltb (length buffer) (length (session-book session)) }
+    ∷ []
+
+-- `witnessed`, bound = roles = witness lines; `searched`, bound = roles, fewer witness lines; `open`, bound = witness lines, fewer than roles
+abbrev pub bound-agrees : Standing → ℕ → ℕ → ℕ → Bool
+bound-agrees witnessed bound roles lines = eqb bound roles && eqb roles lines
+bound-agrees searched bound roles lines = eqb bound roles && ltb lines roles
+bound-agrees unsettled bound roles lines = eqb bound lines && ltb lines roles
+
+-- 13 applies where they do not: counts agree if roles is the number of role lines, and the bound agrees with the state
+unfoldable pub counts-agree : Said → Bool
+counts-agree says =
+    eqb (says .count) (says .roles .count)
+    && bound-agrees (says .standing) (says .bound) (says .roles .count) (length (says .witness))
+
+-- 14 where it is not: the product is the sheet at every cell
+unfoldable pub product-agrees : Sheet → RoleSet → Bool
+unfolding product
+product-agrees sheet roles =
+    every-below (user-count sheet) (λ u.
+    every-below (permission-count sheet) (λ p. Bool·beq (product roles u p) (holds sheet u p)))
+
+-- two on different lines fit, the same one twice included
+abbrev pub some-fit : Sheet → List Grant → Bool
+some-fit sheet [] = false
+some-fit sheet (g ∷ later) = any (fits sheet g) later || some-fit sheet later
+
+-- 15 where this fails: every witness grant is held, and no two on different lines fit
+unfoldable pub witness-agrees : Sheet → List Grant → Bool
+witness-agrees sheet grants = all (held sheet) grants && not (some-fit sheet grants)
+
+-- 12: book above 65,536 bytes or not of the form, or a witness name unknown; 13: counts disagree; 14: product is not the sheet;
+-- 15: witness grant not held, or two on different lines fit (the same one twice included)
+unfoldable pub book-causes : Sheet → Bytes → List Cause
+unfolding book-limit form said counts-agree product-agrees witness-agrees
+book-causes sheet text =
+    let says : Said = said sheet text in
+    record { number = 12; applies = ltb book-limit (length text) || not (form sheet text) }
+    ∷ record { number = 13; applies = not (counts-agree says) }
+    ∷ record { number = 14; applies = not (product-agrees sheet (says .roles)) }
+    ∷ record { number = 15; applies = not (witness-agrees sheet (says .witness)) }
+    ∷ []
+
+-- the checker judges the sheet by 1 to 9 first
+unfoldable pub check-causes : Bytes → Bytes → List Cause
+unfolding sheet-causes book-causes sheet-of
+check-causes sheet book = sheet-causes sheet ++ book-causes (sheet-of sheet) book

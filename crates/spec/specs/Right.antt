@@ -1,0 +1,40 @@
+-- "The checker", what makes a book right, from what a book says to its bytes: no reading is involved, and no test. Assumes nothing.
+use Rattle.spec.specs.Vocabulary.{ℕ, _≤_, _<_, _≡_, false, So, List, List·Memᴰ, length}
+use Rattle.spec.specs.Text.{Bytes}
+use Rattle.spec.specs.Sheet.{Sheet, Grant, user-count, permission-count, held}
+use Rattle.spec.specs.Fit.{fits}
+use Rattle.spec.specs.Cover.{grant-at}
+use Rattle.spec.specs.RoleSet.{Multiplies}
+use Rattle.spec.specs.Roles.{Standing, witnessed, searched, unsettled}
+use Rattle.spec.specs.Book.{Said, book-text}
+
+-- form: these bytes are what the book says of the sheet, in the book's form
+pub record OfForm (sheet : Sheet) (text : Bytes) (says : Said) : Type 0 where
+  pub written : text ≡ book-text sheet says
+  pub short : length text ≤ 65_536
+  pub few-roles : says .roles .count ≤ 64
+  pub known-users : (g : Grant) → List·Memᴰ g (says .witness) → g .user < user-count sheet
+  pub known-permissions : (g : Grant) → List·Memᴰ g (says .witness) → g .permission < permission-count sheet
+
+-- `witnessed`, bound = roles = witness lines; `searched`, bound = roles, fewer witness lines; `open`, bound = witness lines, fewer than roles
+abbrev pub BoundAgrees : Standing → ℕ → ℕ → ℕ → Type 0
+BoundAgrees witnessed bound roles lines = (bound ≡ roles) × (roles ≡ lines)
+BoundAgrees searched bound roles lines = (bound ≡ roles) × (lines < roles)
+BoundAgrees unsettled bound roles lines = (bound ≡ lines) × (lines < roles)
+
+-- counts: roles is the number of role lines, and the bound agrees with the state
+pub record CountsAgree (says : Said) : Type 0 where
+  pub roles : says .count ≡ says .roles .count
+  pub bound : BoundAgrees (says .standing) (says .bound) (says .roles .count) (length (says .witness))
+
+-- witness: every grant of it is held, and no two on different lines fit
+pub record WitnessStands (sheet : Sheet) (witness : List Grant) : Type 0 where
+  pub all-held : (g : Grant) → List·Memᴰ g witness → So (held sheet g)
+  pub none-fit : (i j : ℕ) → i < j → j < length witness → fits sheet (grant-at witness i) (grant-at witness j) ≡ false
+
+-- form, counts, product and witness are right
+pub record Right (sheet : Sheet) (text : Bytes) (says : Said) : Type 0 where
+  pub of-form : OfForm sheet text says
+  pub counts : CountsAgree says
+  pub product : Multiplies (says .roles) sheet
+  pub witness : WitnessStands sheet (says .witness)

@@ -1,0 +1,76 @@
+-- "The sequence of demand 3": sequences of calls on one session from a fresh one, the last accepted load, the budgets given and those that are
+-- enough, and the books brought out. Assumes nothing.
+use Rattle.spec.specs.Vocabulary.{ℕ, zero, suc, _+_, _*_, _≡_, cond, Option, none, some, List, [], _∷_, map, take}
+use Rattle.spec.specs.Text.{Bytes}
+use Rattle.spec.specs.Session.{Session, fresh}
+use Rattle.spec.specs.Refusal.{accepted}
+use Rattle.spec.specs.Calls.{LoadAnswer, SearchAnswer, WriteAnswer, Loads, Searches, Writes}
+
+-- a load brings its own sheet, a search its budget, a writing its own buffer; a check has no session and changes nothing between any two
+pub data Call : Type 0 where
+  load : Bytes → Call
+  search : ℕ → Call
+  write : Bytes → Call
+
+-- what a writing gives back: its answer and the lent buffer
+pub record WriteOutcome : Type 0 where
+  pub answer : WriteAnswer
+  pub lent : Bytes
+
+-- what a call gives back
+abbrev pub Outcome : Call → Type 0
+Outcome (load text) = LoadAnswer
+Outcome (search budget) = SearchAnswer
+Outcome (write buffer) = WriteOutcome
+
+-- a call that was made, with what it gave back
+pub record Event : Type 0 where
+  pub call : Call
+  pub outcome : Outcome call
+
+-- a call took the session from before to after, with this outcome, as the call promises
+abbrev pub Happens : (call : Call) → Outcome call → Session → Session → Type 0
+Happens (load text) answer before after = Loads before text answer after
+Happens (search budget) answer before after = Searches before budget answer after
+Happens (write buffer) written before after = Writes before buffer (written .answer) (written .lent) after
+
+-- the events, the latest first, that led from a fresh session to this one: each call got the session as the call before left it
+abbrev pub Led : List Event → Session → Type 0
+Led [] session = session ≡ fresh
+Led (event ∷ earlier) session = (before : Session) × Led earlier before × Happens (event .call) (event .outcome) before session
+
+-- the calls of some events
+abbrev pub calls : List Event → List Call
+calls events = map (λ event. event .call) events
+
+-- the sheet of the last accepted load, found from the calls alone, the latest first
+abbrev pub last-accepted : List Call → Option Bytes
+last-accepted [] = none
+last-accepted (load text ∷ earlier) = cond (accepted text) (some text) (last-accepted earlier)
+last-accepted (search budget ∷ earlier) = last-accepted earlier
+last-accepted (write buffer ∷ earlier) = last-accepted earlier
+
+-- the budgets of the searches since the last accepted load, each counted whole
+abbrev pub budgets-given : List Call → ℕ
+budgets-given [] = 0
+budgets-given (load text ∷ earlier) = cond (accepted text) 0 (budgets-given earlier)
+budgets-given (search budget ∷ earlier) = budget + budgets-given earlier
+budgets-given (write buffer ∷ earlier) = budgets-given earlier
+
+-- 1 · 2 · .. · n
+abbrev pub factorial : ℕ → ℕ
+factorial zero = 1
+factorial (suc n) = suc n * factorial n
+
+-- 1! + 2! + .. + n!
+abbrev pub factorials : ℕ → ℕ
+factorials zero = 0
+factorials (suc n) = factorials n + factorial (suc n)
+
+-- budgets that must end the search of a kernel of k grants: 2·(1!+2!+..+k!)+1
+abbrev pub enough : ℕ → ℕ
+enough k = 2 * factorials k + 1
+
+-- the book that an accepted writing brought out: the bytes at the front of its buffer, as many as it answers
+abbrev pub brought-out : WriteOutcome → Bytes
+brought-out written = take (written .answer .count) (written .lent)

@@ -1,0 +1,1 @@
+// Definitions alone: what a reader must believe stands in specs/.
