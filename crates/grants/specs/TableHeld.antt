@@ -5,15 +5,15 @@ use mathlib.Core.List.{List}
 use Rattle.bits.specs.Bit.{word-bits}
 use Rattle.grants.specs.TableWords.{FirstBits}
 use Rattle.grants.specs.TableParts.{permission-held}
-use Rattle.grants.specs.declared.table.HeldCells.{HeldCells}
+use Rattle.grants.specs.declared.table.HolderCells.{HolderCells}
 
 -- the cells of both words are those whose permissions this user holds
-pub record HeldBy (rows cells : List ℕ) (user : ℕ) (h : HeldCells) : Type 0 where
+pub record HeldBy (rows cells : List ℕ) (user : ℕ) (h : HolderCells) : Type 0 where
   pub owner : h .user ≡ user
   pub low : FirstBits (permission-held rows cells 0 user) word-bits (h .low)
   pub high : FirstBits (permission-held rows cells word-bits user) word-bits (h .high)
 
-module _ {rows cells : List ℕ} {user : ℕ} {h : HeldCells} (held : HeldBy rows cells user h) where
+module _ {rows cells : List ℕ} {user : ℕ} {h : HolderCells} (held : HeldBy rows cells user h) where
   pub same-user : {other : ℕ} → user ≡ other → HeldBy rows cells other h
   same-user e = rw e at held
 

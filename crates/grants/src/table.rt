@@ -109,19 +109,19 @@ fn columns<'a>(rows: &'a [u64], cells: &'a [u16], from: usize, some: u64) -> [u6
 }
 
 // A user, and the cells whose permissions the user holds, in two words.
-struct HeldCells {
+struct HolderCells {
     user: usize,
     low: u64,
     high: u64,
 }
 
 // The user of a cell, and the cells whose permissions that user holds.
-fn held_by<'a>(rows: &'a [u64], cells: &'a [u16], it: u16) -> HeldCells
+fn held_by<'a>(rows: &'a [u64], cells: &'a [u16], it: u16) -> HolderCells
     ensures { λ r. ⌜ HeldBy (now (rows .entry)) (now (cells .entry)) (it / row-bits) r ⌝ }
 {
     let low = held_word(rows, cells, 0, it);
     let high = held_word(rows, cells, WORD_BITS, it);
-    HeldCells {
+    HolderCells {
         user: user_of(it).0,
         low,
         high,
@@ -129,7 +129,7 @@ fn held_by<'a>(rows: &'a [u64], cells: &'a [u16], it: u16) -> HeldCells
 }
 
 // The same, where they may have been found already.
-fn held_again<'a>(last: HeldCells, rows: &'a [u64], cells: &'a [u16], it: u16) -> HeldCells
+fn held_again<'a>(last: HolderCells, rows: &'a [u64], cells: &'a [u16], it: u16) -> HolderCells
     requires { ⌜ HeldBy (now rows) (now cells) (last .user) last ⌝ }
     ensures { λ r. ⌜ HeldBy (now (rows .entry)) (now (cells .entry)) (it / row-bits) r ⌝ }
 {
