@@ -78,6 +78,7 @@ unsafe extern "C" {
 
 /// `porvuund_fresh` as it is called on x86-64, with the place for the session that it hands back as its argument: so the
 /// caller can see which bytes of that place the library writes.
+#[allow(clashing_extern_declarations)]
 mod into_place {
     unsafe extern "C" {
         #[link_name = "porvuund_fresh"]

@@ -15,7 +15,10 @@ use trials::tally::Tally;
 fn a_session_has_the_size_that_the_library_gives_it() {
     with_room(|| {
         let (declared, given) = session_bytes();
-        assert_eq!(declared, given, "the structs of compare/src/library/session.rs are not those of the library");
+        assert_eq!(
+            declared, given,
+            "the structs of compare/src/library/session.rs are not those of the library"
+        );
     });
 }
 
