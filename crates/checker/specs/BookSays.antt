@@ -15,7 +15,7 @@ use Rattle.spec.specs.Roles.{Standing, witnessed, searched, unsettled}
 use Rattle.spec.specs.Book.{Said}
 use Rattle.spec.specs.Right.{BoundAgrees}
 use Rattle.spec.specs.Refusal.{bound-agrees, counts-agree, product-agrees, witness-agrees}
-use Rattle.spec.specs.Calls.{CheckAnswer, check-refused, confirmed}
+use Rattle.spec.specs.Calls.{CheckAnswer, check-refused, check-counts}
 use Rattle.lists.specs.EachLaws.{Each}
 use Rattle.sheet.specs.Rows.{row-words, row-bits, cell, RowsOf}
 use Rattle.sheet.specs.AcceptedFacts.{Lawful}
@@ -105,7 +105,7 @@ module _ {sheet : Sheet} {counts : Counts} {roles : ℕ} {has gives : List ℕ} 
       )
 
   -- the counts that were read are those of what is said
-  pub confirmed-as : record { number = 0; roles = roles; witness-lines = w .lines } ≡ confirmed says
+  pub confirmed-as : record { number = 0; roles = roles; witness-lines = w .lines } ≡ check-counts says
   confirmed-as = rw (role-count, s .collects .counted)
 
   -- ---- the product and the witness
@@ -137,5 +137,5 @@ module _ (sheet : Sheet) (says : Said) where
   judged-15 e f g = rw (e, f, g)
 
   pub judged-right : So (counts-agree says) → So (product-agrees sheet (says .roles)) → So (witness-agrees sheet (says .witness))
-      → confirmed says ≡ answered (judged-number sheet says) says
+      → check-counts says ≡ answered (judged-number sheet says) says
   judged-right e f g = rw (e, f, g)

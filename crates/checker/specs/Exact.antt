@@ -15,7 +15,7 @@ use Rattle.spec.specs.Book.{Said}
 use Rattle.spec.specs.Form.{said}
 use Rattle.spec.specs.Right.{OfForm, Right}
 use Rattle.spec.specs.Refusal.{refusal, accepted, counts-agree}
-use Rattle.spec.specs.Calls.{confirmed, check}
+use Rattle.spec.specs.Calls.{check-counts, check}
 use Rattle.bits.specs.BelowLaws.{some-below-ext}
 use Rattle.sheet.specs.Accepted.{accepted-keeps, accepts-sheets, reads-sheets}
 use Rattle.checker.specs.NameLaws.{GoodSheet, good-names}
@@ -93,7 +93,7 @@ right-passes sheet good text says r =
 -- ---- the checker's answer
 
 confirmed-same : (read written : Said) → read .roles .count ≡ written .roles .count → length (read .witness) ≡ length (written .witness)
-    → confirmed read ≡ confirmed written
+    → check-counts read ≡ check-counts written
 confirmed-same read written e f = rw (e, f)
 
 -- the names of a sheet that keeps the rules are such as a book can hold
@@ -123,7 +123,7 @@ module _ (text book : Bytes) (sheet : Sheet) (says : Said) (kept : Keeps text sh
       })
 
   -- and answers its counts
-  pub answers-counts : check text book ≡ confirmed says
+  pub answers-counts : check text book ≡ check-counts says
   answers-counts =
       check-confirms text book right-is-accepted
       ∙ confirmed-same (said (sheet-of text) book) says (says-as-read .roles) (ap length (says-as-read .witness))

@@ -15,7 +15,7 @@ use Rattle.spec.specs.RoleSet.{product}
 use Rattle.spec.specs.Book.{Said, book-text}
 use Rattle.spec.specs.Form.{form, said}
 use Rattle.spec.specs.Refusal.{Cause, refuse-if, first-number, sheet-causes, refusal, counts-agree, product-agrees, witness-agrees, book-causes, check-causes}
-use Rattle.spec.specs.Calls.{CheckAnswer, check-refused, confirmed, check}
+use Rattle.spec.specs.Calls.{CheckAnswer, check-refused, check-counts, check}
 use Rattle.bits.specs.Truth.{fails-unless, or-left, or-right, not-passes}
 use Rattle.bits.specs.BelowLaws.{every-below-ext}
 use Rattle.sheet.specs.CauseLaws.{NoneApplies, zero-none-applies, sheet-causes-rise}
@@ -34,7 +34,7 @@ judged-number sheet says =
 
 -- the answer of a number: the counts, where it is 0, else the number alone
 abbrev pub answered : ℕ → Said → CheckAnswer
-answered number says = cond (eqb number 0) (confirmed says) (check-refused number)
+answered number says = cond (eqb number 0) (check-counts says) (check-refused number)
 
 -- ---- the sheet first
 

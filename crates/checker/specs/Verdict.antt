@@ -14,7 +14,7 @@ use Rattle.spec.specs.Sheet.{Sheet, sheet-of}
 use Rattle.spec.specs.Book.{Said}
 use Rattle.spec.specs.Form.{form, said}
 use Rattle.spec.specs.Refusal.{Cause, first-number, sheet-causes, refusal, counts-agree, product-agrees, witness-agrees, book-causes, check-causes}
-use Rattle.spec.specs.Calls.{CheckAnswer, check-refused, confirmed, check}
+use Rattle.spec.specs.Calls.{CheckAnswer, check-refused, check-counts, check}
 use Rattle.bits.specs.Truth.{or-fails, or-fails-left, or-fails-right}
 use Rattle.sheet.specs.CauseLaws.{rising, NoneApplies, zero-none-applies, none-applies-zero, sheet-causes-rise}
 
@@ -66,13 +66,13 @@ check-causes-rise text book = refl
 
 -- the answer of a number: the counts, where it is 0, else the number alone
 answered : ℕ → Said → CheckAnswer
-answered number book = cond (eqb number 0) (confirmed book) (check-refused number)
+answered number book = cond (eqb number 0) (check-counts book) (check-refused number)
 
 answered-number : (number : ℕ) (book : Said) → answered number book .number ≡ number
 unfolding answered
 answered-number number book = choose (eqb number 0) refl
   where
-    choose : (t : Bool) → eqb number 0 ≡ t → cond t (confirmed book) (check-refused number) .number ≡ number
+    choose : (t : Bool) → eqb number 0 ≡ t → cond t (check-counts book) (check-refused number) .number ≡ number
     choose true e = sym (eqb-true number 0 e)
     choose false e = refl
 
@@ -89,7 +89,7 @@ check-refuses text book h =
     rw n (rw (ne-eqb (first-number (check-causes text book)) 0 (λ e. h (n ∙ e))))
 
 -- with no number above 0 the counts that were read are returned
-pub check-confirms : (text book : Bytes) → check text book .number ≡ 0 → check text book ≡ confirmed (said (sheet-of text) book)
+pub check-confirms : (text book : Bytes) → check text book .number ≡ 0 → check text book ≡ check-counts (said (sheet-of text) book)
 unfolding check
 check-confirms text book e = rw (eq-eqb (first-number (check-causes text book)) 0 (sym (check-number text book) ∙ e))
 

@@ -47,7 +47,7 @@ whole-book session buffer z = choose (eqb number 0) refl z
 untouched : (session : Session) (buffer : Bytes) → write-answer session buffer .number ≢ 0 → buffer-after session buffer ≡ buffer
 untouched session buffer refuses =
     demand-1 .writes session session buffer (buffer-after session buffer) (write-answer session buffer)
-    (record { answers = refl; fills = refl; leaves = refl }) .unchanged refuses .1
+    (record { answers = refl; fills = refl; leaves = refl }) .refused refuses .1
 
 -- ---- what is printed of a writing
 

@@ -12,7 +12,7 @@ use Rattle.spec.specs.Roles.{Standing, witnessed, searched, unsettled}
 use Rattle.spec.specs.Book.{Said}
 use Rattle.spec.specs.Form.{said}
 use Rattle.spec.specs.Right.{BoundAgrees, Right}
-use Rattle.spec.specs.Calls.{check, confirmed}
+use Rattle.spec.specs.Calls.{check, check-counts}
 use Rattle.sheet.specs.GrantLaws.{held-grant}
 use Rattle.sheet.specs.Accepted.{accepted-keeps}
 use Rattle.checker.specs.Exact.{sheet-accepted, reads-books}
@@ -26,7 +26,7 @@ pub record Guaranteed (sheet : Bytes) (book : Bytes) : Type 0 where
   -- form, counts, product and witness are right
   pub right : Right (sheet-of sheet) book says
   -- the answer is the number of roles and of witness lines
-  pub counted : check sheet book ≡ confirmed says
+  pub counted : check sheet book ≡ check-counts says
   -- every role set has at least as many roles as there are witness lines
   pub bounded : (roles : RoleSet) → Multiplies roles (sheet-of sheet) → length (says .witness) ≤ roles .count
   -- a `witnessed` book is smallest

@@ -79,4 +79,4 @@ code-led (made ∷ earlier) s led = (
 
 -- demand 3 of the code
 pub code-demand-3 : (made : List Made) (s : CodeSession) → CodeLed made s → OwedOfAll (map event-of made)
-code-demand-3 made s led = demand-3 (map event-of made) (view s) (code-led made s led)
+code-demand-3 made s led = demand-3 .owed (map event-of made) (view s) (code-led made s led)

@@ -1,4 +1,4 @@
--- Demand 1. Each call's number is the first of its causes that applies, whose numbers rise, so it is the lowest; and where it is not 0,
+-- Demand 1. Each call has an answer on every session. Its number is the first of its causes that applies, whose numbers rise, so it is the lowest; and where it is not 0,
 -- the call's definition takes the branch that returns the number alone and changes nothing.
 use Prim.Native.Nat.{ℕ}
 use mathlib.Core.Path.{_≡_, refl, sym, ap, _∙_}
@@ -14,6 +14,7 @@ use Rattle.spec.specs.Calls.{CheckAnswer, check, check-refused, Checks, LoadAns
 use Rattle.spec.specs.Demands.{LowestThatApplies, Judged, Demand1}
 use Rattle.bits.specs.Truth.{passes-or-fails}
 use Rattle.sheet.specs.CauseLaws.{rising, none-lower, some-applies, sheet-causes-rise}
+use Rattle.session.specs.EverySequence.{outcome-on, session-next, happens-on}
 
 -- the first of rising causes is the lowest that applies
 first-is-lowest : (causes : List Cause) → So (rising 0 causes) → LowestThatApplies causes (first-number causes)
@@ -22,7 +23,7 @@ first-is-lowest causes r = record { none-lower = none-lower causes r; applies = 
 -- a call whose number is the first of its causes, and which changes nothing where that is not 0
 judged : (causes : List Cause) (number : ℕ) (Unchanged : Type 0) → So (rising 0 causes) → number ≡ first-number causes
     → (first-number causes ≢ 0 → Unchanged) → Judged causes number Unchanged
-judged causes number Unchanged r e h = record { lowest = rw e (first-is-lowest causes r); unchanged = λ n. h (λ z. n (e ∙ z)) }
+judged causes number Unchanged r e h = record { lowest = rw e (first-is-lowest causes r); refused = λ n. h (λ z. n (e ∙ z)) }
 
 -- a load's number is its refusal's
 pub load-number-is-refusal : (text : Bytes) → load-answer text .number ≡ refusal text
@@ -125,4 +126,12 @@ checks-judged sheet book answer h =
     h .answers ∙ (refused-check sheet book n ∙ ap check-refused (sym number)))
 
 pub demand-1 : Demand1
-demand-1 = record { loads = loads-judged; searches = searches-judged; writes = writes-judged; checks = checks-judged }
+demand-1 =
+    record {
+      answered = λ call before. (outcome-on before call, session-next before call, happens-on before call);
+      checked = λ sheet-bytes book-bytes. (check sheet-bytes book-bytes, record { answers = refl });
+      loads = loads-judged;
+      searches = searches-judged;
+      writes = writes-judged;
+      checks = checks-judged;
+    }

@@ -22,6 +22,6 @@ demand-2 =
       accepts-books = accepts-books;
       answers-counts = answers-counts;
       own-books = λ buffer written earlier session led e.
-          let owed = demand-3 (record { call = write buffer; outcome = written } ∷ earlier) session led .0 .book e in
+          let owed = demand-3 .owed (record { call = write buffer; outcome = written } ∷ earlier) session led .0 .book e in
           (owed .text, owed .believed .says, owed .last, owed .believed .right);
     }

@@ -4,20 +4,19 @@ use mathlib.Core.List.{List, [], _∷_}
 use Rattle.spec.specs.Session.{Session, fresh}
 use Rattle.spec.specs.Calls.{load-answer, after-load, search-answer, after-search, write-answer, buffer-after}
 use Rattle.spec.specs.Sequence.{Call, load, search, write, Outcome, Event, Happens, Led, calls}
-use Rattle.spec.specs.Demands.{EverySequenceHappens}
 
 -- what a call gives back on a session, and the session after it
-abbrev outcome-on : Session → (call : Call) → Outcome call
+abbrev pub outcome-on : Session → (call : Call) → Outcome call
 outcome-on before (load text) = load-answer text
 outcome-on before (search budget) = search-answer before budget
 outcome-on before (write buffer) = record { answer = write-answer before buffer; lent = buffer-after before buffer }
 
-abbrev session-next : Session → Call → Session
+abbrev pub session-next : Session → Call → Session
 session-next before (load text) = after-load before text
 session-next before (search budget) = after-search before budget
 session-next before (write buffer) = before
 
-happens-on : (before : Session) (call : Call) → Happens call (outcome-on before call) before (session-next before call)
+pub happens-on : (before : Session) (call : Call) → Happens call (outcome-on before call) before (session-next before call)
 happens-on before (load text) = record { answers = refl; leaves = refl }
 happens-on before (search budget) = record { answers = refl; leaves = refl }
 happens-on before (write buffer) = record { answers = refl; fills = refl; leaves = refl }
@@ -42,5 +41,5 @@ happened (call ∷ earlier) = further (happened earlier)
           same = ap (λ (l : List Call). call ∷ l) (before .same);
         }
 
-pub every-sequence-happens : EverySequenceHappens
+pub every-sequence-happens : (made : List Call) → (events : List Event) × (session : Session) × Led events session × (calls events ≡ made)
 every-sequence-happens made = let h = happened made in (h .events, h .session, h .led, h .same)

@@ -4,9 +4,9 @@ pub mod Answers
 pub mod Believed
 pub mod Owed
 pub mod Settled
+pub mod EverySequence
 pub mod Demand1
 pub mod Demand3
-pub mod EverySequence
 pub mod CheckerAlone
 pub mod PlacedOnce
 pub mod Demand2

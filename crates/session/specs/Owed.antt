@@ -14,8 +14,8 @@ use Rattle.spec.specs.Roles.{standing, unsettled}
 use Rattle.spec.specs.Book.{book}
 use Rattle.spec.specs.Session.{Session, no-sheet, loaded, session-book}
 use Rattle.spec.specs.Calls.{SearchAnswer, search-answer, searched-on, WriteAnswer, write-answer, Searches, Writes}
-use Rattle.spec.specs.Sequence.{Call, load, search, write, WriteOutcome, Happens, Outcome, last-accepted, budgets-given, calls, brought-out}
-use Rattle.spec.specs.Demands.{BudgetsSuffice, SearchOwed, WriteOwed, BookOwed, Owed, Demand3}
+use Rattle.spec.specs.Sequence.{Call, load, search, write, WriteOutcome, Event, Happens, Led, Outcome, last-accepted, budgets-given, calls, brought-out}
+use Rattle.spec.specs.Demands.{BudgetsSuffice, SearchOwed, WriteOwed, BookOwed, Owed, OwedOfAll}
 use Rattle.session.specs.Answers.{load-owed, sheetless-search, sheetless-write, loaded-search, loaded-book, loaded-write, brings-the-book}
 use Rattle.session.specs.Believed.{book-believed, book-says}
 use Rattle.session.specs.Settled.{ended-settles}
@@ -106,7 +106,7 @@ owed (search budget) answer earlier before after e h = search-owed earlier befor
 owed (write buffer) written earlier before after e h = write-owed earlier before e buffer written after h
 
 -- demand 3, event by event
-pub owed-of-all : Demand3
+pub owed-of-all : (events : List Event) (session : Session) → Led events session → OwedOfAll events
 owed-of-all [] session led = tt
 owed-of-all (event ∷ earlier) session led = (
   owed (event .call) (event .outcome) (calls earlier) (led .0) session (led-session earlier (led .0) (led .1)) (led .2),

@@ -1,4 +1,4 @@
--- "The book": what a book says, its four blocks and its bytes, and the book of a sheet in a state of its search. Assumes nothing.
+-- "The book": what a book says, its four blocks and its bytes, and the book of a sheet in a state of its search.
 use Rattle.spec.specs.Vocabulary.{ℕ, suc, List, [], _∷_, _++_, map, joined, list-of}
 use Rattle.spec.specs.Text.{Bytes, Line, ascii, text-of}
 use Rattle.spec.specs.Sheet.{Sheet, Grant, user-count, permission-count, user-name, permission-name, cell-text}
@@ -8,7 +8,7 @@ use Rattle.spec.specs.RoleSet.{RoleSet}
 use Rattle.spec.specs.Roles.{Standing, witnessed, searched, unsettled, roles-of, role-count, standing, bound}
 use Rattle.spec.specs.Decimal.{decimal}
 
--- what a book says (role decomposition with its certificate): its two counts, its state, its two matrices, its witness lines
+-- what a book says (role decomposition with certificate): two counts, the state word, two matrices, the witness lines
 pub record Said : Type 0 where
   pub count : ℕ
   pub bound : ℕ
@@ -28,7 +28,7 @@ empty-line = [] ∷ []
 unfoldable pub text-of-blocks : List Block → Bytes
 text-of-blocks blocks = text-of (joined empty-line blocks)
 
--- the state as the book spells it
+-- the state word as the book spells it
 abbrev pub standing-word : Standing → Bytes
 standing-word witnessed = ascii "witnessed"
 standing-word searched = ascii "searched"
@@ -39,7 +39,7 @@ unfoldable pub role-name : ℕ → Bytes
 unfolding decimal
 role-name r = ascii "R" ++ decimal (suc r)
 
--- block 1: roles, bound and state
+-- block 1: roles, bound and state word
 abbrev pub counts-heading : Line
 counts-heading = ascii "roles" ∷ ascii "bound" ∷ ascii "state" ∷ []
 

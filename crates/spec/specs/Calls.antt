@@ -1,4 +1,4 @@
--- The calls: what each answers, the session and the lent buffer after it, and what it promises. Assumes nothing.
+-- The calls: what each answers, the session and the lent buffer after it, and what it promises.
 use Rattle.spec.specs.Vocabulary.{ℕ, _≡_, cond, Option, none, some, _++_, eqb, length, drop}
 use Rattle.spec.specs.Text.{Bytes}
 use Rattle.spec.specs.Sheet.{Sheet, sheet-of, user-count, permission-count, grants}
@@ -106,14 +106,14 @@ pub record CheckAnswer : Type 0 where
 abbrev pub check-refused : ℕ → CheckAnswer
 check-refused number = record { number = number; roles = 0; witness-lines = 0 }
 
-abbrev pub confirmed : Said → CheckAnswer
-confirmed says = record { number = 0; roles = says .roles .count; witness-lines = length (says .witness) }
+abbrev pub check-counts : Said → CheckAnswer
+check-counts says = record { number = 0; roles = says .roles .count; witness-lines = length (says .witness) }
 
 unfoldable pub check : Bytes → Bytes → CheckAnswer
 unfolding check-causes said sheet-of
-check sheet book =
-    let number : ℕ = first-number (check-causes sheet book) in
-    cond (eqb number 0) (confirmed (said (sheet-of sheet) book)) (check-refused number)
+check sheet-bytes book-bytes =
+    let number : ℕ = first-number (check-causes sheet-bytes book-bytes) in
+    cond (eqb number 0) (check-counts (said (sheet-of sheet-bytes) book-bytes)) (check-refused number)
 
 -- what a load promises: its answer and the session after it
 pub record Loads (before : Session) (text : Bytes) (answer : LoadAnswer) (after : Session) : Type 0 where
@@ -132,5 +132,5 @@ pub record Writes (before : Session) (buffer : Bytes) (answer : WriteAnswer) (le
   pub leaves : after ≡ before
 
 -- what a check promises: its answer; it has no session and writes nothing
-pub record Checks (sheet book : Bytes) (answer : CheckAnswer) : Type 0 where
-  pub answers : answer ≡ check sheet book
+pub record Checks (sheet-bytes book-bytes : Bytes) (answer : CheckAnswer) : Type 0 where
+  pub answers : answer ≡ check sheet-bytes book-bytes

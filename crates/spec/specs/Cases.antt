@@ -1,7 +1,10 @@
--- Document 01's cases and the slips to shut out, computed from the definitions: a definition that is changed no longer computes them.
+-- Document 01's cases and the slips to shut out, computed from the definitions: with one of the slips that a file
+-- names they compute otherwise.
 pub mod Limits
+pub mod Sheet
 pub mod Reduction
 pub mod Machine
 pub mod Roles
 pub mod Checker
 pub mod Edges
+pub mod Calls

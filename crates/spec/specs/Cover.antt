@@ -1,13 +1,15 @@
--- "First cover": placements of grants into classes, three groupings of the kernel in grant order, and the first best. Assumes nothing.
+-- "First cover": placements of grants into classes, three groupings of the kernel in grant order, and the first best.
 use Rattle.spec.specs.Vocabulary.{ℕ, zero, suc, max, Bool, true, _&&_, cond, Option·getD, List, [], _∷_, eqb, leb, length, getD, lowest-below, implies}
 use Rattle.spec.specs.Sheet.{Sheet, Grant}
 use Rattle.spec.specs.Fit.{fits}
 use Rattle.spec.specs.Reduction.{kernel}
 
--- A placement (of grants into classes, bicliques of the sheet): the class numbers of the first grants of a list, the latest placed first.
+-- A placement (of grants into classes, cliques of the edge dual): the class numbers of the first grants of a list, the
+-- latest placed first.
 
--- the number of classes in a placement: one more than the greatest class number. Since classes are numbered from 0 by first appearance, no number
--- below the greatest is left out, and this is how many there are
+-- the number of classes in a placement: one more than the greatest class number. Classes are numbered from 0 by first
+-- appearance, so no number below the greatest is left out, and this is how many there are: the laws `grouping-grown`
+-- (lists, GroupingLaws) and `SoundState` (search) say so
 abbrev pub used : List ℕ → ℕ
 used [] = 0
 used (c ∷ earlier) = max (suc c) (used earlier)
@@ -25,7 +27,7 @@ grouping together (suc n) =
     let earlier : List ℕ = grouping together n in
     Option·getD (lowest-below (used earlier) (joins together n earlier)) (used earlier) ∷ earlier
 
--- the grant of a number in a list of grants; asked only of numbers below its length, so the pair of zeros is never reached
+-- the grant of a number in a list of grants; asked only of numbers below its length, so the zeros are not reached
 abbrev pub grant-at : List Grant → ℕ → Grant
 grant-at grants i = getD grants i (record { user = 0; permission = 0 })
 

@@ -1,4 +1,4 @@
--- "The book", its counts: decimal, and what a decimal count says. Assumes nothing.
+-- "The book", its counts: decimal, and what a decimal count says.
 use Rattle.spec.specs.Vocabulary.{ℕ, zero, suc, _+_, _-_, _*_, _/_, _%_, code, Bool, false, _&&_, cond, [], _∷_, _++_, eqb, ltb, empty, all}
 use Rattle.spec.specs.Text.{Bytes, between}
 
@@ -13,8 +13,8 @@ decimal-in (suc more) n =
     let front : Bytes = decimal-in more (n / 10) in
     cond (ltb n 10) (digit n ∷ []) (front ++ digit (n % 10) ∷ [])
 
--- counts are decimal without leading zeros; a number has no more digits than one more than itself. The law `number-of-decimal`
--- (book, DecimalLaws) shows that these are enough: they say the number
+-- counts are decimal without leading zeros; n has at most n + 1 digits. The law `number-of-decimal` (book,
+-- DecimalLaws) shows that these are enough: they say the number
 unfoldable pub decimal : ℕ → Bytes
 decimal n = decimal-in (suc n) n
 

@@ -1,5 +1,6 @@
--- The customer's three demands as statements. The numbers that they speak of stand here and in `Rules` and `Right` as the paper has them, and
--- not by the names that the tests and the machine use. Assumes nothing.
+-- The customer's three demands as statements. The limits that they speak of stand here and in `Rules` and `Right` as
+-- the paper has them, and not by the names that the tests and the machine use; the refusal numbers stand once, in
+-- `Refusal`, and 2·(1!+2!+..+k!)+1 in `Sequence`.
 use Rattle.spec.specs.Vocabulary.{ℕ, _+_, _≤_, _≡_, _≢_, _⊎_, _↔_, So, none, some, List, [], _∷_, List·Memᴰ, length}
 use Rattle.spec.specs.Text.{Bytes}
 use Rattle.spec.specs.Sheet.{Sheet, sheet-of}
@@ -11,22 +12,26 @@ use Rattle.spec.specs.Book.{Said}
 use Rattle.spec.specs.Right.{Right}
 use Rattle.spec.specs.Session.{Session}
 use Rattle.spec.specs.Refusal.{Cause, sheet-causes, search-causes, write-causes, check-causes, accepted}
-use Rattle.spec.specs.Calls.{LoadAnswer, load-answer, load-refused, SearchAnswer, search-refused, WriteAnswer, write-refused, CheckAnswer, check, check-refused, confirmed, Loads, Searches, Writes, Checks}
-use Rattle.spec.specs.Sequence.{Call, load, search, write, WriteOutcome, Outcome, Event, Led, calls, last-accepted, budgets-given, enough, brought-out}
+use Rattle.spec.specs.Calls.{LoadAnswer, load-answer, load-refused, SearchAnswer, search-refused, WriteAnswer, write-refused, CheckAnswer, check, check-refused, check-counts, Loads, Searches, Writes, Checks}
+use Rattle.spec.specs.Sequence.{Call, load, search, write, WriteOutcome, Outcome, Happens, Event, Led, calls, last-accepted, budgets-given, enough, brought-out}
 
 -- number is the lowest of the causes that apply, and 0 exactly where none applies
 pub record LowestThatApplies (causes : List Cause) (number : ℕ) : Type 0 where
   pub none-lower : (cause : Cause) → List·Memᴰ cause causes → So (cause .applies) → (number ≢ 0) × (number ≤ cause .number)
   pub applies : number ≢ 0 → (cause : Cause) × List·Memᴰ cause causes × So (cause .applies) × (cause .number ≡ number)
 
--- what a call owes whose answer has this number: it is the lowest that applies, and a refusal changes nothing
-pub record Judged (causes : List Cause) (number : ℕ) (Unchanged : Type 0) : Type 0 where
+-- what a call owes whose answer has this number: it is the lowest that applies, and a refusal is as it should be
+pub record Judged (causes : List Cause) (number : ℕ) (Refused : Type 0) : Type 0 where
   pub lowest : LowestThatApplies causes number
-  pub unchanged : number ≢ 0 → Unchanged
+  pub refused : number ≢ 0 → Refused
 
--- demand 1: every sheet, budget, book and lent buffer, however wrong, gets a result or the lowest refusal number that applies,
--- and a refusal returns that number and counts 0 and leaves the session and every lent byte untouched
+-- demand 1: every sheet, budget, book and lent buffer, however wrong, gets a result or the lowest refusal number that
+-- applies, and a refusal returns that number and counts 0 and leaves the session and every lent byte untouched
 pub record Demand1 : Type 0 where
+  -- every call gets an answer, on every session
+  pub answered : (call : Call) (before : Session) → (outcome : Outcome call) × (after : Session) × Happens call outcome before after
+  pub checked : (sheet-bytes book-bytes : Bytes) → (answer : CheckAnswer) × Checks sheet-bytes book-bytes answer
+  -- and it is judged by the paper's table
   pub loads : (before after : Session) (text : Bytes) (answer : LoadAnswer) → Loads before text answer after
       → Judged (sheet-causes text) (answer .number) ((answer ≡ load-refused (answer .number)) × (after ≡ before))
   pub searches : (before after : Session) (budget : ℕ) (answer : SearchAnswer) → Searches before budget answer after
@@ -34,19 +39,20 @@ pub record Demand1 : Type 0 where
   pub writes : (before after : Session) (buffer lent : Bytes) (answer : WriteAnswer) → Writes before buffer answer lent after
       → Judged (write-causes before buffer) (answer .number)
       ((answer ≡ write-refused (answer .number)) × (lent ≡ buffer) × (after ≡ before))
-  pub checks : (sheet book : Bytes) (answer : CheckAnswer) → Checks sheet book answer
-      → Judged (check-causes sheet book) (answer .number) (answer ≡ check-refused (answer .number))
+  pub checks : (sheet-bytes book-bytes : Bytes) (answer : CheckAnswer) → Checks sheet-bytes book-bytes answer
+      → Judged (check-causes sheet-bytes book-bytes) (answer .number) (answer ≡ check-refused (answer .number))
 
--- demand 2: a sheet is accepted exactly when it keeps the rules, and is then read as the sheet it is; the checker accepts a book,
--- whoever wrote it, exactly when form, counts, product and witness are right, and answers its counts; and each book that a writing
--- brings out is right for the sheet of the last accepted load: so its two matrices multiply to that sheet, cell for cell
+-- demand 2: a sheet is accepted exactly when it keeps the rules, and is then read as the sheet it is; the checker
+-- accepts a book, whoever wrote it, exactly when form, counts, product and witness are right, and answers its counts;
+-- and each book that a writing brings out is right for the sheet of the last accepted load: so its two matrices
+-- multiply to that sheet, cell for cell
 pub record Demand2 : Type 0 where
   pub accepts-sheets : (text : Bytes) → (load-answer text .number ≡ 0) ↔ ((sheet : Sheet) × Keeps text sheet)
   pub reads-sheets : (text : Bytes) (sheet : Sheet) → Keeps text sheet → sheet-of text ≡ sheet
   pub accepts-books : (text book : Bytes)
       → (check text book .number ≡ 0) ↔ ((sheet : Sheet) × (says : Said) × Keeps text sheet × Right sheet book says)
   pub answers-counts : (text book : Bytes) (sheet : Sheet) (says : Said) → Keeps text sheet → Right sheet book says
-      → check text book ≡ confirmed says
+      → check text book ≡ check-counts says
   pub own-books : (buffer : Bytes) (written : WriteOutcome) (earlier : List Event) (session : Session)
       → Led (record { call = write buffer; outcome = written } ∷ earlier) session → written .answer .number ≡ 0
       → (text : Bytes) × (says : Said) × (last-accepted (calls earlier) ≡ some text) × Right (sheet-of text) (brought-out written) says
@@ -54,7 +60,7 @@ pub record Demand2 : Type 0 where
 -- what every book owes that was brought out for the sheet of the last accepted load, through what it says
 pub record Believed (text book : Bytes) : Type 0 where
   pub says : Said
-  -- form, counts, product and witness are right: the book is what is written where this is said, and it multiplies to the sheet
+  -- form, counts, product and witness are right: its bytes are `book-text` of what it says, its product is the sheet
   pub right : Right (sheet-of text) book says
   -- every role set with that product has at least as many roles as the book's bound
   pub bounded : (roles : RoleSet) → Multiplies roles (sheet-of text) → says .bound ≤ roles .count
@@ -62,9 +68,9 @@ pub record Believed (text book : Bytes) : Type 0 where
   pub smallest : (says .standing ≡ witnessed) ⊎ (says .standing ≡ searched)
       → (roles : RoleSet) → Multiplies roles (sheet-of text) → says .count ≤ roles .count
   -- the checker accepts it
-  pub confirmed-by-check : check text book ≡ confirmed says
+  pub confirmed-by-check : check text book ≡ check-counts says
 
--- a kernel of k grants is searched, and so much was given that the search of it must have ended
+-- k is at most 128, and the budgets given reach `enough k`
 pub record BudgetsSuffice (k given : ℕ) : Type 0 where
   pub searchable : k ≤ 128
   pub sufficient : enough k ≤ given
@@ -109,10 +115,9 @@ abbrev pub OwedOfAll : List Event → Type 0
 OwedOfAll [] = Unit {0}
 OwedOfAll (event ∷ earlier) = Owed (event .call) (event .outcome) (calls earlier) × OwedOfAll earlier
 
--- demand 3: one claim about every sequence of loads, searches and writings on one session, refused ones included, from a fresh session
-abbrev pub Demand3 : Type 0
-Demand3 = (events : List Event) (session : Session) → Led events session → OwedOfAll events
-
--- and no sequence is left out: whatever the calls are, there are events and a session to which they led with exactly those calls
-abbrev pub EverySequenceHappens : Type 0
-EverySequenceHappens = (made : List Call) → (events : List Event) × (session : Session) × Led events session × (calls events ≡ made)
+-- demand 3: one claim about every sequence of loads, searches and writings on one session, refused ones included, from
+-- a fresh session. No sequence is left out: whatever the calls are, there are events and a session to which they led
+-- with exactly those calls
+pub record Demand3 : Type 0 where
+  pub owed : (events : List Event) (session : Session) → Led events session → OwedOfAll events
+  pub happens : (made : List Call) → (events : List Event) × (session : Session) × Led events session × (calls events ≡ made)

@@ -1,4 +1,4 @@
--- "Fitting": grants that fit (adjacent in the edge dual). Assumes nothing.
+-- "Fitting": grants that fit (adjacent in the edge dual).
 use Rattle.spec.specs.Vocabulary.{Bool, _&&_, _||_, not, List, any, filter}
 use Rattle.spec.specs.Sheet.{Sheet, Grant, holds, same-grant}
 

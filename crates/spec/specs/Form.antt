@@ -1,4 +1,4 @@
--- "The checker", the form of a book for a sheet, line by line, and what a book of the form says. Assumes nothing.
+-- "The checker", the form of a book for a sheet, line by line, and what a book of the form says.
 use Rattle.spec.specs.Vocabulary.{ℕ, suc, Bool, false, _&&_, _||_, cond, Option·getD, List, [], _∷_, map, tail, eqb, leb, length, getD, every-below, lowest-below, empty, any, all, same-by, list-of, parted-by}
 use Rattle.spec.specs.Limits.{role-limit}
 use Rattle.spec.specs.Text.{Bytes, Line, ascii, same-bytes, same-name, last-byte, line-feed, lines-of}
@@ -21,7 +21,8 @@ blocks-of text = parted-by is-empty-line (lines-of text)
 abbrev pub same-line : Line → Line → Bool
 same-line = same-by same-bytes
 
--- a block of a list of blocks, a line of a block, a field of a line, each by number; of one that is missing the form asks more than none has
+-- a block of a list of blocks, a line of a block, a field of a line, each by number. A missing one is read as empty;
+-- the form tests the lengths, so an empty one never passes
 abbrev pub block-at : List Block → ℕ → Block
 block-at blocks n = getD blocks n []
 
@@ -56,7 +57,8 @@ cells-line line count = eqb (length line) (suc count) && all is-bit (tail line)
 abbrev pub is-role-line : Sheet → ℕ → Line → Bool
 is-role-line sheet r line = same-bytes (first-field line) (role-name r) && cells-line line (permission-count sheet)
 
--- block 2: `role` and the sheet's permissions in order, then lines of the roles `R1`, `R2`, .. in order, at most as many as the limit
+-- block 2: `role` and the sheet's permissions in order, then lines of the roles `R1`, `R2`, .. in order, within the
+-- limit
 unfoldable pub roles-form : Sheet → Block → Bool
 unfolding role-limit role-name
 roles-form sheet block =
@@ -67,15 +69,15 @@ roles-form sheet block =
 
 -- the line of user u: its name, and a cell for each role
 abbrev pub is-user-line : Sheet → ℕ → ℕ → Line → Bool
-is-user-line sheet roles u line = same-name (first-field line) (user-name sheet u) && cells-line line roles
+is-user-line sheet role-count u line = same-name (first-field line) (user-name sheet u) && cells-line line role-count
 
 -- block 3: `user` and the same roles, then a line for each of the sheet's users in order
 unfoldable pub users-form : Sheet → ℕ → Block → Bool
 unfolding role-name
-users-form sheet roles block =
-    same-line (first-line block) (ascii "user" ∷ list-of roles role-name)
+users-form sheet role-count block =
+    same-line (first-line block) (ascii "user" ∷ list-of role-count role-name)
     && eqb (length (tail block)) (user-count sheet)
-    && every-below (user-count sheet) (λ u. is-user-line sheet roles u (line-at (tail block) u))
+    && every-below (user-count sheet) (λ u. is-user-line sheet role-count u (line-at (tail block) u))
 
 -- a name of the sheet
 abbrev pub known : List Bytes → Bytes → Bool
@@ -102,7 +104,8 @@ form sheet text =
     && users-form sheet (length (tail (block-at blocks 1))) (block-at blocks 2)
     && witness-form sheet (block-at blocks 3)
 
--- the number of a name in a list of names; the 0 for a name that is not known is never reached, since cause 12 refuses such a line
+-- the number of a name in a list of names. The 0 that stands for an unknown name never decides a number: cause 12
+-- applies then, and is lower
 abbrev pub number-among : List Bytes → Bytes → ℕ
 number-among names name = Option·getD (lowest-below (length names) (λ i. same-name name (getD names i []))) 0
 
@@ -114,7 +117,8 @@ grant-of-line sheet line =
       permission = number-among (sheet .permissions) (field-at line 1);
     }
 
--- the state that a word says; that of a word which is none of the three is never asked for, since cause 12 refuses it
+-- the state that a word says. What stands for a word that is none of the three never decides a number: cause 12
+-- applies then, and is lower
 abbrev pub standing-said : Bytes → Standing
 standing-said word =
     cond (same-bytes word (standing-word witnessed)) witnessed

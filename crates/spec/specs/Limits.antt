@@ -1,5 +1,7 @@
--- The limits of document 01. Each stands here once, for all tests and for the machine; the rules and the demands say their numbers themselves
--- and do not share these names, so that a limit set wrong here is no longer what the demands ask. Assumes nothing.
+-- The limits of document 01. Each stands here once, for all tests and for the machine. The rules of a sheet, what
+-- makes a book right, and the demands say their numbers themselves and do not share these names: a test with another
+-- limit no longer meets them. The cases compare each with the paper's number too; of the greatest budget, and of a
+-- kernel above 128, they alone speak.
 use Rattle.spec.specs.Vocabulary.{ℕ}
 
 -- the bytes of a sheet
@@ -30,7 +32,7 @@ search-limit = 128
 unfoldable pub budget-limit : ℕ
 budget-limit = 4_294_967_295
 
--- the roles of a book: as many as a sheet has permissions, since no cover needs more
+-- the roles of a book: as many as the permissions that a sheet may have, since no cover needs more
 unfoldable pub role-limit : ℕ
 unfolding permission-limit
 role-limit = permission-limit

@@ -1,4 +1,4 @@
--- "The search machine" over a kernel: where it stands, one step, and a search within a budget. Assumes nothing.
+-- "The search machine" over a kernel: where it stands, one step, and a search within a budget.
 use Rattle.spec.specs.Vocabulary.{ℕ, zero, suc, _+_, max, Bool, true, _&&_, cond, Option, none, some, List, [], _∷_, eqb, leb, ltb, length, lowest-below}
 use Rattle.spec.specs.Limits.{search-limit}
 use Rattle.spec.specs.Cover.{used, joins}
@@ -10,8 +10,8 @@ pub record Kernel : Type 0 where
   pub singles : ℕ
   pub witness : ℕ
 
--- the machine's state: the classes of the first d kernel grants, the latest first, so that d is their number; the next try t;
--- the best placement, whose class count is b; finished or not
+-- the machine's state: the classes of the first d kernel grants, the latest first, so that d is their number; the next
+-- try t; the best placement, whose class count is b; finished or not
 pub record State : Type 0 where
   pub placed : List ℕ
   pub next : ℕ
@@ -34,7 +34,7 @@ reaches-witness kernel placed = eqb (used placed + kernel .singles) (kernel .wit
 abbrev pub start : Kernel → List ℕ → State
 start kernel first = record { placed = []; next = 0; best = first; finished = reaches-witness kernel first }
 
--- d < k, and class c is not below t, the larger of used and c + 1 is below b, and grant d fits all earlier members of c
+-- d < k, c is not below t, the larger of used and c + 1 is below b, and grant d fits all earlier members of c
 abbrev pub possible : Kernel → State → ℕ → Bool
 possible kernel st c =
     ltb (depth st) (kernel .size)
@@ -46,7 +46,8 @@ possible kernel st c =
 abbrev pub choice : Kernel → State → Option ℕ
 choice kernel st = lowest-below (suc (used (st .placed))) (possible kernel st)
 
--- with all k placed the placement is copied whole as the best one, and the machine is finished if b plus singles equals w
+-- with all k placed the placement is copied whole as the best one, and the machine is finished if b plus singles
+-- equals w
 abbrev pub improved : Kernel → State → State
 improved kernel st =
     record { placed = st .placed; next = st .next; best = st .placed; finished = reaches-witness kernel (st .placed) }
@@ -60,7 +61,8 @@ place kernel st c =
     let after : State = placed-in st c in
     cond (eqb (depth after) (kernel .size)) (improved kernel after) after
 
--- nothing is left to try: if d = 0, the search is closed: finished; otherwise d falls by 1 and t is the class taken back plus 1
+-- nothing is left to try: if d = 0, the search is closed: finished; otherwise d falls by 1 and t is the class taken
+-- back plus 1
 abbrev pub take-back-or-close : State → List ℕ → State
 take-back-or-close st [] = record { placed = []; next = st .next; best = st .best; finished = true }
 take-back-or-close st (a ∷ earlier) = record { placed = earlier; next = suc a; best = st .best; finished = st .finished }
@@ -69,7 +71,8 @@ abbrev pub move : Kernel → State → Option ℕ → State
 move kernel st (some c) = place kernel st c
 move kernel st none = take-back-or-close st (st .placed)
 
--- one step places one grant, takes one back, or closes the search
+-- one step places one grant, takes one back, or closes the search. No list of classes is placed twice within one load:
+-- the law `placed-once-a-load` (session, PlacedOnce)
 unfoldable pub step : Kernel → State → State
 step kernel st = move kernel st (choice kernel st)
 

@@ -1,5 +1,5 @@
--- "The book", the program: a sheet on standard input, the budget as its argument, the book or a refusal number on standard output.
--- Assumes nothing.
+-- "The book", the program: a sheet on standard input, the budget as its argument, the book or a refusal number on
+-- standard output.
 use Rattle.spec.specs.Vocabulary.{ℕ, Bool, _&&_, not, cond, List, [], _∷_, _++_, eqb, leb, take, replicate, empty, all}
 use Rattle.spec.specs.Limits.{budget-limit, book-limit}
 use Rattle.spec.specs.Text.{Bytes, line-feed}
@@ -8,11 +8,11 @@ use Rattle.spec.specs.Session.{Session, fresh}
 use Rattle.spec.specs.Refusal.{refusal, accepted}
 use Rattle.spec.specs.Calls.{after-load, after-search, WriteAnswer, write-answer, buffer-after}
 
--- a number of that range: decimal digits, at least one
+-- a number of that range: decimal digits, at least one; leading zeros are taken, a sign or a space is not
 unfoldable pub is-budget : Bytes → Bool
 is-budget word = not (empty word) && all is-digit word && leb (number-of word) budget-limit
 
--- the budget is the first argument, and 0 where there is none or it is no number of that range
+-- the budget is the first argument, and 0 where there is none or it is no number of that range; others are ignored
 unfoldable pub budget-of : List Bytes → ℕ
 budget-of [] = 0
 budget-of (word ∷ further) = cond (is-budget word) (number-of word) 0

@@ -1,5 +1,5 @@
--- "Refused, and how": the causes of the paper's table, and the lowest number that applies. Each cause is judged on the whole by itself.
--- Assumes nothing.
+-- "Refused, and how": the causes of the paper's table, and the lowest number that applies. Each cause looks at the
+-- whole text, whatever the others say.
 use Rattle.spec.specs.Vocabulary.{ℕ, suc, Bool, true, false, _&&_, _||_, not, Bool·beq, List, [], _∷_, _++_, tail, eqb, ltb, length, every-below, empty, any, all, repeats}
 use Rattle.spec.specs.Limits.{sheet-limit, permission-limit, user-limit, name-limit, grant-limit, book-limit}
 use Rattle.spec.specs.Text.{Bytes, Line, ascii, same-bytes, between, last-byte, line-feed, allowed-byte, same-name, lines-of}
@@ -117,19 +117,21 @@ write-causes session buffer =
     ∷ record { number = 11; applies = ltb (length buffer) (length (session-book session)) }
     ∷ []
 
--- `witnessed`, bound = roles = witness lines; `searched`, bound = roles, fewer witness lines; `open`, bound = witness lines, fewer than roles
+-- `witnessed`, bound = roles = witness lines; `searched`, bound = roles, fewer witness lines; `open`, bound = witness
+-- lines, fewer than roles
 abbrev pub bound-agrees : Standing → ℕ → ℕ → ℕ → Bool
-bound-agrees witnessed bound roles lines = eqb bound roles && eqb roles lines
-bound-agrees searched bound roles lines = eqb bound roles && ltb lines roles
-bound-agrees unsettled bound roles lines = eqb bound lines && ltb lines roles
+bound-agrees witnessed bound role-count line-count = eqb bound role-count && eqb role-count line-count
+bound-agrees searched bound role-count line-count = eqb bound role-count && ltb line-count role-count
+bound-agrees unsettled bound role-count line-count = eqb bound line-count && ltb line-count role-count
 
--- 13 applies where they do not: counts agree if roles is the number of role lines, and the bound agrees with the state
+-- counts agree if roles is the number of role lines, and the bound agrees with the state word; cause 13 is that they
+-- do not
 unfoldable pub counts-agree : Said → Bool
 counts-agree says =
     eqb (says .count) (says .roles .count)
     && bound-agrees (says .standing) (says .bound) (says .roles .count) (length (says .witness))
 
--- 14 where it is not: the product is the sheet at every cell
+-- the product is the sheet at every cell; cause 14 is that it is not
 unfoldable pub product-agrees : Sheet → RoleSet → Bool
 unfolding product
 product-agrees sheet roles =
@@ -141,12 +143,12 @@ abbrev pub some-fit : Sheet → List Grant → Bool
 some-fit sheet [] = false
 some-fit sheet (g ∷ later) = any (fits sheet g) later || some-fit sheet later
 
--- 15 where this fails: every witness grant is held, and no two on different lines fit
+-- every witness grant is held, and no two on different lines fit; cause 15 is that this fails
 unfoldable pub witness-agrees : Sheet → List Grant → Bool
 witness-agrees sheet grants = all (held sheet) grants && not (some-fit sheet grants)
 
--- 12: book above 65,536 bytes or not of the form, or a witness name unknown; 13: counts disagree; 14: product is not the sheet;
--- 15: witness grant not held, or two on different lines fit (the same one twice included)
+-- 12: book above 65,536 bytes or not of the form, or a witness name unknown; 13: counts disagree; 14: product is not
+-- the sheet; 15: witness grant not held, or two on different lines fit (the same one twice included)
 unfoldable pub book-causes : Sheet → Bytes → List Cause
 unfolding book-limit form said counts-agree product-agrees witness-agrees
 book-causes sheet text =
@@ -160,4 +162,4 @@ book-causes sheet text =
 -- the checker judges the sheet by 1 to 9 first
 unfoldable pub check-causes : Bytes → Bytes → List Cause
 unfolding sheet-causes book-causes sheet-of
-check-causes sheet book = sheet-causes sheet ++ book-causes (sheet-of sheet) book
+check-causes sheet-bytes book-bytes = sheet-causes sheet-bytes ++ book-causes (sheet-of sheet-bytes) book-bytes

@@ -1,4 +1,5 @@
--- "The checker", what makes a book right, from what a book says to its bytes: no reading is involved, and no test. Assumes nothing.
+-- "The checker", what makes a book right, from what a book says to its bytes: no reading is involved, and none of the
+-- checker's tests.
 use Rattle.spec.specs.Vocabulary.{ℕ, _≤_, _<_, _≡_, false, So, List, List·Memᴰ, length}
 use Rattle.spec.specs.Text.{Bytes}
 use Rattle.spec.specs.Sheet.{Sheet, Grant, user-count, permission-count, held}
@@ -16,13 +17,14 @@ pub record OfForm (sheet : Sheet) (text : Bytes) (says : Said) : Type 0 where
   pub known-users : (g : Grant) → List·Memᴰ g (says .witness) → g .user < user-count sheet
   pub known-permissions : (g : Grant) → List·Memᴰ g (says .witness) → g .permission < permission-count sheet
 
--- `witnessed`, bound = roles = witness lines; `searched`, bound = roles, fewer witness lines; `open`, bound = witness lines, fewer than roles
+-- `witnessed`, bound = roles = witness lines; `searched`, bound = roles, fewer witness lines; `open`, bound = witness
+-- lines, fewer than roles
 abbrev pub BoundAgrees : Standing → ℕ → ℕ → ℕ → Type 0
-BoundAgrees witnessed bound roles lines = (bound ≡ roles) × (roles ≡ lines)
-BoundAgrees searched bound roles lines = (bound ≡ roles) × (lines < roles)
-BoundAgrees unsettled bound roles lines = (bound ≡ lines) × (lines < roles)
+BoundAgrees witnessed bound role-count line-count = (bound ≡ role-count) × (role-count ≡ line-count)
+BoundAgrees searched bound role-count line-count = (bound ≡ role-count) × (line-count < role-count)
+BoundAgrees unsettled bound role-count line-count = (bound ≡ line-count) × (line-count < role-count)
 
--- counts: roles is the number of role lines, and the bound agrees with the state
+-- counts: roles is the number of role lines, and the bound agrees with the state word
 pub record CountsAgree (says : Said) : Type 0 where
   pub roles : says .count ≡ says .roles .count
   pub bound : BoundAgrees (says .standing) (says .bound) (says .roles .count) (length (says .witness))

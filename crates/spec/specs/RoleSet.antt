@@ -1,4 +1,5 @@
--- "Roles and state", a role set: any user-to-role and any role-to-permission matrix, with any number of roles, and their and/or product. Assumes nothing.
+-- "Roles and state", a role set: any user-to-role and any role-to-permission matrix, with any number of roles, and
+-- their and/or product.
 use Rattle.spec.specs.Vocabulary.{ℕ, _<_, _≡_, Bool, _&&_, some-below}
 use Rattle.spec.specs.Sheet.{Sheet, user-count, permission-count, holds}
 

@@ -1,4 +1,4 @@
--- "Roles and state": the classes of all grants, the roles of a placement of the kernel, the state and the bound. Assumes nothing.
+-- "Roles and state": the classes of all grants, the roles of a placement of the kernel, the state and the bound.
 use Rattle.spec.specs.Vocabulary.{ℕ, suc, Bool, _&&_, cond, List, [], _∷_, reverse, eqb, length, any}
 use Rattle.spec.specs.Sheet.{Sheet, Grant, same-grant, grants}
 use Rattle.spec.specs.Reduction.{Removal, single, tied, Reduction, reduction, kernel, kernel-size, singles}
@@ -18,8 +18,9 @@ paired [] classes = []
 paired (g ∷ grants) [] = []
 paired (g ∷ grants) (c ∷ classes) = record { grant = g; class = c } ∷ paired grants classes
 
--- the class of a grant; asked only of grants that have one, so the 0 is never reached: the law `putting-back-classes`
--- (minimality, PuttingBack) has every grant put back among them
+-- the class of a grant. Where a placement has a class for each grant of the kernel, as all of the machine's have, it
+-- is asked only of grants that have one, and the 0 is never reached: the law `putting-back-classes` (minimality,
+-- PuttingBack) has every grant among them
 abbrev pub class-of : List Classed → Grant → ℕ
 class-of [] g = 0
 class-of (x ∷ rest) g = cond (same-grant g (x .grant)) (x .class) (class-of rest g)
@@ -93,7 +94,8 @@ unfoldable pub start-of : Sheet → State
 unfolding kernel-of first-best
 start-of sheet = start (kernel-of sheet) (first-best sheet)
 
--- the state that a search names and a book says; the word `open` is reserved in this language, so its case is called `unsettled`
+-- the state word that a search names and a book says; `open` is reserved in this language, so its case is called
+-- `unsettled`
 pub data Standing : Type 0 where
   witnessed : Standing
   searched : Standing

@@ -1,4 +1,5 @@
--- "The sheet", its rules, from what a sheet says to its bytes: no reading is involved, and no test. Assumes nothing.
+-- "The sheet", its rules, from what a sheet says to its bytes: no reading is involved, and of the tests only
+-- `name-byte`, which the cases compute for every byte.
 use Rattle.spec.specs.Vocabulary.{ℕ, _≤_, _<_, _≡_, _≢_, Bool, So, List, [], _∷_, map, List·Memᴰ, length, getD}
 use Rattle.spec.specs.Text.{Bytes, Line, ascii, name-byte, text-of}
 use Rattle.spec.specs.Sheet.{Sheet, cell-text, grants}

@@ -1,12 +1,13 @@
--- "The sequence of demand 3": sequences of calls on one session from a fresh one, the last accepted load, the budgets given and those that are
--- enough, and the books brought out. Assumes nothing.
+-- "The sequence of demand 3": sequences of calls on one session from a fresh one, the last accepted load, the budgets
+-- given and those that are enough, and the books brought out.
 use Rattle.spec.specs.Vocabulary.{ℕ, zero, suc, _+_, _*_, _≡_, cond, Option, none, some, List, [], _∷_, map, take}
 use Rattle.spec.specs.Text.{Bytes}
 use Rattle.spec.specs.Session.{Session, fresh}
 use Rattle.spec.specs.Refusal.{accepted}
 use Rattle.spec.specs.Calls.{LoadAnswer, SearchAnswer, WriteAnswer, Loads, Searches, Writes}
 
--- a load brings its own sheet, a search its budget, a writing its own buffer; a check has no session and changes nothing between any two
+-- a load brings its own sheet, a search its budget, a writing its own buffer; a check has no session and changes
+-- nothing between any two. Any number is a budget here, also those above the range of document 01
 pub data Call : Type 0 where
   load : Bytes → Call
   search : ℕ → Call
@@ -34,7 +35,8 @@ Happens (load text) answer before after = Loads before text answer after
 Happens (search budget) answer before after = Searches before budget answer after
 Happens (write buffer) written before after = Writes before buffer (written .answer) (written .lent) after
 
--- the events, the latest first, that led from a fresh session to this one: each call got the session as the call before left it
+-- the events, the latest first, that led from a fresh session to this one: each call got the session as the call
+-- before left it
 abbrev pub Led : List Event → Session → Type 0
 Led [] session = session ≡ fresh
 Led (event ∷ earlier) session = (before : Session) × Led earlier before × Happens (event .call) (event .outcome) before session

@@ -1,4 +1,4 @@
--- A session: what it holds between two calls, and its book. Assumes nothing.
+-- A session: what it holds between two calls, and its book.
 use Rattle.spec.specs.Vocabulary.{[]}
 use Rattle.spec.specs.Text.{Bytes}
 use Rattle.spec.specs.Sheet.{sheet-of}

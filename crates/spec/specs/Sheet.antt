@@ -1,5 +1,5 @@
--- "The sheet": what a sheet's bytes say: the users, the permissions, who holds what, and the grants in order.
--- Users and permissions are numbered from 0 in sheet order. Assumes nothing.
+-- "The sheet": what a sheet's bytes say: the users, the permissions, who holds what, and the grants in order. Users
+-- and permissions are numbered from 0 in sheet order.
 use Rattle.spec.specs.Vocabulary.{ℕ, suc, Bool, true, false, _&&_, _||_, List, [], _∷_, _++_, map, tail, eqb, length, getD, keep}
 use Rattle.spec.specs.Text.{Bytes, Line, ascii, same-bytes, lines-of}
 
@@ -9,7 +9,8 @@ pub record Sheet : Type 0 where
   pub permissions : List Bytes
   pub rows : List (List Bool)
 
--- the first field of a line
+-- the first field of a line; what is missing is empty, and a missing cell says no: causes 3 to 6 speak of what is
+-- missing
 abbrev pub first-field : Line → Bytes
 first-field line = getD line 0 []
 
@@ -30,7 +31,8 @@ abbrev pub cell-text : Bool → Bytes
 cell-text true = ascii "1"
 cell-text false = ascii "0"
 
--- the first line is `user`, then the permission names; each later line is a user name, then `0` or `1` for each permission
+-- the first line is `user`, then the permission names; each later line is a user name, then `0` or `1` for each
+-- permission
 unfoldable pub sheet-of-lines : List Line → Sheet
 sheet-of-lines lines =
     record {

@@ -1,4 +1,4 @@
--- Bytes, names, lines and fields, read and written. Assumes nothing.
+-- Bytes, names, lines and fields, read and written.
 use Rattle.spec.specs.Vocabulary.{ℕ, code, Bool, _&&_, _||_, List, [], _∷_, _++_, map, eqb, leb, ended-by, parted-by, joined, concat, same-by}
 use Prim.Native.String.{String, [] as no-character, _∷_ as _then_}
 

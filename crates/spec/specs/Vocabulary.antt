@@ -1,6 +1,7 @@
--- What the definitions are said with. Numbers, truth values, lists and equality are the library's, passed on here as they are, under their own
--- names; what it lacks follows: tests, searching below a bound, lists under a test, cutting at separators and joining again.
--- Recursions on a bound look at the last number below it; a `let` holds back what may never be looked at. Assumes nothing.
+-- What the definitions are said with. Numbers, truth values, lists and equality are the library's, passed on here as
+-- they are, under their own names; what it lacks follows: tests, searching below a bound, lists under a test, cutting
+-- at separators and joining again. Recursions on a bound look at the last number below it; a `let` holds back what may
+-- never be looked at.
 pub use Prim.Native.Nat.{ℕ, zero, suc, _+_, _-_, _*_, _/_, _%_, max, _≤_, _<_}
 pub use Prim.Native.Char.{code}
 pub use mathlib.Core.Path.{_≡_}
@@ -105,7 +106,7 @@ module _ {A : Type 0} where
   same-by same (a ∷ rest) [] = false
   same-by same (a ∷ rest) (b ∷ others) = same a b && same-by same rest others
 
-  -- f 0, f 1, .. of numbers from i on, as many as asked
+  -- f i, f (i + 1), .., as many as asked
   abbrev pub list-from : ℕ → ℕ → (ℕ → A) → List A
   list-from i zero f = []
   list-from i (suc count) f = f i ∷ list-from (suc i) count f
@@ -114,7 +115,7 @@ module _ {A : Type 0} where
   abbrev pub list-of : ℕ → (ℕ → A) → List A
   list-of count f = list-from zero count f
 
-  -- an element a in front of the parts of what follows it: a separator opens a part, any other joins the first
+  -- a in front of what was cut so far: a separator starts an empty part, any other element joins the first part
   abbrev pub cut : Bool → A → List (List A) → List (List A)
   cut true a later = [] ∷ later
   cut false a [] = (a ∷ []) ∷ []

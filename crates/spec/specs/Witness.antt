@@ -1,4 +1,4 @@
--- "Witness": the witness (independent set of grants), of which no two fit. Assumes nothing.
+-- "Witness": the witness (independent set of grants), of which no two fit.
 use Rattle.spec.specs.Vocabulary.{ℕ, zero, suc, _||_, not, Option, List, [], _∷_, length, filter, least, if-found}
 use Rattle.spec.specs.Sheet.{Sheet, Grant, grants}
 use Rattle.spec.specs.Fit.{is-or-fits, among, partners}
@@ -18,8 +18,9 @@ taken sheet zero remaining = []
 taken sheet (suc more) remaining =
     if-found (fewest-partners sheet remaining) (λ g. g ∷ taken sheet more (left-after sheet g remaining))
 
--- from the kernel, repeatedly: each choice takes a grant, so as many as the kernel has are enough. The law `chosen-meets`
--- (minimality, Chosen) shows it: each grant of the kernel is taken or fits one that is, so nothing is left for further choice
+-- from the kernel, repeatedly: each choice takes a grant, so as many as the kernel has are enough. The law
+-- `chosen-meets` (minimality, Chosen) shows it: each grant of the kernel is taken or fits one that is, so nothing is
+-- left for further choice
 unfoldable pub chosen : Sheet → List Grant
 unfolding kernel
 chosen sheet = taken sheet (kernel-size sheet) (kernel sheet)

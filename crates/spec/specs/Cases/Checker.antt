@@ -1,90 +1,157 @@
--- Good and damaged books at the checker, computed from the definitions: one for each rule of "The checker" and each cause of 12 to 15.
--- Assumes nothing.
-use Rattle.spec.specs.Vocabulary.{ℕ, List, [], _∷_, _++_, map, some-below, every-below, lowest-below}
+-- Good and damaged books at the checker, computed from the definitions: for each cause of 12 to 15, and each line of
+-- the form.
 use Prim.Native.String.{String}
-use mathlib.Core.Path.{_≡_, refl}
+use mathlib.Core.Path.{refl}
+use Rattle.spec.specs.Vocabulary.{ℕ, _≡_, Bool, true, false, List, [], _∷_, _++_, map, some-below, every-below, lowest-below, list-of}
+use Rattle.spec.specs.Limits.{permission-limit, role-limit}
 use Rattle.spec.specs.Text.{Bytes, ascii}
+use Rattle.spec.specs.Sheet.{Sheet}
+use Rattle.spec.specs.Book.{role-name}
+use Rattle.spec.specs.Form.{roles-form}
 use Rattle.spec.specs.Calls.{CheckAnswer, check}
 
--- the parts of a book that its damages are in
+-- the four blocks of a book for the worked example's sheet
 record Parts : Type 0 where
   counts : String
-  first-role : String
+  roles : String
+  users : String
   witness : String
 
--- the worked example's sheet, and its book with these parts
 worked : Bytes
 worked = ascii "user,rec,id,map\nann,1,1,0\nbo,0,1,1\ncy,1,1,1\n"
 
-worked-book : Parts → Bytes
-worked-book parts =
-    ascii "roles,bound,state\n" ++ ascii (parts .counts) ++ ascii "\n\nrole,rec,id,map\n" ++ ascii (parts .first-role)
-    ++ ascii "\nR2,0,1,1\n\nuser,R1,R2\nann,1,0\nbo,0,1\ncy,1,1\n\nuser,permission\n" ++ ascii (parts .witness)
-
 checked : Parts → CheckAnswer
-unfolding worked worked-book check
-checked parts = check worked (worked-book parts)
+unfolding worked check
+checked parts =
+    check worked
+    (ascii "roles,bound,state\n" ++ ascii (parts .counts) ++ ascii "\n\n" ++ ascii (parts .roles) ++ ascii "\n\n"
+    ++ ascii (parts .users) ++ ascii "\n\n" ++ ascii (parts .witness))
 
-with-parts : String → String → String → Parts
-with-parts counts first-role witness = record { counts = counts; first-role = first-role; witness = witness }
+-- the book that the program writes, and others with another block in its place
+roles : String
+roles = "role,rec,id,map\nR1,1,1,0\nR2,0,1,1"
 
-books : List Parts
-unfolding with-parts
-books =
-    with-parts "2,2,witnessed" "R1,1,1,0" "ann,rec\nbo,map\n"
-    ∷ with-parts "2,2,witnessed" "R1,1,1,0" "bo,map\nann,rec\n"
-    ∷ with-parts "2,2,searched" "R1,1,1,0" "bo,map\n"
-    ∷ with-parts "2,1,open" "R1,1,1,0" "bo,map\n"
-    ∷ with-parts "02,2,witnessed" "R1,1,1,0" "ann,rec\nbo,map\n"
-    ∷ with-parts "2,2,closed" "R1,1,1,0" "ann,rec\nbo,map\n"
-    ∷ with-parts "2,2,witnessed" "R2,1,1,0" "ann,rec\nbo,map\n"
-    ∷ with-parts "2,2,witnessed" "R1,1,1" "ann,rec\nbo,map\n"
-    ∷ with-parts "2,2,witnessed" "R1,1,1,0" "ann,rec\nbo,map"
-    ∷ with-parts "2,2,witnessed" "R1,1,1,0" "rec,ann\nbo,map\n"
-    ∷ with-parts "3,3,searched" "R1,1,1,0" "ann,rec\nbo,map\n"
-    ∷ with-parts "2,1,witnessed" "R1,1,1,0" "ann,rec\nbo,map\n"
-    ∷ with-parts "2,2,searched" "R1,1,1,0" "ann,rec\nbo,map\n"
-    ∷ with-parts "2,2,open" "R1,1,1,0" "bo,map\n"
-    ∷ with-parts "2,2,witnessed" "R1,1,1,1" "ann,rec\nbo,map\n"
-    ∷ with-parts "2,2,witnessed" "R1,1,0,0" "ann,rec\nbo,map\n"
-    ∷ with-parts "2,2,witnessed" "R1,1,1,0" "ann,map\nbo,map\n"
-    ∷ with-parts "2,2,witnessed" "R1,1,1,0" "ann,rec\nann,rec\n"
-    ∷ with-parts "2,2,witnessed" "R1,1,1,0" "ann,rec\ncy,rec\n"
-    ∷ []
+users : String
+users = "user,R1,R2\nann,1,0\nbo,0,1\ncy,1,1"
 
--- an answer, and a refusal
-answer : ℕ → ℕ → CheckAnswer
-answer roles lines = record { number = 0; roles = roles; witness-lines = lines }
+two : String
+two = "user,permission\nann,rec\nbo,map\n"
 
-refused : ℕ → CheckAnswer
-refused number = record { number = number; roles = 0; witness-lines = 0 }
+one : String
+one = "user,permission\nbo,map\n"
 
--- good: as the program writes it, witness lines in another order, `searched` and `open` with fewer lines than roles. 12: a leading zero, no state
--- word, no role of that number, a line too short, no line feed at the end, names exchanged. 13: another number of role lines, and a bound that does
--- not agree with each state word. 14: a permission too many, and one too few. 15: a grant that is not held, the same twice, two that fit
-cases : map checked books
-    ≡ answer 2 2 ∷ answer 2 2 ∷ answer 2 1 ∷ answer 2 1
-    ∷ refused 12 ∷ refused 12 ∷ refused 12 ∷ refused 12 ∷ refused 12 ∷ refused 12
-    ∷ refused 13 ∷ refused 13 ∷ refused 13 ∷ refused 13
-    ∷ refused 14 ∷ refused 14
-    ∷ refused 15 ∷ refused 15 ∷ refused 15
-    ∷ []
-unfolding checked books answer refused some-below every-below lowest-below
-cases = refl
+with-counts : String → String → Parts
+unfolding roles users
+with-counts counts witness = record { counts = counts; roles = roles; users = users; witness = witness }
 
--- three users each lacking only their own permission: of three witness lines the first and the last fit, and no two neighbours
-crown : Bytes
-crown = ascii "user,a,b,c\nx,0,1,1\ny,1,0,1\nz,1,1,0\n"
+with-roles : String → Parts
+unfolding users two
+with-roles roles = record { counts = "2,2,witnessed"; roles = roles; users = users; witness = two }
 
-crown-book : String → Bytes
-crown-book last =
-    ascii "roles,bound,state\n3,3,witnessed\n\nrole,a,b,c\nR1,1,0,0\nR2,0,1,0\nR3,0,0,1\n\n"
-    ++ ascii "user,R1,R2,R3\nx,0,1,1\ny,1,0,1\nz,1,1,0\n\nuser,permission\nx,b\ny,c\n" ++ ascii last
+with-users : String → Parts
+unfolding roles two
+with-users users = record { counts = "2,2,witnessed"; roles = roles; users = users; witness = two }
 
-crown-checked : String → CheckAnswer
-unfolding crown crown-book check
-crown-checked last = check crown (crown-book last)
+with-witness : String → Parts
+unfolding with-counts
+with-witness witness = with-counts "2,2,witnessed" witness
 
-crowns : map crown-checked ("z,a\n" ∷ "z,b\n" ∷ []) ≡ answer 3 3 ∷ refused 15 ∷ []
-unfolding crown-checked answer refused some-below every-below lowest-below
+-- the numbers that some books get
+numbers : List Parts → List ℕ
+unfolding checked
+numbers books = map (λ parts. checked parts .number) books
+
+-- as the program writes it, witness lines in another order, `searched` and `open` with fewer lines than roles
+good : map checked
+    (with-counts "2,2,witnessed" two ∷ with-witness "user,permission\nbo,map\nann,rec\n" ∷ with-counts "2,2,searched" one
+    ∷ with-counts "2,1,open" one ∷ [])
+    ≡ record { number = 0; roles = 2; witness-lines = 2 } ∷ record { number = 0; roles = 2; witness-lines = 2 }
+    ∷ record { number = 0; roles = 2; witness-lines = 1 } ∷ record { number = 0; roles = 2; witness-lines = 1 } ∷ []
+unfolding checked with-counts with-witness two one some-below every-below lowest-below
+good = refl
+
+-- block 1: a leading zero in either count, no state word, a field too few and one too many, a line more
+counts-off : numbers
+    (with-counts "02,2,witnessed" two ∷ with-counts "2,02,witnessed" two ∷ with-counts "2,2,closed" two ∷ with-counts "2,2" two
+    ∷ with-counts "2,2,witnessed,2" two ∷ with-counts "2,2,witnessed\n2" two ∷ [])
+    ≡ 12 ∷ 12 ∷ 12 ∷ 12 ∷ 12 ∷ 12 ∷ []
+unfolding numbers with-counts two some-below every-below lowest-below
+counts-off = refl
+
+-- block 2: another heading, permissions in another order, no role of that number, a line too short, a cell that is no
+-- bit
+roles-off : numbers
+    (with-roles "user,rec,id,map\nR1,1,1,0\nR2,0,1,1" ∷ with-roles "role,id,rec,map\nR1,1,1,0\nR2,0,1,1"
+    ∷ with-roles "role,rec,id,map\nR2,1,1,0\nR1,0,1,1" ∷ with-roles "role,rec,id,map\nR1,1,1\nR2,0,1,1"
+    ∷ with-roles "role,rec,id,map\nR1,1,1,2\nR2,0,1,1" ∷ [])
+    ≡ 12 ∷ 12 ∷ 12 ∷ 12 ∷ 12 ∷ []
+unfolding numbers with-roles some-below every-below lowest-below
+roles-off = refl
+
+-- 64 roles are of the form, 65 are not
+many-roles : ℕ → Bool
+unfolding roles-form
+many-roles count =
+    roles-form (record { users = []; permissions = []; rows = [] }) ((ascii "role" ∷ []) ∷ list-of count (λ r. role-name r ∷ []))
+
+role-limits : map many-roles (64 ∷ 65 ∷ []) ≡ true ∷ false ∷ []
+unfolding many-roles role-limit permission-limit role-name every-below
+role-limits = refl
+
+-- block 3: another heading, roles in another order, users in another order, one missing, one more, a line too long, a
+-- cell that is no bit
+users-off : numbers
+    (with-users "role,R1,R2\nann,1,0\nbo,0,1\ncy,1,1" ∷ with-users "user,R2,R1\nann,1,0\nbo,0,1\ncy,1,1"
+    ∷ with-users "user,R1,R2\nbo,0,1\nann,1,0\ncy,1,1" ∷ with-users "user,R1,R2\nann,1,0\nbo,0,1"
+    ∷ with-users "user,R1,R2\nann,1,0\nbo,0,1\ncy,1,1\ndi,0,0" ∷ with-users "user,R1,R2\nann,1,0,0\nbo,0,1\ncy,1,1"
+    ∷ with-users "user,R1,R2\nann,1,2\nbo,0,1\ncy,1,1" ∷ [])
+    ≡ 12 ∷ 12 ∷ 12 ∷ 12 ∷ 12 ∷ 12 ∷ 12 ∷ []
+unfolding numbers with-users some-below every-below lowest-below
+users-off = refl
+
+-- block 4: another heading, names exchanged, a name that is only a user's and one that is only a permission's, a field
+-- too many, no line feed at the end, an empty line at the end
+witness-off : numbers
+    (with-witness "user,role\nann,rec\nbo,map\n" ∷ with-witness "user,permission\nrec,ann\nbo,map\n"
+    ∷ with-witness "user,permission\nann,ann\nbo,map\n" ∷ with-witness "user,permission\nrec,rec\nbo,map\n"
+    ∷ with-witness "user,permission\nann,rec,1\nbo,map\n" ∷ with-witness "user,permission\nann,rec\nbo,map"
+    ∷ with-witness "user,permission\nann,rec\nbo,map\n\n" ∷ [])
+    ≡ 12 ∷ 12 ∷ 12 ∷ 12 ∷ 12 ∷ 12 ∷ 12 ∷ []
+unfolding numbers with-witness some-below every-below lowest-below
+witness-off = refl
+
+-- counts that disagree: another number of roles; `witnessed` with another bound, and with fewer lines; `searched` with
+-- as many lines as roles, and with another bound; `open` with another bound, and with as many lines as roles
+counts-disagree : numbers
+    (with-counts "3,2,witnessed" two ∷ with-counts "2,1,witnessed" two ∷ with-counts "2,2,witnessed" one ∷ with-counts "2,2,searched" two
+    ∷ with-counts "2,1,searched" one ∷ with-counts "2,2,open" one ∷ with-counts "2,2,open" two ∷ [])
+    ≡ 13 ∷ 13 ∷ 13 ∷ 13 ∷ 13 ∷ 13 ∷ 13 ∷ []
+unfolding numbers with-counts two one some-below every-below lowest-below
+counts-disagree = refl
+
+-- a permission too many, and one too few
+product-differs : numbers
+    (with-roles "role,rec,id,map\nR1,1,1,1\nR2,0,1,1" ∷ with-roles "role,rec,id,map\nR1,1,0,0\nR2,0,1,1" ∷ []) ≡ 14 ∷ 14 ∷ []
+unfolding numbers with-roles some-below every-below lowest-below
+product-differs = refl
+
+-- a grant that is not held, the same grant twice, two that fit
+witness-fails : numbers
+    (with-witness "user,permission\nann,map\nbo,map\n" ∷ with-witness "user,permission\nann,rec\nann,rec\n"
+    ∷ with-witness "user,permission\nann,rec\ncy,rec\n" ∷ [])
+    ≡ 15 ∷ 15 ∷ 15 ∷ []
+unfolding numbers with-witness some-below every-below lowest-below
+witness-fails = refl
+
+-- three users each lacking only their own permission: with `z,b` the first and the last of three witness lines fit,
+-- and no two neighbours
+crown : String → CheckAnswer
+unfolding check
+crown last =
+    check (ascii "user,a,b,c\nx,0,1,1\ny,1,0,1\nz,1,1,0\n")
+    (ascii "roles,bound,state\n3,3,witnessed\n\nrole,a,b,c\nR1,1,0,0\nR2,0,1,0\nR3,0,0,1\n\n"
+    ++ ascii "user,R1,R2,R3\nx,0,1,1\ny,1,0,1\nz,1,1,0\n\nuser,permission\nx,b\ny,c\n" ++ ascii last)
+
+crowns : map (λ last. crown last .number) ("z,a\n" ∷ "z,b\n" ∷ []) ≡ 0 ∷ 15 ∷ []
+unfolding crown some-below every-below lowest-below
 crowns = refl

@@ -1,4 +1,4 @@
--- "Around the edges": the paper's edge cases and the four slips to shut out, computed together from the definitions. Assumes nothing.
+-- "Around the edges": the paper's edge cases and the four slips to shut out, computed together from the definitions.
 use Rattle.spec.specs.Vocabulary.{ℕ, some, List, [], _∷_, map, lowest-below}
 use mathlib.Core.Path.{_≡_, refl}
 use Rattle.spec.specs.Limits.{budget-limit, book-limit}
@@ -58,11 +58,16 @@ crown-of-three = ascii "user,a,b,c\nx,0,1,1\ny,1,0,1\nz,1,1,0\n"
 crown-of-four : Bytes
 crown-of-four = ascii "user,a,b,c,d\nw,0,1,1,1\nx,1,0,1,1\ny,1,1,0,1\nz,1,1,1,0\n"
 
--- a sheet whose search finds a better placement in step 14, and closes in step 45. Were the classes in use not held below the new
--- class count, step 17 would go another way; were class number b - 1 opened, step 20
+-- a sheet whose search finds a better placement in step 14, and closes in step 45. Were the classes in use not held
+-- below the new class count, step 17 would go another way; were class number b - 1 opened, step 20
 improves : Bytes
 improves =
     ascii "user,a,b,c,d,e,f,g\nq,1,1,0,1,0,1,1\nr,1,1,0,1,1,1,1\ns,0,1,1,1,1,1,1\nt,1,1,0,1,0,1,0\nu,1,0,1,0,0,1,1\nv,1,1,1,0,1,1,1\nw,1,0,1,0,1,1,1\n"
+
+-- a sheet with a kernel and a single, whose search reaches w in step 21: a machine that does not look for w then, or
+-- leaves out the single, goes on
+reaches : Bytes
+reaches = ascii "user,a,b,c,d,e\nv,1,1,1,1,0\nw,1,1,0,1,0\nx,1,0,0,1,1\ny,0,1,1,0,1\nz,0,1,0,1,1\n"
 
 trial : Bytes → ℕ → Trial
 trial sheet budget = record { sheet = sheet; budget = budget }
@@ -77,7 +82,7 @@ figures : ℕ → ℕ → ℕ → Standing → SearchAnswer
 figures steps roles bound standing = record { number = 0; steps = steps; roles = roles; bound = bound; standing = some standing }
 
 trials : List Trial
-unfolding trial worked crown-of-three crown-of-four improves
+unfolding trial worked crown-of-three crown-of-four improves reaches
 trials =
     trial worked 0
     ∷ trial (ascii "user,a\nx,0\n") 0
@@ -93,6 +98,9 @@ trials =
     ∷ trial improves 17
     ∷ trial improves 20
     ∷ trial improves 100
+    ∷ trial reaches 0
+    ∷ trial reaches 100
+    ∷ trial (ascii "user,a,b,c,d\nw,1,1,0,0\nx,1,0,1,0\ny,0,1,1,1\nz,1,0,1,1\n") 0
     ∷ []
 
 -- the grant of a user and a permission
@@ -110,7 +118,11 @@ improves-witness : List Grant
 unfolding at
 improves-witness = at 0 6 ∷ at 1 4 ∷ at 2 2 ∷ at 3 3 ∷ []
 
--- the starred cases of "Around the edges" in its order, then a sheet for each slip
+reaches-witness : List Grant
+unfolding at
+reaches-witness = at 0 2 ∷ at 1 0 ∷ at 2 4 ∷ at 4 1 ∷ []
+
+-- the starred cases of "Around the edges" in its order, then sheets for the slips, and last one that takes four sweeps
 edges : map finding trials ≡
     found (counts 3 3 7 0 2) (at 0 0 ∷ at 1 2 ∷ []) (figures 0 2 2 witnessed) 0
     ∷ found (counts 1 1 0 0 0) [] (figures 0 0 0 witnessed) 0
@@ -126,8 +138,11 @@ edges : map finding trials ≡
     ∷ found (counts 7 7 36 10 4) improves-witness (figures 17 5 4 unsettled) 7
     ∷ found (counts 7 7 36 10 4) improves-witness (figures 20 5 4 unsettled) 4
     ∷ found (counts 7 7 36 10 4) improves-witness (figures 45 5 5 searched) 0
+    ∷ found (counts 5 5 16 7 4) reaches-witness (figures 0 5 4 unsettled) 0
+    ∷ found (counts 5 5 16 7 4) reaches-witness (figures 21 4 4 witnessed) 7
+    ∷ found (counts 4 4 10 0 4) (at 0 0 ∷ at 1 2 ∷ at 2 1 ∷ at 3 3 ∷ []) (figures 0 4 4 witnessed) 0
     ∷ []
-unfolding finding trials counts figures found at crown-witness improves-witness lowest-below
+unfolding finding trials counts figures found at crown-witness improves-witness reaches-witness lowest-below
 edges = refl
 
 -- the worked example's whole book from the sheet's bytes

@@ -1,4 +1,4 @@
--- The limits, beside the paper's numbers. Assumes nothing.
+-- The limits, beside the paper's numbers.
 use Rattle.spec.specs.Vocabulary.{ℕ, List, [], _∷_}
 use mathlib.Core.Path.{_≡_, refl}
 use Rattle.spec.specs.Limits.{sheet-limit, permission-limit, user-limit, name-limit, grant-limit, search-limit, budget-limit, role-limit, book-limit}

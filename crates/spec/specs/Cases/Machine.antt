@@ -1,9 +1,10 @@
--- A kernel of ten grants on which a slip of the machine would give another answer, computed from the definitions. Assumes nothing.
--- Step 14 finds a placement of five classes. In step 17 the seven grants placed use five classes already, so that no class is left,
--- though class 1 is below the new count: a machine that holds only the class and not the classes in use below it goes on there.
+-- A kernel of ten grants on which a slip of the machine would give another answer, computed from the definitions. Step
+-- 14 finds a placement of five classes. In step 17 the eight grants placed use five classes, so that none is left,
+-- though the next grant fits class 2 and 2 + 1 is below the new count: a machine that holds only c + 1 below it, and
+-- not the classes in use, places there.
 use Rattle.spec.specs.Vocabulary.{ℕ, Bool, true, false, List, [], _∷_, map, eqb, getD, lowest-below, any}
 use mathlib.Core.Path.{_≡_, refl}
-use Rattle.spec.specs.Machine.{Kernel, Ran, start, run, depth}
+use Rattle.spec.specs.Machine.{Kernel, Ran, start, run, search, depth}
 
 -- with which of the kernel each grant fits
 fitting : List (List ℕ)
@@ -56,3 +57,24 @@ cases : map stand (0 ∷ 1 ∷ 13 ∷ 14 ∷ 17 ∷ 44 ∷ 100 ∷ [])
     ∷ []
 unfolding stand first better lowest-below
 cases = refl
+
+-- two grants that fit, first in two classes, with one single and w = 2: one class of both and the single reach w, so
+-- the second step finishes
+pair : ℕ → Kernel
+pair size = record { size = size; fit = λ i j. true; singles = 1; witness = 2 }
+
+apart : List ℕ
+apart = 1 ∷ 0 ∷ []
+
+stand-of : Ran → Stand
+stand-of ran =
+    record { steps = ran .steps; placed = depth (ran .state); best = ran .state .best; finished = ran .state .finished }
+
+finishes : stand-of (search (pair 2) 10 (start (pair 2) apart)) ≡ record { steps = 2; placed = 2; best = 0 ∷ 0 ∷ []; finished = true }
+unfolding search pair apart stand-of lowest-below
+finishes = refl
+
+-- a kernel of 128 is searched, one of 129 is not
+searched : map (λ size. search (pair size) 1 (start (pair size) apart) .steps) (128 ∷ 129 ∷ []) ≡ 1 ∷ 0 ∷ []
+unfolding search pair apart lowest-below
+searched = refl

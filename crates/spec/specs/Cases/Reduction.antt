@@ -1,6 +1,7 @@
--- Small sheets on which a slip in the reduction or the witness would give another answer, computed from the definitions. Assumes nothing.
--- One user with two ones: each grant dominates the other, and only the first may go. Two such users: (0,1) and (1,0) fit though (0,0) is gone.
--- Three users each lacking only their own permission: each grant fits another and none dominates one. Names do not matter here.
+-- Small sheets on which a slip in the reduction or the witness would give another answer, computed from the
+-- definitions. One user with two ones: each grant dominates the other, and only the first may go. Two such users:
+-- (0,1) and (1,0) fit though (0,0) is gone. Three users each lacking only their own permission: each grant fits
+-- another and none dominates one. Names do not matter here.
 use Rattle.spec.specs.Vocabulary.{ℕ, Bool, true, false, List, [], _∷_, map}
 use mathlib.Core.Path.{_≡_, refl}
 use Rattle.spec.specs.Text.{ascii}

@@ -1,5 +1,6 @@
--- State, bound and roles on small sheets, computed from the definitions. Assumes nothing.
--- Three users of whom the third holds all: the second role has the lowest grant (1,1), which is tied, so it is numbered after the first.
+-- State, bound and roles on small sheets, computed from the definitions. Three users of whom the third holds all: the
+-- class opened first, by the single (1,2) put back first, has (1,1) as its lowest grant, and the other has (0,0); so
+-- the first becomes R2.
 use Rattle.spec.specs.Vocabulary.{ℕ, Bool, true, false, List, [], _∷_, lowest-below, list-of}
 use mathlib.Core.Path.{_≡_, refl}
 use Rattle.spec.specs.Text.{ascii}

@@ -1,0 +1,58 @@
+-- "The sheet" and causes 1 to 9: which bytes are allowed, a sheet for each cause and its neighbours, and both sides of
+-- each limit, computed from the definitions.
+use mathlib.Core.Path.{refl}
+use Rattle.spec.specs.Vocabulary.{ℕ, suc, _≡_, Bool, true, false, List, [], _∷_, _++_, map, length, replicate, filter, list-of}
+use Rattle.spec.specs.Limits.{sheet-limit, permission-limit, user-limit, name-limit, grant-limit}
+use Rattle.spec.specs.Text.{Bytes, ascii, allowed-byte}
+use Rattle.spec.specs.Sheet.{Sheet}
+use Rattle.spec.specs.Refusal.{too-long, bad-first-line, bad-line-count, has-name-length, too-many-grants, refusal}
+
+-- of all 256 bytes these are allowed
+bytes : filter allowed-byte (list-of 256 (λ b. b))
+    ≡ ascii "\n,-.0123456789ABCDEFGHIJKLMNOPQRSTUVWXYZ_abcdefghijklmnopqrstuvwxyz"
+unfolding allowed-byte
+bytes = refl
+
+-- accepted: a user and a permission share a name, nobody holds anything, upper and lower case are distinct. 2: no line
+-- feed at the end, a byte that is not allowed. 3: an empty line, another word, no permission. 4: no user line, though
+-- a name is empty too. 5: an empty line among the users, an empty permission name, an empty user name. 6: a line too
+-- short, one too long. 7: another digit, an empty field, two digits. 8: a user twice, a permission twice. Last, the
+-- lowest of several: 6 before 7 and 8, 2 before 3
+refusals : map refusal
+    (ascii "user,x\nx,1\n" ∷ ascii "user,a\nx,0\n" ∷ ascii "user,a,A\nx,0,1\nX,1,0\n"
+    ∷ ascii "user,a\nx,1" ∷ ascii "user,a\nx,1;\n"
+    ∷ ascii "\n" ∷ ascii "users,a\nx,1\n" ∷ ascii "user\nx\n"
+    ∷ ascii "user,a\n" ∷ ascii "user,\n"
+    ∷ ascii "user,a\n\n" ∷ ascii "user,\nx,1\n" ∷ ascii "user,a\n,1\n"
+    ∷ ascii "user,a\nx\n" ∷ ascii "user,a\nx,1,0\n"
+    ∷ ascii "user,a\nx,2\n" ∷ ascii "user,a\nx,\n" ∷ ascii "user,a\nx,01\n"
+    ∷ ascii "user,a\nx,1\nx,0\n" ∷ ascii "user,a,a\nx,1,0\n"
+    ∷ ascii "user,a\nx,2,1\nx,0\n" ∷ ascii "users,a\nx,1\n " ∷ [])
+    ≡ 0 ∷ 0 ∷ 0 ∷ 2 ∷ 2 ∷ 3 ∷ 3 ∷ 3 ∷ 4 ∷ 4 ∷ 5 ∷ 5 ∷ 5 ∷ 6 ∷ 6 ∷ 7 ∷ 7 ∷ 7 ∷ 8 ∷ 8 ∷ 6 ∷ 2 ∷ []
+unfolding refusal
+refusals = refl
+
+-- a sheet of so many full rows of 64, and a last row of so many ones
+full : ℕ → ℕ → Sheet
+full rows ones = record { users = []; permissions = []; rows = replicate rows (replicate 64 true) ++ replicate ones true ∷ [] }
+
+-- whether each limit is passed at the limit and one beyond: 64 permissions, 256 users, 16 bytes of a name, 2,048
+-- grants
+limits :
+    bad-first-line ((ascii "user" ∷ replicate 64 (ascii "a")) ∷ [])
+    ∷ bad-first-line ((ascii "user" ∷ replicate 65 (ascii "a")) ∷ [])
+    ∷ bad-line-count ([] ∷ replicate 256 [])
+    ∷ bad-line-count ([] ∷ replicate 257 [])
+    ∷ has-name-length (replicate 16 0)
+    ∷ has-name-length (replicate 17 0)
+    ∷ too-many-grants (full 31 64)
+    ∷ too-many-grants (full 32 1)
+    ∷ []
+    ≡ false ∷ true ∷ false ∷ true ∷ true ∷ false ∷ false ∷ true ∷ []
+unfolding bad-first-line bad-line-count has-name-length too-many-grants full
+limits = refl
+
+-- 40,960 bytes
+long : too-long (replicate 40_960 0) ∷ too-long (replicate 40_961 0) ∷ [] ≡ false ∷ true ∷ []
+unfolding too-long
+long = refl
