@@ -29,7 +29,8 @@ pub record CellsIn (text : Bytes) (at count word : ℕ) : Type 0 where
   pub stand : CellsStand text at count (bit word)
   pub beyond : (q : ℕ) → count ≤ q → bit word q ≡ false
 
--- what reading so many cells gives: their word, or that no such cells stand there
+-- what reading so many cells gives: their word, or that no such cells stand there, and then no position
 pub record WordOfCells (text : Bytes) (at count : ℕ) (r : CellsWord) : Type 0 where
   pub good : So (r .good) → CellsIn text at count (r .word)
   pub off : r .good ≡ false → (ones : ℕ → Bool) → CellsStand text at count ones → ⊥
+  pub blank : r .good ≡ false → r .word ≡ 0

@@ -35,11 +35,12 @@ pub record FourBytes (a b c d n : ℕ) : Type 0 where
   pub fourth : d < 256
   pub sum : n ≡ a + b * 256 + c * 65536 + d * 16777216
 
--- what reading a number gives: the word of four cells, or that it says no four cells
+-- what reading a number gives: the word of four cells, or that it says no four cells, and then no position
 pub record FourOf (n : ℕ) (r : CellsWord) : Type 0 where
   pub small : r .word < 2 ^ 4
   pub good : So (r .good) → n ≡ no-cells + four-set (bit (r .word) 0) (bit (r .word) 1) (bit (r .word) 2) (bit (r .word) 3)
   pub off : r .good ≡ false → (a b c d : Bool) → n ≡ no-cells + four-set a b c d → ⊥
+  pub blank : r .good ≡ false → r .word ≡ 0
 
 pub one-if-small : (b : Bool) → one-if b ≤ 1
 one-if-small true = omega arith

@@ -103,6 +103,7 @@ module _ (text : Bytes) (at low high : ℕ)
                 beyond = λ q k. bit-above 4 (r .word) (f .small) k;
               };
           off = λ p ones c. f .off p (ones 0) (ones 1) (ones 2) (ones 3) (stands-said ones c);
+          blank = f .blank;
         }
 
 -- the same bytes at the same places

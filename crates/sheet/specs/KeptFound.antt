@@ -62,11 +62,10 @@ module _ (text : Bytes) (n : Notes) (good : Bool) (read : SheetLines text n good
       → Inside text (places-of (n .user-from) (n .user-to)) (n .users) × Inside text (places-of (n .permission-from) (n .permission-to)) (n .permissions)
   kept-inside p = (users-are-inside text n (read .stands p .stand), permissions-are-inside text n (read .stands p .stand))
 
-  pub kept-unrefused : So (good && apart text n) → refusal text ≡ 0
-  kept-unrefused p = kept-read text n (read .stands (and-left good (apart text n) p)) (and-right good (apart text n) p) .unrefused
+  pub kept-as : So (good && apart text n) → KeptAs text (layout-of n) (n .words)
+  kept-as p = kept-read text n (read .stands (and-left good (apart text n) p)) (and-right good (apart text n) p)
 
-  pub kept-as : refusal text ≡ 0 → KeptAs text (layout-of n) (n .words)
-  kept-as e =
+  pub unrefused-kept : refusal text ≡ 0 → So (good && apart text n)
+  unrefused-kept e =
       let p = eq-eqb (refusal text) 0 e in
-      let s = read .stands (read .found p) in
-      kept-read text n s (accepted-apart text p n (s .stand))
+      and-intro good (apart text n) (read .found p) (accepted-apart text p n (read .stands (read .found p) .stand))

@@ -24,6 +24,7 @@ use Rattle.sheet.specs.LaidOut.{LaidOut}
 use Rattle.sheet.specs.RowsRead.{RowsRead}
 use Rattle.sheet.specs.Spelled.{NameAt}
 use Rattle.sheet.specs.UserLines.{lines-at}
+use Rattle.sheet.specs.OnlyNames.{OnlyNames}
 use Rattle.sheet.specs.WordRows.{word-rows-read}
 use Rattle.sheet.specs.KeptSheet.{Notes, noted, LinesStand, SheetStands, noted-lines, noted-grants, noted-users, noted-permissions, noted-written, noted-said, noted-keeps}
 use Rattle.sheet.specs.declared.layout.Layout.{Layout}
@@ -80,6 +81,7 @@ layout-of n =
 pub record KeptAs (text : Bytes) (layout : Layout) (words : List ℕ) : Type 0 where
   pub unrefused : refusal text ≡ 0
   pub laid-out : LaidOut text layout
+  pub only-names : OnlyNames layout
   pub rows : RowsRead words (sheet-of text)
 
 -- no name stands twice
@@ -87,7 +89,13 @@ abbrev pub apart : Bytes → Notes → Bool
 apart text n = not (repeats same-name (noted text n .users)) && not (repeats same-name (noted text n .permissions))
 
 keeps-as : (text : Bytes) (n : Notes) → LinesStand text n → Keeps text (noted text n) → KeptAs text (layout-of n) (n .words)
-keeps-as text n s keeps = record { unrefused = eqb-true (refusal text) 0 accepts; laid-out = laid-out; rows = rows }
+keeps-as text n s keeps =
+    record {
+      unrefused = eqb-true (refusal text) 0 accepts;
+      laid-out = laid-out;
+      only-names = record { users-end = s .lines .unnoted; permissions-end = s .first .unnoted; permissions-run = s .first .run };
+      rows = rows;
+    }
   where
     accepts : So (accepted text)
     accepts = accepts-sheets text .1 (noted text n, keeps)

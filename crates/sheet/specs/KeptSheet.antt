@@ -18,28 +18,31 @@ use Rattle.lists.specs.TestLaws.{same-bytes-refl}
 use Rattle.lists.specs.SameLaws.{distinct-places}
 use Rattle.lists.specs.ListOfLaws.{length-list-of, list-of-element}
 use Rattle.sheet.specs.Rows.{row-words}
+use Rattle.sheet.specs.PlacesLaws.{new-blank}
 use Rattle.sheet.specs.NamesAt.{Inside, places-of, name-there, names-at}
 use Rattle.sheet.specs.SheetLines.{sheet-text-lines}
 use Rattle.sheet.specs.WrittenLaws.{SheetWritten, written-sheet}
 use Rattle.sheet.specs.Spelled.{NameAt}
-use Rattle.sheet.specs.FirstLine.{FirstLineStands}
+use Rattle.sheet.specs.FirstLine.{NamesRoom, FirstLineStands}
 use Rattle.sheet.specs.UserLines.{Room, lines-at, LinesRead}
 use Rattle.sheet.specs.UserLinesLaws.{new-room}
 use Rattle.sheet.specs.WordRows.{word-row, word-rows, word-lines, word-grants}
 use Rattle.sheet.specs.declared.kept.Counts.{Counts}
 
--- there is room for as many names and rows as there can be
+-- there is room for as many names and rows as there can be, and nothing is noted yet
 pub record SheetRoom (permission-from permission-to user-from user-to words : List ℕ) : Type 0 where
-  pub permission-from-room : length permission-from ≡ user-limit
-  pub permission-to-room : length permission-to ≡ user-limit
+  pub permissions-room : NamesRoom permission-from permission-to
   pub users-room : Room user-from user-to words
 
 pub new-sheet-room : SheetRoom (replicate user-limit 0) (replicate user-limit 0) (replicate user-limit 0) (replicate user-limit 0)
     (replicate (user-limit * row-words) 0)
 new-sheet-room =
     record {
-      permission-from-room = length-replicate user-limit 0;
-      permission-to-room = length-replicate user-limit 0;
+      permissions-room = record {
+        from-room = length-replicate user-limit 0;
+        to-room = length-replicate user-limit 0;
+        unnoted = new-blank user-limit 0;
+      };
       users-room = new-room;
     }
 

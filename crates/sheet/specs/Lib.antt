@@ -64,6 +64,7 @@ pub mod KeepsLaws
 pub mod AcceptedKeeps
 pub mod Accepted
 pub mod AcceptedFacts
+pub mod OnlyNames
 pub mod KeptSheet
 pub mod KeptRead
 pub mod KeptFound

@@ -23,3 +23,8 @@ pub record PlacedBelow (n : ℕ) (text : Bytes) (places : Places) (names : List 
 -- all names of a list stand in the text at these places
 abbrev pub NamesPlaced : Bytes → Places → List Bytes → Type 0
 NamesPlaced text places names = PlacedBelow (length names) text places names
+
+-- past the first n no place is noted: there both lists have 0
+pub record BlankPast (n : ℕ) (from to : List ℕ) : Type 0 where
+  pub starts : (i : ℕ) → n ≤ i → getD from i 0 ≡ 0
+  pub ends : (i : ℕ) → n ≤ i → getD to i 0 ≡ 0

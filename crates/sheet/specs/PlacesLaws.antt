@@ -1,15 +1,15 @@
--- Places are noted one after the other: a place noted last is read back, and those noted before stay. Assumes nothing.
-use Prim.Native.Nat.{ℕ, suc, _<_}
+-- Places are noted one after the other: a place noted last is read back, those noted before stay, and past them none is noted. Assumes nothing.
+use Prim.Native.Nat.{ℕ, suc, _≤_, _<_}
 use native.Mathlib.Nat.{not-suc-le-zero, ne-of-lt}
 use native.Mathlib.Omega.{arith}
 use mathlib.Core.Path.{_≡_, _∙_}
 use mathlib.Core.Logic.{⊎-elim}
 use mathlib.Core.List.{List, []}
-use lib.ListN.{length, getD, set, length-set}
+use lib.ListN.{length, getD, set, replicate, length-set, length-replicate, getD-replicate, List·getD-eq-default}
 use lib.Seq.{getD-set-same, getD-set-other}
 use Rattle.spec.specs.Text.{Bytes}
-use Rattle.bits.specs.BelowLaws.{last-or-below}
-use Rattle.sheet.specs.Places.{Part, PlacedBelow}
+use Rattle.bits.specs.BelowLaws.{below-or-from, last-or-below}
+use Rattle.sheet.specs.Places.{Part, PlacedBelow, BlankPast}
 use Rattle.sheet.specs.declared.places.Places.{Places}
 
 -- both lists of places have room for this many
@@ -57,3 +57,23 @@ module _ (room : ℕ) (places : Places) (s : HasRoom room places) (n : ℕ) (h :
 -- no name yet
 pub none-noted : (text : Bytes) (places : Places) (names : List Bytes) → PlacedBelow 0 text places names
 none-noted text places names = record { each = λ i l. absurd (not-suc-le-zero l) }
+
+-- ---- past the places noted
+
+pub zero-there : (n i : ℕ) → _≡_ {A = ℕ} (getD (replicate n 0) i 0) 0
+zero-there n i =
+    ⊎-elim (λ l. getD-replicate n i 0 0 l)
+    (λ l. let past : length {A = ℕ} (replicate n 0) ≤ i = omega (arith, length-replicate {A = ℕ} n 0) in List·getD-eq-default (replicate n 0) 0 past)
+    (below-or-from i n)
+
+-- new lists have none
+pub new-blank : (room n : ℕ) → BlankPast n (replicate room 0) (replicate room 0)
+new-blank room n = record { starts = λ i l. zero-there room i; ends = λ i l. zero-there room i }
+
+-- and none is past one that is noted next
+pub blank-kept : (n : ℕ) (from to : List ℕ) (start end : ℕ) → BlankPast n from to → BlankPast (suc n) (set from n start) (set to n end)
+blank-kept n from to start end b =
+    record {
+      starts = λ i l. getD-set-other from n i start 0 (λ e. omega arith) ∙ b .starts i (omega arith);
+      ends = λ i l. getD-set-other to n i end 0 (λ e. omega arith) ∙ b .ends i (omega arith);
+    }

@@ -11,15 +11,17 @@ use Rattle.spec.specs.Rules.{Name, user-lines}
 use Rattle.bits.specs.Counting.{count-below, sum-below}
 use Rattle.bits.specs.Bit.{bit, word-bits}
 use Rattle.sheet.specs.Rows.{row-words}
+use Rattle.sheet.specs.Places.{BlankPast}
 use Rattle.sheet.specs.Stands.{Stands}
 use Rattle.sheet.specs.UserLine.{UserAt, line-of}
 use Rattle.sheet.specs.declared.user_lines.UserLines.{UserLines}
 
--- there is room for as many users as there can be, and no word has a position yet
+-- there is room for as many users as there can be, and no place is noted and no word has a position yet
 pub record Room (from to words : List ℕ) : Type 0 where
   pub from-room : length from ≡ user-limit
   pub to-room : length to ≡ user-limit
   pub words-room : length words ≡ user-limit * row-words
+  pub unnoted : BlankPast 0 from to
   pub blank : (i : ℕ) → getD words i 0 ≡ 0
 
 -- line u, by where its name stands and by its word
@@ -40,6 +42,7 @@ pub record LinesRead (text : Bytes) (start width : ℕ) (from to words : List �
   pub each : (u : ℕ) → u < n → UserAt text width (getD from u 0) (getD to u 0) (getD words u 0)
   pub stands : Stands text start (text-of (lines-at text width from to words n)) at
   pub starts : (u : ℕ) → u < n → drop (getD from u 0) text ≡ text-of (drop u (lines-at text width from to words n)) ++ drop at text
+  pub unnoted : BlankPast n from to
   pub beyond : (i : ℕ) → n ≤ i → getD words i 0 ≡ 0
   pub counted : ones ≡ ones-at words n
 

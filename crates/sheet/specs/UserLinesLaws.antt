@@ -6,13 +6,13 @@ use native.Mathlib.Numerals.{add-one}
 use mathlib.Core.Path.{_≡_, refl, sym, ap, subst, _∙_}
 use mathlib.Core.Logic.{⊎-elim}
 use mathlib.Core.List.{List, [], _∷_, _++_, map, map-append, append-assoc, append-nil}
-use lib.ListN.{length, getD, drop, set, replicate, length-set, length-replicate, getD-replicate, List·getD-eq-default}
+use lib.ListN.{length, getD, drop, set, replicate, length-set, length-replicate}
 use lib.Seq.{getD-set-same, getD-set-other, drop-at, drop-append-le}
 use Rattle.spec.specs.Vocabulary.{concat}
 use Rattle.spec.specs.Limits.{user-limit}
 use Rattle.spec.specs.Text.{Bytes, Line, line-text, text-of}
 use Rattle.bits.specs.Counting.{count-below, sum-below}
-use Rattle.bits.specs.BelowLaws.{below-or-from, last-or-below}
+use Rattle.bits.specs.BelowLaws.{last-or-below}
 use Rattle.bits.specs.CountLaws.{count-below-le}
 use Rattle.bits.specs.SumLaws.{sum-below-ext, sum-below-le}
 use Rattle.bits.specs.StepLaws.{sum-below-step}
@@ -20,6 +20,7 @@ use Rattle.bits.specs.Bit.{bit, word-bits}
 use Rattle.lists.specs.JoinLaws.{concat-append}
 use Rattle.lists.specs.ListOfLaws.{list-of-last, list-of-same, length-list-of}
 use Rattle.sheet.specs.Rows.{row-words}
+use Rattle.sheet.specs.PlacesLaws.{zero-there, new-blank, blank-kept}
 use Rattle.sheet.specs.Stands.{Stands, stands-nothing, stands-then}
 use Rattle.sheet.specs.UserLine.{UserAt, line-of, LineStands}
 use Rattle.sheet.specs.UserLines.{Room, line-at, lines-at, ones-at, LinesRead}
@@ -46,6 +47,7 @@ lines-start text start width from to words h room =
       each = λ u l. absurd (not-suc-le-zero l);
       stands = stands-nothing text start h;
       starts = λ u l. absurd (not-suc-le-zero l);
+      unnoted = room .unnoted;
       beyond = λ i l. room .blank i;
       counted = refl;
     }
@@ -135,6 +137,7 @@ module _ (text : Bytes) (start width : ℕ) (from to words : List ℕ) (n ones a
         starts = λ u l.
             subst (λ (l : List Line). drop (getD (set from n at) u 0) text ≡ text-of (drop u l) ++ drop next text) (sym lines-grow)
             (⊎-elim (line-here u) (λ k. rw (earlier from at u k) (starts-before u k)) (last-or-below l));
+        unnoted = blank-kept n from to at end (read .unnoted);
         beyond = λ i l. getD-set-other words n i word 0 (λ e. omega arith) ∙ read .beyond i (omega arith);
         counted = counted-more;
       }
@@ -147,12 +150,6 @@ module _ (text : Bytes) (start width : ℕ) (from to words : List ℕ) (n ones a
         words-room = length-set words n word ∙ sizes .words-room;
       }
 
-zero-there : (n i : ℕ) → _≡_ {A = ℕ} (getD (replicate n 0) i 0) 0
-zero-there n i =
-    ⊎-elim (λ l. getD-replicate n i 0 0 l)
-    (λ l. let past : length {A = ℕ} (replicate n 0) ≤ i = omega (arith, length-replicate {A = ℕ} n 0) in List·getD-eq-default (replicate n 0) 0 past)
-    (below-or-from i n)
-
 -- new lists have room
 pub new-room : Room (replicate user-limit 0) (replicate user-limit 0) (replicate (user-limit * row-words) 0)
 new-room =
@@ -160,5 +157,6 @@ new-room =
       from-room = length-replicate user-limit 0;
       to-room = length-replicate user-limit 0;
       words-room = length-replicate (user-limit * row-words) 0;
+      unnoted = new-blank user-limit 0;
       blank = zero-there (user-limit * row-words);
     }

@@ -8,9 +8,7 @@ use crate::names::same_bytes;
 use crate::spelled::read_name;
 ghost use mathlib.Core.Path.{_≡_};
 ghost use mathlib.Core.Bool.{false};
-ghost use lib.ListN.{length};
-ghost use Rattle.spec.specs.Limits.{user-limit};
-ghost use Rattle.sheet.specs.FirstLine.{says-user, FirstLineRead};
+ghost use Rattle.sheet.specs.FirstLine.{says-user, NamesRoom, FirstLineRead};
 
 // Whether such a line stands there with some names and no more than there can be permissions, how many there are, and where the next line starts.
 pub struct FirstLine {
@@ -41,7 +39,7 @@ pub fn read_first_line<'a>(
     from: &'a mut [usize; USER_LIMIT],
     to: &'a mut [usize; USER_LIMIT],
 ) -> FirstLine
-    requires { ⌜ (length (now from) ≡ user-limit) × (length (now to) ≡ user-limit) ⌝ }
+    requires { ⌜ NamesRoom (now from) (now to) ⌝ }
     ensures { λ r. ⌜ FirstLineRead (now (s .entry)) (now (from .exit)) (now (to .exit)) r ⌝ }
 {
     if !starts_with_user(s) {

@@ -9,7 +9,7 @@ ghost use lib.ListN.{length};
 ghost use Rattle.bits.specs.Bit.{bit, word-bits};
 ghost use Rattle.sheet.specs.CellsWord.{cell-stands, WordOfCells};
 
-// Whether all cells stand there, and which of them are `1`. Where one does not stand there, the word says nothing.
+// Whether all cells stand there, and which of them are `1`. Where one does not stand there, the word is 0.
 pub struct CellsWord {
     pub good: bool,
     pub word: u64,

@@ -8,24 +8,51 @@ use crate::places::Places;
 use crate::refusal::judge;
 use crate::rows::no_rows;
 ghost use mathlib.Core.Path.{_≡_};
-ghost use mathlib.Core.Bool.{So};
+ghost use Prim.Native.Nat.{_<_};
 ghost use Rattle.spec.specs.Sheet.{sheet-of};
 ghost use Rattle.spec.specs.Refusal.{refusal};
 ghost use Rattle.sheet.specs.LaidOut.{LaidOut};
 ghost use Rattle.sheet.specs.RowsRead.{RowsRead};
+ghost use Rattle.sheet.specs.OnlyNames.{OnlyNames, refused-as};
 
-// What a sheet's bytes were read as. Where the number is not 0, the layout and the rows say nothing.
+// What a sheet's bytes were read as. Where the number is not 0, the layout is that of nothing and no cell is set.
 pub struct SheetRead {
     pub number: usize,
     pub layout: Layout,
     pub rows: [u64; CELL_WORDS],
 }
 
+impl SheetRead {
+    // What a sheet is read as that is refused for this number.
+    fn refused(number: usize) -> Self
+        ensures { λ r. ⌜ r ≡ refused-as number ⌝ }
+    {
+        let places = Places {
+            from: [0; USER_LIMIT],
+            to: [0; USER_LIMIT],
+        };
+        let layout = Layout {
+            users: 0,
+            permissions: 0,
+            grants: 0,
+            user_places: places,
+            permission_places: places,
+        };
+        Self {
+            number,
+            layout,
+            rows: [0; CELL_WORDS],
+        }
+    }
+}
+
 // The lowest number of 1 to 9 that applies to the sheet, or 0 with its layout and its rows. A sheet that keeps all rules is read in one pass, and only one
 // that does not is judged cause by cause.
 pub fn read(s: &[u8]) -> SheetRead
     ensures { λ r. ⌜ r .number ≡ refusal (now (s .entry)) ⌝ }
-    ensures { λ r. ⌜ (r .number ≡ 0 → LaidOut (now (s .entry)) (r .layout) × RowsRead (r .rows) (sheet-of (now (s .entry)))) ⌝ }
+    ensures { λ r. ⌜ (r .number ≡ 0 → LaidOut (now (s .entry)) (r .layout) × RowsRead (r .rows) (sheet-of (now (s .entry)))
+        × OnlyNames (r .layout)) ⌝ }
+    ensures { λ r. ⌜ (0 < r .number → r ≡ refused-as (r .number)) ⌝ }
 {
     let mut permission_from = [0; USER_LIMIT];
     let mut permission_to = [0; USER_LIMIT];
@@ -48,8 +75,11 @@ pub fn read(s: &[u8]) -> SheetRead
         from: permission_from,
         to: permission_to,
     };
+    if !is_kept(s, counts, users, permissions) {
+        return SheetRead::refused(judge(s));
+    }
     SheetRead {
-        number: judged_unless(is_kept(s, counts, users, permissions), s),
+        number: 0,
         layout: Layout {
             users: counts.users,
             permissions: counts.permissions,
@@ -59,12 +89,4 @@ pub fn read(s: &[u8]) -> SheetRead
         },
         rows,
     }
-}
-
-// The number of a sheet of which it is known that it keeps all rules, or that is to be judged.
-fn judged_unless(kept: bool, s: &[u8]) -> usize
-    requires { ⌜ (So kept → refusal (now s) ≡ 0) ⌝ }
-    ensures { λ r. ⌜ r ≡ refusal (now (s .entry)) ⌝ }
-{
-    if kept { 0 } else { judge(s) }
 }

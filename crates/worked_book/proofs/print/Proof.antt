@@ -22,7 +22,7 @@ slice-aggregate-write-if-room c = search needs
 
 write-if-room-requires : tie.Need-write-if-room-requires
 write-if-room-requires c κs =
-    let laid-out = c .before .before .before .before .read .ensures .1 (c .before .before .if1 .left) .0 in
+    let laid-out = c .before .before .before .before .read .ensures .1 .0 (c .before .before .if1 .left) .0 in
     search (needs, laid-out)
 
 enum-known-written : tie.Need-enum-known-written

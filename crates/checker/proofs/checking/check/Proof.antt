@@ -32,7 +32,7 @@ slice-aggregate-check-book c = search needs
 check-book-requires : tie.Need-check-book-requires
 unfolding book-limit user-limit row-words
 check-book-requires c κs =
-    let read = c .before .before .before .before .before .read .ensures .1 (c .before .before .before .before .if1 .left) in
+    let read = c .before .before .before .before .before .read .ensures .1 .0 (c .before .before .before .before .if1 .left) in
     let size : length (c .before .before .before .before .before .read .result .rows) ≡ 256 = search needs in
     ((read .0, read .1, users-within (read .0) _ size), omega (arith, c .before .before .before .if2 .left))
 

@@ -28,7 +28,7 @@ anew-requires : tie.Need-anew-requires
 anew-requires c κs =
     let at-read = c .before .before .before in
     let e : at-read .read .result .number ≡ 0 = omega arith in
-    let read = at-read .read .ensures .1 e in
+    let read = at-read .read .ensures .1 .0 e in
     (sym (at-read .read .ensures .0) ∙ e, read .0, read .1)
 
 counts-requires : tie.Need-counts-requires

@@ -67,9 +67,9 @@ returns c =
 loop-holds : tie.Need-loop-holds Inv-loop μ-loop
 loop-holds c =
     let start = c .before .before .before in (
-      start .pre .0,
-      start .pre .1,
-      names-start (start .args .s .now) (start .args .from .now) (start .args .to .now) (sym (c .before .starts-with-user .ensures) ∙ not-false _ (c .if1 .left)),
+      start .pre .from-room,
+      start .pre .to-room,
+      names-start (start .args .s .now) (start .args .from .now) (start .args .to .now) (start .pre .unnoted) (sym (c .before .starts-with-user .ensures) ∙ not-false _ (c .if1 .left)),
       names-left-start (start .args .s .now),
     )
 

@@ -2,7 +2,7 @@
 use borrow.Author.Needs.{needs}
 use Prim.Native.Nat.{_-_}
 use native.Mathlib.Omega.{arith}
-use mathlib.Core.Path.{sym, _∙_}
+use mathlib.Core.Path.{refl, sym, _∙_}
 use mathlib.Core.Bool.{false≢true, true≢false}
 use borrow.Author.Tests.{not-false}
 use Rattle.bits.specs.Truth.{not-fails}
@@ -13,7 +13,12 @@ use Rattle.sheet.proofs.four_cells.four_of.Tie as tie
 
 returns : tie.Need-returns
 returns c =
-    record { small = omega arith; good = λ p. absurd (false≢true p); off = λ f x y z u e. omega (arith, c .if1 .taken, e) }
+    record {
+      small = omega arith;
+      good = λ p. absurd (false≢true p);
+      off = λ f x y z u e. omega (arith, c .if1 .taken, e);
+      blank = λ f. refl;
+    }
 
 sets-cells-requires : tie.Need-sets-cells-requires
 sets-cells-requires c κs = search needs
@@ -26,6 +31,7 @@ returns-2 c =
       small = omega arith;
       good = λ p. absurd (false≢true p);
       off = λ f x y z u e. four-unset (over .before .args .n - no-cells) fails x y z u (omega (arith, over .if1 .left, e));
+      blank = λ f. refl;
     }
 
 side-by-side-requires : tie.Need-side-by-side-requires
@@ -40,6 +46,7 @@ returns-3 c =
       small = rw (c .side-by-side .ensures) (word-small (bit set 8) (bit set 24) (bit set 40) (bit set 56));
       good = λ p. four-good (over .before .args .n) set (c .side-by-side .result) (omega (arith, over .if1 .left)) passes (c .side-by-side .ensures);
       off = λ f. absurd (true≢false f);
+      blank = λ f. absurd (true≢false f);
     }
 
 pub four-of-spec : {M : Type 1} → statement M

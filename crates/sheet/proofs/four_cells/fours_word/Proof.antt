@@ -1,7 +1,7 @@
 -- `four_cells::fours_word`: the loop reads four cells a turn into the word (`CellsIn`).
 use Prim.Native.Nat.{_+_, _-_, _*_, _≤_}
 use native.Mathlib.Omega.{arith}
-use mathlib.Core.Path.{_≡_}
+use mathlib.Core.Path.{_≡_, refl}
 use mathlib.Core.Bool.{false≢true, true≢false}
 use borrow.Author.Tests.{not-false}
 use lib.ListN.{length}
@@ -40,6 +40,7 @@ returns c =
       off = λ f ones stand.
           four .four-cells .ensures .1 .off (not-fails _ (c .if1 .taken)) (λ j. ones (4 * loop .i + j))
           (stand-from (4 * loop .i) 4 (start .args .at + 8 * loop .i) (omega arith) (omega arith) stand);
+      blank = λ f. refl;
     }
 
 mul-word : tie.Need-mul-word Inv-loop μ-loop
@@ -70,7 +71,7 @@ returns-2 : tie.Need-returns-2 Inv-loop μ-loop
 returns-2 c =
     let loop = c .before .loop in
     let all : loop .i ≡ c .before .before .before .args .fours = omega arith in
-    record { good = λ p. rw all at (loop .inv .3); off = λ f. absurd (true≢false f) }
+    record { good = λ p. rw all at (loop .inv .3); off = λ f. absurd (true≢false f); blank = λ f. absurd (true≢false f) }
 
 pub fours-word-spec : {M : Type 1} → statement M
 fours-word-spec =

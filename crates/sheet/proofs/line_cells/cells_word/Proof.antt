@@ -1,7 +1,7 @@
 -- `line_cells::cells_word`: four by four the cells are read, then the loop reads each of those left over into the word (`CellsIn`). There are as many bytes as the cells take.
 use Prim.Native.Nat.{_+_, _-_, _*_, _/_, _≤_}
 use native.Mathlib.Omega.{arith}
-use mathlib.Core.Path.{_≡_, sym, _∙_}
+use mathlib.Core.Path.{_≡_, refl, sym, _∙_}
 use mathlib.Core.Bool.{false≢true, true≢false}
 use borrow.Author.Tests.{not-false}
 use lib.ListN.{length}
@@ -25,7 +25,7 @@ mul-if1 : tie.Need-mul-if1 Inv-loop μ-loop
 mul-if1 c = omega arith
 
 returns : tie.Need-returns Inv-loop μ-loop
-returns c = record { good = λ p. absurd (false≢true p); off = λ f ones stand. omega (arith, stand .within) }
+returns c = record { good = λ p. absurd (false≢true p); off = λ f ones stand. omega (arith, stand .within); blank = λ f. refl }
 
 fours-word-requires : tie.Need-fours-word-requires Inv-loop μ-loop
 fours-word-requires c κs = (omega arith, omega arith)
@@ -38,6 +38,7 @@ returns-2 c =
       good = λ p. absurd (false≢true p);
       off = λ f ones stand.
           read .fours-word .ensures .off (not-fails _ (c .if2 .taken)) ones (stand-first (4 * (start .args .count / 4)) (omega arith) stand);
+      blank = λ f. refl;
     }
 
 mul-i : tie.Need-mul-i Inv-loop μ-loop
@@ -74,6 +75,7 @@ returns-3 c =
     record {
       good = λ p. absurd (false≢true p);
       off = λ f. cells-off (start .args .s .now) (start .args .at) (loop .i) (start .args .count) (omega arith) fails;
+      blank = λ f. refl;
     }
 
 with-cell-requires : tie.Need-with-cell-requires Inv-loop μ-loop
@@ -101,7 +103,7 @@ returns-4 c =
     let loop = c .before .loop in
     let start = c .before .before .before .before .before .before .before in
     let all : loop .i ≡ start .args .count = omega arith in
-    record { good = λ p. rw all at (loop .inv .2); off = λ f. absurd (true≢false f) }
+    record { good = λ p. rw all at (loop .inv .2); off = λ f. absurd (true≢false f); blank = λ f. absurd (true≢false f) }
 
 pub cells-word-spec : {M : Type 1} → statement M
 cells-word-spec =
