@@ -11,7 +11,7 @@ ghost use Rattle.sheet.specs.Rows.{row-bits};
 ghost use Rattle.sheet.specs.LaidOut.{LaidOut};
 ghost use Rattle.book.specs.RowsSaid.{GrantCells};
 ghost use Rattle.book.specs.BookRows.{rows-book};
-ghost use Rattle.book.specs.Writing.{Writes};
+ghost use Rattle.book.specs.Writing.{writing-said, Writes};
 
 // What writing a book answers: its byte count, or that the buffer is shorter than the book.
 pub enum Writing {
@@ -31,7 +31,7 @@ pub fn write_if_room<'a>(
 ) -> Writing
     requires { ⌜ LaidOut (now s) layout × (counts .roles ≤ row-bits) × GrantCells (now witness) (sheet-of (now s)) ⌝ }
     ensures { λ r. ⌜ Writes (rows-book (now (s .entry)) (now (has .entry)) (now (gives .entry)) (now (witness .entry)) counts)
-        (now (out .entry)) r (now (out .exit)) ⌝ }
+        (now (out .entry)) (writing-said r) (now (out .exit)) ⌝ }
 {
     if out.len() < book_length(s, layout, witness, counts) {
         return Writing::TooShort;

@@ -1,6 +1,7 @@
 -- The checker: whether a book is of the form, its counts agree, its product is the sheet and its witness stands. `Exact` shows that the checker accepts
--- exactly the right books, and `Confirmed` that a book written from what is right is right; the modules before them have the laws that these rest on. From `RoleLimit` on the modules join the code
--- to the definitions: what each reading of a book finds, and in `CheckSteps` that the code's answer is the checker's.
+-- exactly the right books, `CheckOwed` that a check answers as demands 1 and 2 ask, and `Confirmed` that a book written from what is right is right; the
+-- modules before them have the laws that these rest on. `CodeCall` says what it is to keep a contract. From `RoleLimit` on the modules join the code to the
+-- definitions: what each reading of a book finds, and in `CheckSteps` that the code's answer is the checker's.
 pub mod NameLaws
 pub mod FormParts
 pub mod WrittenForm
@@ -10,6 +11,8 @@ pub mod ReadForm
 pub mod CheckParts
 pub mod Verdict
 pub mod Exact
+pub mod CheckOwed
+pub mod CodeCall
 pub mod BookLength
 pub mod Confirmed
 pub mod OwnBook

@@ -80,7 +80,7 @@ fn check_book<'a>(sheet: &'a [u8], layout: Layout, rows: &'a [u64], book: &'a [u
 // Whether a book is right for a sheet: the lowest of document 01's numbers that applies, with counts 0; or 0, with the roles and the witness lines. The
 // sheet is judged first.
 pub fn check<'a>(sheet: &'a [u8], book: &'a [u8]) -> Checked
-    ensures { λ r. ⌜ Checks (now (sheet .entry)) (now (book .entry)) (answer-of r) ⌝ }
+    ensures { λ answer. ⌜ Checks (now (sheet .entry)) (now (book .entry)) (answer-of answer) ⌝ }
 {
     let read = sheet::read(sheet);
     let number = read.number;

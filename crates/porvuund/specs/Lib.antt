@@ -6,3 +6,5 @@ pub mod Front
 pub mod Lines
 pub mod CheckOutput
 pub mod SearchNumbers
+pub mod TaskOwed
+pub mod Printed

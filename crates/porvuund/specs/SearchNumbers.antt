@@ -1,7 +1,9 @@
--- A search's answer with a number for its state. Assumes nothing.
+-- A search's answer with a number for its state, and the answer that such numbers are. Assumes nothing.
 use Prim.Native.Nat.{ℕ}
-use mathlib.Core.Path.{_≡_}
+use mathlib.Core.Path.{_≡_, refl}
+use mathlib.Core.Bool.{cond}
 use mathlib.Core.Option.{Option, none, some}
+use lib.Dec.{eqb}
 use Rattle.spec.specs.Roles.{Standing, witnessed, searched, unsettled}
 use Rattle.spec.specs.Session.{Session}
 use Rattle.spec.specs.Calls.{SearchAnswer, search-answer, after-search, Searches}
@@ -31,3 +33,28 @@ pub record SearchesAs (before : Session) (budget : ℕ) (n : SearchNumbers) (aft
 pub searches-as : {before after : Session} {budget : ℕ} {answer : SearchAnswer} {n : SearchNumbers} → Searches before budget answer after
     → Numbers answer n → SearchesAs before budget n after
 searches-as s numbers = record { answers = rw (s .answers) at numbers; leaves = s .leaves }
+
+-- ---- back to the answer
+
+-- the state that a number stands for
+abbrev pub state-of : ℕ → Option Standing
+state-of n = cond (eqb n 1) (some witnessed) (cond (eqb n 2) (some searched) (cond (eqb n 3) (some unsettled) none))
+
+numbered-state : (named : Option Standing) → state-of (state-number named) ≡ named
+numbered-state none = refl
+numbered-state (some witnessed) = refl
+numbered-state (some searched) = refl
+numbered-state (some unsettled) = refl
+
+-- the answer that these numbers are
+abbrev pub numbers-said : SearchNumbers → SearchAnswer
+numbers-said n = record { number = n .number; steps = n .steps; roles = n .roles; bound = n .bound; standing = state-of (n .state) }
+
+numbers-are : (answer : SearchAnswer) (n : SearchNumbers) → Numbers answer n → numbers-said n ≡ answer
+numbers-are answer n h = rw (h .number, h .steps, h .roles, h .bound, h .state, numbered-state (answer .standing))
+
+-- what a search promises, of the answer that its numbers are
+pub numbers-searched : {before after : Session} {budget : ℕ} {n : SearchNumbers} → SearchesAs before budget n after
+    → Searches before budget (numbers-said n) after
+numbers-searched {before} {after} {budget} {n} s =
+    record { answers = numbers-are (search-answer before budget) n (s .answers); leaves = s .leaves }

@@ -3,27 +3,18 @@
 use Prim.Native.Nat.{ℕ}
 use mathlib.Core.Path.{_≡_, refl, sym, ap, _∙_}
 use mathlib.Core.Bool.{Bool, true, false, So}
-use mathlib.Core.List.{List}
 use mathlib.Core.Logic.{_≢_, ⊎-elim}
 use borrow.Author.Tests.{eqb-true, ne-eqb}
 use lib.Dec.{eqb}
 use Rattle.spec.specs.Text.{Bytes}
 use Rattle.spec.specs.Session.{Session, no-sheet, loaded}
-use Rattle.spec.specs.Refusal.{Cause, first-number, sheet-causes, refusal, accepted, check-causes, book-causes, search-causes, write-causes}
-use Rattle.spec.specs.Calls.{CheckAnswer, check, check-refused, Checks, LoadAnswer, load-answer, load-refused, after-load, SearchAnswer, search-answer, search-refused, after-search, WriteAnswer, write-answer, write-refused, buffer-after, Loads, Searches, Writes}
-use Rattle.spec.specs.Demands.{LowestThatApplies, Judged, Demand1}
+use Rattle.spec.specs.Refusal.{first-number, sheet-causes, refusal, accepted, search-causes, write-causes}
+use Rattle.spec.specs.Calls.{LoadAnswer, load-answer, load-refused, after-load, SearchAnswer, search-answer, search-refused, after-search, WriteAnswer, write-answer, write-refused, buffer-after, Loads, Searches, Writes}
+use Rattle.spec.specs.Demands.{Judged, Demand1}
 use Rattle.bits.specs.Truth.{passes-or-fails}
-use Rattle.sheet.specs.CauseLaws.{rising, none-lower, some-applies, sheet-causes-rise}
+use Rattle.sheet.specs.CauseLaws.{rising, sheet-causes-rise}
+use Rattle.checker.specs.CheckOwed.{judged, checks-judged}
 use Rattle.session.specs.EverySequence.{outcome-on, session-next, happens-on}
-
--- the first of rising causes is the lowest that applies
-first-is-lowest : (causes : List Cause) → So (rising 0 causes) → LowestThatApplies causes (first-number causes)
-first-is-lowest causes r = record { none-lower = none-lower causes r; applies = some-applies causes }
-
--- a call whose number is the first of its causes, and which changes nothing where that is not 0
-judged : (causes : List Cause) (number : ℕ) (Unchanged : Type 0) → So (rising 0 causes) → number ≡ first-number causes
-    → (first-number causes ≢ 0 → Unchanged) → Judged causes number Unchanged
-judged causes number Unchanged r e h = record { lowest = rw e (first-is-lowest causes r); refused = λ n. h (λ z. n (e ∙ z)) }
 
 -- a load's number is its refusal's
 pub load-number-is-refusal : (text : Bytes) → load-answer text .number ≡ refusal text
@@ -99,31 +90,6 @@ writes-judged before after buffer lent answer h =
     (write-causes-rise before buffer) number (λ n.
     let r = refused-write before buffer n in
     (h .answers ∙ (r .0 ∙ ap write-refused (sym number)), h .fills ∙ r .1, h .leaves))
-
-check-causes-rise : (sheet book : Bytes) → So (rising 0 (check-causes sheet book))
-unfolding check-causes sheet-causes book-causes
-check-causes-rise sheet book = refl
-
-check-number : (sheet book : Bytes) → check sheet book .number ≡ first-number (check-causes sheet book)
-unfolding check
-check-number sheet book = choose (eqb (first-number (check-causes sheet book)) 0) refl
-  where
-    choose : (b : Bool) → eqb (first-number (check-causes sheet book)) 0 ≡ b → check sheet book .number ≡ first-number (check-causes sheet book)
-    choose true e = rw e (sym (eqb-true (first-number (check-causes sheet book)) 0 e))
-    choose false e = rw e
-
-refused-check : (sheet book : Bytes) → first-number (check-causes sheet book) ≢ 0
-    → check sheet book ≡ check-refused (first-number (check-causes sheet book))
-unfolding check
-refused-check sheet book n = rw (ne-eqb (first-number (check-causes sheet book)) 0 n)
-
-checks-judged : (sheet book : Bytes) (answer : CheckAnswer) → Checks sheet book answer
-    → Judged (check-causes sheet book) (answer .number) (answer ≡ check-refused (answer .number))
-checks-judged sheet book answer h =
-    let number : answer .number ≡ first-number (check-causes sheet book) =
-    ap (λ (a : CheckAnswer). a .number) (h .answers) ∙ check-number sheet book in
-    judged (check-causes sheet book) (answer .number) (answer ≡ check-refused (answer .number)) (check-causes-rise sheet book) number (λ n.
-    h .answers ∙ (refused-check sheet book n ∙ ap check-refused (sym number)))
 
 pub demand-1 : Demand1
 demand-1 =

@@ -9,7 +9,7 @@ ghost use Rattle.spec.specs.Text.{Bytes};
 ghost use Rattle.spec.specs.Sheet.{sheet-of};
 ghost use Rattle.spec.specs.Calls.{load-refused, load-counts, search-refused, write-refused};
 ghost use Rattle.roles.specs.StandingCases.{standing-case};
-ghost use Rattle.book.specs.Writing.{writing-number, writing-count};
+ghost use Rattle.book.specs.Writing.{writing-said};
 ghost use Rattle.session.specs.Said.{load-said, search-said, write-said};
 ghost use Rattle.session.specs.Prepared.{PreparedFor};
 
@@ -121,7 +121,7 @@ impl WriteAnswer {
 
     // What writing a book answered: its byte count, or that the buffer is shorter than the book.
     pub fn of(writing: Writing) -> WriteAnswer
-        ensures { λ r. ⌜ write-said r ≡ record { number = writing-number writing; count = writing-count writing } ⌝ }
+        ensures { λ r. ⌜ write-said r ≡ writing-said writing ⌝ }
     {
         match writing {
             Writing::Bytes(count) => WriteAnswer { number: 0, count },

@@ -34,7 +34,7 @@ fn book_into<'a>(
     requires { ⌜ (count ≤ length (now text)) × LaidOut (take count (now text)) layout × (counts .roles ≤ row-bits)
         × GrantCells (now witness) (sheet-of (take count (now text))) ⌝ }
     ensures { λ r. ⌜ writing.Writes (rows-book (take count (now (text .entry))) (now (has .entry)) (now (gives .entry)) (now (witness .entry)) counts)
-        (now (out .entry)) r (now (out .exit)) ⌝ }
+        (now (out .entry)) (writing.writing-said r) (now (out .exit)) ⌝ }
 {
     book::write_if_room(out, &text[..count], layout, has, gives, witness, counts)
 }
