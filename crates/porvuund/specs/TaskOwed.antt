@@ -74,7 +74,7 @@ module _ (text : Bytes) (budget : ℕ) (buffer : Bytes) (written : WriteOutcome)
     write-judged takes =
         let j =
         demand-1 .writes (searched-once text budget) (searched-once text budget) buffer (written .lent) (written .answer) (writes takes) in
-        record { lowest = j .lowest; unchanged = λ n. (j .unchanged n .0, j .unchanged n .1) }
+        record { lowest = j .lowest; refused = λ n. (j .refused n .0, j .refused n .1) }
 
     -- the last accepted sheet is the task's own
     own-book : So (accepted text) → BookOwed (brought-out written) (task-calls text budget) → Believed text (brought-out written)
