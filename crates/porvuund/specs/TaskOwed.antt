@@ -67,7 +67,7 @@ module _ (text : Bytes) (budget : ℕ) (buffer : Bytes) (written : WriteOutcome)
     )
 
     write-owed : So (accepted text) → WriteOwed buffer written (task-calls text budget)
-    write-owed takes = demand-3 (task-events text budget buffer written) (searched-once text budget) (led takes) .0
+    write-owed takes = demand-3 .owed (task-events text budget buffer written) (searched-once text budget) (led takes) .0
 
     write-judged : So (accepted text) → Judged (write-causes (searched-once text budget) buffer) (written .answer .number)
         ((written .answer ≡ write-refused (written .answer .number)) × (written .lent ≡ buffer))
