@@ -4,9 +4,9 @@ use Prim.Native.Nat.{ℕ, _+_, _*_, _/_, _%_, _≤_, _<_}
 use mathlib.Core.Path.{_≡_}
 use mathlib.Core.Bool.{Bool, So, _&&_}
 use mathlib.Core.List.{List}
-use lib.ListN.{getD}
-use Rattle.spec.specs.Limits.{user-limit}
-use Rattle.spec.specs.Sheet.{Sheet, Grant, holds}
+use lib.ListN.{length, getD}
+use Rattle.spec.specs.Limits.{user-limit, grant-limit}
+use Rattle.spec.specs.Sheet.{Sheet, Grant, holds, grants}
 use Rattle.bits.specs.Bit.{bit, word-bits}
 use Rattle.sheet.specs.Rows.{row-words, row-bits, cell, RowsOf}
 
@@ -34,6 +34,13 @@ pub record Shown (rows : List ℕ) (users : ℕ) (sheet : Sheet) : Type 0 where
   pub cells : RowsOf rows sheet
   pub few : (u p : ℕ) → So (holds sheet u p) → u < users
   pub short : (u p : ℕ) → So (holds sheet u p) → p < row-bits
+
+-- there is a sheet within the limits that the rows show
+pub record Shows (rows : List ℕ) (users : ℕ) : Type 0 where
+  pub sheet : Sheet
+  pub shown : Shown rows users sheet
+  pub few-users : users ≤ user-limit
+  pub few-grants : length (grants sheet) ≤ grant-limit
 
 -- every cell that is set in left is set in the rows
 pub record Part (left rows : List ℕ) : Type 0 where

@@ -23,6 +23,7 @@ use Rattle.lists.specs.GroupingLaws.{grouping-length, grouping-grown}
 use Rattle.lists.specs.KeyLaws.{same-key, has-key, by-key, grouping-used-le}
 use Rattle.lists.specs.KeyStep.{next-class, keyed-next, keyed-before, next-class-known, next-class-new}
 use Rattle.sheet.specs.Rows.{row-bits}
+use Rattle.grants.specs.Blank.{BlankFrom, zeros-blank, set-blank}
 use Rattle.grants.specs.CoverPlaced.{Placed, none-placed, few-classes, one-placed}
 
 -- what the table has for a key with no class yet: no class has this number
@@ -40,6 +41,7 @@ pub record Keyed (key : ℕ → ℕ) (i : ℕ) (table classes : List ℕ) (count
   pub placed : Placed (by-key key i) classes i count
   pub named : (j : ℕ) → j < i → getD table (key j) 0 ≡ class-in (by-key key i) j
   pub unnamed : (k : ℕ) → k < row-bits → has-key key i k ≡ false → getD table k 0 ≡ no-class
+  pub past : BlankFrom i classes
 
 pub none-keyed : (key : ℕ → ℕ) (n m : ℕ) → n ≡ grant-limit → m ≡ row-bits → Keyed key 0 (replicate m no-class) (replicate n 0) 0
 none-keyed key n m room wide =
@@ -49,6 +51,7 @@ none-keyed key n m room wide =
       placed = none-placed (replicate n 0);
       named = λ j l. absurd (not-suc-le-zero l);
       unnamed = λ k l f. getD-replicate m k no-class 0 (omega arith);
+      past = zeros-blank 0 n;
     }
 
 -- there are no more classes than numbers
@@ -95,6 +98,7 @@ module _ {key : ℕ → ℕ} {i : ℕ} {table classes : List ℕ} {count : ℕ} 
         placed = one-placed (same-key key) classes i count (so-far .placed) e (rw (so-far .room) room);
         named = λ j l. ⊎-elim (same j l) (other j l) (passes-or-fails (eqb (key j) (key i)));
         unnamed = λ k l f. getD-set-other table (key i) k c 0 (unlike k f) ∙ so-far .unnamed k l (earlier-none k f);
+        past = rw (add-one i) at (set-blank c (so-far .past));
       })
     where
       same : (j : ℕ) → j < suc i → So (eqb (key j) (key i)) → getD (set table (key i) c) (key j) 0 ≡ class-in (by-key key (suc i)) j

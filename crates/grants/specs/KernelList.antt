@@ -1,5 +1,4 @@
--- The cells of a set in an array, word by word and within a word from its lowest position on. A set of more cells than the array has room for is no sheet's,
--- and nothing is said of it.
+-- The cells of a set in an array, word by word and within a word from its lowest position on. Where the array has room for all of them it has them in order.
 use Prim.Native.Nat.{ℕ, suc, _+_, _*_, _/_, _%_, _^_, _≤_, _<_, zero-le}
 use native.Mathlib.Nat.{le-refl}
 use native.Mathlib.Numerals.{add-one}
@@ -11,7 +10,7 @@ use mathlib.Core.List.{List, [], _∷_, _++_}
 use borrow.Author.Tests.{eq-eqb, ne-eqb}
 use lib.Dec.{eqb}
 use lib.Count.{trailingZeros}
-use lib.ListN.{length, getD, take, set, length-set, length-append}
+use lib.ListN.{length, getD, take, set, replicate, length-set, length-append, length-replicate}
 use lib.Seq.{take-suc-set, length-take-le}
 use Rattle.spec.specs.Limits.{grant-limit}
 use Rattle.bits.specs.Counting.{Lowest}
@@ -23,13 +22,9 @@ use Rattle.bits.specs.Word.{LowestDropped}
 use Rattle.bits.specs.WordLaws.{lowest-trailing}
 use Rattle.lists.specs.PassingBelow.{passing-below, passing-until, passing-next, passing-length}
 use Rattle.sheet.specs.Rows.{row-bits}
+use Rattle.grants.specs.Blank.{BlankFrom, zeros-blank, set-blank}
 use Rattle.grants.specs.CellPlaces.{marked}
-use Rattle.grants.specs.CellListLaws.{cell-grants-by-cell}
-use Rattle.grants.specs.KernelArray.{Listed, few-cells}
-
--- so few cells below n are set that the array has room for them
-abbrev pub Roomy : List ℕ → ℕ → Type 0
-Roomy left n = length (passing-below n (marked left)) ≤ grant-limit
+use Rattle.grants.specs.KernelArray.{Roomy, Listed}
 
 fewer-roomy : (left : List ℕ) (m n : ℕ) → m ≤ n → Roomy left n → Roomy left m
 fewer-roomy left m n l h =
@@ -40,10 +35,12 @@ pub record ListedTo (left : List ℕ) (n : ℕ) (cells : List ℕ) (size : ℕ) 
   pub room : length cells ≡ grant-limit
   pub few : size ≤ grant-limit
   pub so-far : Roomy left n → take size cells ≡ passing-below n (marked left)
+  pub past : BlankFrom size cells
 
-pub none-listed : (left cells : List ℕ) → length cells ≡ grant-limit → ListedTo left 0 cells 0
+pub none-listed : (left : List ℕ) (n : ℕ) → n ≡ grant-limit → ListedTo left 0 (replicate n 0) 0
 unfolding passing-below
-none-listed left cells e = record { room = e; few = zero-le; so-far = λ h. refl }
+none-listed left n e =
+    record { room = length-replicate {A = ℕ} n 0 ∙ e; few = zero-le; so-far = λ h. refl; past = zeros-blank 0 n }
 
 -- ---- within a word
 
@@ -102,7 +99,12 @@ module _ {left : List ℕ} {i w : ℕ} {cells : List ℕ} {size : ℕ} (rest : W
           passed = λ q l. dropped .others low q ∙ ⊎-elim (λ k. rw (low .first q k)) (λ k. here q l k) (below-or-from q j);
           ahead = λ q l.
               dropped .others low q ∙ rw (ne-eqb q j (omega arith)) (and-true (bit w q)) ∙ rest .ahead q (omega (arith, not-passed));
-          listed = record { room = simp length-set (rest .listed .room); few = omega arith; so-far = listed-so-far };
+          listed = record {
+            room = simp length-set (rest .listed .room);
+            few = omega arith;
+            so-far = listed-so-far;
+            past = set-blank (i * word-bits + j) (rest .listed .past);
+          };
         }
       where
         here : (q : ℕ) → q < j + 1 → j ≤ q → (bit w q && not (eqb q j)) ≡ false
@@ -126,11 +128,12 @@ module _ {left : List ℕ} {i w : ℕ} {cells : List ℕ} {size : ℕ} (rest : W
             rest .listed .so-far (fewer-roomy left (i * word-bits + rest .place) ((i + 1) * word-bits) (omega (arith, rest .inside)) h)
             ∙ sym (passing-until (i * word-bits + rest .place) ((i + 1) * word-bits) (marked left) (omega (arith, rest .inside))
             (λ n k l. none-between word-bits (le-refl word-bits) (λ q m. rw e (bit-of-zero q)) n k (omega arith)));
+        past = rest .listed .past;
       }
 
   -- a full array and a cell more
   pub word-cut : grant-limit ≤ size → 0 < w → ListedTo left ((i + 1) * word-bits) cells size
-  word-cut full more = record { room = rest .listed .room; few = rest .listed .few; so-far = λ h. absurd (too-many h) }
+  word-cut full more = record { room = rest .listed .room; few = rest .listed .few; so-far = λ h. absurd (too-many h); past = rest .listed .past }
     where
       too-many : Roomy left ((i + 1) * word-bits) → ⊥
       too-many h =
@@ -150,10 +153,6 @@ module _ {left : List ℕ} {i w : ℕ} {cells : List ℕ} {size : ℕ} (rest : W
           )
 
 -- the set in the array
-pub all-listed : {left : List ℕ} {users : ℕ} {cells : List ℕ} {size : ℕ} → ListedTo left (users * row-bits) cells size → Listed left users cells size
-all-listed h =
-    record {
-      few = h .few;
-      in-order = λ rows sheet shown part k.
-          rw (h .so-far (omega (arith, k, few-cells shown part))) (sym (cell-grants-by-cell shown part));
-    }
+pub all-listed : {left : List ℕ} {users : ℕ} {cells : List ℕ} {size : ℕ} → Roomy left (users * row-bits) → ListedTo left (users * row-bits) cells size
+    → Listed left users cells size
+all-listed roomy h = record { few = h .few; in-order = h .so-far roomy; past = h .past }

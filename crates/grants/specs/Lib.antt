@@ -1,4 +1,5 @@
 -- Grants over rows of words: the laws of fitting, reduction, witness and first cover, and what the code's words stand for.
+pub mod Blank
 pub mod FitLaws
 pub mod WithoutLaws
 pub mod AmongLaws

@@ -90,7 +90,16 @@ removal-of it other = cond (eqb it other) (single (grant-of it)) (tied (grant-of
 pub log-grown : {it other : ℕ} {before after : Work} → Removed it other before after
     → log-of (after .removed) (after .partner) (after .count) ≡ removal-of it other ∷ log-of (before .removed) (before .partner) (before .count)
 log-grown {it} {other} {before} {after} r =
-    rw (r .one-more, add-one (before .count), r .removed-last, r .partner-last, log-kept before after (before .count) (r .removed-kept) (r .partner-kept))
+    rw (
+      r .one-more,
+      add-one (before .count),
+      r .removed-last,
+      r .partner-last,
+      log-kept before after (before .count) (λ i l. r .removed-kept i (earlier i l)) (λ i l. r .partner-kept i (earlier i l)),
+    )
+  where
+    earlier : (i : ℕ) → i < before .count → i ≢ before .count
+    earlier i l = omega arith
 
 pub logged-grown : {it other : ℕ} {before after : Work} → Removed it other before after → it < cell-limit → other < cell-limit → Logged before → Logged after
 logged-grown {it} {other} {before} {after} r l m logged =
@@ -98,11 +107,19 @@ logged-grown {it} {other} {before} {after} r l m logged =
       removed-length = r .removed-length ∙ logged .removed-length;
       partner-length = r .partner-length ∙ logged .partner-length;
       removed-cell = λ i k.
-          ⊎-elim (λ (e : i ≡ before .count). rw (ap (λ j. getD (after .removed) j 0) e ∙ r .removed-last) l) (λ j. rw (r .removed-kept i j) (logged .removed-cell i j)) (last-or-below (within i k));
+          ⊎-elim (λ (e : i ≡ before .count). rw (ap (λ j. getD (after .removed) j 0) e ∙ r .removed-last) l) (λ j. rw (r .removed-kept i (omega arith)) (logged .removed-cell i j)) (last-or-below (within i k));
       partner-cell = λ i k.
-          ⊎-elim (λ (e : i ≡ before .count). rw (ap (λ j. getD (after .partner) j 0) e ∙ r .partner-last) m) (λ j. rw (r .partner-kept i j) (logged .partner-cell i j)) (last-or-below (within i k));
+          ⊎-elim (λ (e : i ≡ before .count). rw (ap (λ j. getD (after .partner) j 0) e ∙ r .partner-last) m) (λ j. rw (r .partner-kept i (omega arith)) (logged .partner-cell i j)) (last-or-below (within i k));
+      removed-blank = record { blank = λ i k. r .removed-kept i (past i k) ∙ logged .removed-blank .blank i (no-earlier i k) };
+      partner-blank = record { blank = λ i k. r .partner-kept i (past i k) ∙ logged .partner-blank .blank i (no-earlier i k) };
     }
   where
+    past : (i : ℕ) → after .count ≤ i → i ≢ before .count
+    past i k = omega (arith, r .one-more)
+
+    no-earlier : (i : ℕ) → after .count ≤ i → before .count ≤ i
+    no-earlier i k = omega (arith, r .one-more)
+
     within : (i : ℕ) → i < after .count → i < suc (before .count)
     within i k = omega (arith, r .one-more)
 

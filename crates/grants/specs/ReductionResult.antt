@@ -2,37 +2,41 @@
 use Prim.Native.Nat.{ℕ, _+_, _≤_}
 use native.Mathlib.Nat.{not-suc-le-zero}
 use native.Mathlib.Omega.{arith}
-use mathlib.Core.Path.{_≡_, ap, _∙_}
+use mathlib.Core.Path.{_≡_, sym, ap, _∙_}
 use mathlib.Core.List.{List}
-use lib.ListN.{length}
-use Rattle.spec.specs.Limits.{user-limit, grant-limit}
+use lib.ListN.{length, replicate, length-replicate}
+use Rattle.spec.specs.Limits.{grant-limit}
 use Rattle.spec.specs.Sheet.{Sheet}
 use Rattle.spec.specs.Reduction.{Removal, reduction, kernel, singles-of, singles}
+use Rattle.grants.specs.Blank.{zeros-blank}
 use Rattle.grants.specs.CellSets.{cell-grants}
-use Rattle.grants.specs.CellPlaces.{Shown, Part}
+use Rattle.grants.specs.CellPlaces.{Shown, Shows, Part}
 use Rattle.grants.specs.Log.{log-of}
 use Rattle.grants.specs.ReductionWork.{Work, work-of, remaining-cells, Logged, WorkReady, Settled}
 use Rattle.grants.specs.ReductionWorkLaws.{part-all}
+use Rattle.grants.specs.ReductionSettleLaws.{all-remain, remaining-count}
 use Rattle.grants.specs.declared.reduction.Reduced.{Reduced}
 
--- rows that can be reduced: of no more users and grants than a sheet can have
-pub record Reducible (rows : List ℕ) (users : ℕ) : Type 0 where
-  pub few-users : users ≤ user-limit
-  pub few-grants : remaining-cells rows ≤ grant-limit
+-- as many cells are set as the sheet has grants
+shows-few : {rows : List ℕ} {users : ℕ} → Shows rows users → remaining-cells rows ≤ grant-limit
+shows-few {rows} given =
+    rw (sym (remaining-count (given .shown) (given .few-users) (part-all rows)) ∙ ap length (all-remain (given .shown))) (given .few-grants)
 
 -- nothing is removed at first
-pub reducible-ready : {rows : List ℕ} {users : ℕ} (removed partner : List ℕ) → Reducible rows users → length removed ≡ grant-limit
-    → length partner ≡ grant-limit → WorkReady rows users (work-of rows removed partner 0)
-reducible-ready {rows} removed partner given long long-too =
+pub shows-ready : {rows : List ℕ} {users : ℕ} → Shows rows users
+    → WorkReady rows users (work-of rows (replicate grant-limit 0) (replicate grant-limit 0) 0)
+shows-ready {rows} given =
     record {
       few-users = given .few-users;
       part = part-all rows;
-      room = omega (arith, given .few-grants);
+      room = omega (arith, shows-few given);
       logged = record {
-        removed-length = long;
-        partner-length = long-too;
+        removed-length = length-replicate {A = ℕ} grant-limit 0;
+        partner-length = length-replicate {A = ℕ} grant-limit 0;
         removed-cell = λ i l. absurd (not-suc-le-zero l);
         partner-cell = λ i l. absurd (not-suc-le-zero l);
+        removed-blank = zeros-blank 0 grant-limit;
+        partner-blank = zeros-blank 0 grant-limit;
       };
     }
 

@@ -2,6 +2,7 @@
 -- definition, and visiting some cells takes it to the state that the visits of their grants lead to.
 use Prim.Native.Nat.{ℕ, _+_, _*_, _≤_, _<_}
 use mathlib.Core.Path.{_≡_}
+use mathlib.Core.Logic.{_≢_}
 use mathlib.Core.Bool.{So, not, _&&_}
 use mathlib.Core.List.{List, map, List·Memᴰ}
 use lib.Dec.{eqb}
@@ -12,6 +13,7 @@ use Rattle.spec.specs.Reduction.{Reduction, visits, reduction}
 use Rattle.bits.specs.Bit.{bit, word-bits}
 use Rattle.bits.specs.Counting.{count-below}
 use Rattle.lists.specs.PassingBelow.{passing-below}
+use Rattle.grants.specs.Blank.{BlankFrom}
 use Rattle.grants.specs.CellSets.{cell-grants}
 use Rattle.grants.specs.CellPlaces.{cell-limit, grant-of, marked, Shown, Part}
 use Rattle.grants.specs.Log.{log-of}
@@ -39,12 +41,14 @@ word-cells i w = map (λ q. i * word-bits + q) (passing-below word-bits (bit w))
 abbrev pub remaining-cells : List ℕ → ℕ
 remaining-cells left = count-below cell-limit (marked left)
 
--- the lists have a place for every removal that there can be, and the removals are of cells
+-- the lists have a place for every removal that there can be, the removals are of cells, and past them the lists are blank
 pub record Logged (work : Work) : Type 0 where
   pub removed-length : length (work .removed) ≡ grant-limit
   pub partner-length : length (work .partner) ≡ grant-limit
   pub removed-cell : (i : ℕ) → i < work .count → getD (work .removed) i 0 < cell-limit
   pub partner-cell : (i : ℕ) → i < work .count → getD (work .partner) i 0 < cell-limit
+  pub removed-blank : BlankFrom (work .count) (work .removed)
+  pub partner-blank : BlankFrom (work .count) (work .partner)
 
 -- the work can go on: only cells of the rows remain, and the log has room for all of them
 pub record WorkReady (rows : List ℕ) (users : ℕ) (work : Work) : Type 0 where
@@ -82,5 +86,5 @@ pub record Removed (it other : ℕ) (before after : Work) : Type 0 where
   pub partner-length : length (after .partner) ≡ length (before .partner)
   pub removed-last : getD (after .removed) (before .count) 0 ≡ it
   pub partner-last : getD (after .partner) (before .count) 0 ≡ other
-  pub removed-kept : (i : ℕ) → i < before .count → getD (after .removed) i 0 ≡ getD (before .removed) i 0
-  pub partner-kept : (i : ℕ) → i < before .count → getD (after .partner) i 0 ≡ getD (before .partner) i 0
+  pub removed-kept : (i : ℕ) → i ≢ before .count → getD (after .removed) i 0 ≡ getD (before .removed) i 0
+  pub partner-kept : (i : ℕ) → i ≢ before .count → getD (after .partner) i 0 ≡ getD (before .partner) i 0

@@ -6,7 +6,7 @@ use mathlib.Core.Logic.{⊎-elim}
 use mathlib.Core.Bool.{_||_}
 use mathlib.Core.List.{List, List·Memᴰ}
 use lib.ListN.{length, length-map}
-use Rattle.spec.specs.Limits.{grant-limit}
+use Rattle.spec.specs.Limits.{user-limit, grant-limit}
 use Rattle.spec.specs.Sheet.{Sheet, Grant, grants}
 use Rattle.spec.specs.Fit.{among}
 use Rattle.spec.specs.Reduction as reduction
@@ -37,6 +37,13 @@ pub record ReducedTo (sheet : Sheet) (rows kernel singles : List ℕ) : Type 0 w
   pub singles-part : Part singles rows
   pub singles-cells : CellsOf singles (reduction.singles sheet)
   pub few-grants : length (grants sheet) ≤ grant-limit
+
+-- there is a sheet that the rows show, and these are the cells of its kernel and of its singles
+pub record ReducedRows (rows : List ℕ) (users : ℕ) (kernel singles : List ℕ) : Type 0 where
+  pub sheet : Sheet
+  pub shown : Shown rows users sheet
+  pub reduced : ReducedTo sheet rows kernel singles
+  pub few-users : users ≤ user-limit
 
 -- the cells of the witness, and w
 pub record Witnessed (sheet : Sheet) (rows cells : List ℕ) (count : ℕ) : Type 0 where

@@ -21,7 +21,9 @@ ghost use Rattle.bits.specs.Bit.{word-bits};
 ghost use Rattle.lists.specs.KeyLaws.{by-key};
 ghost use Rattle.sheet.specs.Rows.{row-words, row-bits, cell};
 ghost use Rattle.sheet.specs.CellAdded.{CellAdded};
+ghost use Rattle.grants.specs.Blank.{BlankFrom};
 ghost use Rattle.grants.specs.CellPlaces.{grant-of, Shown};
+ghost use Rattle.grants.specs.KernelArray.{KernelListed};
 ghost use Rattle.grants.specs.CoverRelation.{fit-at-cells, permission-at-cell, HeldCells, user-room};
 ghost use Rattle.grants.specs.CoverKeys.{class-from};
 ghost use Rattle.grants.specs.CoverMembers.{class-words};
@@ -67,7 +69,7 @@ fn counted(count: usize, c: u16) -> usize
 fn grouped_by_permission(cells: &[u16]) -> Placement
     requires { ⌜ length (now cells) ≤ grant-limit ⌝ }
     ensures { λ r. ⌜ (r .used ≤ row-bits) × Placed (by-key (permission-at-cell (now (cells .entry))) (length (now (cells .entry))))
-        (r .classes) (length (now (cells .entry))) (r .used) ⌝ }
+        (r .classes) (length (now (cells .entry))) (r .used) × BlankFrom (length (now (cells .entry))) (r .classes) ⌝ }
 {
     let mut table = [NO_CLASS; ROW_BITS];
     let mut classes = [0; GRANT_LIMIT];
@@ -231,6 +233,7 @@ fn grouped_by_fit<'a>(rows: &'a [u64], cells: &'a [u16], most: usize) -> Placeme
     ensures { λ r. ⌜ (HeldCells (now (rows .entry)) (now (cells .entry))
         → PlacedOrMore (grouping (fit-at-cells (now (rows .entry)) (now (cells .entry))) (length (now (cells .entry))))
         (r .classes) (length (now (cells .entry))) (r .used) most) ⌝ }
+    ensures { λ r. ⌜ BlankFrom (length (now (cells .entry))) (r .classes) ⌝ }
 {
     let mut asked = [0; CLASS_WORDS];
     let mut lacked = [0; CLASS_WORDS];
@@ -265,6 +268,7 @@ fn grouped_by_fit<'a>(rows: &'a [u64], cells: &'a [u16], most: usize) -> Placeme
 fn with_fewer(earlier: Placement, later: Placement) -> Placement
     ensures { λ r. ⌜ ((n : ℕ) (p q : List ℕ) → PlacedOrMore p (earlier .classes) n (earlier .used) (later .used) → Placed q (later .classes) n (later .used)
         → Placed (fewer p q) (r .classes) n (r .used)) ⌝ }
+    ensures { λ r. ⌜ ((n : ℕ) → BlankFrom n (earlier .classes) → BlankFrom n (later .classes) → BlankFrom n (r .classes)) ⌝ }
 {
     if earlier.used <= later.used {
         earlier
@@ -278,18 +282,20 @@ fn best_of<'a>(rows: &'a [u64], cells: &'a [u16]) -> Placement
     requires { ⌜ length (now cells) ≤ grant-limit ⌝ }
     ensures { λ r. ⌜ ((users : ℕ) (sheet : Sheet) → Shown (now (rows .entry)) users sheet → map grant-of (now (cells .entry)) ≡ kernel sheet
         → Placed (first-best sheet) (r .classes) (length (now (cells .entry))) (r .used)) ⌝ }
+    ensures { λ r. ⌜ BlankFrom (length (now (cells .entry))) (r .classes) ⌝ }
 {
     let permission = grouped_by_permission(cells);
     let fit = grouped_by_fit(rows, cells, permission.used);
     with_fewer(fit, permission)
 }
 
-// The first best grouping of the kernel.
+// The first best grouping of the kernel of the sheet that the rows show. Past the kernel the classes are 0.
 pub fn first_best(rows: &[u64; CELL_WORDS], grants: Kernel) -> Placement
-    requires { ⌜ grants .size ≤ grant-limit ⌝ }
+    requires { ⌜ KernelListed (now rows) (grants .cells) (grants .size) ⌝ }
     ensures { λ r. ⌜ ((users : ℕ) (sheet : Sheet) → Shown (now (rows .entry)) users sheet
         → map grant-of (take (grants .size) (grants .cells)) ≡ kernel sheet
         → Placed (first-best sheet) (r .classes) (length (kernel sheet)) (r .used)) ⌝ }
+    ensures { λ r. ⌜ BlankFrom (grants .size) (r .classes) ⌝ }
 {
     let size = grants.size;
     if size == 0 {

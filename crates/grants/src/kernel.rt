@@ -14,7 +14,7 @@ ghost use Rattle.spec.specs.Limits.{user-limit};
 ghost use Rattle.bits.specs.Bit.{bit, word-bits};
 ghost use Rattle.sheet.specs.Rows.{row-words, row-bits, cell};
 ghost use Rattle.grants.specs.CellPlaces.{cell-words, marked};
-ghost use Rattle.grants.specs.KernelArray.{Listed};
+ghost use Rattle.grants.specs.KernelArray.{Roomy, Listed};
 ghost use Rattle.grants.specs.KernelList.{ListedTo};
 ghost use Rattle.grants.specs.KernelWalk.{NextFrom};
 
@@ -71,9 +71,9 @@ fn list_word(word: u64, i: usize, cells: &mut [u16; GRANT_LIMIT], start: usize) 
     size
 }
 
-// The grants of a set in order. A set of more than GRANT_LIMIT, which no sheet has, is cut there.
+// The grants of a set in order. The set has no more of them than a sheet can have, and past them the array is 0.
 pub fn listed(left: &[u64; CELL_WORDS], users: usize) -> Kernel
-    requires { ⌜ users ≤ user-limit ⌝ }
+    requires { ⌜ (users ≤ user-limit) × Roomy (now left) (users * row-bits) ⌝ }
     ensures { λ r. ⌜ Listed (now (left .entry)) users (r .cells) (r .size) ⌝ }
 {
     let mut cells = [0; GRANT_LIMIT];

@@ -21,11 +21,11 @@ ghost use Rattle.bits.specs.Bit.{word-bits};
 ghost use Rattle.lists.specs.PassingBelow.{passing-below};
 ghost use Rattle.sheet.specs.Rows.{row-words};
 ghost use Rattle.grants.specs.Log.{log-of};
-ghost use Rattle.grants.specs.CellPlaces.{marked};
+ghost use Rattle.grants.specs.CellPlaces.{marked, Shows};
 ghost use Rattle.grants.specs.Columns.{Columns};
 ghost use Rattle.grants.specs.Insides.{Insides};
 ghost use Rattle.grants.specs.NearCells.{cells-of};
-ghost use Rattle.grants.specs.ReductionResult.{Reducible, ReducedFrom};
+ghost use Rattle.grants.specs.ReductionResult.{ReducedFrom};
 ghost use Rattle.grants.specs.ReductionWork.{work-of, word-cells, WorkReady, Visited, Settled, Removable, Removed};
 
 // The cells of the kernel, and the removals in order: the cell of each, and its partner's, which is its own where it was removed as single.
@@ -190,9 +190,9 @@ fn count_singles<'a>(
     singles
 }
 
-// The reduction of the grants whose cells the rows have set.
+// The reduction of the sheet that the rows show. Past the removals the log is 0.
 pub fn reduce(rows: &[u64; CELL_WORDS], users: usize) -> Reduced
-    requires { ⌜ Reducible (now rows) users ⌝ }
+    requires { ⌜ Shows (now rows) users ⌝ }
     ensures { λ r. ⌜ ReducedFrom (now (rows .entry)) users r ⌝ }
 {
     let mut left = *rows;

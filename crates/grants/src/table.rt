@@ -12,12 +12,12 @@ ghost use mathlib.Core.Bool.{So};
 ghost use mathlib.Core.List.{map};
 ghost use Prim.Native.Nat.{ℕ, _/_, _%_, _≤_, _<_};
 ghost use lib.ListN.{length, getD, take};
-ghost use Rattle.spec.specs.Limits.{grant-limit};
 ghost use Rattle.spec.specs.Sheet.{Sheet};
 ghost use Rattle.spec.specs.Reduction.{kernel};
 ghost use Rattle.bits.specs.Bit.{bit, word-bits};
 ghost use Rattle.sheet.specs.Rows.{row-bits};
 ghost use Rattle.grants.specs.CellPlaces.{grant-of, Shown};
+ghost use Rattle.grants.specs.KernelArray.{KernelListed};
 ghost use Rattle.grants.specs.TableWords.{table-limit, FirstBits, Table};
 ghost use Rattle.grants.specs.TableParts.{CellsFrom, user-holds, permission-held, ColumnsOf};
 ghost use Rattle.grants.specs.TableHeld.{HeldBy};
@@ -173,9 +173,9 @@ fn table_of<'a>(rows: &'a [u64], cells: &'a [u16]) -> [u64; TABLE_WORDS]
     words
 }
 
-// The fit table of the kernel, or of its first grants if it has more than TABLE_LIMIT.
+// The fit table of the kernel of the sheet that the rows show, or of its first grants if it has more than TABLE_LIMIT.
 pub fn fit_table(rows: &[u64; CELL_WORDS], grants: Kernel) -> [u64; TABLE_WORDS]
-    requires { ⌜ grants .size ≤ grant-limit ⌝ }
+    requires { ⌜ KernelListed (now rows) (grants .cells) (grants .size) ⌝ }
     ensures { λ r. ⌜ ((users : ℕ) (sheet : Sheet) → Shown (now (rows .entry)) users sheet
         → map grant-of (take (grants .size) (grants .cells)) ≡ kernel sheet → Table sheet (kernel sheet) r) ⌝ }
 {

@@ -21,7 +21,7 @@ ghost use Rattle.grants.specs.Log.{log-of};
 ghost use Rattle.grants.specs.CellPlaces.{cell-limit, Shown, Part};
 ghost use Rattle.grants.specs.WitnessGreedy.{Chosen};
 ghost use Rattle.grants.specs.WitnessSingles.{CellsOf};
-ghost use Rattle.grants.specs.WitnessRows.{ReducedTo, Witnessed};
+ghost use Rattle.grants.specs.WitnessRows.{ReducedTo, ReducedRows, Witnessed};
 
 // The grants taken from a set one after the other, each with the fewest partners among those left, and dropped with them.
 fn chosen_by_counts<'a>(
@@ -102,14 +102,14 @@ pub struct Witness {
     pub count: usize,
 }
 
-// The grants taken from the kernel and all singles.
+// The witness of the sheet that the rows show: the grants taken from its kernel and all its singles.
 pub fn witness_of<'a>(
     rows: &'a [u64; CELL_WORDS],
     kernel: &'a [u64; CELL_WORDS],
     singles: &'a [u64; CELL_WORDS],
     users: usize,
 ) -> Witness
-    requires { ⌜ users ≤ user-limit ⌝ }
+    requires { ⌜ ReducedRows (now rows) users (now kernel) (now singles) ⌝ }
     ensures { λ r. ⌜ ((sheet : Sheet) → Shown (now (rows .entry)) users sheet
         → ReducedTo sheet (now (rows .entry)) (now (kernel .entry)) (now (singles .entry))
         → Witnessed sheet (now (rows .entry)) (r .cells) (r .count)) ⌝ }

@@ -1,5 +1,5 @@
 -- Classes by cell: an array with the class of the grant at each cell, 0 at the other cells, as `class-of` says of any grant. Assumes nothing.
-use Prim.Native.Nat.{ℕ, _<_}
+use Prim.Native.Nat.{ℕ, _/_, _<_}
 use mathlib.Core.Path.{_≡_}
 use mathlib.Core.Bool.{cond}
 use mathlib.Core.List.{List, reverse}
@@ -10,6 +10,7 @@ use Rattle.spec.specs.Sheet.{Grant}
 use Rattle.spec.specs.Reduction.{Removal, single, tied, Reduction}
 use Rattle.spec.specs.Roles.{Classed, Classes, paired, class-of, classes-of}
 use Rattle.lists.specs.LatestFirst.{latest-first}
+use Rattle.sheet.specs.Rows.{row-bits}
 use Rattle.grants.specs.CellPlaces.{cell-limit, grant-of}
 use Rattle.grants.specs.Log.{log-of}
 
@@ -34,6 +35,10 @@ paired-in cells placed size = paired (reverse (listed cells size)) (latest-first
 -- the first numbers of an array are cells
 pub record CellsBelow (size : ℕ) (cells : List ℕ) : Type 0 where
   pub below : (i : ℕ) → i < size → getD cells i 0 < cell-limit
+
+-- these are cells of the first so many users
+pub record UsersBelow (users size : ℕ) (cells : List ℕ) : Type 0 where
+  pub below : (i : ℕ) → i < size → getD cells i 0 / row-bits < users
 
 -- a removal by its two cells: a grant whose partner is itself was removed as single
 abbrev pub removal-of : ℕ → ℕ → Removal

@@ -11,7 +11,7 @@ use Rattle.spec.specs.Roles.{roles-of}
 use Rattle.sheet.specs.Rows.{row-bits}
 use Rattle.grants.specs.CellPlaces.{Shown}
 use Rattle.grants.specs.CoverPlaced.{Placed}
-use Rattle.grants.specs.KernelArray.{Listed}
+use Rattle.grants.specs.KernelArray.{Listed, listed-grants}
 use Rattle.grants.specs.ReductionResult.{ReducedFrom}
 use Rattle.grants.specs.declared.kernel.Kernel.{Kernel}
 use Rattle.grants.specs.declared.reduction.Reduced.{Reduced}
@@ -31,7 +31,7 @@ module _ {rows : List ℕ} {users : ℕ} {sheet : Sheet} (shown : Shown rows use
         few-users = few-users;
         few-grants = few-grants;
         kernel-listed =
-            listed-taken (kernel .cells) (kernel .size) (rw room (listed .few)) ∙ listed .in-order rows sheet shown (from .part) few-grants
+            listed-taken (kernel .cells) (kernel .size) (rw room (listed .few)) ∙ listed-grants shown (from .part) listed
             ∙ from .remaining sheet shown;
         few-cells = listed .few;
         placement-held = placement-held;

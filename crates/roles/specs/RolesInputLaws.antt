@@ -1,6 +1,6 @@
 -- What follows for arrays that belong to a sheet: every cell in them is that of a grant, so it lies below the limit; the classes by cell are the classes of
 -- all grants; and the roles of the listed grants in these classes are the roles of the sheet.
-use Prim.Native.Nat.{ℕ, _+_, _/_, _%_, _≤_, _<_}
+use Prim.Native.Nat.{ℕ, _+_, _*_, _/_, _%_, _≤_, _<_}
 use native.Mathlib.Nat.{mul-assoc, div-lt-iff-lt-mul, lt-of-lt-of-le}
 use native.Mathlib.Omega.{arith}
 use mathlib.Core.Path.{_≡_, refl, sym, ap, _∙_}
@@ -24,11 +24,12 @@ use Rattle.sheet.specs.GrantLaws.{grant-held}
 use Rattle.sheet.specs.Rows.{row-words, row-bits}
 use Rattle.grants.specs.CellPlaces.{cell-limit, grant-of, Shown}
 use Rattle.grants.specs.CellPlaceLaws.{row-bits-pos}
-use Rattle.grants.specs.CellListLaws.{grants-by-cell, cell-grants-by-cell}
-use Rattle.grants.specs.KernelArray.{Listed}
+use Rattle.grants.specs.KernelArray.{Roomy, Listed, shown-roomy, listed-grants}
 use Rattle.grants.specs.Log.{removal-at}
+use Rattle.grants.specs.ReductionWorkLaws.{part-all}
+use Rattle.grants.specs.ReductionSettleLaws.{all-remain}
 use Rattle.grants.specs.RemovedGranted.{RemovalOf, reduction-granted, kernel-granted, logged-removal}
-use Rattle.roles.specs.CellClasses.{ClassAt, ClassesAt, CellsBelow, listed, reduction-in, classes-in}
+use Rattle.roles.specs.CellClasses.{ClassAt, ClassesAt, CellsBelow, UsersBelow, listed, reduction-in, classes-in}
 use Rattle.roles.specs.GoingBack.{class-below}
 use Rattle.roles.specs.RoleNumbers.{class-limit, class-key, KeysBelow}
 use Rattle.roles.specs.RoleNumberLaws.{role-numbers-by-class}
@@ -67,10 +68,9 @@ listed-below shown few cells size inside =
 -- ---- all grants, listed
 
 pub all-listed : {rows : List ℕ} {users : ℕ} {sheet : Sheet} (cells : List ℕ) (size : ℕ) → Shown rows users sheet
-    → length (grants sheet) ≤ grant-limit → length cells ≡ grant-limit → Listed rows users cells size → listed cells size ≡ grants sheet
-all-listed {rows} {users} {sheet} cells size shown few room all =
-    listed-taken cells size (rw room (all .few)) ∙ all .in-order rows sheet shown (record { held = λ n p. p }) few
-    ∙ cell-grants-by-cell shown {left = rows} (record { held = λ n p. p }) ∙ sym (grants-by-cell shown)
+    → length cells ≡ grant-limit → Listed rows users cells size → listed cells size ≡ grants sheet
+all-listed {rows} cells size shown room all =
+    listed-taken cells size (rw room (all .few)) ∙ listed-grants shown (part-all rows) all ∙ all-remain shown
 
 class-limit-pos : 0 < class-limit
 unfolding grant-limit
@@ -79,6 +79,10 @@ class-limit-pos = lit< tt
 module _ {rows : List ℕ} {users : ℕ} {cells : List ℕ} {size : ℕ} {placed : List ℕ} {total : ℕ} {removed partner : List ℕ} {count : ℕ}
     {sheet : Sheet} {placement : List ℕ}
     (belongs : Belongs rows users cells size placed total removed partner count sheet placement) where
+  -- there is room for the cells of all grants
+  pub all-roomy : Roomy rows (users * row-bits)
+  all-roomy = shown-roomy (belongs .shown) (part-all rows) (belongs .few-grants)
+
   -- ---- the cells of the kernel and of the log
 
   pub kernel-below : CellsBelow size cells
@@ -131,6 +135,14 @@ module _ {rows : List ℕ} {users : ℕ} {cells : List ℕ} {size : ℕ} {placed
       (at : ClassesAt class opened (classes-in cells size placed removed partner count)) where
     pub all-below : CellsBelow n all
     all-below = listed-below (belongs .shown) (belongs .few-users) all n (λ g m. rw whole at m)
+
+    pub all-users-below : UsersBelow users n all
+    all-users-below =
+        record {
+          below = λ i l.
+              belongs .shown .few (getD all i 0 / row-bits) (getD all i 0 % row-bits)
+              (grant-held sheet (rw whole at (list-of-member n (λ j. grant-of (getD all j 0)) i l)));
+        }
 
     pub classes-below : KeysBelow n class all
     classes-below = record { below = λ i l. rw (at .each .shown (getD all i 0) (all-below .below i l)) (few (grant-of (getD all i 0))) }

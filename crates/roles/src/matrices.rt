@@ -14,9 +14,9 @@ ghost use Rattle.spec.specs.Cover.{used};
 ghost use Rattle.spec.specs.Roles.{Classed, roles-of-classes, roles-of};
 ghost use Rattle.lists.specs.KeyLaws.{by-key};
 ghost use Rattle.sheet.specs.Rows.{row-bits};
-ghost use Rattle.roles.specs.CellClasses.{ClassAt, CellsBelow, listed};
+ghost use Rattle.roles.specs.CellClasses.{ClassAt, CellsBelow, UsersBelow, listed};
 ghost use Rattle.roles.specs.RoleNumbers.{class-key, KeysBelow};
-ghost use Rattle.roles.specs.RolesShown.{RolesAt};
+ghost use Rattle.roles.specs.RolesShown.{RolesAt, RolesOnly};
 ghost use Rattle.roles.specs.RolesInput.{Belongs, OfSheet};
 
 // Who has which role, what each role gives, and how many roles there are.
@@ -36,6 +36,7 @@ fn roles_of_classes<'a>(
     requires { ⌜ used (by-key (class-key (now class) (now cells)) n) ≤ row-bits ⌝ }
     ensures { λ r. ⌜ ((members : List Classed) (users : ℕ) → ClassAt (now (class .entry)) members
         → RolesAt (r .has) (r .gives) (r .count) users (roles-of-classes (listed (now (cells .entry)) n) members)) ⌝ }
+    ensures { λ r. ⌜ ((users : ℕ) → UsersBelow users n (now (cells .entry)) → RolesOnly (r .has) (r .gives) (r .count) users) ⌝ }
 {
     let numbers = number_roles(cells, n, class);
     let rows = role_rows(cells, &numbers.roles, n);
@@ -65,6 +66,7 @@ pub fn roles_of<'a>(
         → Belongs (now (rows .entry)) users (now (kernel .entry)) size (now (placed .entry)) total
         (now (removed .entry)) (now (partner .entry)) count sheet placement
         → RolesAt (r .has) (r .gives) (r .count) users (roles-of sheet placement)) ⌝ }
+    ensures { λ r. ⌜ RolesOnly (r .has) (r .gives) (r .count) users ⌝ }
 {
     let all = grants::listed(rows, users);
     let mut class = [0; CELL_LIMIT];

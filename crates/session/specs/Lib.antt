@@ -12,6 +12,7 @@ pub mod PlacedOnce
 pub mod Demand2
 pub mod Said
 pub mod Prepared
+pub mod NothingPrepared
 pub mod Preparing
 pub mod CodeSession
 pub mod Anew

@@ -1,5 +1,7 @@
 -- What a load finds of an accepted sheet: each part is what document 01 says of that sheet. Assumes nothing.
+use Prim.Native.Nat.{ℕ}
 use mathlib.Core.Path.{_≡_}
+use mathlib.Core.List.{List}
 use lib.ListN.{length}
 use Rattle.spec.specs.Limits.{grant-limit}
 use Rattle.spec.specs.Text.{Bytes}
@@ -7,6 +9,9 @@ use Rattle.spec.specs.Sheet.{sheet-of}
 use Rattle.spec.specs.Reduction.{kernel}
 use Rattle.spec.specs.Cover.{first-best}
 use Rattle.sheet.specs.LaidOut.{LaidOut}
+use Rattle.sheet.specs.RowsRead.{RowsRead}
+use Rattle.sheet.specs.declared.layout.Layout.{Layout}
+use Rattle.grants.specs.Blank.{BlankFrom}
 use Rattle.grants.specs.CellPlaces.{Shown}
 use Rattle.grants.specs.ReductionResult.{ReducedFrom}
 use Rattle.grants.specs.KernelArray.{Listed}
@@ -14,6 +19,12 @@ use Rattle.grants.specs.WitnessRows.{Witnessed}
 use Rattle.grants.specs.CoverPlaced.{Placed}
 use Rattle.grants.specs.TableWords.{Table}
 use Rattle.session.specs.declared.prepared.Prepared.{Prepared}
+
+-- there is an accepted sheet whose layout and cells these are
+pub record ReadFrom (layout : Layout) (rows : List ℕ) : Type 0 where
+  pub text : Bytes
+  pub laid : LaidOut text layout
+  pub read : RowsRead rows (sheet-of text)
 
 -- the text is an accepted sheet (`laid` says so), and this was found of it
 pub record PreparedFor (text : Bytes) (p : Prepared) : Type 0 where
@@ -25,4 +36,5 @@ pub record PreparedFor (text : Bytes) (p : Prepared) : Type 0 where
   pub kernel-size : p .kernel .size ≡ length (kernel (sheet-of text))
   pub witness : Witnessed (sheet-of text) (p .rows) (p .witness .cells) (p .witness .count)
   pub first : Placed (first-best (sheet-of text)) (p .first .classes) (p .kernel .size) (p .first .used)
+  pub first-past : BlankFrom (p .kernel .size) (p .first .classes)
   pub table : Table (sheet-of text) (kernel (sheet-of text)) (p .table)

@@ -1,6 +1,6 @@
--- How a load finds what there is to find of an accepted sheet: its rows show it and can be reduced, the cells that the reduction left are those of its
+-- How a load finds what there is to find of an accepted sheet: its rows show it, the cells that the reduction left are those of its
 -- kernel, and the cells logged as single are those of its singles.
-use Prim.Native.Nat.{ℕ, _≤_}
+use Prim.Native.Nat.{ℕ, _*_, _≤_}
 use mathlib.Core.Path.{_≡_, sym, ap, _∙_}
 use mathlib.Core.List.{List, map}
 use lib.ListN.{length, take, length-map}
@@ -11,14 +11,15 @@ use Rattle.spec.specs.Sheet.{Sheet, sheet-of, grants}
 use Rattle.spec.specs.Reduction.{kernel, singles, singles-of}
 use Rattle.sheet.specs.AcceptedFacts.{Lawful, accepted-lawful}
 use Rattle.sheet.specs.LaidOut.{LaidOut}
+use Rattle.sheet.specs.Rows.{row-bits}
 use Rattle.sheet.specs.RowsRead.{RowsRead}
 use Rattle.sheet.specs.declared.layout.Layout.{Layout}
-use Rattle.grants.specs.CellPlaces.{grant-of, Shown}
-use Rattle.grants.specs.CellLawful.{lawful-shown, lawful-reducible}
-use Rattle.grants.specs.ReductionResult.{Reducible, ReducedFrom, log-in}
-use Rattle.grants.specs.KernelArray.{Listed}
+use Rattle.grants.specs.CellPlaces.{grant-of, Shown, Shows}
+use Rattle.grants.specs.CellLawful.{lawful-shown, lawful-shows}
+use Rattle.grants.specs.ReductionResult.{ReducedFrom, log-in}
+use Rattle.grants.specs.KernelArray.{Roomy, Listed, KernelListed, shown-roomy, listed-grants}
 use Rattle.grants.specs.CoverPlaced.{Placed}
-use Rattle.grants.specs.WitnessRows.{ReducedTo}
+use Rattle.grants.specs.WitnessRows.{ReducedTo, ReducedRows}
 use Rattle.grants.specs.WitnessSingles.{CellsOf, grants-part}
 use Rattle.grants.specs.declared.reduction.Reduced.{Reduced}
 use Rattle.minimality.specs.Singles.{single-granted}
@@ -35,15 +36,23 @@ module _ {text : Bytes} {layout : Layout} (laid : LaidOut text layout) where
     pub laid-shown : Shown rows (layout .users) (sheet-of text)
     laid-shown = rw (laid .user-total) (lawful-shown laid-lawful (read .rows))
 
-    pub laid-reducible : Reducible rows (layout .users)
-    laid-reducible = rw (laid .user-total) (lawful-reducible laid-lawful (read .rows))
+    pub laid-shows : Shows rows (layout .users)
+    laid-shows = rw (laid .user-total) (lawful-shows laid-lawful (read .rows))
 
 -- what the reduction of the grants that the rows show left and logged
 module _ {rows : List ℕ} {users : ℕ} {reduced : Reduced} (from : ReducedFrom rows users reduced) {sheet : Sheet} (shown : Shown rows users sheet)
     (few : length (grants sheet) ≤ grant-limit) where
-  -- the cells that are left, in order, are the kernel's
+  -- there is room for the cells that are left
+  pub kernel-roomy : Roomy (reduced .left) (users * row-bits)
+  kernel-roomy = shown-roomy shown (from .part) few
+
+  -- they are, in order, the kernel's
   pub kernel-cells : {cells : List ℕ} {size : ℕ} → Listed (reduced .left) users cells size → map grant-of (take size cells) ≡ kernel sheet
-  kernel-cells listed = listed .in-order rows sheet shown (from .part) few ∙ from .remaining sheet shown
+  kernel-cells listed = listed-grants shown (from .part) listed ∙ from .remaining sheet shown
+
+  pub kernel-listed : {cells : List ℕ} {size : ℕ} → Listed (reduced .left) users cells size → KernelListed rows cells size
+  kernel-listed listed =
+      record { users = users; sheet = sheet; shown = shown; kernel-cells = kernel-cells listed; few = listed .few }
 
   pub kernel-counted : {cells : List ℕ} {size : ℕ} → Listed (reduced .left) users cells size → length cells ≡ grant-limit
       → size ≡ length (kernel sheet)
@@ -69,3 +78,14 @@ module _ {rows : List ℕ} {users : ℕ} {reduced : Reduced} (from : ReducedFrom
         singles-cells = single-cells logged;
         few-grants = few;
       }
+
+-- so the rows, with the cells of the kernel and of the singles, are those of a sheet
+pub reduced-rows : {rows : List ℕ} {users : ℕ} {reduced : Reduced} (given : Shows rows users) → ReducedFrom rows users reduced
+    → {cells : List ℕ} → CellsOf cells (singles-of (log-in reduced)) → ReducedRows rows users (reduced .left) cells
+reduced-rows given from logged =
+    record {
+      sheet = given .sheet;
+      shown = given .shown;
+      reduced = reduced-to from (given .shown) (given .few-grants) logged;
+      few-users = given .few-users;
+    }

@@ -9,17 +9,19 @@ use sheet::GRANT_LIMIT;
 use sheet::Layout;
 use sheet::Places;
 use sheet::USER_LIMIT;
+ghost use mathlib.Core.Path.{_≡_};
 ghost use Prim.Native.Nat.{_≤_};
 ghost use lib.ListN.{length};
-ghost use Rattle.spec.specs.Limits.{user-limit, grant-limit};
+ghost use Rattle.spec.specs.Limits.{grant-limit};
 ghost use Rattle.spec.specs.Text.{Bytes};
 ghost use Rattle.spec.specs.Sheet.{Sheet, sheet-of, grants};
 ghost use Rattle.sheet.specs.LaidOut.{LaidOut};
 ghost use Rattle.sheet.specs.RowsRead.{RowsRead};
-ghost use Rattle.grants.specs.CellPlaces.{Shown};
-ghost use Rattle.grants.specs.ReductionResult.{Reducible, ReducedFrom};
+ghost use Rattle.grants.specs.CellPlaces.{Shown, Shows};
+ghost use Rattle.grants.specs.ReductionResult.{ReducedFrom};
 ghost use Rattle.grants.specs.WitnessRows.{Witnessed};
-ghost use Rattle.session.specs.Prepared.{PreparedFor};
+ghost use Rattle.session.specs.Prepared.{ReadFrom, PreparedFor};
+ghost use Rattle.session.specs.NothingPrepared.{nothing-prepared};
 
 // Where the names stand, the cells, the reduction, the kernel in order, the witness, the first cover and the fit table.
 #[repr(C)]
@@ -35,7 +37,9 @@ pub struct Prepared {
 
 impl Prepared {
     // Nothing found yet: the parts of a session without a sheet.
-    pub fn none() -> Prepared {
+    pub fn none() -> Prepared
+        ensures { λ r. ⌜ r ≡ nothing-prepared ⌝ }
+    {
         let places = Places {
             from: [0; USER_LIMIT],
             to: [0; USER_LIMIT],
@@ -77,7 +81,7 @@ impl Prepared {
 
 // The witness of the grants that the rows show, from their reduction.
 fn witness_found(rows: &[u64; CELL_WORDS], users: usize, reduced: Reduced) -> Witness
-    requires { ⌜ (users ≤ user-limit) × ReducedFrom (now rows) users reduced ⌝ }
+    requires { ⌜ Shows (now rows) users × ReducedFrom (now rows) users reduced ⌝ }
     ensures { λ r. ⌜ ((sheet : Sheet) → Shown (now (rows .entry)) users sheet → length (grants sheet) ≤ grant-limit
         → Witnessed sheet (now (rows .entry)) (r .cells) (r .count)) ⌝ }
 {
@@ -87,7 +91,7 @@ fn witness_found(rows: &[u64; CELL_WORDS], users: usize, reduced: Reduced) -> Wi
 
 // What there is to find of an accepted sheet, from where its names stand and its cells.
 pub fn prepare(layout: Layout, rows: [u64; CELL_WORDS]) -> Prepared
-    requires { ⌜ (layout .users ≤ user-limit) × Reducible rows (layout .users) ⌝ }
+    requires { ⌜ ReadFrom layout rows ⌝ }
     ensures { λ r. ⌜ ((text : Bytes) → LaidOut text layout → RowsRead rows (sheet-of text) → PreparedFor text r) ⌝ }
 {
     let reduced = grants::reduce(&rows, layout.users);

@@ -15,10 +15,14 @@ with-fewer-requires : tie.Need-with-fewer-requires
 with-fewer-requires c κs = search needs
 
 returns : tie.Need-returns
-returns c users sheet shown e =
-    let a = c .before .before .before .before .before .args in
-    rw (best-of-cells shown (a .cells .now) e) at
-    (c .with-fewer .ensures _ _ _ (c .before .grouped-by-fit .ensures (held-cells shown (a .cells .now) e)) (c .before .before .grouped-by-permission .ensures .1))
+returns c =
+    let cells = c .before .before .before .before .before .args .cells .now in
+    let by-fit = c .before .grouped-by-fit .ensures in
+    let by-permission = c .before .before .grouped-by-permission .ensures in (
+      λ users sheet shown e. rw (best-of-cells shown cells e) at
+          (c .with-fewer .ensures .0 _ _ _ (by-fit .0 (held-cells shown cells e)) (by-permission .1)),
+      c .with-fewer .ensures .1 _ (by-fit .1) (by-permission .2),
+    )
 
 pub best-of-spec : {M : Type 1} → statement M
 best-of-spec = tie.close (tie.spec grouped-by-permission-requires grouped-by-fit-requires with-fewer-requires returns)

@@ -4,6 +4,7 @@ use mathlib.Core.Path.{_≡_, sym}
 use lib.ListN.{length, take}
 use lib.Seq.{length-take-le}
 use Rattle.spec.specs.Limits.{grant-limit}
+use Rattle.grants.specs.Blank.{zeros-blank}
 use Rattle.grants.specs.CoverArray.{none-to-place, placed-of-kernel}
 use Rattle.grants.proofs.cover.first_best.Statement.{statement}
 use Rattle.grants.proofs.cover.first_best.Tie as tie
@@ -14,24 +15,28 @@ unfolding grant-limit
 sized c = search needs
 
 counted : (c : tie.Start) → length (take (c .args .grants .size) (c .args .grants .cells)) ≡ c .args .grants .size
-counted c = length-take-le _ _ (rw (sized c) (c .pre))
+counted c = length-take-le _ _ (rw (sized c) (c .pre .few))
 
 returns : tie.Need-returns
-returns c users sheet shown e = none-to-place sheet _ (rw (c .if1 .taken) at e)
+unfolding grant-limit
+returns c = (λ users sheet shown e. none-to-place sheet _ (rw (c .if1 .taken) at e), zeros-blank _ grant-limit)
 
 array-share-prefix-cells : tie.Need-array-share-prefix-cells
-array-share-prefix-cells c = rw (sized (c .before .before .before)) (c .before .before .before .pre)
+array-share-prefix-cells c = rw (sized (c .before .before .before)) (c .before .before .before .pre .few)
 
 slice-aggregate-best-of : tie.Need-slice-aggregate-best-of
 slice-aggregate-best-of c = sym (counted (c .before .before .before .before))
 
 best-of-requires : tie.Need-best-of-requires
-best-of-requires c κs = rw (counted (c .before .before .before .before)) (c .before .before .before .before .pre)
+best-of-requires c κs = rw (counted (c .before .before .before .before)) (c .before .before .before .before .pre .few)
 
 returns-2 : tie.Need-returns-2
-returns-2 c users sheet shown e =
-    let grants = c .before .before .before .before .before .args .grants in
-    placed-of-kernel sheet (take (grants .size) (grants .cells)) _ _ e (c .best-of .ensures users sheet shown e)
+returns-2 c =
+    let start = c .before .before .before .before .before in
+    let grants = start .args .grants in (
+      λ users sheet shown e. placed-of-kernel sheet (take (grants .size) (grants .cells)) _ _ e (c .best-of .ensures .0 users sheet shown e),
+      rw (counted start) at (c .best-of .ensures .1),
+    )
 
 pub first-best-spec : {M : Type 1} → statement M
 first-best-spec =

@@ -8,6 +8,7 @@ use mathlib.Core.Logic.{inl, inr}
 use lib.ListN.{length, getD, length-set}
 use Rattle.spec.specs.Limits.{grant-limit}
 use Rattle.sheet.specs.Rows.{row-words, row-bits}
+use Rattle.grants.specs.Blank.{BlankFrom, zeros-blank, set-blank, later-blank}
 use Rattle.grants.specs.CellPlaceLaws.{row-bits-pos}
 use Rattle.grants.specs.CoverRelation.{user-at-cell, permission-at-cell, HeldCells, user-room, user-has-room}
 use Rattle.grants.specs.CoverMembers.{class-words}
@@ -19,7 +20,7 @@ use Rattle.grants.proofs.cover.grouped_by_fit.Tie as tie
 abbrev Inv-loop : tie.InvT-loop
 Inv-loop rows cells most asked₀ lacked₀ classes₀ allowed₀ u₀ count₀ d₀ asked lacked classes allowed u count d =
     (d ≤ length cells) × (length classes ≡ grant-limit) × (length asked ≡ class-words) × (length lacked ≡ class-words)
-    × (HeldCells rows cells → FitSoFar rows cells classes d count asked lacked u allowed most)
+    × (HeldCells rows cells → FitSoFar rows cells classes d count asked lacked u allowed most) × BlankFrom d classes
 
 abbrev μ-loop : tie.MeasureT-loop
 μ-loop rows cells most asked₀ lacked₀ classes₀ allowed₀ u₀ count₀ d₀ asked lacked classes allowed u count d =
@@ -27,7 +28,7 @@ abbrev μ-loop : tie.MeasureT-loop
 
 loop-holds : tie.Need-loop-holds Inv-loop μ-loop
 unfolding grant-limit row-bits row-words
-loop-holds c = (omega arith, refl, refl, refl, λ held. none-fitted _ _ _ 0 class-words row-words _ refl refl (omega arith))
+loop-holds c = (omega arith, refl, refl, refl, λ held. none-fitted _ _ _ 0 class-words row-words _ refl refl (omega arith), zeros-blank 0 grant-limit)
 
 mul-user-of : tie.Need-mul-user-of Inv-loop μ-loop
 mul-user-of c = omega arith
@@ -98,10 +99,12 @@ unfolding row-bits row-words
 add-used c = omega (arith, c .before .class-for .ensures .not-past)
 
 returns : tie.Need-returns Inv-loop μ-loop
-returns c held =
+returns c =
     let found-class = c .before in
-    let n = length (start found-class .args .cells .now) in
-    inr (omega arith, more-classes (few found-class) (fitted found-class held) (found found-class) n (omega arith) (omega arith))
+    let n = length (start found-class .args .cells .now) in (
+      λ held. inr (omega arith, more-classes (few found-class) (fitted found-class held) (found found-class) n (omega arith) (omega arith)),
+      later-blank (omega arith) (turn found-class .before .loop .inv .5),
+    )
 
 -- the class found has its place
 small : (c : tie.Else1 Inv-loop μ-loop) → c .before .class-for .result < row-bits
@@ -160,12 +163,13 @@ loop-again c =
       λ held. rw (c .counted .ensures, user)
           (one-fitted (few found-class) (fitted found-class held) (found found-class) (omega (arith, c .before .before .before .before .before .if1 .left))
           held _ _ (omega arith) room (rw permission at (c .before .before .before .add-asked .ensures)) (rw user at (c .before .add-lacked .ensures))),
+      set-blank _ (l .inv .5),
     )
 
 returns-2 : tie.Need-returns-2 Inv-loop μ-loop
-returns-2 c held =
+returns-2 c =
     let e : c .before .loop .d ≡ length (c .before .before .before .before .args .cells .now) = omega arith in
-    inl (rw e at (c .before .loop .inv .4 held .placed))
+    (λ held. inl (rw e at (c .before .loop .inv .4 held .placed)), rw e at (c .before .loop .inv .5))
 
 pub grouped-by-fit-spec : {M : Type 1} → statement M
 grouped-by-fit-spec =

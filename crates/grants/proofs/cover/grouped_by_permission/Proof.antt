@@ -81,8 +81,11 @@ loop-again c =
 
 returns : tie.Need-returns Inv-loop μ-loop
 returns c =
-    let e : c .before .loop .d ≡ length (c .before .before .before .args .cells .now) = omega arith in
-    (keyed-count-below (c .before .loop .inv .1) (λ i l. mod-lt _ row-bits-pos), rw e at (c .before .loop .inv .1 .placed))
+    let e : c .before .loop .d ≡ length (c .before .before .before .args .cells .now) = omega arith in (
+      keyed-count-below (c .before .loop .inv .1) (λ i l. mod-lt _ row-bits-pos),
+      rw e at (c .before .loop .inv .1 .placed),
+      rw e at (c .before .loop .inv .1 .past),
+    )
 
 pub grouped-by-permission-spec : {M : Type 1} → statement M
 grouped-by-permission-spec =

@@ -5,10 +5,10 @@ use Rattle.grants.proofs.cover.with_fewer.Statement.{statement}
 use Rattle.grants.proofs.cover.with_fewer.Tie as tie
 
 returns : tie.Need-returns
-returns c n p q sooner later = sooner-is-fewer p q n sooner later (omega arith)
+returns c = (λ n p q sooner later. sooner-is-fewer p q n sooner later (omega arith), λ n sooner later. sooner)
 
 returns-2 : tie.Need-returns-2
-returns-2 c n p q sooner later = later-is-fewer p q n sooner later (omega arith)
+returns-2 c = (λ n p q sooner later. later-is-fewer p q n sooner later (omega arith), λ n sooner later. later)
 
 pub with-fewer-spec : {M : Type 1} → statement M
 with-fewer-spec = tie.close (tie.spec returns returns-2)

@@ -17,7 +17,7 @@ abbrev μ-loop : tie.MeasureT-loop
 
 loop-holds : tie.Need-loop-holds Inv-loop μ-loop
 unfolding grant-limit
-loop-holds c = (omega arith, none-listed _ _ refl)
+loop-holds c = (omega arith, none-listed _ grant-limit refl)
 
 mul-loop : tie.Need-mul-loop Inv-loop μ-loop
 unfolding user-limit
@@ -52,7 +52,7 @@ unfolding row-bits row-words
 returns c =
     let at = c .before .loop in
     let e : at .i * word-bits ≡ c .before .before .args .users * row-bits = omega arith in
-    all-listed (rw e at (at .inv .1))
+    all-listed (c .before .before .pre .1) (rw e at (at .inv .1))
 
 pub listed-spec : {M : Type 1} → statement M
 listed-spec =

@@ -1,10 +1,8 @@
 -- `grants::reduction::reduce`: the sweeps start from all cells of the rows and an empty log.
 use borrow.Author.Needs.{needs}
-use Prim.Native.Nat.{ℕ}
 use mathlib.Core.Path.{refl}
-use lib.ListN.{replicate, length-replicate}
 use Rattle.spec.specs.Limits.{grant-limit}
-use Rattle.grants.specs.ReductionResult.{reducible-ready, settled-reduced}
+use Rattle.grants.specs.ReductionResult.{shows-ready, settled-reduced}
 use Rattle.grants.proofs.reduction.reduce.Statement.{statement}
 use Rattle.grants.proofs.reduction.reduce.Tie as tie
 
@@ -14,8 +12,7 @@ columns-of-requires c κs = tt
 sweeps-requires : tie.Need-sweeps-requires
 unfolding grant-limit
 sweeps-requires c κs = (
-  reducible-ready (replicate grant-limit 0) (replicate grant-limit 0) (c .before .before .before .before .before .before .pre)
-      (length-replicate {A = ℕ} grant-limit 0) (length-replicate {A = ℕ} grant-limit 0),
+  shows-ready (c .before .before .before .before .before .before .pre),
   c .before .before .before .before .columns-of .ensures,
   refl,
 )

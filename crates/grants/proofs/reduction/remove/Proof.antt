@@ -1,4 +1,4 @@
--- `grants::reduction::remove`: the cell's word loses its bit, and the log has one more entry at its end; nothing before it changes.
+-- `grants::reduction::remove`: the cell's word loses its bit, and the log has one more entry at its end; no other entry changes.
 use borrow.Author.Needs.{needs}
 use native.Mathlib.Omega.{arith}
 use mathlib.Core.Path.{refl}
@@ -67,8 +67,8 @@ returns c =
       partner-length = length-set (a .partner .now) (a .count) (a .other .0);
       removed-last = getD-set-same (a .removed .now) (a .count) (a .it .0) 0 (omega (arith, given .logged .removed-length, given .room));
       partner-last = getD-set-same (a .partner .now) (a .count) (a .other .0) 0 (omega (arith, given .logged .partner-length, given .room));
-      removed-kept = λ i l. getD-set-other (a .removed .now) (a .count) i (a .it .0) 0 (λ e. omega arith);
-      partner-kept = λ i l. getD-set-other (a .partner .now) (a .count) i (a .other .0) 0 (λ e. omega arith);
+      removed-kept = λ i other. getD-set-other (a .removed .now) (a .count) i (a .it .0) 0 other;
+      partner-kept = λ i other. getD-set-other (a .partner .now) (a .count) i (a .other .0) 0 other;
     }
 
 pub remove-spec : {M : Type 1} → statement M

@@ -13,10 +13,10 @@ unfolding grant-limit
 sized c = search needs
 
 counted : (c : tie.Start) → length (take (c .args .grants .size) (c .args .grants .cells)) ≡ c .args .grants .size
-counted c = length-take-le _ _ (rw (sized c) (c .pre))
+counted c = length-take-le _ _ (rw (sized c) (c .pre .few))
 
 array-share-prefix-cells : tie.Need-array-share-prefix-cells
-array-share-prefix-cells c = rw (sized (c .before .before)) (c .before .before .pre)
+array-share-prefix-cells c = rw (sized (c .before .before)) (c .before .before .pre .few)
 
 slice-aggregate-table-of : tie.Need-slice-aggregate-table-of
 slice-aggregate-table-of c = sym (counted (c .before .before .before))

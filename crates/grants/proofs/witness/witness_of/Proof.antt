@@ -5,7 +5,7 @@ use Rattle.grants.proofs.witness.witness_of.Statement.{statement}
 use Rattle.grants.proofs.witness.witness_of.Tie as tie
 
 chosen-requires : tie.Need-chosen-requires
-chosen-requires c κs = search needs
+chosen-requires c κs = c .pre .few-users
 
 joined-requires : tie.Need-joined-requires
 joined-requires c κs = search needs

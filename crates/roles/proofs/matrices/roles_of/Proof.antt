@@ -10,7 +10,7 @@ use Rattle.spec.specs.Roles.{classes-of}
 use Rattle.sheet.specs.Rows.{row-words}
 use Rattle.grants.specs.CellPlaces.{cell-limit}
 use Rattle.roles.specs.CellClassLaws.{no-classes}
-use Rattle.roles.specs.RolesInputLaws.{kernel-below, removed-below, partner-below, all-listed, all-below, classes-below, roles-few, all-class-at, roles-belong}
+use Rattle.roles.specs.RolesInputLaws.{kernel-below, removed-below, partner-below, all-roomy, all-listed, all-below, all-users-below, classes-below, roles-few, all-class-at, roles-belong}
 use Rattle.roles.proofs.matrices.roles_of.Statement.{statement}
 use Rattle.roles.proofs.matrices.roles_of.Tie as tie
 
@@ -19,7 +19,7 @@ unfolding grant-limit
 room c = search needs
 
 listed-requires : tie.Need-listed-requires
-listed-requires c κs = search needs
+listed-requires c κs = let b = c .pre .belongs in (b .few-users, all-roomy b)
 
 all-classes-requires : tie.Need-all-classes-requires
 unfolding user-limit row-words
@@ -34,21 +34,27 @@ roles-of-classes-requires c κs =
     let at-listed = c .before .before .before .before .before in
     let b = at-listed .before .pre .belongs in
     let all = at-listed .listed .result in
-    let whole = all-listed (all .cells) (all .size) (b .shown) (b .few-grants) (room at-listed) (at-listed .listed .ensures) in
+    let whole = all-listed (all .cells) (all .size) (b .shown) (room at-listed) (at-listed .listed .ensures) in
     let at = c .before .before .before .all-classes .ensures in (
       (at-listed .listed .ensures .few, all-below b (all .cells) (all .size) whole at, classes-below b (all .cells) (all .size) whole at),
       roles-few b (all .cells) (all .size) whole at,
     )
 
 returns : tie.Need-returns
-returns c sheet placement b =
+returns c =
     let at-listed = c .before .before .before .before .before .before in
+    let users = at-listed .before .args .users in
     let all = at-listed .listed .result in
-    let whole = all-listed (all .cells) (all .size) (b .shown) (b .few-grants) (room at-listed) (at-listed .listed .ensures) in
+    let listed = at-listed .listed .ensures in
     let at = c .before .before .before .before .all-classes .ensures in
-    rw (roles-belong b (all .cells) (all .size) whole at) at
-    (c .roles-of-classes .ensures (classes-of (reduction sheet) placement .members) (at-listed .before .args .users)
-    (all-class-at b (all .cells) (all .size) whole at))
+    let given = at-listed .before .pre .belongs in (
+      λ sheet placement b.
+          let whole = all-listed (all .cells) (all .size) (b .shown) (room at-listed) listed in
+          rw (roles-belong b (all .cells) (all .size) whole at) at
+          (c .roles-of-classes .ensures .0 (classes-of (reduction sheet) placement .members) users (all-class-at b (all .cells) (all .size) whole at)),
+      c .roles-of-classes .ensures .1 users
+          (all-users-below given (all .cells) (all .size) (all-listed (all .cells) (all .size) (given .shown) (room at-listed) listed) at),
+    )
 
 pub roles-of-spec : {M : Type 1} → statement M
 roles-of-spec =

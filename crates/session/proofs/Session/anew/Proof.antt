@@ -8,7 +8,6 @@ use Rattle.spec.specs.Limits.{sheet-limit}
 use Rattle.session.specs.Anew.{first-class-below, held-of, Anew, view-anew, holds-anew}
 use Rattle.session.specs.Loading.{unrefused-short}
 use Rattle.session.specs.Prepared.{PreparedFor}
-use Rattle.session.specs.Preparing.{laid-few-users, laid-reducible}
 use Rattle.session.proofs.Session.anew.Statement.{statement}
 use Rattle.session.proofs.Session.anew.Tie as tie
 
@@ -22,7 +21,7 @@ copied-requires c κs = unrefused-short (c .before .args .s .now) (c .before .pr
 prepare-requires : tie.Need-prepare-requires
 prepare-requires c κs =
     let read = c .before .before .pre in
-    (laid-few-users (read .1), laid-reducible (read .1) (read .2))
+    record { text = c .before .before .args .s .now; laid = read .1; read = read .2 }
 
 -- what was found of the sheet
 found : (c : tie.After-prepare) → PreparedFor (c .before .before .before .args .s .now) (c .prepare .result)

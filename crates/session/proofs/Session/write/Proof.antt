@@ -82,7 +82,7 @@ returns-2 c =
     let n = counts-before (written .before) in
     let e = sheet-at (best-at n) in
     writes-held (self e) (loaded e)
-    (rw (book-held (holds e) (counted n) (n .before .roles-of .ensures _ _ (belongs (best-at n)))) at (written .book-into .ensures))
+    (rw (book-held (holds e) (counted n) (n .before .roles-of .ensures .0 _ _ (belongs (best-at n)))) at (written .book-into .ensures))
     (write-said (c .of .result)) (c .of .ensures)
 
 pub write-spec : {M : Type 1} → statement M

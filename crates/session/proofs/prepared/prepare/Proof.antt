@@ -1,11 +1,12 @@
--- `session::prepared::prepare`: an accepted sheet keeps the rules, so its rows show it; each part is then what its own call says of every sheet that the
--- rows show.
+-- `session::prepared::prepare`: an accepted sheet keeps the rules, so its rows show it, and each call gets what it asks for of that sheet; each part is then
+-- what its own call says of every sheet that the rows show.
 use borrow.Author.Needs.{needs}
 use mathlib.Core.Path.{_≡_}
 use lib.ListN.{length}
 use Rattle.spec.specs.Limits.{grant-limit}
 use Rattle.spec.specs.Sheet.{sheet-of}
-use Rattle.session.specs.Preparing.{laid-lawful, laid-shown, kernel-cells, kernel-counted, kernel-placed}
+use Rattle.grants.specs.KernelArray.{KernelListed}
+use Rattle.session.specs.Preparing.{laid-lawful, laid-few-users, laid-shown, laid-shows, kernel-roomy, kernel-cells, kernel-listed, kernel-counted, kernel-placed}
 use Rattle.session.proofs.prepared.prepare.Statement.{statement}
 use Rattle.session.proofs.prepared.prepare.Tie as tie
 
@@ -14,19 +15,35 @@ unfolding grant-limit
 room c = search needs
 
 reduce-requires : tie.Need-reduce-requires
-reduce-requires c κs = search needs
+reduce-requires c κs = let given = c .before .pre in laid-shows (given .laid) (given .read)
 
 listed-requires : tie.Need-listed-requires
-listed-requires c κs = search needs
+listed-requires c κs =
+    let at-reduced = c .before .before in
+    let given = at-reduced .before .before .pre in (
+      laid-few-users (given .laid),
+      kernel-roomy (at-reduced .reduce .ensures) (laid-shown (given .laid) (given .read)) (laid-lawful (given .laid) .few-grants),
+    )
+
+-- the listed cells are those of the kernel
+of-kernel : (c : tie.After-listed)
+    → KernelListed (c .before .before .before .before .before .args .t2) (c .listed .result .cells) (c .listed .result .size)
+of-kernel c =
+    let at-reduced = c .before .before .before in
+    let given = at-reduced .before .before .pre in
+    kernel-listed (at-reduced .reduce .ensures) (laid-shown (given .laid) (given .read)) (laid-lawful (given .laid) .few-grants) (c .listed .ensures)
 
 witness-found-requires : tie.Need-witness-found-requires
-witness-found-requires c κs = search needs
+witness-found-requires c κs =
+    let at-reduced = c .before .before .before .before in
+    let given = at-reduced .before .before .pre in
+    (laid-shows (given .laid) (given .read), at-reduced .reduce .ensures)
 
 first-best-requires : tie.Need-first-best-requires
-first-best-requires c κs = search needs
+first-best-requires c κs = of-kernel (c .before .before .before)
 
 fit-table-requires : tie.Need-fit-table-requires
-fit-table-requires c κs = search needs
+fit-table-requires c κs = of-kernel (c .before .before .before .before .before)
 
 returns : tie.Need-returns
 returns c text laid read =
@@ -46,7 +63,8 @@ returns c text laid read =
       room = room at-listed;
       kernel-size = kernel-counted from here few listed (room at-listed);
       witness = c .before .before .before .before .witness-found .ensures (sheet-of text) here few;
-      first = kernel-placed from here few listed (room at-listed) (c .before .before .first-best .ensures users (sheet-of text) here cells);
+      first = kernel-placed from here few listed (room at-listed) (c .before .before .first-best .ensures .0 users (sheet-of text) here cells);
+      first-past = c .before .before .first-best .ensures .1;
       table = c .fit-table .ensures users (sheet-of text) here cells;
     }
 

@@ -1,6 +1,6 @@
 -- `session::prepared::witness_found`: the cells logged as single are those of the singles of every sheet that the rows show.
 use borrow.Author.Needs.{needs}
-use Rattle.session.specs.Preparing.{reduced-to}
+use Rattle.session.specs.Preparing.{reduced-to, reduced-rows}
 use Rattle.session.proofs.prepared.witness_found.Statement.{statement}
 use Rattle.session.proofs.prepared.witness_found.Tie as tie
 
@@ -8,7 +8,10 @@ single-cells-requires : tie.Need-single-cells-requires
 single-cells-requires c κs = search needs
 
 witness-of-requires : tie.Need-witness-of-requires
-witness-of-requires c κs = search needs
+witness-of-requires c κs =
+    let at-singles = c .before .before .before in
+    let pre = at-singles .before .before .before .before .pre in
+    reduced-rows (pre .0) (pre .1) (at-singles .single-cells .ensures)
 
 returns : tie.Need-returns
 returns c sheet shown few =

@@ -1,0 +1,37 @@
+-- The parts of a session without a sheet: no names, no cells, no removals, and 0 in every place. Assumes nothing.
+use Prim.Native.Nat.{_*_}
+use lib.ListN.{replicate}
+use Rattle.spec.specs.Limits.{user-limit, grant-limit}
+use Rattle.sheet.specs.declared.layout.Layout.{Layout}
+use Rattle.sheet.specs.declared.places.Places.{Places}
+use Rattle.grants.specs.CellPlaces.{cell-words}
+use Rattle.grants.specs.TableWords.{table-row, table-limit}
+use Rattle.session.specs.declared.prepared.Prepared.{Prepared}
+
+-- no name stands anywhere
+abbrev no-places : Places
+no-places = record { from = replicate user-limit 0; to = replicate user-limit 0 }
+
+-- no users, no permissions, no grants
+abbrev no-layout : Layout
+no-layout =
+    record { users = 0; permissions = 0; grants = 0; «user_places» = no-places; «permission_places» = no-places }
+
+-- nothing found of any sheet
+abbrev pub nothing-prepared : Prepared
+nothing-prepared =
+    record {
+      layout = no-layout;
+      rows = replicate cell-words 0;
+      reduced = record {
+        left = replicate cell-words 0;
+        removed = replicate grant-limit 0;
+        partner = replicate grant-limit 0;
+        count = 0;
+        singles = 0;
+      };
+      kernel = record { cells = replicate grant-limit 0; size = 0 };
+      witness = record { cells = replicate cell-words 0; count = 0 };
+      first = record { classes = replicate grant-limit 0; used = 0 };
+      table = replicate (table-limit * table-row) 0;
+    }
