@@ -1,5 +1,4 @@
 -- `one_by_one::same_classes`: the grants before i are placed alike, and a grant that is not tells the placements apart.
-use borrow.Author.Needs.{needs}
 use Prim.Native.Nat.{_-_, _≤_}
 use native.Mathlib.Numerals.{add-one}
 use native.Mathlib.Omega.{arith}
@@ -7,7 +6,7 @@ use mathlib.Core.Path.{_≡_, refl}
 use Rattle.spec.specs.Limits.{search-limit}
 use Rattle.bits.specs.Truth.{not-both}
 use Rattle.search.specs.View.{placed-of}
-use Rattle.closing.specs.Same.{Tells, same-class}
+use Rattle.closing.specs.Same.{same-class}
 use Rattle.closing.proofs.one_by_one.same_classes.Statement.{statement}
 use Rattle.closing.proofs.one_by_one.same_classes.Tie as tie
 

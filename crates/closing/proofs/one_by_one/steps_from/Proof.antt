@@ -1,6 +1,5 @@
 -- `one_by_one::steps_from`: at each turn the run is the steps made and the run of the budget left (`Running`), which one step more keeps. The measure
 -- is the budget left. The loop ends when there is none, or when the position is finished.
-use borrow.Author.Needs.{needs}
 use borrow.Author.Tests.{not-true, not-false}
 use Prim.Native.Nat.{_-_}
 use native.Mathlib.Omega.{arith}
