@@ -1,12 +1,16 @@
 -- `lines::put_checked`: a line of numbers alone.
 use borrow.Author.Needs.{needs}
-use mathlib.Core.List.{[], _∷_}
+use Prim.Native.Nat.{ℕ}
+use mathlib.Core.List.{List, [], _∷_}
 use mathlib.Core.Path.{sym}
 use Rattle.spec.specs.Text.{ascii}
 use Rattle.book.specs.Written.{written-as}
 use Rattle.play.specs.AnswerParts.{numbers-line}
 use Rattle.play.proofs.lines.put_checked.Statement.{statement}
 use Rattle.play.proofs.lines.put_checked.Tie as tie
+
+abbrev numbers : tie.Start → List ℕ
+numbers s = let a = s .args .answer in a .number ∷ a .roles ∷ a .«witness_lines» ∷ []
 
 slice-aggregate-put-numbers-line : tie.Need-slice-aggregate-put-numbers-line
 slice-aggregate-put-numbers-line c = search needs
@@ -24,7 +28,7 @@ returns : tie.Need-returns
 returns c =
     let f = c .before .before in
     let s = f .before .before .before .before .before in
-    written-as (sym (numbers-line (ascii "check") (s .args .answer .number ∷ s .args .answer .roles ∷ s .args .answer .«witness_lines» ∷ []))) (f .put-numbers-line .ensures)
+    written-as (sym (numbers-line (ascii "check") (numbers s))) (f .put-numbers-line .ensures)
 
 pub put-checked-spec : {M : Type 1} → statement M
 put-checked-spec =

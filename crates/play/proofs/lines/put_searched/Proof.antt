@@ -1,7 +1,8 @@
 -- `lines::put_searched`: the state is the last word, behind the numbers.
 use borrow.Author.Needs.{needs}
 use native.Mathlib.Omega.{arith}
-use mathlib.Core.List.{[], _∷_, _++_}
+use Prim.Native.Nat.{ℕ}
+use mathlib.Core.List.{List, [], _∷_, _++_}
 use mathlib.Core.Path.{sym}
 use Rattle.spec.specs.Text.{Bytes, ascii, line-feed}
 use Rattle.session.specs.Said.{state-said}
@@ -11,8 +12,11 @@ use Rattle.play.specs.AnswerParts.{front-text, rest-length, behind-front
 use Rattle.play.proofs.lines.put_searched.Statement.{statement}
 use Rattle.play.proofs.lines.put_searched.Tie as tie
 
+abbrev numbers : tie.Start → List ℕ
+numbers s = let a = s .args .answer in a .number ∷ a .steps ∷ a .roles ∷ a .bound ∷ []
+
 abbrev front : tie.Start → Bytes
-front s = front-text (ascii "search") (s .args .answer .number ∷ s .args .answer .steps ∷ s .args .answer .roles ∷ s .args .answer .bound ∷ [])
+front s = front-text (ascii "search") (numbers s)
 
 -- the last word, with the blank before it and the line feed
 abbrev word : tie.Start → Bytes
@@ -71,7 +75,8 @@ returns : tie.Need-returns
 returns c =
     let f = c .before .before .before .before .before .before in
     let s = start f in
-    written-as (sym (line-with-last (ascii "search") (s .args .answer .number ∷ s .args .answer .steps ∷ s .args .answer .roles ∷ s .args .answer .bound ∷ []) (word s))) (then-written (behind f) (c .before .before .put-state .ensures))
+    written-as (sym (line-with-last (ascii "search") (numbers s) (word s)))
+    (then-written (behind f) (c .before .before .put-state .ensures))
 
 pub put-searched-spec : {M : Type 1} → statement M
 put-searched-spec =
