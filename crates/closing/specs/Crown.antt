@@ -1,4 +1,5 @@
--- How many users and grants there are where each of four users holds every permission but their own, and how many searches of which budget.
+-- How many users and grants there are where each of four users holds every permission but their own, how many singles and what the witness
+-- counts, and how many searches of which budget.
 use Prim.Native.Nat.{ℕ, _*_, pred}
 
 abbrev pub users : ℕ
@@ -6,6 +7,12 @@ users = 4
 
 abbrev pub grants : ℕ
 grants = users * pred users
+
+abbrev pub singles : ℕ
+singles = 0
+
+abbrev pub witness : ℕ
+witness = 3
 
 -- the budget of each of many searches, and the most of them
 abbrev pub part : ℕ

@@ -1,2 +1,3 @@
--- The kernel that the program closes.
+-- The kernel that the program closes, and what it compares.
 pub mod Crown
+pub mod Same

@@ -14,6 +14,11 @@ const HELD: usize = 3;
 
 pub const GRANTS: usize = USERS * HELD;
 
+// No grant is single, and the witness has three.
+pub const SINGLES: usize = 0;
+
+pub const WITNESS: usize = 3;
+
 fn user(g: usize) -> usize {
     g / HELD
 }

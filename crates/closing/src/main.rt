@@ -1,9 +1,12 @@
 // Closes the search of the kernel of four users who hold every permission but their own: 12 grants, a first placement of 4 classes, a witness of 3
 // and no singles. For one search of 124 steps, for one of 125, and for searches of 7 steps that each go on where the one before came to, a line has
-// the steps made, the searches, whether the machine is then finished, and the classes of the best placement.
+// the steps made, the searches, whether the machine is then finished, and the classes of the best placement. Then, for both budgets, a line has
+// whether the steps made one by one came to the same as the one search.
 mod crown;
+mod one_by_one;
 mod print;
 
+use one_by_one::as_the_search;
 use search::Position;
 use search::TABLE_WORDS;
 ghost use Rattle.closing.specs.Crown.{grants};
@@ -19,15 +22,16 @@ const PART: u32 = 7;
 // More searches than these are not tried.
 const MOST: u32 = 100;
 
-const SINGLES: usize = 0;
-
-const WITNESS: usize = 3;
-
 // The position before the first step.
 fn start() -> Position
     ensures { λ r. ⌜ PositionStands grants r ⌝ }
 {
-    Position::start(crown::by_user(), crown::USERS, SINGLES, WITNESS)
+    Position::start(
+        crown::by_user(),
+        crown::USERS,
+        crown::SINGLES,
+        crown::WITNESS,
+    )
 }
 
 fn report(steps: u32, searches: u32, position: Position) {
@@ -45,7 +49,7 @@ fn report(steps: u32, searches: u32, position: Position) {
 
 // One search from the start.
 fn one_search(fit: &[u64; TABLE_WORDS], budget: u32) {
-    let ran = start().search(fit, crown::GRANTS, SINGLES, WITNESS, budget);
+    let ran = start().search(fit, crown::GRANTS, crown::SINGLES, crown::WITNESS, budget);
     report(ran.steps, 1, ran.position);
 }
 
@@ -55,12 +59,22 @@ fn many_searches(fit: &[u64; TABLE_WORDS]) {
     let mut steps = 0;
     let mut searches = 0;
     while searches < MOST && !position.cursor.finished {
-        let ran = position.search(fit, crown::GRANTS, SINGLES, WITNESS, PART);
+        let ran = position.search(fit, crown::GRANTS, crown::SINGLES, crown::WITNESS, PART);
         position = ran.position;
         steps += ran.steps;
         searches += 1;
     }
     report(steps, searches, position);
+}
+
+// The steps of one search made one by one, beside the search.
+fn steps_beside(fit: &[u64; TABLE_WORDS], budget: u32) {
+    print::number(budget);
+    if as_the_search(start(), fit, budget) {
+        print::text(b",same\n");
+    } else {
+        print::text(b",other\n");
+    }
 }
 
 fn main() {
@@ -69,4 +83,7 @@ fn main() {
     one_search(&fit, TOO_FEW);
     one_search(&fit, ENOUGH);
     many_searches(&fit);
+    print::text(b"budget,one by one\n");
+    steps_beside(&fit, TOO_FEW);
+    steps_beside(&fit, ENOUGH);
 }

@@ -12,6 +12,7 @@
 mod adler;
 mod calls;
 mod input;
+mod lines;
 mod say;
 mod script;
 mod space;

@@ -1,21 +1,11 @@
 -- The parts of a session without a sheet: no names, no cells, no removals, and 0 in every place. Assumes nothing.
 use Prim.Native.Nat.{_*_}
 use lib.ListN.{replicate}
-use Rattle.spec.specs.Limits.{user-limit, grant-limit}
-use Rattle.sheet.specs.declared.layout.Layout.{Layout}
-use Rattle.sheet.specs.declared.places.Places.{Places}
+use Rattle.spec.specs.Limits.{grant-limit}
+use Rattle.sheet.specs.OnlyNames.{no-layout}
 use Rattle.grants.specs.CellPlaces.{cell-words}
 use Rattle.grants.specs.TableWords.{table-row, table-limit}
 use Rattle.session.specs.declared.prepared.Prepared.{Prepared}
-
--- no name stands anywhere
-abbrev no-places : Places
-no-places = record { from = replicate user-limit 0; to = replicate user-limit 0 }
-
--- no users, no permissions, no grants
-abbrev no-layout : Layout
-no-layout =
-    record { users = 0; permissions = 0; grants = 0; «user_places» = no-places; «permission_places» = no-places }
 
 -- nothing found of any sheet
 abbrev pub nothing-prepared : Prepared

@@ -1,0 +1,94 @@
+-- `lines::put_numbers`: where the numbers below i are written, a turn writes number i behind them.
+use borrow.Author.Needs.{needs}
+use Prim.Native.Nat.{_-_, _*_, _≤_}
+use native.Mathlib.Nat.{le-trans}
+use native.Mathlib.Omega.{arith}
+use lib.ListN.{length, getD}
+use Rattle.spec.specs.Decimal.{decimal}
+use Rattle.book.specs.ListedWritten.{Listing, listing-ends, listing-starts, part-ready, part-within, part-written}
+use Rattle.book.specs.Written.{room-behind, within-buffer}
+use Rattle.play.specs.AnswerParts.{behind-blank, numbers-text, number-most, numbers-room}
+use Rattle.play.proofs.lines.put_numbers.Statement.{statement}
+use Rattle.play.proofs.lines.put_numbers.Tie as tie
+
+abbrev Inv-loop : tie.InvT-loop
+Inv-loop out₀ numbers at₀ i₀ mark out at i = Listing (length numbers) (λ j. behind-blank (decimal (getD numbers j 0))) i out₀ out at
+
+abbrev μ-loop : tie.MeasureT-loop
+μ-loop out₀ numbers at₀ i₀ mark out at i = length numbers - i
+
+-- the numbers are of the machine, and have no more digits than that allows
+room : (c : tie.After-shared-slice-known Inv-loop μ-loop)
+    → let numbers = c .before .before .args .numbers .now in length (numbers-text numbers) ≤ length numbers * number-most
+room c = numbers-room (c .before .before .args .numbers .now) (λ i. c .shared-slice-known .given i .fits)
+
+loop-holds : tie.Need-loop-holds Inv-loop μ-loop
+loop-holds c = listing-starts _ _ (le-trans (room c) (c .before .before .pre))
+
+sub-put-counted : tie.Need-sub-put-counted Inv-loop μ-loop
+sub-put-counted c = within-buffer (part-ready (c .before .loop .inv) (c .loop-test .taken))
+
+part-put-counted-start : tie.Need-part-put-counted-start Inv-loop μ-loop
+part-put-counted-start c = within-buffer (part-ready (c .before .loop .inv) (c .loop-test .taken))
+
+part-put-counted-end : tie.Need-part-put-counted-end Inv-loop μ-loop
+part-put-counted-end c = search needs
+
+slice-aggregate-put-counted : tie.Need-slice-aggregate-put-counted Inv-loop μ-loop
+slice-aggregate-put-counted c = search needs
+
+mul-put-counted : tie.Need-mul-put-counted Inv-loop μ-loop
+mul-put-counted c = search needs
+
+shared-slice-read-put-counted : tie.Need-shared-slice-read-put-counted Inv-loop μ-loop
+shared-slice-read-put-counted c = search needs
+
+put-counted-requires : tie.Need-put-counted-requires Inv-loop μ-loop
+put-counted-requires c κs =
+    let turn = c .before .before .before in
+    room-behind (part-ready (turn .before .loop .inv) (turn .loop-test .taken))
+
+add-at : tie.Need-add-at Inv-loop μ-loop
+add-at c =
+    let turn = c .before .before .before .before .before .before in
+    omega (arith, part-within (turn .before .loop .inv) (turn .loop-test .taken) (c .before .before .put-counted .ensures))
+
+add-i : tie.Need-add-i Inv-loop μ-loop
+add-i c = omega arith
+
+loop-less : tie.Need-loop-less Inv-loop μ-loop
+loop-less c = omega arith
+
+loop-again : tie.Need-loop-again Inv-loop μ-loop
+loop-again c =
+    let turn = c .before .before .before .before .before .before in
+    part-written (turn .before .loop .inv) (turn .loop-test .taken) (c .before .before .put-counted .ensures)
+
+same-length : tie.Need-same-length Inv-loop μ-loop
+same-length c = c .before .loop .inv .same-length
+
+returns : tie.Need-returns Inv-loop μ-loop
+returns c =
+    let written = listing-ends (c .before .loop .inv) (c .loop-test .left) in
+    (written, omega (arith, written .counted, room (c .before .before)))
+
+pub put-numbers-spec : {M : Type 1} → statement M
+put-numbers-spec =
+    tie.close
+    (tie.spec
+    Inv-loop
+    μ-loop
+    loop-holds
+    sub-put-counted
+    part-put-counted-start
+    part-put-counted-end
+    slice-aggregate-put-counted
+    mul-put-counted
+    shared-slice-read-put-counted
+    put-counted-requires
+    add-at
+    add-i
+    loop-less
+    loop-again
+    same-length
+    returns)

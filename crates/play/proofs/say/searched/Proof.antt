@@ -1,0 +1,34 @@
+-- `say::searched`: the count of what was put is within the buffer that holds it.
+use borrow.Author.Needs.{needs}
+use Rattle.porvuund.specs.Front.{count-within, front-counted}
+use Rattle.play.proofs.say.searched.Statement.{statement}
+use Rattle.play.proofs.say.searched.Tie as tie
+
+slice-aggregate-put-searched : tie.Need-slice-aggregate-put-searched
+slice-aggregate-put-searched c = search needs
+
+put-searched-requires : tie.Need-put-searched-requires
+put-searched-requires c κs = search needs
+
+array-share-prefix-out : tie.Need-array-share-prefix-out
+array-share-prefix-out c = count-within (c .before .put-searched .ensures)
+
+slice-aggregate-write-all : tie.Need-slice-aggregate-write-all
+slice-aggregate-write-all c = front-counted (c .before .before .put-searched .ensures)
+
+write-all-requires : tie.Need-write-all-requires
+write-all-requires c κs = search needs
+
+returns : tie.Need-returns
+returns c = search needs
+
+pub searched-spec : {M : Type 1} → statement M
+searched-spec =
+    tie.close
+    (tie.spec
+    slice-aggregate-put-searched
+    put-searched-requires
+    array-share-prefix-out
+    slice-aggregate-write-all
+    write-all-requires
+    returns)
