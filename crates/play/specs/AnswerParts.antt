@@ -9,8 +9,8 @@ use lib.ListN.{length, getD, drop, length-append, length-drop}
 use lib.Seq.{take-all}
 use Rattle.spec.specs.Vocabulary.{joined, concat}
 use Rattle.spec.specs.Text.{Bytes, line-feed}
-use Rattle.spec.specs.Decimal.{decimal}
 use Rattle.spec.specs.Roles.{Standing, witnessed, searched, unsettled}
+use Rattle.spec.specs.Decimal.{decimal}
 use Rattle.bits.specs.Bit.{word-bits}
 use Rattle.lists.specs.JoinLaws.{concat-append}
 use Rattle.lists.specs.ListOfLaws.{list-of-places, map-list-of}

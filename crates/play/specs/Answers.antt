@@ -5,8 +5,8 @@ use mathlib.Core.Option.{Option, none, some}
 use mathlib.Core.List.{List, [], _∷_, _++_, map}
 use Rattle.spec.specs.Vocabulary.{joined}
 use Rattle.spec.specs.Text.{Bytes, ascii, line-feed}
-use Rattle.spec.specs.Decimal.{decimal}
 use Rattle.spec.specs.Roles.{Standing}
+use Rattle.spec.specs.Decimal.{decimal}
 use Rattle.spec.specs.Book.{standing-word}
 use Rattle.spec.specs.Calls.{LoadAnswer, SearchAnswer, WriteAnswer, CheckAnswer}
 use Rattle.io.specs.Digits.{digits}

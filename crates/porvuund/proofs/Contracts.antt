@@ -2,8 +2,8 @@
 -- is; the calls for a whole task and what the programs print are tied to the demands one by one.
 use mathlib.Core.Path.{_≡_, refl}
 use denote.Ref.{now}
-use Rattle.spec.specs.Sequence.{Call, load, search, write, Outcome}
 use Rattle.spec.specs.Calls.{search-answer}
+use Rattle.spec.specs.Sequence.{Call, load, search, write, Outcome}
 use Rattle.checker.specs.CodeCall.{CodeCall, Kept}
 use Rattle.checker.specs.CheckOwed.{CheckOwed, check-owed}
 use Rattle.session.specs.Said.{load-said, write-said}

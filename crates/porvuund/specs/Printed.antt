@@ -12,8 +12,8 @@ use Rattle.spec.specs.Limits.{book-limit}
 use Rattle.spec.specs.Text.{Bytes}
 use Rattle.spec.specs.Refusal.{refusal, accepted}
 use Rattle.spec.specs.Calls.{write-answer, CheckAnswer, check}
-use Rattle.spec.specs.Sequence.{WriteOutcome, brought-out}
 use Rattle.spec.specs.Program.{budget-of, program-buffer, number-line, printed, program-output}
+use Rattle.spec.specs.Sequence.{WriteOutcome, brought-out}
 use Rattle.spec.specs.Demands.{Believed}
 use Rattle.book.specs.Written.{Written}
 use Rattle.checker.specs.CheckOwed.{CheckOwed, check-owed}
