@@ -10,8 +10,9 @@ use Rattle.spec.specs.Book.{role-name}
 use Rattle.spec.specs.Form.{roles-form}
 use Rattle.spec.specs.Calls.{CheckAnswer, check}
 
--- the four blocks of a book for the worked example's sheet
+-- the four blocks of a book for the worked example's sheet, the first as two lines
 record Parts : Type 0 where
+  heading : String
   counts : String
   roles : String
   users : String
@@ -24,7 +25,7 @@ checked : Parts → CheckAnswer
 unfolding worked check
 checked parts =
     check worked
-    (ascii "roles,bound,state\n" ++ ascii (parts .counts) ++ ascii "\n\n" ++ ascii (parts .roles) ++ ascii "\n\n"
+    (ascii (parts .heading) ++ ascii "\n" ++ ascii (parts .counts) ++ ascii "\n\n" ++ ascii (parts .roles) ++ ascii "\n\n"
     ++ ascii (parts .users) ++ ascii "\n\n" ++ ascii (parts .witness))
 
 -- the book that the program writes, and others with another block in its place
@@ -42,15 +43,18 @@ one = "user,permission\nbo,map\n"
 
 with-counts : String → String → Parts
 unfolding roles users
-with-counts counts witness = record { counts = counts; roles = roles; users = users; witness = witness }
+with-counts counts witness =
+    record { heading = "roles,bound,state"; counts = counts; roles = roles; users = users; witness = witness }
 
 with-roles : String → Parts
 unfolding users two
-with-roles roles = record { counts = "2,2,witnessed"; roles = roles; users = users; witness = two }
+with-roles roles =
+    record { heading = "roles,bound,state"; counts = "2,2,witnessed"; roles = roles; users = users; witness = two }
 
 with-users : String → Parts
 unfolding roles two
-with-users users = record { counts = "2,2,witnessed"; roles = roles; users = users; witness = two }
+with-users users =
+    record { heading = "roles,bound,state"; counts = "2,2,witnessed"; roles = roles; users = users; witness = two }
 
 with-witness : String → Parts
 unfolding with-counts
@@ -69,6 +73,15 @@ good : map checked
     ∷ record { number = 0; roles = 2; witness-lines = 1 } ∷ record { number = 0; roles = 2; witness-lines = 1 } ∷ []
 unfolding checked with-counts with-witness two one some-below every-below lowest-below
 good = refl
+
+with-heading : String → Parts
+unfolding roles users two
+with-heading heading = record { heading = heading; counts = "2,2,witnessed"; roles = roles; users = users; witness = two }
+
+-- block 1: another heading
+heading-off : numbers (with-heading "roles,bound,state" ∷ with-heading "role,bound,state" ∷ with-heading "roles,bound" ∷ []) ≡ 0 ∷ 12 ∷ 12 ∷ []
+unfolding numbers with-heading some-below every-below lowest-below
+heading-off = refl
 
 -- block 1: a leading zero in either count, no state word, a field too few and one too many, a line more
 counts-off : numbers
