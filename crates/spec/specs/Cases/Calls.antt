@@ -1,6 +1,6 @@
 -- Calls one after the other, the lent buffer, the book program and the sequence, computed from the definitions.
 use mathlib.Core.Path.{refl}
-use Rattle.spec.specs.Vocabulary.{ℕ, _≡_, Option, some, List, [], _∷_, _++_, map, replicate, lowest-below}
+use Rattle.spec.specs.Vocabulary.{ℕ, _≡_, Option, some, List, [], _∷_, _++_, map, take, replicate, lowest-below}
 use Rattle.spec.specs.Limits.{budget-limit, book-limit}
 use Rattle.spec.specs.Text.{Bytes, ascii}
 use Rattle.spec.specs.Sheet.{sheet-of}
@@ -89,6 +89,12 @@ first-of-two : program-output improves []
 unfolding improves program-output printed program-buffer book-limit write-answer write-causes buffer-after budget-of is-budget budget-limit after-load
     after-search searched-on session-book refusal sheet-of kernel-of start-of search book decimal lowest-below
 first-of-two = refl
+
+-- the budget is searched: 45 steps close the search
+searches : take 31 (program-output improves (ascii "45" ∷ [])) ≡ ascii "roles,bound,state\n5,5,searched\n"
+unfolding improves program-output printed program-buffer book-limit write-answer write-causes buffer-after budget-of is-budget budget-limit after-load
+    after-search searched-on session-book refusal sheet-of kernel-of start-of search book decimal lowest-below
+searches = refl
 
 -- a refused sheet prints its number and a line feed
 refused : program-output [] [] ≡ ascii "2\n"
