@@ -12,6 +12,7 @@ mod limits;
 mod line;
 mod line_cells;
 mod lookup;
+mod name_places;
 mod names;
 mod numbers;
 mod places;

@@ -12,8 +12,8 @@ use Rattle.bits.specs.Truth.{not-fails}
 use Rattle.sheet.specs.FieldLaws.{FieldStep}
 use Rattle.sheet.specs.FieldsLeft.{field-next, field-below}
 use Rattle.sheet.specs.PermissionPlacesLaws.{FieldsNoted, noting-fields-starts, noting-fields-goes-on, noting-fields-ends}
-use Rattle.sheet.proofs.places.permission_places.Statement.{statement}
-use Rattle.sheet.proofs.places.permission_places.Tie as tie
+use Rattle.sheet.proofs.name_places.permission_places.Statement.{statement}
+use Rattle.sheet.proofs.name_places.permission_places.Tie as tie
 
 abbrev Inv-loop : tie.InvT-loop
 Inv-loop s places₀ n₀ last₀ next₀ places n last next = FieldsNoted user-limit s places n last (next .at)

@@ -5,8 +5,8 @@ use native.Mathlib.Numerals.{add-one}
 use lib.ListN.{length}
 use Rattle.spec.specs.Limits.{user-limit}
 use Rattle.sheet.specs.UserPlacesLaws.{Noting, noting-starts, noting-below, noting-goes-on, noting-ends}
-use Rattle.sheet.proofs.places.user_places.Statement.{statement}
-use Rattle.sheet.proofs.places.user_places.Tie as tie
+use Rattle.sheet.proofs.name_places.user_places.Statement.{statement}
+use Rattle.sheet.proofs.name_places.user_places.Tie as tie
 
 abbrev Inv-loop : tie.InvT-loop
 Inv-loop s at places₀ n₀ from₀ places n from = Noting user-limit s at places n from
