@@ -2,16 +2,6 @@
 -- says of a whole word; the other modules have the laws, one subject each.
 pub mod Counting
 pub mod Truth
-pub mod StepLaws
-pub mod BelowLaws
-pub mod LowestLaws
-pub mod CutLaws
-pub mod CountLaws
-pub mod CountJoinLaws
-pub mod SumLaws
-pub mod BlockLaws
 pub mod Bit
-pub mod BitLaws
 pub mod Word
-pub mod WordLaws
-pub mod Computed
+pub mod Laws

@@ -13,15 +13,15 @@ use Rattle.spec.specs.RoleSet.{RoleSet}
 use Rattle.spec.specs.Roles.{Standing, roles-of, role-count, standing, bound}
 use Rattle.spec.specs.Book.{role-name, Block, text-of-blocks, counts-block, roles-block, users-block, witness-block, blocks-saying, book-text, said-in, book}
 use Rattle.lists.specs.ListOfLaws.{list-of-same}
-use Rattle.sheet.specs.Rows.{row-bits}
-use Rattle.grants.specs.CellSets.{cell-grants}
-use Rattle.roles.specs.RoleRows.{RoleRows}
+use Rattle.cells.specs.Rows.{row-bits}
+use Rattle.cells.specs.CellSets.{cell-grants}
+use Rattle.roles.specs.Laws.RoleRows.{RoleRows}
 use Rattle.roles.specs.RolesShown.{RolesAt}
 use Rattle.roles.specs.StandingCases.{standing-case}
-use Rattle.book.specs.CountsText.{counts-text}
-use Rattle.book.specs.RowsSaid.{said-by, shown-roles, shown-users}
-use Rattle.book.specs.LineLaws.{line-end, four-blocks}
-use Rattle.book.specs.declared.counts.Counts.{Counts}
+use Rattle.blocks.specs.CountsText.{counts-text}
+use Rattle.blocks.specs.RowsSaid.{said-by, shown-roles, shown-users}
+use Rattle.text.specs.LineLaws.{line-end, four-blocks}
+use Rattle.blocks.specs.declared.counts.Counts.{Counts}
 
 -- the book of a sheet's bytes
 abbrev pub rows-book : Bytes → List ℕ → List ℕ → List ℕ → Counts → Bytes

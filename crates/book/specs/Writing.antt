@@ -9,7 +9,7 @@ use lib.Dec.{ltb}
 use lib.ListN.{length, drop, length-append}
 use Rattle.spec.specs.Text.{Bytes}
 use Rattle.spec.specs.Calls.{WriteAnswer, write-refused}
-use Rattle.book.specs.Written.{Written}
+use Rattle.text.specs.Written.{Written}
 use Rattle.book.specs.declared.writing.Writing.{Writing as WritingValue}
 use Rattle.book.specs.declared.writing.Writing.the-variants as writing
 

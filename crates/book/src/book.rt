@@ -1,27 +1,27 @@
 // The whole book: four blocks, one empty line between each two. Each block is written where the one before ended, plus that empty line.
-use crate::counts::Counts;
-use crate::counts::counts_length;
-use crate::counts::put_counts;
-use crate::put::put_empty_line;
-use crate::role_block::put_roles;
-use crate::role_block::roles_length;
-use crate::user_block::put_users;
-use crate::user_block::users_length;
-use crate::witness_block::put_witness;
-use crate::witness_block::witness_length;
+use blocks::Counts;
+use blocks::counts_length;
+use blocks::put_counts;
+use blocks::put_roles;
+use blocks::put_users;
+use blocks::put_witness;
+use blocks::roles_length;
+use blocks::users_length;
+use blocks::witness_length;
+use names::Layout;
+use numbers::CELL_WORDS;
 use roles::ROLE_WORDS;
-use sheet::CELL_WORDS;
-use sheet::Layout;
+use text::put_empty_line;
 ghost use mathlib.Core.Path.{_≡_};
 ghost use mathlib.Core.List.{List};
 ghost use Prim.Native.Nat.{ℕ, _≤_};
 ghost use lib.ListN.{length};
 ghost use Rattle.spec.specs.Sheet.{sheet-of};
-ghost use Rattle.sheet.specs.Rows.{row-bits};
-ghost use Rattle.sheet.specs.LaidOut.{LaidOut};
-ghost use Rattle.book.specs.RowsSaid.{GrantCells};
+ghost use Rattle.cells.specs.Rows.{row-bits};
+ghost use Rattle.names.specs.LaidOut.{LaidOut};
+ghost use Rattle.blocks.specs.RowsSaid.{GrantCells};
 ghost use Rattle.book.specs.BookRows.{rows-book};
-ghost use Rattle.book.specs.Written.{Written};
+ghost use Rattle.text.specs.Written.{Written};
 
 // How long the book is.
 pub fn book_length<'a>(

@@ -1,15 +1,15 @@
 // A book into a buffer that may be too short for it.
 use crate::book::book_length;
 use crate::book::write_book;
-use crate::counts::Counts;
+use blocks::Counts;
+use names::Layout;
+use numbers::CELL_WORDS;
 use roles::ROLE_WORDS;
-use sheet::CELL_WORDS;
-use sheet::Layout;
 ghost use Prim.Native.Nat.{_≤_};
 ghost use Rattle.spec.specs.Sheet.{sheet-of};
-ghost use Rattle.sheet.specs.Rows.{row-bits};
-ghost use Rattle.sheet.specs.LaidOut.{LaidOut};
-ghost use Rattle.book.specs.RowsSaid.{GrantCells};
+ghost use Rattle.cells.specs.Rows.{row-bits};
+ghost use Rattle.names.specs.LaidOut.{LaidOut};
+ghost use Rattle.blocks.specs.RowsSaid.{GrantCells};
 ghost use Rattle.book.specs.BookRows.{rows-book};
 ghost use Rattle.book.specs.Writing.{writing-said, Writes};
 

@@ -1,8 +1,8 @@
 -- Demands 1 and 2 from the checker's contract as the source has it: what `check` requires and ensures, by the reading that is made of its clauses, is what the
 -- demands ask of a check.
 use denote.Ref.{now}
-use Rattle.checker.specs.CodeCall.{CodeCall, Kept}
-use Rattle.checker.specs.CheckOwed.{CheckOwed, check-owed}
+use Rattle.checker.specs.Laws.CodeCall.{CodeCall, Kept}
+use Rattle.right.specs.CheckOwed.{CheckOwed, check-owed}
 use Rattle.checker.specs.BookSays.{answer-of}
 use Rattle.checker.proofs.checking.check.Kinds as check-kinds
 use Rattle.checker.proofs.checking.check.Reads as check-reads

@@ -10,21 +10,21 @@ use Rattle.spec.specs.Text.{ascii, Bytes}
 use Rattle.spec.specs.Sheet.{Sheet}
 use Rattle.spec.specs.Decimal.{decimal, number-of}
 use Rattle.spec.specs.Book.{Said, book-text}
-use Rattle.sheet.specs.Rows.{cell}
+use Rattle.cells.specs.Rows.{cell}
 use Rattle.roles.specs.StandingCases.{standing-case}
-use Rattle.book.specs.CountLaws.{decimal-is-count, count-is-decimal}
-use Rattle.book.specs.RowsSaid.{roles-in}
-use Rattle.checker.specs.declared.counts_block.Counts.{Counts}
-use Rattle.checker.specs.declared.witness_block.Witness.{Witness}
-use Rattle.checker.specs.WrittenLines.{Sayable}
-use Rattle.checker.specs.Steps.{Reads}
-use Rattle.checker.specs.Pieces.{counts-part, roles-part, users-part, witness-texts, witness-part, book-in-parts}
-use Rattle.checker.specs.Capped.{count-cap}
-use Rattle.checker.specs.CountSteps.{CountsAt, NoCounts, counts-parts-aligned}
-use Rattle.checker.specs.RoleSteps.{RolesPart, NoRolesPart, roles-part-once}
-use Rattle.checker.specs.UserSteps.{NoUsersPart, users-parts-aligned}
-use Rattle.checker.specs.WitnessSteps.{WitnessPart, NoWitnessPart, lines-few}
-use Rattle.checker.specs.Judgement.{Unwritten, WrittenAs}
+use Rattle.decimal.specs.Laws.Count.{decimal-is-count, count-is-decimal}
+use Rattle.blocks.specs.RowsSaid.{roles-in}
+use Rattle.form.specs.declared.counts_block.Counts.{Counts}
+use Rattle.form.specs.declared.witness_block.Witness.{Witness}
+use Rattle.right.specs.WrittenLines.{Sayable}
+use Rattle.form.specs.Steps.{Reads}
+use Rattle.form.specs.Pieces.{counts-part, roles-part, users-part, witness-texts, witness-part, book-in-parts}
+use Rattle.decimal.specs.Capped.{count-cap}
+use Rattle.form.specs.CountSteps.{CountsAt, NoCounts, counts-parts-aligned}
+use Rattle.form.specs.RoleSteps.{RolesPart, NoRolesPart, roles-part-once}
+use Rattle.form.specs.UserSteps.{NoUsersPart, users-parts-aligned}
+use Rattle.form.specs.WitnessSteps.{WitnessPart, NoWitnessPart, lines-few}
+use Rattle.right.specs.Judgement.{Unwritten, WrittenAs}
 use Rattle.checker.specs.BookSays.{Says, BookSays}
 
 -- blocks 1 and 2 were read

@@ -17,20 +17,20 @@ use Rattle.spec.specs.Right.{BoundAgrees}
 use Rattle.spec.specs.Refusal.{bound-agrees, counts-agree, product-agrees, witness-agrees}
 use Rattle.spec.specs.Calls.{CheckAnswer, check-refused, check-counts}
 use Rattle.lists.specs.EachLaws.{Each}
-use Rattle.sheet.specs.Rows.{row-words, row-bits, cell, RowsOf}
-use Rattle.sheet.specs.AcceptedFacts.{Lawful}
+use Rattle.cells.specs.Rows.{row-words, row-bits, cell, RowsOf}
+use Rattle.rules.specs.AcceptedFacts.{Lawful}
 use Rattle.roles.specs.StandingCases.{standing-case}
-use Rattle.book.specs.RowsSaid.{roles-in}
-use Rattle.checker.specs.CheckParts.{counts-agree-elim}
-use Rattle.checker.specs.declared.counts_block.Counts.{Counts}
-use Rattle.checker.specs.declared.witness_block.Witness.{Witness}
+use Rattle.blocks.specs.RowsSaid.{roles-in}
+use Rattle.right.specs.CheckParts.{counts-agree-elim}
+use Rattle.form.specs.declared.counts_block.Counts.{Counts}
+use Rattle.form.specs.declared.witness_block.Witness.{Witness}
 use Rattle.checker.specs.declared.judgement.Checked.{Checked}
-use Rattle.checker.specs.Capped.{count-cap, capped, capped-test}
+use Rattle.decimal.specs.Capped.{count-cap, capped, capped-test}
 use Rattle.checker.specs.ProductWords.{row-agrees, rows-are-sheet}
-use Rattle.checker.specs.WitnessList.{Collects}
-use Rattle.checker.specs.WitnessLineSteps.{Known}
+use Rattle.form.specs.WitnessList.{Collects}
+use Rattle.form.specs.WitnessLineSteps.{Known}
 use Rattle.checker.specs.WitnessWords.{LinesWithin, lines-within, lines-stand, stands-by-words}
-use Rattle.checker.specs.Judgement.{judged-number, answered}
+use Rattle.right.specs.Judgement.{judged-number, answered}
 
 -- the answer that the code gives, as the definitions have it
 abbrev pub answer-of : Checked → CheckAnswer

@@ -13,14 +13,14 @@ use lib.ListN.{length, getD}
 use Rattle.spec.specs.Vocabulary.{some-below}
 use Rattle.bits.specs.Truth.{same-truth, and-intro, and-left, and-right}
 use Rattle.bits.specs.Counting.{Lowest}
-use Rattle.bits.specs.BelowLaws.{some-below-intro, some-below-elim, none-below-intro, some-below-ext, some-below-add}
-use Rattle.bits.specs.CutLaws.{some-below-apart}
+use Rattle.bits.specs.Laws.Below.{some-below-intro, some-below-elim, none-below-intro, some-below-ext, some-below-add}
+use Rattle.bits.specs.Laws.Cut.{some-below-apart}
 use Rattle.bits.specs.Bit.{bit, word-bits}
-use Rattle.bits.specs.BitLaws.{bit-of-zero, bit-and}
+use Rattle.bits.specs.Laws.Bit.{bit-of-zero, bit-and}
 use Rattle.bits.specs.Word.{LowestDropped}
-use Rattle.sheet.specs.Rows.{row-words, row-bits, cell}
-use Rattle.checker.specs.RoleLimit.{row-within}
-use Rattle.checker.specs.RowGrown.{in-word}
+use Rattle.cells.specs.Rows.{row-words, row-bits, cell}
+use Rattle.form.specs.Laws.RoleLimit.{row-within}
+use Rattle.form.specs.RowGrown.{in-word}
 use Rattle.checker.specs.ProductWords.{gives-bit, GivenWord}
 
 -- the roles of a user at the positions of word j, of which only those below a number count

@@ -13,13 +13,13 @@ use Rattle.spec.specs.Sheet.{Sheet, user-count, permission-count, holds}
 use Rattle.spec.specs.RoleSet.{RoleSet, product}
 use Rattle.spec.specs.Refusal.{product-agrees}
 use Rattle.bits.specs.Truth.{fails-unless, same-truth, and-intro}
-use Rattle.bits.specs.BelowLaws.{below-or-from, some-below-ext, none-below-intro, every-below-intro, every-below-elim, every-below-ext, every-below-add}
+use Rattle.bits.specs.Laws.Below.{below-or-from, some-below-ext, none-below-intro, every-below-intro, every-below-elim, every-below-ext, every-below-add}
 use Rattle.bits.specs.Bit.{bit, word-bits}
-use Rattle.bits.specs.BitLaws.{bit-ext}
-use Rattle.sheet.specs.Rows.{row-words, row-bits, cell, RowsOf}
-use Rattle.sheet.specs.AcceptedFacts.{Lawful}
-use Rattle.book.specs.RowsSaid.{roles-in}
-use Rattle.checker.specs.CheckParts.{same-cell, cell-same}
+use Rattle.bits.specs.Laws.Bit.{bit-ext}
+use Rattle.cells.specs.Rows.{row-words, row-bits, cell, RowsOf}
+use Rattle.rules.specs.AcceptedFacts.{Lawful}
+use Rattle.blocks.specs.RowsSaid.{roles-in}
+use Rattle.right.specs.CheckParts.{same-cell, cell-same}
 
 -- a cell of a row agrees with the product
 abbrev pub cell-agrees : List ℕ → RoleSet → ℕ → ℕ → Bool

@@ -13,16 +13,16 @@ use Rattle.spec.specs.Fit.{fits}
 use Rattle.spec.specs.Cover.{grant-at}
 use Rattle.spec.specs.Refusal.{witness-agrees}
 use Rattle.bits.specs.Truth.{same-truth, and-intro, and-left, and-right, not-passes, not-fails}
-use Rattle.bits.specs.BelowLaws.{none-below-intro, none-below-elim, every-below-intro, every-below-elim}
+use Rattle.bits.specs.Laws.Below.{none-below-intro, none-below-elim, every-below-intro, every-below-elim}
 use Rattle.lists.specs.TestLaws.{member-at, place-of}
 use Rattle.lists.specs.EachLaws.{Each}
-use Rattle.sheet.specs.Rows.{row-words, row-bits, cell, RowsOf}
-use Rattle.checker.specs.CheckParts.{witness-stands-elim, witness-stands-intro}
-use Rattle.checker.specs.declared.witness_block.WitnessLine.{WitnessLine}
-use Rattle.checker.specs.declared.witness_block.Witness.{Witness}
-use Rattle.checker.specs.RoleLimit.{row-within}
-use Rattle.checker.specs.WitnessList.{named-grant, no-line, Collects}
-use Rattle.checker.specs.WitnessLineSteps.{Known}
+use Rattle.cells.specs.Rows.{row-words, row-bits, cell, RowsOf}
+use Rattle.right.specs.CheckParts.{witness-stands-elim, witness-stands-intro}
+use Rattle.form.specs.declared.witness_block.WitnessLine.{WitnessLine}
+use Rattle.form.specs.declared.witness_block.Witness.{Witness}
+use Rattle.form.specs.Laws.RoleLimit.{row-within}
+use Rattle.form.specs.WitnessList.{named-grant, no-line, Collects}
+use Rattle.form.specs.WitnessLineSteps.{Known}
 
 -- a line by its number
 abbrev pub line-of : Witness → ℕ → WitnessLine

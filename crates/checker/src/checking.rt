@@ -1,26 +1,26 @@
 // The check of a book against a sheet.
-use crate::counts_block::Counts;
-use crate::counts_block::CountsRead;
-use crate::counts_block::read_counts;
-use crate::cursor::Step;
 use crate::judgement::Checked;
 use crate::judgement::judge_book;
 use crate::judgement::refused;
-use crate::limits::BOOK_LIMIT;
-use crate::limits::ROLE_WORDS;
-use crate::roles_block::RolesRead;
-use crate::roles_block::read_roles;
-use crate::users_block::read_users;
-use crate::witness_block::read_witness;
-use sheet::Layout;
+use form::Counts;
+use form::CountsRead;
+use form::RolesRead;
+use form::Step;
+use form::read_counts;
+use form::read_roles;
+use form::read_users;
+use form::read_witness;
+use names::Layout;
+use numbers::BOOK_LIMIT;
+use numbers::ROLE_WORDS;
 ghost use Prim.Native.Nat.{_*_, _≤_};
 ghost use lib.ListN.{length};
 ghost use Rattle.spec.specs.Limits.{book-limit, role-limit};
 ghost use Rattle.spec.specs.Sheet.{sheet-of};
 ghost use Rattle.spec.specs.Calls.{Checks};
-ghost use Rattle.sheet.specs.Rows.{row-words};
-ghost use Rattle.sheet.specs.RowsRead.{RowsRead};
-ghost use Rattle.sheet.specs.LaidOut.{LaidOut};
+ghost use Rattle.cells.specs.Rows.{row-words};
+ghost use Rattle.cells.specs.RowsRead.{RowsRead};
+ghost use Rattle.names.specs.LaidOut.{LaidOut};
 ghost use Rattle.checker.specs.BookSays.{answer-of};
 ghost use Rattle.checker.specs.BookRead.{FrontRead};
 
@@ -40,7 +40,7 @@ fn check_from_users<'a>(
     requires { ⌜ FrontRead (sheet-of (now sheet)) (now book) counts (now gives) roles at ⌝ }
     ensures { λ r. ⌜ Checks (now (sheet .entry)) (now (book .entry)) (answer-of r) ⌝ }
 {
-    let mut has = sheet::no_rows();
+    let mut has = cells::no_rows();
     let Step::On(last) = read_users(book, at, sheet, layout, &mut has, roles) else {
         return refused(12);
     };

@@ -1,9 +1,9 @@
 // The checker's answer: whether what was read of a book is right, and its counts.
 use crate::agree::counts_agree;
-use crate::counts_block::Counts;
 use crate::product::rows_agree;
-use crate::witness::witness_stands;
-use crate::witness_block::Witness;
+use crate::witness_lines::witness_stands;
+use form::Counts;
+use form::Witness;
 ghost use mathlib.Core.Path.{_≡_};
 ghost use mathlib.Core.Bool.{So};
 ghost use Prim.Native.Nat.{_*_, _≤_};
@@ -11,8 +11,8 @@ ghost use lib.ListN.{length};
 ghost use Rattle.spec.specs.Sheet.{sheet-of, user-count};
 ghost use Rattle.spec.specs.Refusal.{accepted};
 ghost use Rattle.spec.specs.Calls.{check-refused};
-ghost use Rattle.sheet.specs.Rows.{row-words};
-ghost use Rattle.sheet.specs.RowsRead.{RowsRead};
+ghost use Rattle.cells.specs.Rows.{row-words};
+ghost use Rattle.cells.specs.RowsRead.{RowsRead};
 ghost use Rattle.checker.specs.BookSays.{BookSays, answer-of, JudgedAs};
 
 // The answer: document 01's number, 0 where none applies, with the roles and the witness lines; a number above 0 comes with counts 0.

@@ -1,15 +1,15 @@
 // Whether the product of the two matrices is the sheet.
-use crate::cells::cells_in_word;
 use bits::WORD_BITS;
-use sheet::ROW_WORDS;
+use form::cells_in_word;
+use numbers::ROW_WORDS;
 ghost use mathlib.Core.Path.{_≡_};
 ghost use mathlib.Core.Bool.{_||_};
 ghost use Prim.Native.Nat.{ℕ, _+_, _*_, _≤_, _<_};
 ghost use lib.ListN.{length};
 ghost use Rattle.spec.specs.Vocabulary.{every-below};
 ghost use Rattle.bits.specs.Bit.{bit};
-ghost use Rattle.sheet.specs.Rows.{row-words, row-bits};
-ghost use Rattle.book.specs.RowsSaid.{roles-in};
+ghost use Rattle.cells.specs.Rows.{row-words, row-bits};
+ghost use Rattle.blocks.specs.RowsSaid.{roles-in};
 ghost use Rattle.checker.specs.ProductWords.{GivenWord, row-agrees};
 ghost use Rattle.checker.specs.GivenRoles.{RolesWord, GivenWithin, some-given};
 

@@ -11,8 +11,8 @@ use lib.Dec.{eqb}
 use lib.ListN.{length}
 use Rattle.bits.specs.Truth.{or-fails}
 use Rattle.bits.specs.Counting.{count-below}
-use Rattle.bits.specs.CountLaws.{count-below-le}
-use Rattle.bits.specs.CountJoinLaws.{count-below-with}
+use Rattle.bits.specs.Laws.Count.{count-below-le}
+use Rattle.bits.specs.Laws.CountJoin.{count-below-with}
 use Rattle.lists.specs.Ordered.{Ordered, ordered-append}
 
 module _ {A : Type 0} where

@@ -12,7 +12,7 @@ use native.Mathlib.Omega.{arith}
 use lib.ListN.{length}
 use Rattle.spec.specs.Vocabulary.{lowest-below}
 use Rattle.spec.specs.Cover.{used, joins, grouping}
-use Rattle.bits.specs.LowestLaws.{lowest-below-cases, lowest-below-intro, lowest-below-none-intro}
+use Rattle.bits.specs.Laws.Lowest.{lowest-below-cases, lowest-below-intro, lowest-below-none-intro}
 use Rattle.lists.specs.Classing.{Valid, Grown}
 use Rattle.lists.specs.PlacementLaws.{class-below-used, joins-intro}
 

@@ -15,10 +15,10 @@ use Rattle.spec.specs.Vocabulary.{some-below}
 use Rattle.spec.specs.Cover.{used, joins, grouping}
 use Rattle.bits.specs.Truth.{passes-or-fails, not-both, fails-unless, or-right}
 use Rattle.bits.specs.Counting.{count-below, Lowest}
-use Rattle.bits.specs.BelowLaws.{last-or-below, below-or-from, some-below-intro, some-below-elim, none-below-intro}
-use Rattle.bits.specs.LowestLaws.{lowest-below-intro}
-use Rattle.bits.specs.CountLaws.{count-below-le, count-below-ext, count-below-none-intro, count-below-all-intro}
-use Rattle.bits.specs.CountJoinLaws.{count-below-with}
+use Rattle.bits.specs.Laws.Below.{last-or-below, below-or-from, some-below-intro, some-below-elim, none-below-intro}
+use Rattle.bits.specs.Laws.Lowest.{lowest-below-intro}
+use Rattle.bits.specs.Laws.Count.{count-below-le, count-below-ext, count-below-none-intro, count-below-all-intro}
+use Rattle.bits.specs.Laws.CountJoin.{count-below-with}
 use Rattle.lists.specs.Classing.{class-in, Valid, Grown}
 use Rattle.lists.specs.PlacementLaws.{class-in-latest, class-in-earlier, class-below-used, joins-intro, joins-elim, valid-elim, grown-member}
 use Rattle.lists.specs.GroupingLaws.{class-taken, grouping-length, grouping-grown, grouping-valid}

@@ -8,8 +8,8 @@ use borrow.Author.Tests.{eqb-true, eq-eqb}
 use lib.Dec.{eqb}
 use Rattle.spec.specs.Cover.{used, joins}
 use Rattle.bits.specs.Truth.{not-both, fails-unless}
-use Rattle.bits.specs.BelowLaws.{some-below-intro}
-use Rattle.bits.specs.LowestLaws.{lowest-below-none-intro}
+use Rattle.bits.specs.Laws.Below.{some-below-intro}
+use Rattle.bits.specs.Laws.Lowest.{lowest-below-none-intro}
 use Rattle.lists.specs.Classing.{class-in}
 use Rattle.lists.specs.PlacementLaws.{class-in-latest, class-in-earlier, joins-elim, grown-member}
 use Rattle.lists.specs.GroupingLaws.{class-taken, grouping-length, grouping-grown}

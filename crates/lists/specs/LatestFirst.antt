@@ -9,7 +9,7 @@ use native.Mathlib.Nat.{le-refl, le-of-lt, not-suc-le-zero}
 use native.Mathlib.Omega.{arith}
 use lib.ListN.{length, getD, set}
 use lib.Seq.{getD-set-same, getD-set-other}
-use Rattle.bits.specs.BelowLaws.{last-or-below}
+use Rattle.bits.specs.Laws.Below.{last-or-below}
 use Rattle.lists.specs.Classing.{class-in}
 use Rattle.lists.specs.PlacementLaws.{class-in-latest, class-in-earlier}
 

@@ -14,7 +14,7 @@ use lib.ListN.{length, length-append}
 use Rattle.spec.specs.Vocabulary.{every-below, all, keep, filter, first}
 use Rattle.bits.specs.Truth.{implies, not-both, and-left, and-right}
 use Rattle.bits.specs.Counting.{one-if, count-below, Lowest}
-use Rattle.bits.specs.BelowLaws.{last-or-below}
+use Rattle.bits.specs.Laws.Below.{last-or-below}
 use Rattle.lists.specs.AppendLaws.{map-append, filter-append, all-append, first-append}
 use Rattle.lists.specs.Ordered.{Ordered, ordered-append}
 

@@ -14,7 +14,7 @@ use lib.Dec.{eqb}
 use lib.ListN.{length, length-append}
 use Rattle.spec.specs.Cover.{used, joins}
 use Rattle.bits.specs.Truth.{passes-or-fails, and-intro, and-left, and-right, implies-intro, implies-elim}
-use Rattle.bits.specs.BelowLaws.{last-or-below}
+use Rattle.bits.specs.Laws.Below.{last-or-below}
 use Rattle.lists.specs.Classing.{class-in, Valid, Grown, Classing}
 
 -- ---- the class of a number

@@ -7,7 +7,7 @@ use mathlib.Core.List.{List, [], _∷_}
 use native.Mathlib.Nat.{le-step, lt-suc-self}
 use lib.ListN.{length}
 use Rattle.spec.specs.Cover.{used, joins, grouping}
-use Rattle.bits.specs.LowestLaws.{lowest-below-ext}
+use Rattle.bits.specs.Laws.Lowest.{lowest-below-ext}
 use Rattle.lists.specs.GroupingLaws.{grouping-length}
 
 pub joins-ext : (together also : ℕ → ℕ → Bool) (d : ℕ) (earlier : List ℕ) (c : ℕ)

@@ -17,7 +17,7 @@ use Rattle.lists.specs.TestLaws.{filter-member, filter-kept}
 use Rattle.lists.specs.Ordered.{Ordered}
 use Rattle.lists.specs.FilterLength.{filter-shorter}
 use Rattle.lists.specs.LeastLaws.{least-member}
-use Rattle.sheet.specs.GrantLaws.{same-grant-refl, same-grant-equal}
+use Rattle.cells.specs.Laws.Grant.{same-grant-refl, same-grant-equal}
 use Rattle.minimality.specs.Removals.{Unfit}
 
 -- the grant that is taken from a list that is not empty

@@ -14,15 +14,15 @@ use Rattle.spec.specs.Cover.{used, grant-at}
 use Rattle.spec.specs.RoleSet.{product, Multiplies}
 use Rattle.spec.specs.Roles.{Classed, class-of, class-at, role-numbers, roles-of-classes}
 use Rattle.bits.specs.Truth.{same-truth}
-use Rattle.bits.specs.BelowLaws.{some-below-intro}
+use Rattle.bits.specs.Laws.Below.{some-below-intro}
 use Rattle.lists.specs.Classing.{class-in}
 use Rattle.lists.specs.PlacementLaws.{class-below-used}
 use Rattle.lists.specs.GroupingLaws.{grouping-length}
 use Rattle.lists.specs.KeyLaws.{KeyedBy, has-key, grouping-keyed, grouping-used-le, grouping-used-all}
-use Rattle.sheet.specs.GrantLaws.{held-grant}
-use Rattle.grants.specs.FitLaws.{fits-first}
-use Rattle.grants.specs.NumberLaws.{grant-at-member, member-number}
-use Rattle.roles.specs.RoleLaws.{product-elim, product-intro}
+use Rattle.cells.specs.Laws.Grant.{held-grant}
+use Rattle.fit.specs.Laws.Fit.{fits-first}
+use Rattle.cells.specs.Laws.Number.{grant-at-member, member-number}
+use Rattle.roles.specs.Laws.Role.{product-elim, product-intro}
 use Rattle.minimality.specs.GrantClassing.{ClassingOf}
 
 -- ---- one role is one class

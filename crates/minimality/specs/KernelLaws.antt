@@ -12,11 +12,11 @@ use Rattle.lists.specs.TestLaws.{filter-member, filter-kept}
 use Rattle.lists.specs.Ordered.{Ordered, ordered-filter}
 use Rattle.lists.specs.OrderedUnique.{ordered-unique}
 use Rattle.lists.specs.Distinct.{Distinct}
-use Rattle.sheet.specs.GrantLaws.{grant-held}
-use Rattle.sheet.specs.GrantOrderLaws.{Before, grants-ordered}
-use Rattle.grants.specs.AmongLaws.{among-member, member-among}
-use Rattle.grants.specs.FitLaws.{Held}
-use Rattle.grants.specs.NumberLaws.{Different, ordered-different}
+use Rattle.cells.specs.Laws.Grant.{grant-held}
+use Rattle.cells.specs.Laws.GrantOrder.{Before, grants-ordered}
+use Rattle.fit.specs.Laws.Among.{among-member, member-among}
+use Rattle.fit.specs.Laws.Fit.{Held}
+use Rattle.cells.specs.Laws.Number.{Different, ordered-different}
 use Rattle.minimality.specs.Removals.{remaining-ordered, remaining-distinct, remaining-granted, reduction-reached}
 
 pub kernel-granted : (sheet : Sheet) {g : Grant} → List·Memᴰ g (kernel sheet) → List·Memᴰ g (grants sheet)

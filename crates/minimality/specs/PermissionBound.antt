@@ -14,13 +14,13 @@ use Rattle.spec.specs.Sheet.{Sheet, Grant, permission-count, grants}
 use Rattle.spec.specs.Reduction.{kernel, singles}
 use Rattle.spec.specs.Cover.{used, grouping, grant-at, permission-at, first-best}
 use Rattle.bits.specs.Truth.{not-both}
-use Rattle.bits.specs.BelowLaws.{none-below-intro}
+use Rattle.bits.specs.Laws.Below.{none-below-intro}
 use Rattle.lists.specs.Distinct.{Distinct, ordered-distinct, ordered-either, map-distinct, distinct-outside}
 use Rattle.lists.specs.KeyLaws.{has-key, grouping-counts-keys}
-use Rattle.sheet.specs.GrantLaws.{grant-held}
-use Rattle.grants.specs.FitLaws.{one-permission-fits}
-use Rattle.grants.specs.NumberLaws.{grant-at-member}
-use Rattle.grants.specs.CoverLaws.{best-le-by-permission}
+use Rattle.cells.specs.Laws.Grant.{grant-held}
+use Rattle.fit.specs.Laws.Fit.{one-permission-fits}
+use Rattle.cells.specs.Laws.Number.{grant-at-member}
+use Rattle.cover.specs.Laws.Cover.{best-le-by-permission}
 use Rattle.minimality.specs.GrantClassing.{Even}
 use Rattle.minimality.specs.RoleSets.{even-permission-below}
 use Rattle.minimality.specs.Removals.{Unfit}

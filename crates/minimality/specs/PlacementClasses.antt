@@ -11,12 +11,12 @@ use Rattle.spec.specs.Sheet.{Sheet, Grant}
 use Rattle.spec.specs.Fit.{fits}
 use Rattle.spec.specs.Cover.{used, grant-at, fit-at}
 use Rattle.spec.specs.Roles.{paired, class-of}
-use Rattle.bits.specs.BelowLaws.{below-or-from}
+use Rattle.bits.specs.Laws.Below.{below-or-from}
 use Rattle.lists.specs.Classing.{class-in, Valid, Grown, Classing}
 use Rattle.lists.specs.PlacementLaws.{class-below-used, valid-elim, grown-member}
-use Rattle.grants.specs.FitLaws.{Held, fits-symmetric, fits-itself}
-use Rattle.grants.specs.NumberLaws.{grant-at-member, Numbered, member-number, Different}
-use Rattle.roles.specs.PairedLaws.{paired-class}
+use Rattle.fit.specs.Laws.Fit.{Held, fits-symmetric, fits-itself}
+use Rattle.cells.specs.Laws.Number.{grant-at-member, Numbered, member-number, Different}
+use Rattle.roles.specs.Laws.Paired.{paired-class}
 use Rattle.minimality.specs.GrantClassing.{ClassingOf}
 use Rattle.minimality.specs.ClassRoles.{InClass}
 

@@ -14,11 +14,11 @@ use Rattle.spec.specs.Reduction.{Removal, single, tied, Reduction, reduction, k
 use Rattle.spec.specs.Cover.{used}
 use Rattle.spec.specs.Roles.{Classed, Classes, paired, class-of, put-back, put-all-back, kernel-classes, classes-of}
 use Rattle.bits.specs.Truth.{fails-unless}
-use Rattle.bits.specs.BelowLaws.{last-or-below}
+use Rattle.bits.specs.Laws.Below.{last-or-below}
 use Rattle.lists.specs.Distinct.{Distinct, reverse-member, reverse-only, reverse-distinct}
-use Rattle.sheet.specs.GrantLaws.{same-grant-refl, same-grant-equal, grant-held}
-use Rattle.grants.specs.FitLaws.{Held, fits-symmetric, fits-itself}
-use Rattle.grants.specs.WithoutLaws.{without-member, without-differs, without-cases}
+use Rattle.cells.specs.Laws.Grant.{same-grant-refl, same-grant-equal, grant-held}
+use Rattle.fit.specs.Laws.Fit.{Held, fits-symmetric, fits-itself}
+use Rattle.reduction.specs.Laws.Without.{without-member, without-differs, without-cases}
 use Rattle.minimality.specs.GrantClassing.{ClassingOf}
 use Rattle.minimality.specs.KernelLaws.{kernel-distinct}
 use Rattle.minimality.specs.ClassRoles.{InClass}

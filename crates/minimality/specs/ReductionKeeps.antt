@@ -13,7 +13,7 @@ use Rattle.spec.specs.Sheet.{Sheet, Grant, grants}
 use Rattle.spec.specs.Fit.{without}
 use Rattle.spec.specs.Reduction.{Reduction, kernel, singles-of, singles}
 use Rattle.bits.specs.Truth.{passes-or-fails, not-both}
-use Rattle.grants.specs.WithoutLaws.{without-member}
+use Rattle.reduction.specs.Laws.Without.{without-member}
 use Rattle.minimality.specs.GrantClassing.{ClassingOf}
 use Rattle.minimality.specs.Removals.{Alone, Reached, at-first, by-single, by-tie, reduction-reached}
 

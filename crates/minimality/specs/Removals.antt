@@ -17,9 +17,9 @@ use Rattle.bits.specs.Truth.{not-both, fails-unless, and-intro, and-left, and-r
 use Rattle.lists.specs.TestLaws.{Kept, all-elim, filter-member, first-passes}
 use Rattle.lists.specs.Ordered.{Ordered, ordered-filter}
 use Rattle.lists.specs.Distinct.{Distinct, ordered-distinct}
-use Rattle.sheet.specs.GrantLaws.{same-grant-refl, same-grant-equal}
-use Rattle.sheet.specs.GrantOrderLaws.{Before, before-differs, grants-ordered}
-use Rattle.grants.specs.WithoutLaws.{without-member, without-fails, without-keeps}
+use Rattle.cells.specs.Laws.Grant.{same-grant-refl, same-grant-equal}
+use Rattle.cells.specs.Laws.GrantOrder.{Before, before-differs, grants-ordered}
+use Rattle.reduction.specs.Laws.Without.{without-member, without-fails, without-keeps}
 
 -- two grants do not fit
 abbrev pub Unfit : Sheet → Grant → Grant → Type 0

@@ -16,13 +16,13 @@ use Rattle.spec.specs.Cover.{grant-at}
 use Rattle.spec.specs.RoleSet.{RoleSet, product, Multiplies}
 use Rattle.bits.specs.Truth.{not-both, and-intro, and-left, and-right}
 use Rattle.bits.specs.Counting.{Lowest}
-use Rattle.bits.specs.BelowLaws.{some-below-intro, below-or-from}
-use Rattle.bits.specs.LowestLaws.{lowest-below-found, lowest-below-intro}
-use Rattle.bits.specs.CountLaws.{count-below-all-intro}
-use Rattle.bits.specs.CountJoinLaws.{count-below-injects}
-use Rattle.sheet.specs.GrantLaws.{grant-held, held-user-below, held-permission-below}
-use Rattle.grants.specs.FitLaws.{Held, fits-intro}
-use Rattle.grants.specs.NumberLaws.{grant-at-member}
+use Rattle.bits.specs.Laws.Below.{some-below-intro, below-or-from}
+use Rattle.bits.specs.Laws.Lowest.{lowest-below-found, lowest-below-intro}
+use Rattle.bits.specs.Laws.Count.{count-below-all-intro}
+use Rattle.bits.specs.Laws.CountJoin.{count-below-injects}
+use Rattle.cells.specs.Laws.Grant.{grant-held, held-user-below, held-permission-below}
+use Rattle.fit.specs.Laws.Fit.{Held, fits-intro}
+use Rattle.cells.specs.Laws.Number.{grant-at-member}
 use Rattle.minimality.specs.GrantClassing.{Even, ClassingOf, Independent}
 
 -- ---- the cells of an even sheet

@@ -14,7 +14,7 @@ use Rattle.spec.specs.Sheet.{Sheet, Grant, same-grant, grants}
 use Rattle.spec.specs.Reduction.{Reduction, Verdict, stays, is-single, is-tied, verdict, carry-out, visit, visits, sweep, sweeps, reduction}
 use Rattle.lists.specs.FilterLength.{filter-shorter}
 use Rattle.lists.specs.Distinct.{Distinct}
-use Rattle.sheet.specs.GrantLaws.{same-grant-refl}
+use Rattle.cells.specs.Laws.Grant.{same-grant-refl}
 use Rattle.minimality.specs.Removals.{Reached, at-first, remaining-distinct, carry-out-leaves, sweep-reaches}
 
 -- a state is as it was, or fewer grants remain

@@ -12,9 +12,9 @@ use Rattle.spec.specs.Witness.{witness}
 use Rattle.spec.specs.Cover.{used, grant-at, first-best}
 use Rattle.spec.specs.RoleSet.{RoleSet, Multiplies}
 use Rattle.spec.specs.Roles.{classes-of, roles-of, kernel-of}
-use Rattle.grants.specs.CoverLaws.{best-grouping-length, best-grouping-grown, best-grouping-valid}
-use Rattle.search.specs.SoundState.{Whole}
-use Rattle.search.specs.Complete.{Smallest}
+use Rattle.cover.specs.Laws.Cover.{best-grouping-length, best-grouping-grown, best-grouping-valid}
+use Rattle.search.specs.Laws.SoundState.{Whole}
+use Rattle.search.specs.Laws.Complete.{Smallest}
 use Rattle.minimality.specs.GrantClassing.{Even}
 use Rattle.minimality.specs.RoleSets.{role-set-classes, independent-bounds-role-sets}
 use Rattle.minimality.specs.ClassRoles.{classes-multiply, role-count-is-class-count}

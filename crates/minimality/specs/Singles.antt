@@ -6,8 +6,8 @@ use mathlib.Core.List.{List·Memᴰ, List·Memᴰ·not-nil, List·Memᴰ·cases-
 use Rattle.spec.specs.Sheet.{Sheet, Grant, grants}
 use Rattle.spec.specs.Reduction.{Reduction, kernel, singles-of, singles}
 use Rattle.lists.specs.Ordered.{Ordered}
-use Rattle.grants.specs.FitLaws.{fits-symmetric}
-use Rattle.grants.specs.WithoutLaws.{without-member}
+use Rattle.fit.specs.Laws.Fit.{fits-symmetric}
+use Rattle.reduction.specs.Laws.Without.{without-member}
 use Rattle.minimality.specs.Removals.{Unfit, Reached, at-first, by-single, by-tie, remaining-granted, reduction-reached}
 
 -- which of two is named first does not matter

@@ -16,10 +16,10 @@ use Rattle.bits.specs.Truth.{not-both, or-left, or-right, or-cases}
 use Rattle.lists.specs.TestLaws.{filter-member, filter-kept, member-at}
 use Rattle.lists.specs.Ordered.{Ordered, ordered-places, ordered-append, ordered-filter}
 use Rattle.lists.specs.Distinct.{Distinct, ordered-distinct, ordered-either, distinct-within}
-use Rattle.sheet.specs.GrantLaws.{grant-held}
-use Rattle.sheet.specs.GrantOrderLaws.{Before, grants-ordered}
-use Rattle.grants.specs.AmongLaws.{among-member, member-among}
-use Rattle.grants.specs.FitLaws.{fits-itself}
+use Rattle.cells.specs.Laws.Grant.{grant-held}
+use Rattle.cells.specs.Laws.GrantOrder.{Before, grants-ordered}
+use Rattle.fit.specs.Laws.Among.{among-member, member-among}
+use Rattle.fit.specs.Laws.Fit.{fits-itself}
 use Rattle.minimality.specs.GrantClassing.{Independent}
 use Rattle.minimality.specs.Removals.{Unfit, grants-distinct}
 use Rattle.minimality.specs.KernelLaws.{kernel-granted}

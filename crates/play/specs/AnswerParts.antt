@@ -15,8 +15,8 @@ use Rattle.bits.specs.Bit.{word-bits}
 use Rattle.lists.specs.JoinLaws.{concat-append}
 use Rattle.lists.specs.ListOfLaws.{list-of-places, map-list-of}
 use Rattle.lists.specs.Listed.{listed, listed-length}
-use Rattle.book.specs.DigitLaws.{digits-of-word}
-use Rattle.book.specs.Written.{Written, WrittenSoFar, rest-from}
+use Rattle.decimal.specs.DigitLaws.{digits-of-word}
+use Rattle.text.specs.Written.{Written, WrittenSoFar, rest-from}
 use Rattle.play.specs.Answers.{blank, state-word, answer-line}
 
 -- a word behind a blank

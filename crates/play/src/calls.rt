@@ -2,10 +2,10 @@
 use crate::say;
 use crate::space::SPACE_LIMIT;
 use crate::space::patterned;
-use checker::BOOK_LIMIT;
+use numbers::BOOK_LIMIT;
+use numbers::SHEET_LIMIT;
 use porvuund::BudgetRead;
 use session::Session;
-use sheet::SHEET_LIMIT;
 ghost use Rattle.session.specs.CodeSession.{Sound};
 
 // One byte more than a sheet and a book have, by which longer ones are known.

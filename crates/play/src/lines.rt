@@ -13,7 +13,7 @@ ghost use Rattle.spec.specs.Text.{line-feed};
 ghost use Rattle.io.specs.Digits.{digits};
 ghost use Rattle.session.specs.Said.{load-said, state-said, search-said, write-said};
 ghost use Rattle.checker.specs.BookSays.{answer-of};
-ghost use Rattle.book.specs.Written.{Written};
+ghost use Rattle.text.specs.Written.{Written};
 ghost use Rattle.play.specs.Answers.{blank, load-line, state-word, search-line, digest-digits, answer-most, write-line, check-line, no-call-line};
 ghost use Rattle.play.specs.AnswerParts.{number-most, state-most, numbers-text, front-text};
 
@@ -32,7 +32,7 @@ fn put_numbers(out: &mut [u8], numbers: &[usize]) -> usize
     let mut at = 0;
     let mut i = 0;
     while i < numbers.len() {
-        at += book::put_counted(&mut out[at..], b" ", numbers[i]);
+        at += decimal::put_counted(&mut out[at..], b" ", numbers[i]);
         i += 1;
     }
     at
@@ -44,7 +44,7 @@ fn put_front<'a>(out: &mut [u8], word: &'a [u8], numbers: &'a [usize]) -> usize
     ensures { λ r. ⌜ Written (front-text (now (word .entry)) (now (numbers .entry))) (now (out .entry)) (now (out .exit)) r ⌝ }
     ensures { λ r. ⌜ r ≤ length (now (word .entry)) + length (now (numbers .entry)) * number-most ⌝ }
 {
-    let at = book::put_bytes(out, word);
+    let at = text::put_bytes(out, word);
     at + put_numbers(&mut out[at..], numbers)
 }
 
@@ -65,8 +65,8 @@ fn put_digest(out: &mut [u8], sum: u32) -> usize
 {
     let mut text = [0u8; 16];
     let count = io::hex(sum as u64, DIGEST_DIGITS, &mut text);
-    let at = book::put_bytes(out, b" ");
-    let end = at + book::put_bytes(&mut out[at..], &text[..count]);
+    let at = text::put_bytes(out, b" ");
+    let end = at + text::put_bytes(&mut out[at..], &text[..count]);
     out[end] = b'\n';
     end + 1
 }
@@ -77,11 +77,11 @@ fn put_state(out: &mut [u8], named: Named) -> usize
     ensures { λ r. ⌜ Written (blank ∷ state-word (state-said named) ++ line-feed ∷ []) (now (out .entry)) (now (out .exit)) r ⌝ }
 {
     match named {
-        Named::Nothing => book::put_bytes(out, b" -\n"),
+        Named::Nothing => text::put_bytes(out, b" -\n"),
         Named::State(standing) => match standing {
-            Standing::Witnessed => book::put_bytes(out, b" witnessed\n"),
-            Standing::Searched => book::put_bytes(out, b" searched\n"),
-            Standing::Open => book::put_bytes(out, b" open\n"),
+            Standing::Witnessed => text::put_bytes(out, b" witnessed\n"),
+            Standing::Searched => text::put_bytes(out, b" searched\n"),
+            Standing::Open => text::put_bytes(out, b" open\n"),
         },
     }
 }
@@ -140,5 +140,5 @@ pub fn put_no_call(out: &mut [u8]) -> usize
     requires { ⌜ answer-most ≤ length (now out) ⌝ }
     ensures { λ r. ⌜ Written no-call-line (now (out .entry)) (now (out .exit)) r ⌝ }
 {
-    book::put_bytes(out, b"?\n")
+    text::put_bytes(out, b"?\n")
 }

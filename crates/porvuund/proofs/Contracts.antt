@@ -4,17 +4,17 @@ use mathlib.Core.Path.{_≡_, refl}
 use denote.Ref.{now}
 use Rattle.spec.specs.Calls.{search-answer}
 use Rattle.spec.specs.Sequence.{Call, load, search, write, Outcome}
-use Rattle.checker.specs.CodeCall.{CodeCall, Kept}
-use Rattle.checker.specs.CheckOwed.{CheckOwed, check-owed}
+use Rattle.checker.specs.Laws.CodeCall.{CodeCall, Kept}
+use Rattle.right.specs.CheckOwed.{CheckOwed, check-owed}
 use Rattle.session.specs.Said.{load-said, write-said}
 use Rattle.session.specs.CodeSession.{view, Sound}
-use Rattle.session.specs.CodeSequence.{Ensured, Fresh, Calling, Tied, Demand1Of, Demand2Of, Demand3Of, tied-demand-1, tied-demand-2, tied-demand-3}
+use Rattle.session.specs.Laws.CodeSequence.{Ensured, Fresh, Calling, Tied, Demand1Of, Demand2Of, Demand3Of, tied-demand-1, tied-demand-2, tied-demand-3}
 use Rattle.session.specs.declared.Session.{Session}
 use Rattle.porvuund.specs.SearchNumbers.{Numbers, numbers-said, numbers-searched}
 use Rattle.porvuund.specs.OneShot.{book-said}
-use Rattle.porvuund.specs.TaskOwed.{TaskOwed, task-owed}
+use Rattle.porvuund.specs.Laws.TaskOwed.{TaskOwed, task-owed}
 use Rattle.porvuund.specs.CheckOutput.{check-said}
-use Rattle.porvuund.specs.Printed.{BookPrinted, book-printed, CheckPrinted, check-printed}
+use Rattle.porvuund.specs.Laws.Printed.{BookPrinted, book-printed, CheckPrinted, check-printed}
 use Rattle.porvuund.proofs.sessions.porvuund_fresh.Kinds as fresh-kinds
 use Rattle.porvuund.proofs.sessions.porvuund_fresh.Reads as fresh-reads
 use Rattle.porvuund.proofs.sessions.porvuund_load.Kinds as load-kinds

@@ -9,7 +9,7 @@ use Rattle.spec.specs.Text.{Bytes}
 use Rattle.spec.specs.Session.{Session, fresh}
 use Rattle.spec.specs.Refusal.{refusal, accepted}
 use Rattle.spec.specs.Calls.{LoadAnswer, SearchAnswer, after-load, after-search, WriteAnswer, write-refused, write-answer, buffer-after, Loads, Searches, Writes}
-use Rattle.session.specs.Demand1.{load-number-is-refusal}
+use Rattle.demands.specs.Demand1.{load-number-is-refusal}
 use Rattle.porvuund.specs.declared.calls.BookNumbers.{BookNumbers}
 
 -- the session after the load and the search

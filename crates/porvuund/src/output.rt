@@ -4,10 +4,10 @@ use crate::calls::porvuund_book;
 use crate::calls::porvuund_check;
 use crate::lines::put_number_line;
 use crate::lines::put_pair_line;
-use checker::BOOK_LIMIT;
+use numbers::BOOK_LIMIT;
 ghost use mathlib.Core.List.{[], _∷_};
 ghost use Rattle.spec.specs.Program.{program-output};
-ghost use Rattle.book.specs.Written.{Written};
+ghost use Rattle.text.specs.Written.{Written};
 ghost use Rattle.porvuund.specs.CheckOutput.{check-output};
 
 // The bytes of the book program's buffer: as many as the greatest book that the checker takes.

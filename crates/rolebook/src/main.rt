@@ -3,8 +3,8 @@
 // (session, Program); what is here only reads and writes.
 use libc::STDIN_FILENO;
 use libc::STDOUT_FILENO;
+use numbers::SHEET_LIMIT;
 use porvuund::PROGRAM_BUFFER;
-use sheet::SHEET_LIMIT;
 
 // One byte more than a sheet has, by which a longer one is known.
 const INPUT_LIMIT: usize = SHEET_LIMIT + 1;

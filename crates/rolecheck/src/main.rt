@@ -1,13 +1,13 @@
 // The checker as a program: `rolecheck SHEETFILE BOOKFILE` prints the book's roles and witness lines with a comma between, or the number of the
 // refusal, and a line feed. What it prints is `check-output` (porvuund, CheckOutput); what is here only reads and writes. Where a file cannot be
 // read it prints nothing, and standard error says why.
-use checker::BOOK_LIMIT;
 use files::FileRead;
 use libc::PATH_MAX;
 use libc::STDERR_FILENO;
 use libc::STDOUT_FILENO;
+use numbers::BOOK_LIMIT;
+use numbers::SHEET_LIMIT;
 use porvuund::CHECK_BUFFER;
-use sheet::SHEET_LIMIT;
 ghost use Rattle.io.specs.Counts.{Counts};
 
 // One byte more than a sheet and a book have, by which longer ones are known.

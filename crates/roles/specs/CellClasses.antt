@@ -10,9 +10,9 @@ use Rattle.spec.specs.Sheet.{Grant}
 use Rattle.spec.specs.Reduction.{Removal, single, tied, Reduction}
 use Rattle.spec.specs.Roles.{Classed, Classes, paired, class-of, classes-of}
 use Rattle.lists.specs.LatestFirst.{latest-first}
-use Rattle.sheet.specs.Rows.{row-bits}
-use Rattle.grants.specs.CellPlaces.{cell-limit, grant-of}
-use Rattle.grants.specs.Log.{log-of}
+use Rattle.cells.specs.Rows.{row-bits}
+use Rattle.cells.specs.CellPlaces.{cell-limit, grant-of}
+use Rattle.verdict.specs.Log.{log-of}
 
 -- the array has the class of each cell
 pub record ClassAt (class : List ℕ) (members : List Classed) : Type 0 where

@@ -12,15 +12,15 @@ use Rattle.spec.specs.Vocabulary.{any}
 use Rattle.spec.specs.Limits.{user-limit}
 use Rattle.spec.specs.Roles.{Classed}
 use Rattle.bits.specs.Bit.{word-bits}
-use Rattle.bits.specs.BitLaws.{bit-of-zero}
-use Rattle.sheet.specs.Rows.{row-words, row-bits, cell}
-use Rattle.sheet.specs.CellAdded.{CellAdded}
-use Rattle.sheet.specs.CellLaws.{word-of, word-below}
+use Rattle.bits.specs.Laws.Bit.{bit-of-zero}
+use Rattle.cells.specs.Rows.{row-words, row-bits, cell}
+use Rattle.cells.specs.CellAdded.{CellAdded}
+use Rattle.cells.specs.CellLaws.{word-of, word-below}
 use Rattle.search.specs.Gathered.{eqb-comm}
-use Rattle.grants.specs.CellPlaces.{cell-words, cell-limit, grant-of}
-use Rattle.grants.specs.CellPlaceLaws.{row-bits-pos, user-below}
+use Rattle.cells.specs.CellPlaces.{cell-words, cell-limit, grant-of}
+use Rattle.cells.specs.Laws.CellPlace.{row-bits-pos, user-below}
 use Rattle.roles.specs.CellClasses.{paired-in}
-use Rattle.roles.specs.CellClassLaws.{paired-next}
+use Rattle.roles.specs.Laws.CellClass.{paired-next}
 
 -- user u has a grant of role r
 abbrev pub has-role : List Classed → ℕ → ℕ → Bool

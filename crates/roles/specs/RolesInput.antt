@@ -8,10 +8,10 @@ use Rattle.spec.specs.Limits.{user-limit, grant-limit}
 use Rattle.spec.specs.Sheet.{Sheet, grants}
 use Rattle.spec.specs.Reduction.{reduction, kernel}
 use Rattle.spec.specs.Roles.{roles-of}
-use Rattle.sheet.specs.Rows.{row-bits}
-use Rattle.grants.specs.CellPlaces.{Shown}
-use Rattle.grants.specs.CoverPlaced.{Placed}
-use Rattle.grants.specs.Log.{log-of}
+use Rattle.cells.specs.Rows.{row-bits}
+use Rattle.cells.specs.CellPlaces.{Shown}
+use Rattle.cover.specs.CoverPlaced.{Placed}
+use Rattle.verdict.specs.Log.{log-of}
 use Rattle.roles.specs.CellClasses.{listed}
 
 -- the arrays are those of a sheet and of a placement of its kernel, within the limits

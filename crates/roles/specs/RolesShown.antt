@@ -15,14 +15,14 @@ use Rattle.lists.specs.ListOfLaws.{length-list-of, getD-list-of}
 use Rattle.lists.specs.PlacementLaws.{class-below-used}
 use Rattle.lists.specs.LatestFirst.{latest-first, latest-first-length, latest-first-class}
 use Rattle.lists.specs.KeyLaws.{by-key}
-use Rattle.sheet.specs.Rows.{row-bits, cell}
-use Rattle.grants.specs.CellPlaces.{grant-of}
-use Rattle.grants.specs.CoverPlaced.{Placed}
-use Rattle.roles.specs.RoleRows.{RoleRows}
+use Rattle.cells.specs.Rows.{row-bits, cell}
+use Rattle.cells.specs.CellPlaces.{grant-of}
+use Rattle.cover.specs.CoverPlaced.{Placed}
+use Rattle.roles.specs.Laws.RoleRows.{RoleRows}
 use Rattle.roles.specs.CellClasses.{ClassAt, CellsBelow, UsersBelow, listed, paired-in}
-use Rattle.roles.specs.RoleLaws.{has-role-elim, gives-permission-elim}
+use Rattle.roles.specs.Laws.Role.{has-role-elim, gives-permission-elim}
 use Rattle.roles.specs.RoleNumbers.{class-key}
-use Rattle.roles.specs.RoleNumberLaws.{role-numbers-by-class}
+use Rattle.roles.specs.Laws.RoleNumber.{role-numbers-by-class}
 use Rattle.roles.specs.RoleMatrices.{has-role, gives-permission, CellsShow, RolesBelow}
 
 -- a role set as words, with its count

@@ -1,6 +1,6 @@
 // The classes of all grants, by cell: the kernel's placement, and the removals gone back over.
 use crate::limits::CELL_LIMIT;
-use sheet::GRANT_LIMIT;
+use numbers::GRANT_LIMIT;
 ghost use mathlib.Core.Path.{_≡_};
 ghost use mathlib.Core.List.{[]};
 ghost use Prim.Native.Nat.{_+_, _<_, _≤_, _^_};
@@ -8,7 +8,7 @@ ghost use Rattle.spec.specs.Limits.{grant-limit};
 ghost use Rattle.spec.specs.Cover.{used};
 ghost use Rattle.spec.specs.Roles.{Classes, put-back};
 ghost use Rattle.lists.specs.LatestFirst.{latest-first};
-ghost use Rattle.grants.specs.CellPlaces.{cell-limit};
+ghost use Rattle.cells.specs.CellPlaces.{cell-limit};
 ghost use Rattle.roles.specs.CellClasses.{ClassAt, ClassesAt, CellsBelow, removal-of, classes-in, paired-in};
 
 // Puts the classes of the kernel's grants into an array that has no class yet, each at its cell.

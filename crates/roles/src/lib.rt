@@ -3,7 +3,7 @@
 mod classes;
 mod limits;
 mod matrices;
-mod numbers;
+mod numbering;
 mod rows;
 mod standing;
 

@@ -1,8 +1,8 @@
 // How much there can be of what roles are made from.
-use grants::ROW_BITS;
-use sheet::CELL_WORDS;
-use sheet::GRANT_LIMIT;
-use sheet::ROW_WORDS;
+use cells::ROW_BITS;
+use numbers::CELL_WORDS;
+use numbers::GRANT_LIMIT;
+use numbers::ROW_WORDS;
 
 // The cells of as many users as a sheet can have.
 pub const CELL_LIMIT: usize = CELL_WORDS * bits::WORD_BITS;

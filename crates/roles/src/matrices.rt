@@ -2,10 +2,10 @@
 use crate::classes::all_classes;
 use crate::limits::CELL_LIMIT;
 use crate::limits::ROLE_WORDS;
-use crate::numbers::number_roles;
+use crate::numbering::number_roles;
 use crate::rows::role_rows;
-use sheet::CELL_WORDS;
-use sheet::GRANT_LIMIT;
+use numbers::CELL_WORDS;
+use numbers::GRANT_LIMIT;
 ghost use mathlib.Core.List.{List};
 ghost use Prim.Native.Nat.{ℕ, _≤_};
 ghost use Rattle.spec.specs.Limits.{grant-limit};
@@ -13,7 +13,7 @@ ghost use Rattle.spec.specs.Sheet.{Sheet};
 ghost use Rattle.spec.specs.Cover.{used};
 ghost use Rattle.spec.specs.Roles.{Classed, roles-of-classes, roles-of};
 ghost use Rattle.lists.specs.KeyLaws.{by-key};
-ghost use Rattle.sheet.specs.Rows.{row-bits};
+ghost use Rattle.cells.specs.Rows.{row-bits};
 ghost use Rattle.roles.specs.CellClasses.{ClassAt, CellsBelow, UsersBelow, listed};
 ghost use Rattle.roles.specs.RoleNumbers.{class-key, KeysBelow};
 ghost use Rattle.roles.specs.RolesShown.{RolesAt, RolesOnly};
@@ -68,7 +68,7 @@ pub fn roles_of<'a>(
         → RolesAt (r .has) (r .gives) (r .count) users (roles-of sheet placement)) ⌝ }
     ensures { λ r. ⌜ RolesOnly (r .has) (r .gives) (r .count) users ⌝ }
 {
-    let all = grants::listed(rows, users);
+    let all = cells::listed(rows, users);
     let mut class = [0; CELL_LIMIT];
     all_classes(
         &mut class,

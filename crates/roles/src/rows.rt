@@ -1,23 +1,23 @@
 // The two matrices of roles as rows of words: for each user the roles, for each role the permissions.
 use crate::limits::ROLE_WORDS;
 use bits::WORD_BITS;
-use grants::permission_of;
-use grants::user_of;
-use sheet::CELL_WORDS;
-use sheet::GRANT_LIMIT;
-use sheet::GrantNo;
-use sheet::PermissionNo;
-use sheet::ROW_WORDS;
-use sheet::RoleNo;
-use sheet::UserNo;
+use cells::permission_of;
+use cells::user_of;
+use numbers::CELL_WORDS;
+use numbers::GRANT_LIMIT;
+use numbers::GrantNo;
+use numbers::PermissionNo;
+use numbers::ROW_WORDS;
+use numbers::RoleNo;
+use numbers::UserNo;
 ghost use mathlib.Core.Path.{_≡_};
 ghost use mathlib.Core.Bool.{true};
 ghost use Prim.Native.Nat.{_<_, _≤_};
 ghost use lib.ListN.{length, getD};
 ghost use Rattle.spec.specs.Limits.{grant-limit};
-ghost use Rattle.sheet.specs.Rows.{row-bits};
-ghost use Rattle.sheet.specs.CellAdded.{CellAdded};
-ghost use Rattle.sheet.specs.CellLaws.{word-of};
+ghost use Rattle.cells.specs.Rows.{row-bits};
+ghost use Rattle.cells.specs.CellAdded.{CellAdded};
+ghost use Rattle.cells.specs.CellLaws.{word-of};
 ghost use Rattle.roles.specs.CellClasses.{CellsBelow, paired-in};
 ghost use Rattle.roles.specs.RoleMatrices.{CellsShow, RolesBelow, has-role, gives-permission};
 

@@ -13,16 +13,16 @@ use lib.Dec.{eqb, leb, ltb}
 use lib.ListN.{getD}
 use Rattle.spec.specs.Vocabulary.{every-below, lowest-below}
 use Rattle.bits.specs.Truth.{implies}
-use Rattle.bits.specs.BelowLaws.{below-or-from, last-or-below, every-below-ext, every-below-not}
-use Rattle.bits.specs.LowestLaws.{lowest-below-intro, lowest-below-none-intro}
+use Rattle.bits.specs.Laws.Below.{below-or-from, last-or-below, every-below-ext, every-below-not}
+use Rattle.bits.specs.Laws.Lowest.{lowest-below-intro, lowest-below-none-intro}
 use Rattle.bits.specs.Bit.{word-bits}
 use Rattle.search.specs.declared.marks.Marks.{Marks}
 use Rattle.search.specs.Marks.{kernel-words, mark-limit, marked}
-use Rattle.search.specs.MarkLaws.{marked-low, marked-high}
+use Rattle.search.specs.Laws.Mark.{marked-low, marked-high}
 use Rattle.search.specs.View.{fit-in, joinable}
 use Rattle.search.specs.Gathered.{member, Gathered}
-use Rattle.bits.specs.CutLaws.{some-below-cut}
-use Rattle.search.specs.PlacedLaws.{joins-unless-apart}
+use Rattle.bits.specs.Laws.Cut.{some-below-cut}
+use Rattle.search.specs.Laws.Placed.{joins-unless-apart}
 
 -- the words of a grant, or of a class, in a table
 abbrev pub row : List ℕ → ℕ → Marks

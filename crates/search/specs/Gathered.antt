@@ -11,9 +11,9 @@ use lib.Dec.{eqb, ltb}
 use lib.ListN.{length, getD, set, replicate, length-set, length-replicate}
 use lib.Seq.{getD-set-same, getD-set-other}
 use Rattle.bits.specs.Truth.{same-truth, fails-unless, and-left, and-right, and-intro, passes-or-fails}
-use Rattle.bits.specs.BelowLaws.{below-or-from}
+use Rattle.bits.specs.Laws.Below.{below-or-from}
 use Rattle.bits.specs.Bit.{bit, word-bits}
-use Rattle.bits.specs.BitLaws.{bit-of-zero}
+use Rattle.bits.specs.Laws.Bit.{bit-of-zero}
 use Rattle.search.specs.Marks.{kernel-words, mark-limit, table-words}
 use Rattle.search.specs.View.{fit-in}
 

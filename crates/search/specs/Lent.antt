@@ -10,14 +10,14 @@ use lib.ListN.{length, getD, set, length-set}
 use lib.Seq.{getD-set-same, getD-set-other}
 use Rattle.spec.specs.Vocabulary.{lowest-below}
 use Rattle.spec.specs.Machine.{step}
-use Rattle.bits.specs.LowestLaws.{lowest-below-ext}
+use Rattle.bits.specs.Laws.Lowest.{lowest-below-ext}
 use Rattle.search.specs.declared.machine.Cursor.{Cursor}
 use Rattle.search.specs.declared.machine.Position.{Position}
 use Rattle.search.specs.Marks.{mark-limit}
 use Rattle.search.specs.View.{kernel-given, view, PositionStands, class-end, joinable, CursorPlaced, taken-back}
 use Rattle.search.specs.Gathered.{Gathered, Joined, Left, gathered-more, gathered-fewer}
 use Rattle.search.specs.ChoiceLaws.{open-to, open-joinable}
-use Rattle.search.specs.Moves.{Looked, depth-le-limit, room-below-limit, closes, takes-back, places, improves}
+use Rattle.search.specs.Laws.Moves.{Looked, depth-le-limit, room-below-limit, closes, takes-back, places, improves}
 
 -- a cursor and its two arrays as one position
 abbrev pub at-position : Cursor → List ℕ → List ℕ → Position

@@ -3,10 +3,10 @@
 use mathlib.Core.Path.{_≡_, refl}
 use denote.Ref.{now}
 use Rattle.spec.specs.Sequence.{Call, load, search, write, Outcome}
-use Rattle.checker.specs.CodeCall.{CodeCall, Kept}
+use Rattle.checker.specs.Laws.CodeCall.{CodeCall, Kept}
 use Rattle.session.specs.Said.{load-said, search-said, write-said}
 use Rattle.session.specs.CodeSession.{Sound}
-use Rattle.session.specs.CodeSequence.{Ensured, Fresh, Calling, Tied, Demand1Of, Demand2Of, Demand3Of, tied-demand-1, tied-demand-2, tied-demand-3}
+use Rattle.session.specs.Laws.CodeSequence.{Ensured, Fresh, Calling, Tied, Demand1Of, Demand2Of, Demand3Of, tied-demand-1, tied-demand-2, tied-demand-3}
 use Rattle.session.specs.declared.Session.{Session}
 use Rattle.session.proofs.Session.fresh.Kinds as fresh-kinds
 use Rattle.session.proofs.Session.fresh.Reads as fresh-reads

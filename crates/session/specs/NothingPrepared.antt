@@ -3,8 +3,8 @@ use Prim.Native.Nat.{_*_}
 use lib.ListN.{replicate}
 use Rattle.spec.specs.Limits.{grant-limit}
 use Rattle.sheet.specs.OnlyNames.{no-layout}
-use Rattle.grants.specs.CellPlaces.{cell-words}
-use Rattle.grants.specs.TableWords.{table-row, table-limit}
+use Rattle.cells.specs.CellPlaces.{cell-words}
+use Rattle.table.specs.TableWords.{table-row, table-limit}
 use Rattle.session.specs.declared.prepared.Prepared.{Prepared}
 
 -- nothing found of any sheet

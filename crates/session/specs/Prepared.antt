@@ -8,16 +8,16 @@ use Rattle.spec.specs.Text.{Bytes}
 use Rattle.spec.specs.Sheet.{sheet-of}
 use Rattle.spec.specs.Reduction.{kernel}
 use Rattle.spec.specs.Cover.{first-best}
-use Rattle.sheet.specs.LaidOut.{LaidOut}
-use Rattle.sheet.specs.RowsRead.{RowsRead}
-use Rattle.sheet.specs.declared.layout.Layout.{Layout}
-use Rattle.grants.specs.Blank.{BlankFrom}
-use Rattle.grants.specs.CellPlaces.{Shown}
-use Rattle.grants.specs.ReductionResult.{ReducedFrom}
-use Rattle.grants.specs.KernelArray.{Listed}
-use Rattle.grants.specs.WitnessRows.{Witnessed}
-use Rattle.grants.specs.CoverPlaced.{Placed}
-use Rattle.grants.specs.TableWords.{Table}
+use Rattle.names.specs.LaidOut.{LaidOut}
+use Rattle.cells.specs.RowsRead.{RowsRead}
+use Rattle.names.specs.declared.layout.Layout.{Layout}
+use Rattle.cells.specs.Blank.{BlankFrom}
+use Rattle.cells.specs.CellPlaces.{Shown}
+use Rattle.reduction.specs.ReductionResult.{ReducedFrom}
+use Rattle.cells.specs.KernelArray.{Listed}
+use Rattle.witness.specs.WitnessRows.{Witnessed}
+use Rattle.cover.specs.CoverPlaced.{Placed}
+use Rattle.table.specs.TableWords.{Table}
 use Rattle.session.specs.declared.prepared.Prepared.{Prepared}
 
 -- there is an accepted sheet whose layout and cells these are

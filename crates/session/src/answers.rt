@@ -1,6 +1,6 @@
 // What the calls of a session answer: a result comes with the number 0, a refusal with document 01's number and counts 0.
 use crate::prepared::Prepared;
-use book::Counts;
+use blocks::Counts;
 use book::Writing;
 use roles::Standing;
 ghost use mathlib.Core.Path.{_≡_};

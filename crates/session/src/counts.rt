@@ -1,6 +1,6 @@
 // The counts where a search stands: they are in a search's answer and in the book.
 use crate::Session;
-use book::Counts;
+use blocks::Counts;
 ghost use Prim.Native.Nat.{_+_, _≤_};
 ghost use Rattle.spec.specs.Limits.{permission-limit};
 ghost use Rattle.session.specs.CodeSession.{Holds};

@@ -10,7 +10,7 @@ mod counts;
 mod loading;
 mod prepared;
 mod searching;
-mod text;
+mod sheet_text;
 mod writing;
 
 use crate::prepared::Prepared;
@@ -19,9 +19,9 @@ pub use answers::Named;
 pub use answers::SearchAnswer;
 pub use answers::WriteAnswer;
 pub use loading::Loaded;
-use search::Position;
 pub use searching::Searched;
-use sheet::SHEET_LIMIT;
+use search::Position;
+use numbers::SHEET_LIMIT;
 
 // Whether a sheet was accepted, its bytes, what was found of it, and where the search stands. The fields are the session's own: what it stands for
 // is its `view`, and which values come from the calls is said by `Sound`.

@@ -1,25 +1,25 @@
 // What a load finds of an accepted sheet: all of it follows from the sheet's bytes, and is kept so that no later call finds it again.
-use grants::Kernel;
-use grants::Placement;
-use grants::Reduced;
-use grants::TABLE_WORDS;
-use grants::Witness;
-use sheet::CELL_WORDS;
-use sheet::GRANT_LIMIT;
-use sheet::Layout;
-use sheet::Places;
-use sheet::USER_LIMIT;
+use cells::Kernel;
+use cover::Placement;
+use names::Layout;
+use names::Places;
+use numbers::CELL_WORDS;
+use numbers::GRANT_LIMIT;
+use numbers::USER_LIMIT;
+use reduction::Reduced;
+use table::TABLE_WORDS;
+use witness::Witness;
 ghost use mathlib.Core.Path.{_≡_};
 ghost use Prim.Native.Nat.{_≤_};
 ghost use lib.ListN.{length};
 ghost use Rattle.spec.specs.Limits.{grant-limit};
 ghost use Rattle.spec.specs.Text.{Bytes};
 ghost use Rattle.spec.specs.Sheet.{Sheet, sheet-of, grants};
-ghost use Rattle.sheet.specs.LaidOut.{LaidOut};
-ghost use Rattle.sheet.specs.RowsRead.{RowsRead};
-ghost use Rattle.grants.specs.CellPlaces.{Shown, Shows};
-ghost use Rattle.grants.specs.ReductionResult.{ReducedFrom};
-ghost use Rattle.grants.specs.WitnessRows.{Witnessed};
+ghost use Rattle.names.specs.LaidOut.{LaidOut};
+ghost use Rattle.cells.specs.RowsRead.{RowsRead};
+ghost use Rattle.cells.specs.CellPlaces.{Shown, Shows};
+ghost use Rattle.reduction.specs.ReductionResult.{ReducedFrom};
+ghost use Rattle.witness.specs.WitnessRows.{Witnessed};
 ghost use Rattle.session.specs.Prepared.{ReadFrom, PreparedFor};
 ghost use Rattle.session.specs.NothingPrepared.{nothing-prepared};
 
@@ -85,8 +85,8 @@ fn witness_found(rows: &[u64; CELL_WORDS], users: usize, reduced: Reduced) -> Wi
     ensures { λ r. ⌜ ((sheet : Sheet) → Shown (now (rows .entry)) users sheet → length (grants sheet) ≤ grant-limit
         → Witnessed sheet (now (rows .entry)) (r .cells) (r .count)) ⌝ }
 {
-    let singles = grants::single_cells(&reduced.removed, &reduced.partner, reduced.count);
-    grants::witness_of(rows, &reduced.left, &singles, users)
+    let singles = witness::single_cells(&reduced.removed, &reduced.partner, reduced.count);
+    witness::witness_of(rows, &reduced.left, &singles, users)
 }
 
 // What there is to find of an accepted sheet, from where its names stand and its cells.
@@ -94,11 +94,11 @@ pub fn prepare(layout: Layout, rows: [u64; CELL_WORDS]) -> Prepared
     requires { ⌜ ReadFrom layout rows ⌝ }
     ensures { λ r. ⌜ ((text : Bytes) → LaidOut text layout → RowsRead rows (sheet-of text) → PreparedFor text r) ⌝ }
 {
-    let reduced = grants::reduce(&rows, layout.users);
-    let kernel = grants::listed(&reduced.left, layout.users);
+    let reduced = reduction::reduce(&rows, layout.users);
+    let kernel = cells::listed(&reduced.left, layout.users);
     let witness = witness_found(&rows, layout.users, reduced);
-    let first = grants::first_best(&rows, kernel);
-    let table = grants::fit_table(&rows, kernel);
+    let first = cover::first_best(&rows, kernel);
+    let table = table::fit_table(&rows, kernel);
     Prepared {
         layout,
         rows,

@@ -15,14 +15,14 @@ use Rattle.spec.specs.Limits.{permission-limit, user-limit}
 use Rattle.spec.specs.Text.{ascii, same-bytes, Bytes, comma, line-feed, line-text}
 use Rattle.spec.specs.Rules.{Name}
 use Rattle.bits.specs.Truth.{and-left, and-right}
-use Rattle.bits.specs.BelowLaws.{last-or-below}
+use Rattle.bits.specs.Laws.Below.{last-or-below}
 use Rattle.lists.specs.TestLaws.{same-bytes-equal}
 use Rattle.lists.specs.Listed.{listed-suc, listed-same}
-use Rattle.sheet.specs.Places.{part, BlankPast}
-use Rattle.sheet.specs.PlacesLaws.{blank-kept}
-use Rattle.sheet.specs.NamesAt.{places-of, name-there, names-at}
-use Rattle.sheet.specs.Stands.{Stands, stands-then, stands-found, stands-part}
-use Rattle.sheet.specs.LineParts.{fields-text, line-in-parts}
+use Rattle.names.specs.Places.{part, BlankPast}
+use Rattle.names.specs.PlacesLaws.{blank-kept}
+use Rattle.names.specs.NamesAt.{places-of, name-there, names-at}
+use Rattle.sheet.specs.Laws.Stands.{Stands, stands-then, stands-found, stands-part}
+use Rattle.sheet.specs.Laws.LineParts.{fields-text, line-in-parts}
 use Rattle.sheet.specs.Spelled.{NameAt}
 use Rattle.sheet.specs.declared.first_line.FirstLine.{FirstLine}
 

@@ -17,16 +17,16 @@ use Rattle.bits.specs.Bit.{bit}
 use Rattle.lists.specs.TestLaws.{same-bytes-refl}
 use Rattle.lists.specs.SameLaws.{distinct-places}
 use Rattle.lists.specs.ListOfLaws.{length-list-of, list-of-element}
-use Rattle.sheet.specs.Rows.{row-words}
-use Rattle.sheet.specs.PlacesLaws.{new-blank}
-use Rattle.sheet.specs.NamesAt.{Inside, places-of, name-there, names-at}
-use Rattle.sheet.specs.SheetLines.{sheet-text-lines}
-use Rattle.sheet.specs.WrittenLaws.{SheetWritten, written-sheet}
+use Rattle.cells.specs.Rows.{row-words}
+use Rattle.names.specs.PlacesLaws.{new-blank}
+use Rattle.names.specs.NamesAt.{Inside, places-of, name-there, names-at}
+use Rattle.rules.specs.SheetLines.{sheet-text-lines}
+use Rattle.rules.specs.WrittenLaws.{SheetWritten, written-sheet}
 use Rattle.sheet.specs.Spelled.{NameAt}
 use Rattle.sheet.specs.FirstLine.{NamesRoom, FirstLineStands}
 use Rattle.sheet.specs.UserLines.{Room, lines-at, LinesRead}
-use Rattle.sheet.specs.UserLinesLaws.{new-room}
-use Rattle.sheet.specs.WordRows.{word-row, word-rows, word-lines, word-grants}
+use Rattle.sheet.specs.Laws.UserLines.{new-room}
+use Rattle.cells.specs.Laws.WordRows.{word-row, word-rows, word-lines, word-grants}
 use Rattle.sheet.specs.declared.kept.Counts.{Counts}
 
 -- there is room for as many names and rows as there can be, and nothing is noted yet

@@ -2,11 +2,11 @@
 use Prim.Native.Nat.{ℕ, _*_}
 use lib.ListN.{replicate}
 use Rattle.spec.specs.Limits.{user-limit}
-use Rattle.sheet.specs.Rows.{row-words}
-use Rattle.sheet.specs.Places.{BlankPast}
+use Rattle.cells.specs.Rows.{row-words}
+use Rattle.names.specs.Places.{BlankPast}
 use Rattle.sheet.specs.FirstLine.{Run}
-use Rattle.sheet.specs.declared.places.Places.{Places}
-use Rattle.sheet.specs.declared.layout.Layout.{Layout}
+use Rattle.names.specs.declared.places.Places.{Places}
+use Rattle.names.specs.declared.layout.Layout.{Layout}
 use Rattle.sheet.specs.declared.reading.SheetRead.{SheetRead}
 
 -- no place is noted past the counts, and the permissions' names are those of the first line, one behind the other

@@ -12,9 +12,9 @@ use Rattle.spec.specs.Refusal.{has-name-length}
 use Rattle.bits.specs.Truth.{and-left, and-right}
 use Rattle.lists.specs.Span.{span, span-within}
 use Rattle.lists.specs.TestLaws.{all-elim}
-use Rattle.sheet.specs.Places.{part}
-use Rattle.sheet.specs.Fields.{separator, field-from, field-read}
-use Rattle.sheet.specs.NameCauses.{sized-name}
+use Rattle.names.specs.Places.{part}
+use Rattle.text.specs.Fields.{separator, field-from, field-read}
+use Rattle.rules.specs.NameCauses.{sized-name}
 use Rattle.sheet.specs.declared.spelled.NameRead.{NameRead}
 
 -- the field at a place was read up to its end, and it was told whether it is a name

@@ -12,11 +12,11 @@ use Rattle.spec.specs.Sheet.{cell-text}
 use Rattle.spec.specs.Rules.{Name}
 use Rattle.bits.specs.Truth.{not-both}
 use Rattle.bits.specs.Bit.{bit}
-use Rattle.sheet.specs.Places.{part}
-use Rattle.sheet.specs.CellsWord.{CellsIn}
-use Rattle.sheet.specs.Stands.{Stands, stands-then, stands-found, stands-part}
-use Rattle.sheet.specs.CellsStanding.{stands-cells}
-use Rattle.sheet.specs.LineParts.{line-in-parts}
+use Rattle.names.specs.Places.{part}
+use Rattle.cell_text.specs.CellsWord.{CellsIn}
+use Rattle.sheet.specs.Laws.Stands.{Stands, stands-then, stands-found, stands-part}
+use Rattle.sheet.specs.Laws.CellsStanding.{stands-cells}
+use Rattle.sheet.specs.Laws.LineParts.{line-in-parts}
 use Rattle.sheet.specs.Spelled.{NameAt}
 use Rattle.sheet.specs.declared.user_line.UserLine.{UserLine}
 

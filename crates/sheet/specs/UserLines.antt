@@ -10,9 +10,9 @@ use Rattle.spec.specs.Text.{Bytes, Line, text-of}
 use Rattle.spec.specs.Rules.{Name, user-lines}
 use Rattle.bits.specs.Counting.{count-below, sum-below}
 use Rattle.bits.specs.Bit.{bit, word-bits}
-use Rattle.sheet.specs.Rows.{row-words}
-use Rattle.sheet.specs.Places.{BlankPast}
-use Rattle.sheet.specs.Stands.{Stands}
+use Rattle.cells.specs.Rows.{row-words}
+use Rattle.names.specs.Places.{BlankPast}
+use Rattle.sheet.specs.Laws.Stands.{Stands}
 use Rattle.sheet.specs.UserLine.{UserAt, line-of}
 use Rattle.sheet.specs.declared.user_lines.UserLines.{UserLines}
 

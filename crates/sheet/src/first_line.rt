@@ -1,11 +1,11 @@
 // The first line of a sheet: `user` and the names of the permissions.
-use crate::bytes::COMMA;
-use crate::bytes::LINE_FEED;
-use crate::bytes::stands_at;
-use crate::limits::PERMISSION_LIMIT;
-use crate::limits::USER_LIMIT;
-use crate::names::same_bytes;
 use crate::spelled::read_name;
+use numbers::PERMISSION_LIMIT;
+use numbers::USER_LIMIT;
+use text::COMMA;
+use text::LINE_FEED;
+use text::same_bytes;
+use text::stands_at;
 ghost use mathlib.Core.Path.{_≡_};
 ghost use mathlib.Core.Bool.{false};
 ghost use Rattle.sheet.specs.FirstLine.{says-user, NamesRoom, FirstLineRead};

@@ -1,17 +1,17 @@
 // A sheet that keeps all rules, read in one pass.
 use crate::first_line::read_first_line;
-use crate::limits::CELL_WORDS;
-use crate::limits::GRANT_LIMIT;
-use crate::limits::SHEET_LIMIT;
-use crate::limits::USER_LIMIT;
-use crate::lookup::repeated;
-use crate::places::Places;
 use crate::user_lines::read_user_lines;
+use names::Places;
+use names::repeated;
+use numbers::CELL_WORDS;
+use numbers::GRANT_LIMIT;
+use numbers::SHEET_LIMIT;
+use numbers::USER_LIMIT;
 ghost use mathlib.Core.Path.{_≡_};
 ghost use mathlib.Core.Bool.{false, So, not, _&&_};
 ghost use Rattle.spec.specs.Vocabulary.{repeats};
 ghost use Rattle.spec.specs.Text.{same-name};
-ghost use Rattle.sheet.specs.NamesAt.{Inside, names-at};
+ghost use Rattle.names.specs.NamesAt.{Inside, names-at};
 ghost use Rattle.sheet.specs.KeptSheet.{SheetRoom, notes-of, SheetLines};
 
 // Whether a sheet's lines are such as the rules ask for, within all limits, and its counts.

@@ -1,18 +1,18 @@
 // Reading a sheet: the number for which it is refused, and of a sheet that is not refused its layout and its rows.
 use crate::kept::is_kept;
 use crate::kept::read_lines;
-use crate::layout::Layout;
-use crate::limits::CELL_WORDS;
-use crate::limits::USER_LIMIT;
-use crate::places::Places;
-use crate::refusal::judge;
-use crate::rows::no_rows;
+use cells::no_rows;
+use names::Layout;
+use names::Places;
+use numbers::CELL_WORDS;
+use numbers::USER_LIMIT;
+use refusal::judge;
 ghost use mathlib.Core.Path.{_≡_};
 ghost use Prim.Native.Nat.{_<_};
 ghost use Rattle.spec.specs.Sheet.{sheet-of};
 ghost use Rattle.spec.specs.Refusal.{refusal};
-ghost use Rattle.sheet.specs.LaidOut.{LaidOut};
-ghost use Rattle.sheet.specs.RowsRead.{RowsRead};
+ghost use Rattle.names.specs.LaidOut.{LaidOut};
+ghost use Rattle.cells.specs.RowsRead.{RowsRead};
 ghost use Rattle.sheet.specs.OnlyNames.{OnlyNames, refused-as};
 
 // What a sheet's bytes were read as. Where the number is not 0, the layout is that of nothing and no cell is set.

@@ -1,7 +1,7 @@
 // Names of a sheet: fields, as the reader finds them, that are names.
-use crate::bytes::is_name_byte;
-use crate::cells::name_length;
-use crate::cursor::Cursor;
+use refusal::name_length;
+use text::Cursor;
+use text::is_name_byte;
 ghost use mathlib.Core.Path.{_≡_};
 ghost use mathlib.Core.Bool.{_&&_};
 ghost use Prim.Native.Nat.{_≤_};

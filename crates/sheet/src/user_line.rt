@@ -1,8 +1,8 @@
 // The line of a user: a name, a cell for each permission, and the line feed.
-use crate::bytes::LINE_FEED;
-use crate::bytes::stands_at;
-use crate::line_cells::cells_word;
 use crate::spelled::read_name;
+use cell_text::cells_word;
+use text::LINE_FEED;
+use text::stands_at;
 ghost use mathlib.Core.Path.{_≡_};
 ghost use mathlib.Core.Bool.{false};
 ghost use Prim.Native.Nat.{_≤_};

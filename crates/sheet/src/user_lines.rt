@@ -1,7 +1,7 @@
 // The lines of the users, up to the end of the sheet.
-use crate::limits::CELL_WORDS;
-use crate::limits::USER_LIMIT;
 use crate::user_line::read_user_line;
+use numbers::CELL_WORDS;
+use numbers::USER_LIMIT;
 ghost use mathlib.Core.Path.{_≡_};
 ghost use mathlib.Core.Bool.{false};
 ghost use Prim.Native.Nat.{_≤_};

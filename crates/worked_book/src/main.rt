@@ -1,14 +1,14 @@
 // Prints the book of the paper's sheet, and the book of a sheet without grants.
-use book::Counts;
+use blocks::Counts;
 use book::Writing;
 use libc::STDOUT_FILENO;
+use numbers::CELL_WORDS;
 use roles::ROLE_WORDS;
 use roles::Standing;
-use sheet::CELL_WORDS;
 ghost use Prim.Native.Nat.{_≤_};
 ghost use Rattle.spec.specs.Sheet.{sheet-of};
-ghost use Rattle.sheet.specs.Rows.{row-bits};
-ghost use Rattle.book.specs.RowsSaid.{GrantCells};
+ghost use Rattle.cells.specs.Rows.{row-bits};
+ghost use Rattle.blocks.specs.RowsSaid.{GrantCells};
 
 // Prints the book of a sheet, from its two matrices, its witness and its counts.
 fn print<'a>(

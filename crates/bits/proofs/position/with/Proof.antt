@@ -3,7 +3,7 @@ use borrow.Author.Needs.{needs}
 use Prim.Native.Nat.{_^_}
 use mathlib.Core.Path.{_∙_}
 use Rattle.bits.specs.Bit.{word-bits}
-use Rattle.bits.specs.BitLaws.{bit-or, bit-one-shifted, one-shifted}
+use Rattle.bits.specs.Laws.Bit.{bit-or, bit-one-shifted, one-shifted}
 use Rattle.bits.proofs.position.with.Statement.{statement}
 use Rattle.bits.proofs.position.with.Tie as tie
 

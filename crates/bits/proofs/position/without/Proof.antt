@@ -4,7 +4,7 @@ use Prim.Native.Nat.{_^_}
 use mathlib.Core.Path.{_∙_}
 use lib.Pow.{pow-lt}
 use Rattle.bits.specs.Bit.{word-bits}
-use Rattle.bits.specs.BitLaws.{bit-and-not, bit-one-shifted, one-shifted}
+use Rattle.bits.specs.Laws.Bit.{bit-and-not, bit-one-shifted, one-shifted}
 use Rattle.bits.proofs.position.without.Statement.{statement}
 use Rattle.bits.proofs.position.without.Tie as tie
 

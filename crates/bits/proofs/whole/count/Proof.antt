@@ -2,7 +2,7 @@
 use native.Mathlib.Omega.{arith}
 use lib.Count.{ones-le}
 use Rattle.bits.specs.Bit.{word-bits}
-use Rattle.bits.specs.WordLaws.{ones-count}
+use Rattle.bits.specs.Laws.Word.{ones-count}
 use Rattle.bits.proofs.whole.count.Statement.{statement}
 use Rattle.bits.proofs.whole.count.Tie as tie
 

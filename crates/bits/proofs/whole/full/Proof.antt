@@ -4,7 +4,7 @@ use Prim.Native.Nat.{_<_}
 use native.Mathlib.Omega.{arith}
 use lib.Pow.{pow-pos}
 use Rattle.bits.specs.Bit.{word-bits}
-use Rattle.bits.specs.BitLaws.{bit-full, one-shifted}
+use Rattle.bits.specs.Laws.Bit.{bit-full, one-shifted}
 use Rattle.bits.proofs.whole.full.Statement.{statement}
 use Rattle.bits.proofs.whole.full.Tie as tie
 

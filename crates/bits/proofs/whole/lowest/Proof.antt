@@ -2,7 +2,7 @@
 use native.Mathlib.Omega.{arith}
 use lib.Count.{trailing-le}
 use Rattle.bits.specs.Bit.{word-bits}
-use Rattle.bits.specs.WordLaws.{lowest-trailing}
+use Rattle.bits.specs.Laws.Word.{lowest-trailing}
 use Rattle.bits.proofs.whole.lowest.Statement.{statement}
 use Rattle.bits.proofs.whole.lowest.Tie as tie
 

@@ -1,6 +1,6 @@
 -- `bits::within`: the positions that a shares with b are all of a's where `and` leaves a as it is.
 use Rattle.bits.specs.Bit.{word-bits}
-use Rattle.bits.specs.WordLaws.{within-test}
+use Rattle.bits.specs.Laws.Word.{within-test}
 use Rattle.bits.proofs.whole.within.Statement.{statement}
 use Rattle.bits.proofs.whole.within.Tie as tie
 

@@ -3,9 +3,9 @@ use borrow.Author.Needs.{needs}
 use native.Mathlib.Omega.{arith}
 use mathlib.Core.List.{[]}
 use Rattle.spec.specs.Limits.{user-limit}
-use Rattle.sheet.specs.Rows.{row-words}
-use Rattle.book.specs.BookMeasured.{book-measured}
-use Rattle.book.specs.LaidLaws.{few-users}
+use Rattle.cells.specs.Rows.{row-words}
+use Rattle.book.specs.Laws.BookMeasured.{book-measured}
+use Rattle.blocks.specs.Laws.Laid.{few-users}
 use Rattle.book.proofs.book.book_length.Statement.{statement}
 use Rattle.book.proofs.book.book_length.Tie as tie
 

@@ -9,14 +9,14 @@ use Rattle.spec.specs.Limits.{user-limit}
 use Rattle.spec.specs.Text.{Bytes, text-of}
 use Rattle.spec.specs.Sheet.{sheet-of}
 use Rattle.spec.specs.Book.{witness-block}
-use Rattle.sheet.specs.Rows.{row-bits, row-words}
-use Rattle.grants.specs.CellSets.{cell-grants}
+use Rattle.cells.specs.Rows.{row-bits, row-words}
+use Rattle.cells.specs.CellSets.{cell-grants}
 use Rattle.book.specs.BookRows.{book-parts, rows-book}
-use Rattle.book.specs.CountsText.{counts-text}
-use Rattle.book.specs.LaidLaws.{few-users}
-use Rattle.book.specs.LineLaws.{line-end}
-use Rattle.book.specs.RowsSaid.{shown-roles, shown-users}
-use Rattle.book.specs.Written.{WrittenSoFar, end-within, fits-as, front-fits, place-within, room-behind, then-same-length, then-written, with-rest, within-buffer, written-as}
+use Rattle.blocks.specs.CountsText.{counts-text}
+use Rattle.blocks.specs.Laws.Laid.{few-users}
+use Rattle.text.specs.LineLaws.{line-end}
+use Rattle.blocks.specs.RowsSaid.{shown-roles, shown-users}
+use Rattle.text.specs.Written.{WrittenSoFar, end-within, fits-as, front-fits, place-within, room-behind, then-same-length, then-written, with-rest, within-buffer, written-as}
 use Rattle.book.proofs.book.write_book.Statement.{statement}
 use Rattle.book.proofs.book.write_book.Tie as tie
 

@@ -4,10 +4,10 @@ use native.Mathlib.Omega.{arith}
 use borrow.Author.Needs.{needs}
 use Rattle.spec.specs.Limits.{role-limit}
 use Rattle.spec.specs.Sheet.{Sheet, sheet-of}
-use Rattle.sheet.specs.Rows.{row-words}
-use Rattle.checker.specs.CountSteps.{CountsAt}
+use Rattle.cells.specs.Rows.{row-words}
+use Rattle.form.specs.CountSteps.{CountsAt}
 use Rattle.checker.specs.BookRead.{FrontRead, no-counts-written, no-roles-written}
-use Rattle.checker.specs.CheckSteps.{zeros-blank, refused-for-form}
+use Rattle.checker.specs.Laws.CheckSteps.{zeros-blank, refused-for-form}
 use Rattle.checker.proofs.checking.check_book.Statement.{statement}
 use Rattle.checker.proofs.checking.check_book.Tie as tie
 

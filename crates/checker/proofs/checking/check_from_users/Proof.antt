@@ -8,12 +8,12 @@ use borrow.Author.Needs.{needs}
 use lib.ListN.{length, length-replicate}
 use Rattle.spec.specs.Limits.{user-limit, role-limit}
 use Rattle.spec.specs.Sheet.{Sheet, sheet-of}
-use Rattle.sheet.specs.Rows.{row-words, cell}
-use Rattle.checker.specs.Steps.{Reads}
-use Rattle.checker.specs.Pieces.{users-part}
-use Rattle.checker.specs.WitnessSteps.{WitnessPart}
+use Rattle.cells.specs.Rows.{row-words, cell}
+use Rattle.form.specs.Steps.{Reads}
+use Rattle.form.specs.Pieces.{users-part}
+use Rattle.form.specs.WitnessSteps.{WitnessPart}
 use Rattle.checker.specs.BookRead.{no-users-written, no-witness-written, something-said}
-use Rattle.checker.specs.CheckSteps.{zeros-blank, rows-within, users-within, refused-for-form, judged-as-read}
+use Rattle.checker.specs.Laws.CheckSteps.{zeros-blank, rows-within, users-within, refused-for-form, judged-as-read}
 use Rattle.checker.proofs.checking.check_from_users.Statement.{statement}
 use Rattle.checker.proofs.checking.check_from_users.Tie as tie
 

@@ -9,9 +9,9 @@ use lib.ListN.{length}
 use Rattle.spec.specs.Sheet.{Sheet, sheet-of, user-count, permission-count}
 use Rattle.spec.specs.Book.{Said}
 use Rattle.spec.specs.Refusal.{counts-agree, product-agrees, witness-agrees}
-use Rattle.sheet.specs.Rows.{row-words, row-bits}
-use Rattle.sheet.specs.AcceptedFacts.{Lawful, accepted-lawful}
-use Rattle.checker.specs.RoleLimit.{roles-fit-a-row, permissions-fit-a-row}
+use Rattle.cells.specs.Rows.{row-words, row-bits}
+use Rattle.rules.specs.AcceptedFacts.{Lawful, accepted-lawful}
+use Rattle.form.specs.Laws.RoleLimit.{roles-fit-a-row, permissions-fit-a-row}
 use Rattle.checker.specs.BookSays.{Says, counts-as-said, product-as-said, lines-as-said, witness-as-said, confirmed-as, judged-13, judged-14, judged-15, judged-right}
 use Rattle.checker.proofs.judgement.judge_book.Statement.{statement}
 use Rattle.checker.proofs.judgement.judge_book.Tie as tie

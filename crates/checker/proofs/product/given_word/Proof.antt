@@ -1,7 +1,7 @@
 -- `product::given_word`: the word has what the roles of the words below j give.
 use Prim.Native.Nat.{_-_, _≤_}
 use native.Mathlib.Omega.{arith}
-use Rattle.sheet.specs.Rows.{row-words}
+use Rattle.cells.specs.Rows.{row-words}
 use Rattle.checker.specs.GivenRoles.{GivenBelow, given-start, given-more, given-end, roles-have-rows}
 use Rattle.checker.proofs.product.given_word.Statement.{statement}
 use Rattle.checker.proofs.product.given_word.Tie as tie

@@ -4,8 +4,8 @@ use Prim.Native.Nat.{_+_, _*_, _<_}
 use native.Mathlib.Omega.{arith}
 use mathlib.Core.Path.{refl}
 use lib.ListN.{length}
-use Rattle.sheet.specs.Rows.{row-words}
-use Rattle.checker.specs.RoleLimit.{word-below}
+use Rattle.cells.specs.Rows.{row-words}
+use Rattle.form.specs.Laws.RoleLimit.{word-below}
 use Rattle.checker.specs.GivenRoles.{roles-masked}
 use Rattle.checker.proofs.product.roles_word.Statement.{statement}
 use Rattle.checker.proofs.product.roles_word.Tie as tie

@@ -4,8 +4,8 @@ use native.Mathlib.Omega.{arith}
 use mathlib.Core.Path.{sym}
 use borrow.Author.Needs.{needs}
 use lib.ListN.{length}
-use Rattle.sheet.specs.Rows.{row-words}
-use Rattle.checker.specs.RoleLimit.{word-below}
+use Rattle.cells.specs.Rows.{row-words}
+use Rattle.form.specs.Laws.RoleLimit.{word-below}
 use Rattle.checker.specs.ProductWords.{WordsAgree, words-start, words-more, words-end, word-differs}
 use Rattle.checker.proofs.product.row_agrees.Statement.{statement}
 use Rattle.checker.proofs.product.row_agrees.Tie as tie

@@ -5,11 +5,11 @@ use mathlib.Core.Path.{_≡_, refl, sym, _∙_}
 use mathlib.Core.Bool.{Bool, So}
 use borrow.Author.Tests.{not-true, not-false}
 use Rattle.spec.specs.Vocabulary.{every-below}
-use Rattle.bits.specs.BelowLaws.{missed-below-intro}
-use Rattle.bits.specs.StepLaws.{every-below-step}
+use Rattle.bits.specs.Laws.Below.{missed-below-intro}
+use Rattle.bits.specs.Laws.Step.{every-below-step}
 use Rattle.bits.specs.Truth.{and-intro}
-use Rattle.book.specs.RowsSaid.{roles-in}
-use Rattle.checker.specs.RoleLimit.{row-within}
+use Rattle.blocks.specs.RowsSaid.{roles-in}
+use Rattle.form.specs.Laws.RoleLimit.{row-within}
 use Rattle.checker.specs.ProductWords.{row-agrees}
 use Rattle.checker.proofs.product.rows_agree.Statement.{statement}
 use Rattle.checker.proofs.product.rows_agree.Tie as tie

@@ -5,9 +5,9 @@ use mathlib.Core.Path.{_≡_, refl, sym, _∙_}
 use mathlib.Core.Bool.{_||_, or-false}
 use lib.ListN.{length}
 use Rattle.bits.specs.Bit.{bit}
-use Rattle.bits.specs.BitLaws.{bit-or}
-use Rattle.sheet.specs.Rows.{row-words}
-use Rattle.checker.specs.RoleLimit.{word-below}
+use Rattle.bits.specs.Laws.Bit.{bit-or}
+use Rattle.cells.specs.Rows.{row-words}
+use Rattle.form.specs.Laws.RoleLimit.{word-below}
 use Rattle.checker.specs.GivenRoles.{GivenWithin, some-given, none-given, given-next, within-dropped}
 use Rattle.checker.proofs.product.with_given.Statement.{statement}
 use Rattle.checker.proofs.product.with_given.Tie as tie

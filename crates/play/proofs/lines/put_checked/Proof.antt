@@ -4,7 +4,7 @@ use Prim.Native.Nat.{ℕ}
 use mathlib.Core.List.{List, [], _∷_}
 use mathlib.Core.Path.{sym}
 use Rattle.spec.specs.Text.{ascii}
-use Rattle.book.specs.Written.{written-as}
+use Rattle.text.specs.Written.{written-as}
 use Rattle.play.specs.AnswerParts.{numbers-line}
 use Rattle.play.proofs.lines.put_checked.Statement.{statement}
 use Rattle.play.proofs.lines.put_checked.Tie as tie

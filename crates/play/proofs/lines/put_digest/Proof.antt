@@ -7,7 +7,7 @@ use mathlib.Core.Path.{_≡_, ap, _∙_}
 use lib.ListN.{take, length-append}
 use Rattle.spec.specs.Text.{Bytes, line-feed}
 use Rattle.io.specs.Digits.{digits}
-use Rattle.book.specs.Written.{WrittenSoFar, with-rest, room-behind, end-within, then-written, byte-within, then-byte, byte-same-length, written-as}
+use Rattle.text.specs.Written.{WrittenSoFar, with-rest, room-behind, end-within, then-written, byte-within, then-byte, byte-same-length, written-as}
 use Rattle.play.specs.Answers.{blank, digest-digits}
 use Rattle.play.specs.DigestLaws.{hex-width}
 use Rattle.play.proofs.lines.put_digest.Statement.{statement}

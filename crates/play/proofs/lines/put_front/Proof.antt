@@ -1,7 +1,7 @@
 -- `lines::put_front`: the numbers are written where the word ended.
 use borrow.Author.Needs.{needs}
 use native.Mathlib.Omega.{arith}
-use Rattle.book.specs.Written.{end-within, then-written, written-length}
+use Rattle.text.specs.Written.{end-within, then-written, written-length}
 use Rattle.play.specs.AnswerParts.{rest-length, behind-word}
 use Rattle.play.proofs.lines.put_front.Statement.{statement}
 use Rattle.play.proofs.lines.put_front.Tie as tie

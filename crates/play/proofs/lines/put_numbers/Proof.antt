@@ -5,8 +5,8 @@ use native.Mathlib.Nat.{le-trans}
 use native.Mathlib.Omega.{arith}
 use lib.ListN.{length, getD}
 use Rattle.spec.specs.Decimal.{decimal}
-use Rattle.book.specs.ListedWritten.{Listing, listing-ends, listing-starts, part-ready, part-within, part-written}
-use Rattle.book.specs.Written.{room-behind, within-buffer}
+use Rattle.cell_text.specs.Laws.ListedWritten.{Listing, listing-ends, listing-starts, part-ready, part-within, part-written}
+use Rattle.text.specs.Written.{room-behind, within-buffer}
 use Rattle.play.specs.AnswerParts.{behind-blank, numbers-text, number-most, numbers-room}
 use Rattle.play.proofs.lines.put_numbers.Statement.{statement}
 use Rattle.play.proofs.lines.put_numbers.Tie as tie

@@ -3,7 +3,7 @@ use borrow.Author.Needs.{needs}
 use native.Mathlib.Omega.{arith}
 use mathlib.Core.List.{[], _∷_}
 use Rattle.spec.specs.Text.{line-feed}
-use Rattle.book.specs.Written.{WrittenSoFar, byte-within, then-byte}
+use Rattle.text.specs.Written.{WrittenSoFar, byte-within, then-byte}
 use Rattle.play.specs.AnswerParts.{front-text, behind-front}
 use Rattle.play.proofs.lines.put_numbers_line.Statement.{statement}
 use Rattle.play.proofs.lines.put_numbers_line.Tie as tie

@@ -6,7 +6,7 @@ use mathlib.Core.List.{List, [], _∷_, _++_}
 use mathlib.Core.Path.{sym}
 use Rattle.spec.specs.Text.{Bytes, ascii, line-feed}
 use Rattle.session.specs.Said.{state-said}
-use Rattle.book.specs.Written.{WrittenSoFar, end-within, then-written, written-length, written-as}
+use Rattle.text.specs.Written.{WrittenSoFar, end-within, then-written, written-length, written-as}
 use Rattle.play.specs.Answers.{blank, state-word}
 use Rattle.play.specs.AnswerParts.{front-text, rest-length, behind-front, line-with-last, state-room}
 use Rattle.play.proofs.lines.put_searched.Statement.{statement}

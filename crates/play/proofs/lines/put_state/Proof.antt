@@ -7,7 +7,7 @@ use Rattle.session.specs.Said.{state-said}
 use Rattle.session.specs.declared.answers.Named.{Named}
 use Rattle.session.specs.declared.answers.Named.the-variants as named
 use Rattle.roles.specs.declared.standing.Standing.{Standing as StandingValue}
-use Rattle.book.specs.Written.{written-as}
+use Rattle.text.specs.Written.{written-as}
 use Rattle.play.specs.Answers.{blank, state-word}
 use Rattle.play.proofs.lines.put_state.Statement.{statement}
 use Rattle.play.proofs.lines.put_state.Tie as tie

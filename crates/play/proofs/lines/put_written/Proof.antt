@@ -6,7 +6,7 @@ use mathlib.Core.List.{[], _∷_, _++_}
 use mathlib.Core.Path.{sym, ap}
 use Rattle.spec.specs.Text.{Bytes, ascii, line-feed}
 use Rattle.io.specs.Digits.{digits}
-use Rattle.book.specs.Written.{Written, WrittenSoFar, rest-from, end-within, then-written, written-length, written-as}
+use Rattle.text.specs.Written.{Written, WrittenSoFar, rest-from, end-within, then-written, written-length, written-as}
 use Rattle.play.specs.Answers.{blank, digest-digits, digest}
 use Rattle.play.specs.AnswerParts.{front-text, rest-length, behind-front, line-with-last}
 use Rattle.play.proofs.lines.put_written.Statement.{statement}

@@ -1,6 +1,6 @@
 -- `say::checked`: the count of what was put is within the buffer that holds it.
 use borrow.Author.Needs.{needs}
-use Rattle.porvuund.specs.Front.{count-within, front-counted}
+use Rattle.porvuund.specs.Laws.Front.{count-within, front-counted}
 use Rattle.play.proofs.say.checked.Statement.{statement}
 use Rattle.play.proofs.say.checked.Tie as tie
 

@@ -1,6 +1,6 @@
 -- `say::no_call`: the count of what was put is within the buffer that holds it.
 use borrow.Author.Needs.{needs}
-use Rattle.porvuund.specs.Front.{count-within, front-counted}
+use Rattle.porvuund.specs.Laws.Front.{count-within, front-counted}
 use Rattle.play.proofs.say.no_call.Statement.{statement}
 use Rattle.play.proofs.say.no_call.Tie as tie
 

@@ -6,7 +6,7 @@ use mathlib.Core.Bool.{So}
 use mathlib.Core.List.{[]}
 use lib.ListN.{length, getD, drop, drop-of-length-le}
 use Rattle.spec.specs.Decimal.{is-digit}
-use Rattle.sheet.specs.ByteLaws.{between-intro, between-low, between-high}
+use Rattle.text.specs.Laws.Byte.{between-intro, between-low, between-high}
 use Rattle.porvuund.specs.BudgetRead.{budget-cap, digits-read, digits-next-at, digits-off-at}
 use Rattle.porvuund.proofs.budget.digits_of.Statement.{statement}
 use Rattle.porvuund.proofs.budget.digits_of.Tie as tie

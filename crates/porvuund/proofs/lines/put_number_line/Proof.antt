@@ -4,7 +4,7 @@ use native.Mathlib.Omega.{arith}
 use mathlib.Core.List.{[], _∷_}
 use Rattle.spec.specs.Text.{Bytes, line-feed}
 use Rattle.spec.specs.Decimal.{decimal}
-use Rattle.book.specs.Written.{WrittenSoFar, front-fits, byte-within, then-byte}
+use Rattle.text.specs.Written.{WrittenSoFar, front-fits, byte-within, then-byte}
 use Rattle.porvuund.proofs.lines.put_number_line.Statement.{statement}
 use Rattle.porvuund.proofs.lines.put_number_line.Tie as tie
 

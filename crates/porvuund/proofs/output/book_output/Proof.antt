@@ -6,9 +6,9 @@ use mathlib.Core.List.{[], _∷_}
 use lib.ListN.{length}
 use Rattle.spec.specs.Limits.{book-limit}
 use Rattle.spec.specs.Program.{program-buffer, budget-of}
-use Rattle.book.specs.Written.{written-as}
+use Rattle.text.specs.Written.{written-as}
 use Rattle.porvuund.specs.OneShot.{Books, book-said}
-use Rattle.porvuund.specs.Output.{output-written, output-refused}
+use Rattle.porvuund.specs.Laws.Output.{output-written, output-refused}
 use Rattle.porvuund.specs.Lines.{number-line-length}
 use Rattle.porvuund.proofs.output.book_output.Statement.{statement}
 use Rattle.porvuund.proofs.output.book_output.Tie as tie

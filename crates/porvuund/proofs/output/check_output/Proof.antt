@@ -3,7 +3,7 @@ use borrow.Author.Needs.{needs}
 use native.Mathlib.Omega.{arith}
 use mathlib.Core.Path.{_≡_}
 use lib.ListN.{length}
-use Rattle.book.specs.Written.{written-as}
+use Rattle.text.specs.Written.{written-as}
 use Rattle.porvuund.specs.CheckOutput.{confirmed-line, refused-line}
 use Rattle.porvuund.specs.Lines.{number-line-length, pair-line-length}
 use Rattle.porvuund.proofs.output.check_output.Statement.{statement}

@@ -3,9 +3,9 @@
 use Prim.Native.Nat.{_+_, _≤_, _-_}
 use native.Mathlib.Omega.{arith}
 use Rattle.spec.specs.Limits.{grant-limit}
-use Rattle.grants.specs.Log.{log-of}
+use Rattle.verdict.specs.Log.{log-of}
 use Rattle.roles.specs.CellClasses.{classes-in}
-use Rattle.roles.specs.GoingBack.{GoingBack, going-back-starts, going-back-on, going-back-ends}
+use Rattle.roles.specs.Laws.GoingBack.{GoingBack, going-back-starts, going-back-on, going-back-ends}
 use Rattle.roles.proofs.classes.all_classes.Statement.{statement}
 use Rattle.roles.proofs.classes.all_classes.Tie as tie
 

@@ -5,10 +5,10 @@ use native.Mathlib.Omega.{arith}
 use mathlib.Core.Path.{_≡_}
 use lib.ListN.{getD}
 use Rattle.spec.specs.Limits.{grant-limit, user-limit}
-use Rattle.sheet.specs.Rows.{row-words}
-use Rattle.grants.specs.CellPlaces.{cell-limit}
+use Rattle.cells.specs.Rows.{row-words}
+use Rattle.cells.specs.CellPlaces.{cell-limit}
 use Rattle.roles.specs.CellClasses.{ClassAt, paired-in}
-use Rattle.roles.specs.CellClassLaws.{kernel-grant-written}
+use Rattle.roles.specs.Laws.CellClass.{kernel-grant-written}
 use Rattle.roles.proofs.classes.place_kernel.Statement.{statement}
 use Rattle.roles.proofs.classes.place_kernel.Tie as tie
 

@@ -2,8 +2,8 @@
 use native.Mathlib.Omega.{arith}
 use borrow.Author.Needs.{needs}
 use Rattle.spec.specs.Limits.{user-limit}
-use Rattle.sheet.specs.Rows.{row-words}
-use Rattle.roles.specs.CellClassLaws.{single-written, tied-written}
+use Rattle.cells.specs.Rows.{row-words}
+use Rattle.roles.specs.Laws.CellClass.{single-written, tied-written}
 use Rattle.roles.proofs.classes.put_back.Statement.{statement}
 use Rattle.roles.proofs.classes.put_back.Tie as tie
 

@@ -7,10 +7,10 @@ use Rattle.spec.specs.Limits.{grant-limit, user-limit}
 use Rattle.spec.specs.Reduction.{reduction}
 use Rattle.spec.specs.Cover.{used}
 use Rattle.spec.specs.Roles.{classes-of}
-use Rattle.sheet.specs.Rows.{row-words}
-use Rattle.grants.specs.CellPlaces.{cell-limit}
-use Rattle.roles.specs.CellClassLaws.{no-classes}
-use Rattle.roles.specs.RolesInputLaws.{kernel-below, removed-below, partner-below, all-roomy, all-listed, all-below, all-users-below, classes-below, roles-few, all-class-at, roles-belong}
+use Rattle.cells.specs.Rows.{row-words}
+use Rattle.cells.specs.CellPlaces.{cell-limit}
+use Rattle.roles.specs.Laws.CellClass.{no-classes}
+use Rattle.roles.specs.Laws.RolesInput.{kernel-below, removed-below, partner-below, all-roomy, all-listed, all-below, all-users-below, classes-below, roles-few, all-class-at, roles-belong}
 use Rattle.roles.proofs.matrices.roles_of.Statement.{statement}
 use Rattle.roles.proofs.matrices.roles_of.Tie as tie
 

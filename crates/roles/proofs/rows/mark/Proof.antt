@@ -1,8 +1,8 @@
 -- `roles::mark`: the position is put into the word where the cell stands, so that cell is set and no other changes.
 use native.Mathlib.Omega.{arith}
 use borrow.Author.Needs.{needs}
-use Rattle.sheet.specs.Rows.{row-words}
-use Rattle.sheet.specs.CellLaws.{cell-set}
+use Rattle.cells.specs.Rows.{row-words}
+use Rattle.cells.specs.CellLaws.{cell-set}
 use Rattle.roles.proofs.rows.mark.Statement.{statement}
 use Rattle.roles.proofs.rows.mark.Tie as tie
 

@@ -5,8 +5,8 @@ use native.Mathlib.Omega.{arith}
 use mathlib.Core.Path.{_≡_, sym, _∙_}
 use lib.ListN.{length, getD, length-replicate}
 use Rattle.spec.specs.Limits.{grant-limit, user-limit}
-use Rattle.sheet.specs.Rows.{row-words, row-bits}
-use Rattle.grants.specs.CellPlaces.{cell-words, cell-limit}
+use Rattle.cells.specs.Rows.{row-words, row-bits}
+use Rattle.cells.specs.CellPlaces.{cell-words, cell-limit}
 use Rattle.roles.specs.CellClasses.{paired-in}
 use Rattle.roles.specs.RoleMatrices.{role-words, CellsShow, has-role, gives-permission, user-word-below, permission-of-cell-below, role-word-below, no-cells, has-role-next, gives-permission-next}
 use Rattle.roles.proofs.rows.role_rows.Statement.{statement}

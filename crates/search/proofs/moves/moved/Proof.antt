@@ -8,8 +8,8 @@ use borrow.Author.Needs.{needs}
 use lib.ListN.{getD}
 use Rattle.search.specs.Marks.{mark-limit}
 use Rattle.search.specs.Lent.{closed, took-back, put, put-last}
-use Rattle.search.specs.Moves.{depth-le-limit, class-below-limit, tried, end-within-limit, room-below-limit}
-use Rattle.search.specs.TrailLaws.{trail-used-pos}
+use Rattle.search.specs.Laws.Moves.{depth-le-limit, class-below-limit, tried, end-within-limit, room-below-limit}
+use Rattle.search.specs.Laws.Trail.{trail-used-pos}
 use Rattle.search.proofs.moves.moved.Statement.{statement}
 use Rattle.search.proofs.moves.moved.Tie as tie
 

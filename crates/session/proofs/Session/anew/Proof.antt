@@ -5,8 +5,8 @@ use mathlib.Core.Path.{_≡_, refl}
 use borrow.Author.Needs.{needs}
 use lib.ListN.{length}
 use Rattle.spec.specs.Limits.{sheet-limit}
-use Rattle.session.specs.Anew.{first-class-below, held-of, Anew, view-anew, holds-anew}
-use Rattle.session.specs.Loading.{unrefused-short}
+use Rattle.session.specs.Laws.Anew.{first-class-below, held-of, Anew, view-anew, holds-anew}
+use Rattle.session.specs.Laws.Loading.{unrefused-short}
 use Rattle.session.specs.Prepared.{PreparedFor}
 use Rattle.session.proofs.Session.anew.Statement.{statement}
 use Rattle.session.proofs.Session.anew.Tie as tie

@@ -9,7 +9,7 @@ use Rattle.spec.specs.Roles.{start-of}
 use Rattle.spec.specs.Calls.{LoadAnswer, load-counts}
 use Rattle.session.specs.Said.{load-said}
 use Rattle.session.specs.CodeSession.{text-in}
-use Rattle.session.specs.Loading.{refused-loads, accepted-loads, text-loaded}
+use Rattle.session.specs.Laws.Loading.{refused-loads, accepted-loads, text-loaded}
 use Rattle.session.proofs.Session.load.Statement.{statement}
 use Rattle.session.proofs.Session.load.Tie as tie
 

@@ -1,6 +1,6 @@
 -- `Session::ran`: the search of the table's kernel is that of the sheet's, and above the limit it makes no step (`ran-in`).
 use borrow.Author.Needs.{needs}
-use Rattle.session.specs.MovedOn.{ran-in}
+use Rattle.session.specs.Laws.MovedOn.{ran-in}
 use Rattle.session.proofs.Session.ran.Statement.{statement}
 use Rattle.session.proofs.Session.ran.Tie as tie
 

@@ -5,7 +5,7 @@ use borrow.Author.Needs.{needs}
 use borrow.Author.Tests.{not-true, not-false}
 use Rattle.spec.specs.Calls.{SearchAnswer}
 use Rattle.session.specs.Said.{search-said}
-use Rattle.session.specs.SearchedHeld.{searches-nothing, searches-held}
+use Rattle.session.specs.Laws.SearchedHeld.{searches-nothing, searches-held}
 use Rattle.session.proofs.Session.search.Statement.{statement}
 use Rattle.session.proofs.Session.search.Tie as tie
 

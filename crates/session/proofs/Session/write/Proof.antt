@@ -8,10 +8,10 @@ use Rattle.spec.specs.Sheet.{sheet-of}
 use Rattle.session.specs.Said.{write-said}
 use Rattle.session.specs.CodeSession.{text-in, state-in, Holds}
 use Rattle.session.specs.Counted.{CountsIn}
-use Rattle.session.specs.CountsHeld.{few-roles-held, counts-held}
-use Rattle.session.specs.BestHeld.{BelongsIn, best-held, best-belongs}
-use Rattle.session.specs.BookHeld.{witness-cells-granted, room-for-roles, book-held}
-use Rattle.session.specs.WritesHeld.{writes-nothing, writes-held}
+use Rattle.session.specs.Laws.CountsHeld.{few-roles-held, counts-held}
+use Rattle.session.specs.Laws.BestHeld.{BelongsIn, best-held, best-belongs}
+use Rattle.session.specs.Laws.BookHeld.{witness-cells-granted, room-for-roles, book-held}
+use Rattle.session.specs.Laws.WritesHeld.{writes-nothing, writes-held}
 use Rattle.session.specs.declared.Session.{Session as CodeSession}
 use Rattle.session.proofs.Session.write.Statement.{statement}
 use Rattle.session.proofs.Session.write.Tie as tie

@@ -7,7 +7,7 @@ use native.Mathlib.Numerals.{add-one}
 use mathlib.Core.Path.{_≡_, refl, _∙_}
 use lib.ListN.{length, length-set}
 use Rattle.spec.specs.Limits.{search-limit}
-use Rattle.session.specs.ClassesCopied.{ClassesCopied, none-copied, one-copied, copied-placement, placed-latest}
+use Rattle.session.specs.Laws.ClassesCopied.{ClassesCopied, none-copied, one-copied, copied-placement, placed-latest}
 use Rattle.session.proofs.classes.narrowed.Statement.{statement}
 use Rattle.session.proofs.classes.narrowed.Tie as tie
 

@@ -1,5 +1,5 @@
 -- `counts_of`: the roles are the best placement's classes and the singles, no more than permissions, and the counts made of them are the session's.
-use Rattle.session.specs.CountsHeld.{few-roles-held, counts-held}
+use Rattle.session.specs.Laws.CountsHeld.{few-roles-held, counts-held}
 use Rattle.session.proofs.counts.counts_of.Statement.{statement}
 use Rattle.session.proofs.counts.counts_of.Tie as tie
 

@@ -5,8 +5,8 @@ use mathlib.Core.Path.{_≡_}
 use lib.ListN.{length}
 use Rattle.spec.specs.Limits.{grant-limit}
 use Rattle.spec.specs.Sheet.{sheet-of}
-use Rattle.grants.specs.KernelArray.{KernelListed}
-use Rattle.session.specs.Preparing.{laid-lawful, laid-few-users, laid-shown, laid-shows, kernel-roomy, kernel-cells, kernel-listed, kernel-counted, kernel-placed}
+use Rattle.cells.specs.KernelArray.{KernelListed}
+use Rattle.session.specs.Laws.Preparing.{laid-lawful, laid-few-users, laid-shown, laid-shows, kernel-roomy, kernel-cells, kernel-listed, kernel-counted, kernel-placed}
 use Rattle.session.proofs.prepared.prepare.Statement.{statement}
 use Rattle.session.proofs.prepared.prepare.Tie as tie
 

@@ -1,6 +1,6 @@
 -- `session::prepared::witness_found`: the cells logged as single are those of the singles of every sheet that the rows show.
 use borrow.Author.Needs.{needs}
-use Rattle.session.specs.Preparing.{reduced-to, reduced-rows}
+use Rattle.session.specs.Laws.Preparing.{reduced-to, reduced-rows}
 use Rattle.session.proofs.prepared.witness_found.Statement.{statement}
 use Rattle.session.proofs.prepared.witness_found.Tie as tie
 

@@ -11,11 +11,11 @@ use lib.ListN.{length, getD, length-set}
 use Rattle.spec.specs.Limits.{permission-limit, user-limit}
 use Rattle.spec.specs.Text.{comma, line-feed}
 use Rattle.bits.specs.Truth.{not-both}
-use Rattle.sheet.specs.Stands.{stands-found}
+use Rattle.sheet.specs.Laws.Stands.{stands-found}
 use Rattle.sheet.specs.Spelled.{NameAt, name-read}
-use Rattle.sheet.specs.SpelledFound.{behind}
-use Rattle.sheet.specs.UserLineFound.{byte-found}
-use Rattle.sheet.specs.FirstLineFound.{NamesLeft, user-found, names-left-start, name-below, next-name, all-read, feed-left, names-left-next}
+use Rattle.sheet.specs.Laws.SpelledFound.{behind}
+use Rattle.sheet.specs.Laws.UserLineFound.{byte-found}
+use Rattle.sheet.specs.Laws.FirstLineFound.{NamesLeft, user-found, names-left-start, name-below, next-name, all-read, feed-left, names-left-next}
 use Rattle.sheet.specs.FirstLine.{NamesRead, names-start, names-more, first-line-stands}
 use Rattle.sheet.proofs.first_line.read_first_line.Statement.{statement}
 use Rattle.sheet.proofs.first_line.read_first_line.Tie as tie

@@ -11,10 +11,10 @@ use Rattle.spec.specs.Sheet.{sheet-of}
 use Rattle.spec.specs.Rules.{user-lines}
 use Rattle.spec.specs.Refusal.{accepted}
 use Rattle.bits.specs.Truth.{not-both}
-use Rattle.sheet.specs.AcceptedFacts.{accepted-short}
+use Rattle.rules.specs.AcceptedFacts.{accepted-short}
 use Rattle.sheet.specs.FirstLine.{FirstLineStands}
 use Rattle.sheet.specs.KeptSheet.{Notes, LinesStand}
-use Rattle.sheet.specs.KeptFound.{accepted-names, accepted-text, accepted-fit, accepted-users, accepted-grants}
+use Rattle.sheet.specs.Laws.KeptFound.{accepted-names, accepted-text, accepted-fit, accepted-users, accepted-grants}
 use Rattle.sheet.proofs.kept.read_lines.Statement.{statement}
 use Rattle.sheet.proofs.kept.read_lines.Tie as tie
 

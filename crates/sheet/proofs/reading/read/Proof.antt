@@ -8,9 +8,9 @@ use Rattle.spec.specs.Text.{Bytes}
 use Rattle.spec.specs.Refusal.{refusal}
 use Rattle.bits.specs.Truth.{not-both}
 use Rattle.sheet.specs.KeptSheet.{Notes, notes-of, new-sheet-room}
-use Rattle.sheet.specs.KeptRead.{layout-of, KeptAs}
+use Rattle.sheet.specs.Laws.KeptRead.{layout-of, KeptAs}
 use Rattle.sheet.specs.OnlyNames.{refused-as}
-use Rattle.sheet.specs.KeptFound.{kept-inside, kept-as, unrefused-kept}
+use Rattle.sheet.specs.Laws.KeptFound.{kept-inside, kept-as, unrefused-kept}
 use Rattle.sheet.proofs.reading.read.Statement.{statement}
 use Rattle.sheet.proofs.reading.read.Tie as tie
 

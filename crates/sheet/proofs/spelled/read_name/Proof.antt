@@ -2,9 +2,9 @@
 use borrow.Author.Needs.{needs}
 use native.Mathlib.Omega.{arith}
 use mathlib.Core.Path.{_∙_, ap}
-use Rattle.sheet.specs.FieldLaws.{FieldStep, field-step}
+use Rattle.refusal.specs.FieldLaws.{FieldStep, field-step}
 use Rattle.sheet.specs.Spelled.{field-ends}
-use Rattle.sheet.specs.declared.cursor.FieldRead.{FieldRead}
+use Rattle.text.specs.declared.cursor.FieldRead.{FieldRead}
 use Rattle.sheet.proofs.spelled.read_name.Statement.{statement}
 use Rattle.sheet.proofs.spelled.read_name.Tie as tie
 

@@ -5,10 +5,10 @@ use mathlib.Core.Path.{refl, sym, _∙_}
 use borrow.Author.Tests.{not-true, not-false}
 use borrow.Author.Needs.{needs}
 use Rattle.bits.specs.Truth.{not-both}
-use Rattle.sheet.specs.CellsWord.{CellsIn}
+use Rattle.cell_text.specs.CellsWord.{CellsIn}
 use Rattle.sheet.specs.Spelled.{NameAt, name-read}
 use Rattle.sheet.specs.UserLine.{no-line, line-stands}
-use Rattle.sheet.specs.UserLineFound.{line-name-found, line-cells-stand, line-feed-found, behind-line}
+use Rattle.sheet.specs.Laws.UserLineFound.{line-name-found, line-cells-stand, line-feed-found, behind-line}
 use Rattle.sheet.proofs.user_line.read_user_line.Statement.{statement}
 use Rattle.sheet.proofs.user_line.read_user_line.Tie as tie
 

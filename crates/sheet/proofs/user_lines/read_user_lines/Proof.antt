@@ -7,12 +7,12 @@ use borrow.Author.Tests.{not-true, not-false}
 use lib.ListN.{length}
 use Rattle.spec.specs.Limits.{user-limit}
 use Rattle.bits.specs.Truth.{not-both}
-use Rattle.bits.specs.CountLaws.{count-below-le}
+use Rattle.bits.specs.Laws.Count.{count-below-le}
 use Rattle.bits.specs.Bit.{bit, word-bits}
 use Rattle.sheet.specs.UserLine.{LineStands}
 use Rattle.sheet.specs.UserLines.{LinesRead}
-use Rattle.sheet.specs.UserLinesFound.{LinesLeft, few-left, left-next, line-found}
-use Rattle.sheet.specs.UserLinesLaws.{Sizes, lines-start, few-ones, lines-more, sizes-kept}
+use Rattle.sheet.specs.Laws.UserLinesFound.{LinesLeft, few-left, left-next, line-found}
+use Rattle.sheet.specs.Laws.UserLines.{Sizes, lines-start, few-ones, lines-more, sizes-kept}
 use Rattle.sheet.proofs.user_lines.read_user_lines.Statement.{statement}
 use Rattle.sheet.proofs.user_lines.read_user_lines.Tie as tie
 

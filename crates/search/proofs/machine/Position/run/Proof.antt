@@ -10,8 +10,8 @@ use lib.ListN.{length}
 use Rattle.search.specs.Marks.{mark-limit}
 use Rattle.search.specs.View.{kernel-given, view}
 use Rattle.search.specs.Lent.{at-position, Ready}
-use Rattle.search.specs.Moves.{depth-le-limit, class-below-limit}
-use Rattle.search.specs.Running.{Running, running-none, running-more, running-spent, running-finished}
+use Rattle.search.specs.Laws.Moves.{depth-le-limit, class-below-limit}
+use Rattle.search.specs.Laws.Running.{Running, running-none, running-more, running-spent, running-finished}
 use Rattle.search.proofs.machine.Position.run.Statement.{statement}
 use Rattle.search.proofs.machine.Position.run.Tie as tie
 

@@ -1,7 +1,7 @@
 -- `Marks::has`: the word that has the position tells.
 use mathlib.Core.Path.{sym, _∙_}
 use borrow.Author.Needs.{needs}
-use Rattle.search.specs.MarkLaws.{marked-low, marked-high}
+use Rattle.search.specs.Laws.Mark.{marked-low, marked-high}
 use Rattle.search.proofs.marks.Marks.has.Statement.{statement}
 use Rattle.search.proofs.marks.Marks.has.Tie as tie
 

@@ -2,7 +2,7 @@
 use mathlib.Core.Path.{refl}
 use mathlib.Core.Bool.{_||_, or-false}
 use borrow.Author.Needs.{needs}
-use Rattle.search.specs.MarkLaws.{changed-low, changed-high}
+use Rattle.search.specs.Laws.Mark.{changed-low, changed-high}
 use Rattle.search.proofs.marks.Marks.with.Statement.{statement}
 use Rattle.search.proofs.marks.Marks.with.Tie as tie
 

@@ -1,8 +1,8 @@
 -- `session::prepared::Prepared::none`: every number is 0, and every array has only zeros.
 use mathlib.Core.Path.{refl}
 use Rattle.spec.specs.Limits.{user-limit, grant-limit}
-use Rattle.sheet.specs.Rows.{row-words}
-use Rattle.grants.specs.TableWords.{table-row}
+use Rattle.cells.specs.Rows.{row-words}
+use Rattle.table.specs.TableWords.{table-row}
 use Rattle.session.proofs.prepared.Prepared.none.Statement.{statement}
 use Rattle.session.proofs.prepared.Prepared.none.Tie as tie
 

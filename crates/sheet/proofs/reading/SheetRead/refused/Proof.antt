@@ -1,7 +1,7 @@
 -- `SheetRead::refused`: each part is written as it is to be.
 use mathlib.Core.Path.{refl}
 use Rattle.spec.specs.Limits.{user-limit}
-use Rattle.sheet.specs.Rows.{row-words}
+use Rattle.cells.specs.Rows.{row-words}
 use Rattle.sheet.proofs.reading.SheetRead.refused.Statement.{statement}
 use Rattle.sheet.proofs.reading.SheetRead.refused.Tie as tie
 

@@ -1,0 +1,44 @@
+-- `user_block::users_length`: the word, the role names, the line feed, and the lines.
+use borrow.Author.Needs.{needs}
+use native.Mathlib.Omega.{arith}
+use mathlib.Core.List.{[]}
+use mathlib.Core.Path.{refl, sym}
+use Rattle.spec.specs.Text.{ascii}
+use Rattle.spec.specs.Sheet.{sheet-of}
+use Rattle.blocks.specs.LengthsMeasured.{block-measured}
+use Rattle.decimal.specs.Measured.{measured-as}
+use Rattle.blocks.specs.ShownLaws.{users-parts}
+use Rattle.blocks.proofs.user_block.users_length.Statement.{statement}
+use Rattle.blocks.proofs.user_block.users_length.Tie as tie
+
+role-fields-length-requires : tie.Need-role-fields-length-requires
+role-fields-length-requires c κs = search needs
+
+add-heading : tie.Need-add-heading
+add-heading c = search needs
+
+add-heading-2 : tie.Need-add-heading-2
+add-heading-2 c = search needs
+
+user-lines-length-requires : tie.Need-user-lines-length-requires
+user-lines-length-requires c κs = search needs
+
+add-result : tie.Need-add-result
+add-result c = omega (arith, c .before .role-fields-length .ensures .small, c .user-lines-length .ensures [] .small)
+
+returns : tie.Need-returns
+returns c =
+    let s = (c .before .before .before .before) in
+    λ has. measured-as (sym (users-parts (sheet-of (s .args .s .now)) has (s .args .roles) (s .pre .0 .user-total)))
+    (block-measured (ascii "user") _ _ 4 _ _ refl (c .before .role-fields-length .ensures) (c .user-lines-length .ensures has) (omega arith))
+
+pub users-length-spec : {M : Type 1} → statement M
+users-length-spec =
+    tie.close
+    (tie.spec
+    role-fields-length-requires
+    add-heading
+    add-heading-2
+    user-lines-length-requires
+    add-result
+    returns)

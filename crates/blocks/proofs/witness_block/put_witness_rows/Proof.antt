@@ -1,0 +1,85 @@
+-- `witness_block::put_witness_rows`: where the rows below i are written, a turn writes row i behind them.
+use borrow.Author.Needs.{needs}
+use Prim.Native.Nat.{_-_}
+use native.Mathlib.Omega.{arith}
+use Rattle.spec.specs.Sheet.{sheet-of}
+use Rattle.names.specs.Laws.LaidOut.{permissions-at, users-at}
+use Rattle.cells.specs.Rows.{row-words}
+use Rattle.blocks.specs.Laws.Laid.{user-counted}
+use Rattle.cell_text.specs.Laws.ListedWritten.{Listing, listing-ends, listing-starts, part-ready, part-within, part-written}
+use Rattle.blocks.specs.WitnessText.{witness-row}
+use Rattle.text.specs.Written.{room-behind, within-buffer}
+use Rattle.blocks.proofs.witness_block.put_witness_rows.Statement.{statement}
+use Rattle.blocks.proofs.witness_block.put_witness_rows.Tie as tie
+
+abbrev Inv-loop : tie.InvT-loop
+Inv-loop out₀ s witness users permissions «user_from» «user_to» «permission_from» «permission_to» at₀ i₀ out at i = Listing users (witness-row (sheet-of s) witness permissions) i out₀ out at
+
+abbrev μ-loop : tie.MeasureT-loop
+μ-loop out₀ s witness users permissions «user_from» «user_to» «permission_from» «permission_to» at₀ i₀ out at i = users - i
+
+loop-holds : tie.Need-loop-holds Inv-loop μ-loop
+loop-holds c = listing-starts _ _ (c .before .before .before .before .before .before .before .before .before .pre .1)
+
+sub-put-witness-row : tie.Need-sub-put-witness-row Inv-loop μ-loop
+sub-put-witness-row c = within-buffer (part-ready (c .before .loop .inv) (c .loop-test .taken))
+
+part-put-witness-row-start : tie.Need-part-put-witness-row-start Inv-loop μ-loop
+part-put-witness-row-start c = within-buffer (part-ready (c .before .loop .inv) (c .loop-test .taken))
+
+part-put-witness-row-end : tie.Need-part-put-witness-row-end Inv-loop μ-loop
+part-put-witness-row-end c = search needs
+
+put-witness-row-requires : tie.Need-put-witness-row-requires Inv-loop μ-loop
+unfolding row-words
+put-witness-row-requires c κs =
+    let s = c .before .before .before .before .before .before .before .before .before .before .before .before .before .before .before .before in (
+      (
+        users-at (s .args .s .now) (s .args .layout) (s .pre .0 .0),
+        permissions-at (s .args .s .now) (s .args .layout) (s .pre .0 .0),
+        user-counted (s .pre .0 .0) (c .before .before .before .before .before .loop-test .taken),
+        omega (arith, s .pre .0 .0 .permission-total),
+        omega (arith, s .pre .0 .0 .user-total, s .pre .0 .1),
+      ),
+      room-behind (part-ready (c .before .before .before .before .before .before .loop .inv) (c .before .before .before .before .before .loop-test .taken)),
+    )
+
+add-at : tie.Need-add-at Inv-loop μ-loop
+add-at c =
+    let a = (c .before .before .before .before .before .before .before .before) in
+    omega (arith, part-within (a .before .loop .inv) (a .loop-test .taken) (c .before .before .put-witness-row .ensures))
+
+add-i : tie.Need-add-i Inv-loop μ-loop
+add-i c = omega arith
+
+loop-less : tie.Need-loop-less Inv-loop μ-loop
+loop-less c = omega arith
+
+loop-again : tie.Need-loop-again Inv-loop μ-loop
+loop-again c =
+    let a = (c .before .before .before .before .before .before .before .before) in
+    part-written (a .before .loop .inv) (a .loop-test .taken) (c .before .before .put-witness-row .ensures)
+
+same-length : tie.Need-same-length Inv-loop μ-loop
+same-length c = c .before .loop .inv .same-length
+
+returns : tie.Need-returns Inv-loop μ-loop
+returns c = listing-ends (c .before .loop .inv) (c .loop-test .left)
+
+pub put-witness-rows-spec : {M : Type 1} → statement M
+put-witness-rows-spec =
+    tie.close
+    (tie.spec
+    Inv-loop
+    μ-loop
+    loop-holds
+    sub-put-witness-row
+    part-put-witness-row-start
+    part-put-witness-row-end
+    put-witness-row-requires
+    add-at
+    add-i
+    loop-less
+    loop-again
+    same-length
+    returns)

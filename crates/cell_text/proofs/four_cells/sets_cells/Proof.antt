@@ -1,0 +1,58 @@
+-- `four_cells::sets_cells`: each position is kept alone, so that their sum fits a word.
+use borrow.Author.Needs.{needs}
+use Prim.Native.Nat.{_^_, _≤_}
+use native.Mathlib.Omega.{arith}
+use Rattle.bits.specs.Bit.{bit}
+use Rattle.cell_text.specs.FourRead.{one-if-small}
+use Rattle.cell_text.proofs.four_cells.sets_cells.Statement.{statement}
+use Rattle.cell_text.proofs.four_cells.sets_cells.Tie as tie
+
+first-small : (c : tie.After-kept-at) → c .kept-at .result ≤ 2 ^ 8
+first-small c = rw (c .kept-at .ensures) (omega (arith, one-if-small (bit (c .before .args .n) 8)))
+
+second-small : (c : tie.After-kept-at2) → c .kept-at2 .result ≤ 2 ^ 24
+second-small c = rw (c .kept-at2 .ensures) (omega (arith, one-if-small (bit (c .before .before .args .n) 24)))
+
+third-small : (c : tie.After-kept-at3) → c .kept-at3 .result ≤ 2 ^ 40
+third-small c = rw (c .kept-at3 .ensures) (omega (arith, one-if-small (bit (c .before .before .before .args .n) 40)))
+
+fourth-small : (c : tie.After-kept-at4) → c .kept-at4 .result ≤ 2 ^ 56
+fourth-small c = rw (c .kept-at4 .ensures) (omega (arith, one-if-small (bit (c .before .before .before .before .args .n) 56)))
+
+kept-at-requires : tie.Need-kept-at-requires
+kept-at-requires c κs = search needs
+
+kept-at-requires-2 : tie.Need-kept-at-requires-2
+kept-at-requires-2 c κs = search needs
+
+kept-at-requires-3 : tie.Need-kept-at-requires-3
+kept-at-requires-3 c κs = search needs
+
+kept-at-requires-4 : tie.Need-kept-at-requires-4
+kept-at-requires-4 c κs = search needs
+
+add-result : tie.Need-add-result
+add-result c = omega (arith, first-small (c .before .before .before), second-small (c .before .before))
+
+add-result-2 : tie.Need-add-result-2
+add-result-2 c = omega (arith, first-small (c .before .before .before), second-small (c .before .before), third-small (c .before))
+
+add-result-3 : tie.Need-add-result-3
+add-result-3 c = omega (arith, first-small (c .before .before .before), second-small (c .before .before), third-small (c .before), fourth-small c)
+
+returns : tie.Need-returns
+returns c =
+    rw (c .before .before .before .kept-at .ensures, c .before .before .kept-at2 .ensures, c .before .kept-at3 .ensures, c .kept-at4 .ensures)
+
+pub sets-cells-spec : {M : Type 1} → statement M
+sets-cells-spec =
+    tie.close
+    (tie.spec
+    kept-at-requires
+    kept-at-requires-2
+    kept-at-requires-3
+    kept-at-requires-4
+    add-result
+    add-result-2
+    add-result-3
+    returns)

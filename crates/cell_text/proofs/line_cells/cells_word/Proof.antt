@@ -1,0 +1,132 @@
+-- `line_cells::cells_word`: four by four the cells are read, then the loop reads each of those left over into the word (`CellsIn`). There are as many bytes as the cells take.
+use Prim.Native.Nat.{_+_, _-_, _*_, _/_, _≤_}
+use native.Mathlib.Omega.{arith}
+use mathlib.Core.Path.{_≡_, refl, sym, _∙_}
+use mathlib.Core.Bool.{false≢true, true≢false}
+use borrow.Author.Tests.{not-false}
+use lib.ListN.{length}
+use Rattle.bits.specs.Truth.{not-fails}
+use Rattle.cell_text.specs.CellsWord.{CellsIn}
+use Rattle.cell_text.specs.Laws.CellsWord.{cells-more, cells-off}
+use Rattle.cell_text.specs.Laws.FourRead.{stand-first}
+use Rattle.cell_text.proofs.line_cells.cells_word.Statement.{statement}
+use Rattle.cell_text.proofs.line_cells.cells_word.Tie as tie
+
+abbrev Inv-loop : tie.InvT-loop
+Inv-loop s at count word₀ i₀ word i = (i ≤ count) × (at + 2 * count ≤ length s) × CellsIn s at i word
+
+abbrev μ-loop : tie.MeasureT-loop
+μ-loop s at count word₀ i₀ word i = count - i
+
+sub-if1 : tie.Need-sub-if1 Inv-loop μ-loop
+sub-if1 c = omega arith
+
+mul-if1 : tie.Need-mul-if1 Inv-loop μ-loop
+mul-if1 c = omega arith
+
+returns : tie.Need-returns Inv-loop μ-loop
+returns c = record { good = λ p. absurd (false≢true p); off = λ f ones stand. omega (arith, stand .within); blank = λ f. refl }
+
+fours-word-requires : tie.Need-fours-word-requires Inv-loop μ-loop
+fours-word-requires c κs = (omega arith, omega arith)
+
+returns-2 : tie.Need-returns-2 Inv-loop μ-loop
+returns-2 c =
+    let read = c .before .before in
+    let start = read .before .before .before in
+    record {
+      good = λ p. absurd (false≢true p);
+      off = λ f ones stand.
+          read .fours-word .ensures .off (not-fails _ (c .if2 .taken)) ones (stand-first (4 * (start .args .count / 4)) (omega arith) stand);
+      blank = λ f. refl;
+    }
+
+mul-i : tie.Need-mul-i Inv-loop μ-loop
+mul-i c = omega arith
+
+loop-holds : tie.Need-loop-holds Inv-loop μ-loop
+loop-holds c =
+    let read = c .before .before in
+    (omega arith, omega arith, read .fours-word .ensures .good (not-false _ (c .if2 .left)))
+
+mul-place : tie.Need-mul-place Inv-loop μ-loop
+mul-place c = omega arith
+
+add-place : tie.Need-add-place Inv-loop μ-loop
+add-place c = omega arith
+
+add-cell : tie.Need-add-cell Inv-loop μ-loop
+add-cell c = omega arith
+
+shared-slice-read-cell : tie.Need-shared-slice-read-cell Inv-loop μ-loop
+shared-slice-read-cell c = omega arith
+
+shared-slice-read-is-cell : tie.Need-shared-slice-read-is-cell Inv-loop μ-loop
+shared-slice-read-is-cell c = omega arith
+
+is-cell-requires : tie.Need-is-cell-requires Inv-loop μ-loop
+is-cell-requires c κs = tt
+
+returns-3 : tie.Need-returns-3 Inv-loop μ-loop
+returns-3 c =
+    let loop = c .before .before .before .before .before .loop in
+    let start = c .before .before .before .before .before .before .before .before .before .before .before in
+    let fails = sym (c .before .is-cell .ensures) ∙ not-fails _ (c .if3 .taken) in
+    record {
+      good = λ p. absurd (false≢true p);
+      off = λ f. cells-off (start .args .s .now) (start .args .at) (loop .i) (start .args .count) (omega arith) fails;
+      blank = λ f. refl;
+    }
+
+with-cell-requires : tie.Need-with-cell-requires Inv-loop μ-loop
+with-cell-requires c κs = omega arith
+
+add-i : tie.Need-add-i Inv-loop μ-loop
+add-i c = omega arith
+
+loop-less : tie.Need-loop-less Inv-loop μ-loop
+loop-less c = omega arith
+
+loop-again : tie.Need-loop-again Inv-loop μ-loop
+loop-again c =
+    let loop = c .before .before .before .before .before .before .loop in
+    let start = c .before .before .before .before .before .before .before .before .before .before .before .before in
+    let stands = sym (c .before .before .is-cell .ensures) ∙ not-false _ (c .before .if3 .left) in (
+      omega arith,
+      omega arith,
+      cells-more (start .args .s .now) (start .args .at) (loop .i) (loop .word) (c .with-cell .result) (loop .inv .2) (omega arith) stands
+          (c .with-cell .ensures),
+    )
+
+returns-4 : tie.Need-returns-4 Inv-loop μ-loop
+returns-4 c =
+    let loop = c .before .loop in
+    let start = c .before .before .before .before .before .before .before in
+    let all : loop .i ≡ start .args .count = omega arith in
+    record { good = λ p. rw all at (loop .inv .2); off = λ f. absurd (true≢false f); blank = λ f. absurd (true≢false f) }
+
+pub cells-word-spec : {M : Type 1} → statement M
+cells-word-spec =
+    tie.close
+    (tie.spec
+    Inv-loop
+    μ-loop
+    sub-if1
+    mul-if1
+    returns
+    fours-word-requires
+    returns-2
+    mul-i
+    loop-holds
+    mul-place
+    add-place
+    add-cell
+    shared-slice-read-cell
+    shared-slice-read-is-cell
+    is-cell-requires
+    returns-3
+    with-cell-requires
+    add-i
+    loop-less
+    loop-again
+    returns-4)

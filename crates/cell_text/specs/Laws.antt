@@ -1,0 +1,6 @@
+-- The laws behind what contracts cite.
+pub mod ListedWritten
+pub mod NextSet
+pub mod CellsWritten
+pub mod CellsWord
+pub mod FourRead

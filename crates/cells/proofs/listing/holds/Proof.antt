@@ -1,0 +1,36 @@
+-- `cells::listing::holds`: the bit is read where the rows have the word; past them nobody holds anything.
+use borrow.Author.Needs.{needs}
+use native.Mathlib.Omega.{arith}
+use mathlib.Core.Path.{sym}
+use Rattle.cells.specs.Rows.{row-words}
+use Rattle.cells.specs.Laws.KernelFit.{unheld-past}
+use Rattle.cells.proofs.listing.holds.Statement.{statement}
+use Rattle.cells.proofs.listing.holds.Tie as tie
+
+mul-i : tie.Need-mul-i
+mul-i c = search needs
+
+add-i : tie.Need-add-i
+unfolding row-words
+add-i c = omega arith
+
+mul-has : tie.Need-mul-has
+mul-has c = search needs
+
+shared-slice-read-has : tie.Need-shared-slice-read-has
+shared-slice-read-has c = search needs
+
+has-requires : tie.Need-has-requires
+has-requires c κs = search needs
+
+returns : tie.Need-returns
+unfolding row-words
+returns c = c .has .ensures
+
+returns-2 : tie.Need-returns-2
+unfolding row-words
+returns-2 c = let a = c .before .before .before .args in sym (unheld-past (a .rows .now) (a .u .0) (a .p .0) (c .if1 .left))
+
+pub holds-spec : {M : Type 1} → statement M
+holds-spec =
+    tie.close (tie.spec mul-i add-i mul-has shared-slice-read-has has-requires returns returns-2)

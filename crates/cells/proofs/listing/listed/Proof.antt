@@ -1,0 +1,59 @@
+-- `cells::listing::listed`: the cells of the words passed stand in the array, as far as it has room.
+use Prim.Native.Nat.{_*_, _-_, _≤_}
+use native.Mathlib.Omega.{arith}
+use mathlib.Core.Path.{_≡_, refl}
+use Rattle.spec.specs.Limits.{user-limit, grant-limit}
+use Rattle.bits.specs.Bit.{word-bits}
+use Rattle.cells.specs.KernelList.{ListedTo, none-listed, all-listed}
+use Rattle.cells.specs.Rows.{row-words, row-bits}
+use Rattle.cells.proofs.listing.listed.Statement.{statement}
+use Rattle.cells.proofs.listing.listed.Tie as tie
+
+abbrev Inv-loop : tie.InvT-loop
+Inv-loop left users cells₀ size₀ i₀ cells size i = (i ≤ users * row-words) × ListedTo left (i * word-bits) cells size
+
+abbrev μ-loop : tie.MeasureT-loop
+μ-loop left users cells₀ size₀ i₀ cells size i = users * row-words - i
+
+loop-holds : tie.Need-loop-holds Inv-loop μ-loop
+unfolding grant-limit
+loop-holds c = (omega arith, none-listed _ grant-limit refl)
+
+mul-loop : tie.Need-mul-loop Inv-loop μ-loop
+unfolding user-limit
+mul-loop c = omega arith
+
+mul-list-word : tie.Need-mul-list-word Inv-loop μ-loop
+unfolding user-limit row-words
+mul-list-word c = omega arith
+
+element-copy-out-list-word : tie.Need-element-copy-out-list-word Inv-loop μ-loop
+unfolding user-limit row-words
+element-copy-out-list-word c = omega arith
+
+list-word-requires : tie.Need-list-word-requires Inv-loop μ-loop
+unfolding user-limit row-words
+list-word-requires c κs = omega arith
+
+add-i : tie.Need-add-i Inv-loop μ-loop
+unfolding user-limit row-words
+add-i c = omega arith
+
+loop-less : tie.Need-loop-less Inv-loop μ-loop
+unfolding row-words
+loop-less c = omega arith
+
+loop-again : tie.Need-loop-again Inv-loop μ-loop
+unfolding row-words
+loop-again c = (omega arith, c .list-word .ensures _ refl (c .before .before .before .before .loop .inv .1))
+
+returns : tie.Need-returns Inv-loop μ-loop
+unfolding row-bits row-words
+returns c =
+    let at = c .before .loop in
+    let e : at .i * word-bits ≡ c .before .before .args .users * row-bits = omega arith in
+    all-listed (c .before .before .pre .1) (rw e at (at .inv .1))
+
+pub listed-spec : {M : Type 1} → statement M
+listed-spec =
+    tie.close (tie.spec Inv-loop μ-loop loop-holds mul-loop mul-list-word element-copy-out-list-word list-word-requires add-i loop-less loop-again returns)

@@ -1,0 +1,12 @@
+-- Cells as rows of words: cells by number, sets of cells, and the cells of a set in order.
+pub mod Blank
+pub mod KernelArray
+pub mod KernelWalk
+pub mod KernelList
+pub mod CellSets
+pub mod CellPlaces
+pub mod Rows
+pub mod RowsRead
+pub mod CellAdded
+pub mod CellLaws
+pub mod Laws

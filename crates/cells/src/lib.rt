@@ -1,0 +1,14 @@
+// Cells as rows of words: cells by number, sets of cells, and the cells of a set in order.
+mod cell;
+mod listing;
+mod rows;
+
+pub use cell::CellNo;
+pub use cell::ROW_BITS;
+pub use listing::Kernel;
+pub use listing::holds;
+pub use listing::listed;
+pub use listing::next_cell;
+pub use listing::permission_of;
+pub use listing::user_of;
+pub use rows::no_rows;

@@ -1,0 +1,115 @@
+// The kernel's grants in order.
+use crate::cell::ROW_BITS;
+use bits::WORD_BITS;
+use numbers::CELL_WORDS;
+use numbers::GRANT_LIMIT;
+use numbers::PermissionNo;
+use numbers::ROW_WORDS;
+use numbers::UserNo;
+ghost use mathlib.Core.Path.{_≡_};
+ghost use mathlib.Core.List.{List};
+ghost use Prim.Native.Nat.{ℕ, _+_, _*_, _/_, _%_, _^_, _≤_, _<_};
+ghost use lib.ListN.{getD};
+ghost use Rattle.spec.specs.Limits.{user-limit};
+ghost use Rattle.bits.specs.Bit.{bit, word-bits};
+ghost use Rattle.cells.specs.Rows.{row-words, row-bits, cell};
+ghost use Rattle.cells.specs.CellPlaces.{cell-words, marked};
+ghost use Rattle.cells.specs.KernelArray.{Roomy, Listed};
+ghost use Rattle.cells.specs.KernelList.{ListedTo};
+ghost use Rattle.cells.specs.KernelWalk.{NextFrom};
+
+// Grants in order: the cell of each by its number, and how many there are.
+#[repr(C)]
+pub struct Kernel {
+    pub cells: [u16; GRANT_LIMIT],
+    pub size: usize,
+}
+
+// The lowest position of a word from a place on, else the end of the word.
+fn next_position(word: u64, from: usize) -> usize
+    requires { ⌜ from < word-bits ⌝ }
+    ensures { λ r. ⌜ NextFrom (bit word) from word-bits r ⌝ }
+{
+    let rest = word >> from;
+    if 0 < rest {
+        from + bits::lowest(rest)
+    } else {
+        WORD_BITS
+    }
+}
+
+// The lowest cell from a place on that is set, else the end of the users' rows.
+pub fn next_cell(words: &[u64; CELL_WORDS], users: usize, from: usize) -> usize
+    requires { ⌜ (users ≤ user-limit) × (from ≤ users * row-bits) ⌝ }
+    ensures { λ r. ⌜ NextFrom (marked (now (words .entry))) from (users * row-bits) r ⌝ }
+{
+    let mut n = from;
+    while n < users * ROW_BITS {
+        let i = n / WORD_BITS;
+        let p = next_position(words[i], n % WORD_BITS);
+        if p < WORD_BITS {
+            return i * WORD_BITS + p;
+        }
+        n = (i + 1) * WORD_BITS;
+    }
+    n
+}
+
+// The cells of word i of a set, put in behind those that are there, as far as there is room. How many there are then.
+fn list_word(word: u64, i: usize, cells: &mut [u16; GRANT_LIMIT], start: usize) -> usize
+    requires { ⌜ i < cell-words ⌝ }
+    ensures { λ r. ⌜ ((left : List ℕ) → getD left i 0 ≡ word → ListedTo left (i * word-bits) (now (cells .entry)) start
+        → ListedTo left ((i + 1) * word-bits) (now (cells .exit)) r) ⌝ }
+{
+    let mut size = start;
+    let mut w = word;
+    while w != 0 && size < GRANT_LIMIT {
+        cells[size] = (i * WORD_BITS + bits::lowest(w)) as u16;
+        size += 1;
+        w = bits::without_lowest(w);
+    }
+    size
+}
+
+// The grants of a set in order. The set has no more of them than a sheet can have, and past them the array is 0.
+pub fn listed(left: &[u64; CELL_WORDS], users: usize) -> Kernel
+    requires { ⌜ (users ≤ user-limit) × Roomy (now left) (users * row-bits) ⌝ }
+    ensures { λ r. ⌜ Listed (now (left .entry)) users (r .cells) (r .size) ⌝ }
+{
+    let mut cells = [0; GRANT_LIMIT];
+    let mut size = 0;
+    let mut i = 0;
+    while i < users * ROW_WORDS {
+        size = list_word(left[i], i, &mut cells, size);
+        i += 1;
+    }
+    Kernel { cells, size }
+}
+
+// The user of a cell.
+pub fn user_of(cell: u16) -> UserNo
+    ensures { λ r. ⌜ r .0 ≡ cell / row-bits ⌝ }
+{
+    UserNo(cell as usize / ROW_BITS)
+}
+
+// The permission of a cell.
+pub fn permission_of(cell: u16) -> PermissionNo
+    ensures { λ r. ⌜ r .0 ≡ cell % row-bits ⌝ }
+{
+    PermissionNo(cell as usize % ROW_BITS)
+}
+
+// Whether a user holds a permission, as the rows say.
+pub fn holds(rows: &[u64], u: UserNo, p: PermissionNo) -> bool
+    requires { ⌜ u .0 * row-words + p .0 / word-bits < 2 ^ word-bits ⌝ }
+    ensures { λ r. ⌜ r ≡ cell (now (rows .entry)) (u .0) (p .0) ⌝ }
+{
+    let p = p.0;
+    let i = u.0 * ROW_WORDS + p / WORD_BITS;
+    if i < rows.len() {
+        bits::has(rows[i], p % WORD_BITS)
+    } else {
+        false
+    }
+}

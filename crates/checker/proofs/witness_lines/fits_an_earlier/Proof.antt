@@ -1,0 +1,87 @@
+-- `witness::fits_an_earlier`: line j fits none of the lines below i.
+use Prim.Native.Nat.{ℕ, _-_, _≤_}
+use native.Mathlib.Omega.{arith}
+use mathlib.Core.Path.{_≡_, refl, sym, _∙_}
+use mathlib.Core.Bool.{Bool, false}
+use Rattle.spec.specs.Vocabulary.{some-below}
+use Rattle.spec.specs.Limits.{role-limit}
+use Rattle.bits.specs.Truth.{or-fails}
+use Rattle.bits.specs.Laws.Below.{some-below-intro}
+use Rattle.bits.specs.Laws.Step.{some-below-step}
+use Rattle.checker.specs.WitnessWords.{line-of, lines-fit, fits-earlier}
+use Rattle.checker.proofs.witness_lines.fits_an_earlier.Statement.{statement}
+use Rattle.checker.proofs.witness_lines.fits_an_earlier.Tie as tie
+
+abbrev Inv-loop : tie.InvT-loop
+Inv-loop rows j witness i₀ i = (i ≤ j) × (some-below i (λ n. lines-fit rows (line-of witness n) (line-of witness j)) ≡ false)
+
+abbrev μ-loop : tie.MeasureT-loop
+μ-loop rows j witness i₀ i = j - i
+
+loop-holds : tie.Need-loop-holds Inv-loop μ-loop
+unfolding some-below
+loop-holds c = (omega arith, refl)
+
+mul-fits : tie.Need-mul-fits Inv-loop μ-loop
+unfolding role-limit
+mul-fits c = omega (arith, c .before .before .before .pre .0 .few, c .before .before .before .pre .1)
+
+element-copy-out-fits : tie.Need-element-copy-out-fits Inv-loop μ-loop
+unfolding role-limit
+element-copy-out-fits c = omega (arith, c .before .before .before .pre .0 .few, c .before .before .before .pre .1)
+
+mul-fits-2 : tie.Need-mul-fits-2 Inv-loop μ-loop
+unfolding role-limit
+mul-fits-2 c = omega (arith, c .before .before .before .before .pre .0 .few, c .before .before .before .before .pre .1)
+
+element-copy-out-fits-2 : tie.Need-element-copy-out-fits-2 Inv-loop μ-loop
+unfolding role-limit
+element-copy-out-fits-2 c = omega (arith, c .before .before .before .before .pre .0 .few, c .before .before .before .before .pre .1)
+
+fits-requires : tie.Need-fits-requires Inv-loop μ-loop
+fits-requires c κs = (c .before .before .before .before .before .pre .0 .each (c .before .before .before .loop .i) (omega (arith, c .before .before .before .before .before .pre .1, c .before .before .loop-test .taken)), c .before .before .before .before .before .pre .0 .each (c .before .before .before .before .before .args .j) (c .before .before .before .before .before .pre .1))
+
+returns : tie.Need-returns Inv-loop μ-loop
+unfolding fits-earlier
+returns c =
+    sym
+    (some-below-intro (c .before .before .before .before .before .before .before .args .j) (λ n. lines-fit (c .before .before .before .before .before .before .before .args .rows .now) (line-of (c .before .before .before .before .before .before .before .args .t2) n) (line-of (c .before .before .before .before .before .before .before .args .t2) (c .before .before .before .before .before .before .before .args .j))) (c .before .before .before .before .loop-test .taken)
+    (sym (c .before .fits2 .ensures) ∙ c .if1 .taken))
+
+add-i : tie.Need-add-i Inv-loop μ-loop
+add-i c = omega arith
+
+loop-less : tie.Need-loop-less Inv-loop μ-loop
+loop-less c = omega arith
+
+loop-again : tie.Need-loop-again Inv-loop μ-loop
+loop-again c = (
+  omega (arith, c .before .before .before .before .loop-test .taken),
+  (let f : ℕ → Bool = (λ n. lines-fit (c .before .before .before .before .before .before .before .args .rows .now) (line-of (c .before .before .before .before .before .before .before .args .t2) n) (line-of (c .before .before .before .before .before .before .before .args .t2) (c .before .before .before .before .before .before .before .args .j))) in
+      some-below-step (c .before .before .before .before .before .loop .i) f
+      ∙ or-fails (f (c .before .before .before .before .before .loop .i)) (some-below (c .before .before .before .before .before .loop .i) f) (sym (c .before .fits2 .ensures) ∙ c .if1 .left) (c .before .before .before .before .before .loop .inv .1)),
+)
+
+returns-2 : tie.Need-returns-2 Inv-loop μ-loop
+unfolding fits-earlier
+returns-2 c =
+    let all : c .before .loop .i ≡ c .before .before .before .args .j = omega (arith, c .before .loop .inv .0, c .loop-test .left) in
+    sym (rw all at (c .before .loop .inv .1))
+
+pub fits-an-earlier-spec : {M : Type 1} → statement M
+fits-an-earlier-spec =
+    tie.close
+    (tie.spec
+    Inv-loop
+    μ-loop
+    loop-holds
+    mul-fits
+    element-copy-out-fits
+    mul-fits-2
+    element-copy-out-fits-2
+    fits-requires
+    returns
+    add-i
+    loop-less
+    loop-again
+    returns-2)

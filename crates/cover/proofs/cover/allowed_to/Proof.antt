@@ -1,0 +1,65 @@
+-- `cover::cover::allowed_to`: of the classes passed, those are in the set whose members ask only what the user holds.
+use Prim.Native.Nat.{_-_, _≤_}
+use native.Mathlib.Omega.{arith}
+use mathlib.Core.Path.{_≡_, refl, _∙_}
+use lib.ListN.{length}
+use Rattle.cells.specs.Rows.{row-words, row-bits}
+use Rattle.cover.specs.CoverAllowed.{AllowedSoFar, none-allowed, one-allowed, allowed-all}
+use Rattle.cover.proofs.cover.allowed_to.Statement.{statement}
+use Rattle.cover.proofs.cover.allowed_to.Tie as tie
+
+abbrev Inv-loop : tie.InvT-loop
+Inv-loop rows asked u most allowed₀ c₀ allowed c = (c ≤ most) × (length allowed ≡ row-words) × AllowedSoFar rows asked u c allowed
+
+abbrev μ-loop : tie.MeasureT-loop
+μ-loop rows asked u most allowed₀ c₀ allowed c = most - c
+
+loop-holds : tie.Need-loop-holds Inv-loop μ-loop
+unfolding row-words
+loop-holds c = (omega arith, refl, none-allowed _ _ _ row-words refl)
+
+holds-asked-requires : tie.Need-holds-asked-requires Inv-loop μ-loop
+unfolding row-bits row-words
+holds-asked-requires c κs = omega arith
+
+put-if-requires : tie.Need-put-if-requires Inv-loop μ-loop
+unfolding row-bits row-words
+put-if-requires c κs = (omega arith, c .before .before .before .loop .inv .1)
+
+add-c : tie.Need-add-c Inv-loop μ-loop
+unfolding row-bits row-words
+add-c c = omega arith
+
+loop-less : tie.Need-loop-less Inv-loop μ-loop
+unfolding row-bits row-words
+loop-less c = omega arith
+
+loop-again : tie.Need-loop-again Inv-loop μ-loop
+unfolding row-bits row-words
+loop-again c =
+    let at = c .before .before .before .before .loop in (
+      omega arith,
+      c .put-if .ensures .size ∙ at .inv .1,
+      one-allowed _ _ _ (at .allowed) _ (at .c) (at .inv .2) (rw (c .before .before .holds-asked .ensures) at (c .put-if .ensures)),
+    )
+
+returns : tie.Need-returns Inv-loop μ-loop
+unfolding row-bits row-words
+returns c =
+    let start = c .before .before .before in
+    let e : c .before .loop .c ≡ start .args .most = omega arith in
+    rw e at (allowed-all (c .before .loop .inv .2) (omega arith))
+
+pub allowed-to-spec : {M : Type 1} → statement M
+allowed-to-spec =
+    tie.close
+    (tie.spec
+    Inv-loop
+    μ-loop
+    loop-holds
+    holds-asked-requires
+    put-if-requires
+    add-c
+    loop-less
+    loop-again
+    returns)

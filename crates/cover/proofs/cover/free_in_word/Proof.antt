@@ -1,0 +1,73 @@
+-- `cover::cover::free_in_word`: the positions of rest are those of the word still to be tried. The lowest is tried first, so the first that passes is the lowest.
+use Prim.Native.Nat.{ℕ, _+_, _*_}
+use native.Mathlib.Omega.{arith}
+use mathlib.Core.Bool.{Bool, not}
+use mathlib.Core.List.{List}
+use Rattle.bits.specs.Bit.{word-bits}
+use Rattle.cells.specs.Rows.{row-words, row-bits, cell}
+use Rattle.cover.specs.CoverFree.{Left, all-left, lowest-left, one-tried, none-left}
+use Rattle.cover.proofs.cover.free_in_word.Statement.{statement}
+use Rattle.cover.proofs.cover.free_in_word.Tie as tie
+
+-- the class at a position has no member that lacks the permission
+abbrev unlacked : List ℕ → ℕ → ℕ → ℕ → Bool
+unlacked lacked p j x = not (cell lacked (j * word-bits + x) p)
+
+abbrev Inv-loop : tie.InvT-loop
+Inv-loop lacked word j p rest₀ rest = Left word (unlacked lacked p j) rest
+
+abbrev μ-loop : tie.MeasureT-loop
+μ-loop lacked word j p rest₀ rest = rest
+
+loop-holds : tie.Need-loop-holds Inv-loop μ-loop
+loop-holds c = all-left _ _
+
+lowest-requires : tie.Need-lowest-requires Inv-loop μ-loop
+lowest-requires c κs = omega arith
+
+mul-is-lacked : tie.Need-mul-is-lacked Inv-loop μ-loop
+unfolding row-words
+mul-is-lacked c = omega arith
+
+add-is-lacked : tie.Need-add-is-lacked Inv-loop μ-loop
+unfolding row-words
+add-is-lacked c = omega (arith, c .lowest .ensures .within)
+
+is-lacked-requires : tie.Need-is-lacked-requires Inv-loop μ-loop
+unfolding row-bits row-words
+is-lacked-requires c κs = omega (arith, c .lowest .ensures .within)
+
+returns : tie.Need-returns Inv-loop μ-loop
+returns c =
+    lowest-left _ _ (c .before .before .before .before .loop .inv) (c .before .before .lowest .ensures) (rw (c .before .is-lacked .ensures) at (c .if1 .taken))
+
+without-lowest-requires : tie.Need-without-lowest-requires Inv-loop μ-loop
+without-lowest-requires c κs = omega arith
+
+loop-less : tie.Need-loop-less Inv-loop μ-loop
+loop-less c = c .without-lowest .ensures .less
+
+loop-again : tie.Need-loop-again Inv-loop μ-loop
+loop-again c =
+    one-tried _ _ (c .before .before .before .before .before .loop .inv) (c .before .before .before .lowest .ensures)
+    (rw (c .before .before .is-lacked .ensures) at (c .before .if1 .left)) (c .without-lowest .ensures)
+
+returns-2 : tie.Need-returns-2 Inv-loop μ-loop
+returns-2 c = none-left _ _ (rw (c .loop-test .left) at (c .before .loop .inv))
+
+pub free-in-word-spec : {M : Type 1} → statement M
+free-in-word-spec =
+    tie.close
+    (tie.spec
+    Inv-loop
+    μ-loop
+    loop-holds
+    lowest-requires
+    mul-is-lacked
+    add-is-lacked
+    is-lacked-requires
+    returns
+    without-lowest-requires
+    loop-less
+    loop-again
+    returns-2)

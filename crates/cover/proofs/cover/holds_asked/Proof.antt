@@ -1,0 +1,115 @@
+-- `cover::cover::holds_asked`: of each word passed, what the class asks is within what the user holds. A word where it is not fails the test of all.
+use Prim.Native.Nat.{_*_, _-_, _≤_}
+use native.Mathlib.Omega.{arith}
+use mathlib.Core.Path.{_≡_, refl, sym, _∙_}
+use mathlib.Core.Bool.{So}
+use borrow.Author.Tests.{not-true, not-false}
+use Rattle.spec.specs.Vocabulary.{every-below}
+use Rattle.bits.specs.Bit.{word-bits}
+use Rattle.cells.specs.Rows.{row-words, row-bits}
+use Rattle.verdict.specs.Laws.NearWord.{every-in-word, every-next-word, every-word-fails}
+use Rattle.cover.specs.CoverWords.{held-at, held-word}
+use Rattle.cover.proofs.cover.holds_asked.Statement.{statement}
+use Rattle.cover.proofs.cover.holds_asked.Tie as tie
+
+abbrev Inv-loop : tie.InvT-loop
+Inv-loop rows asked u c j₀ j = (j ≤ row-words) × So (every-below (j * word-bits) (held-at rows asked u c))
+
+abbrev μ-loop : tie.MeasureT-loop
+μ-loop rows asked u c j₀ j = row-words - j
+
+loop-holds : tie.Need-loop-holds Inv-loop μ-loop
+unfolding every-below
+loop-holds c = (omega arith, refl)
+
+mul-word-at : tie.Need-mul-word-at Inv-loop μ-loop
+unfolding row-bits row-words
+mul-word-at c = omega arith
+
+add-word-at : tie.Need-add-word-at Inv-loop μ-loop
+unfolding row-bits row-words
+add-word-at c = omega arith
+
+word-at-requires : tie.Need-word-at-requires Inv-loop μ-loop
+word-at-requires c κs = tt
+
+mul-within : tie.Need-mul-within Inv-loop μ-loop
+unfolding row-bits row-words
+mul-within c = omega arith
+
+add-within : tie.Need-add-within Inv-loop μ-loop
+unfolding row-bits row-words
+add-within c = omega arith
+
+mul-within-2 : tie.Need-mul-within-2 Inv-loop μ-loop
+unfolding row-bits row-words
+mul-within-2 c = omega arith
+
+element-copy-out-within : tie.Need-element-copy-out-within Inv-loop μ-loop
+unfolding row-bits row-words
+element-copy-out-within c = omega arith
+
+within-requires : tie.Need-within-requires Inv-loop μ-loop
+within-requires c κs = tt
+
+-- the test of the word is the test of its permissions
+word-test : (c : tie.After-within Inv-loop μ-loop) →
+    let a = c .before .before .before .before .before .before .args in
+    c .within .result ≡ every-in-word (held-at (a .rows .now) (a .asked .now) (a .u) (a .c)) (c .before .before .before .before .loop .j)
+unfolding row-words
+word-test c =
+    let a = c .before .before .before .before .before .before .args in
+    rw (c .before .before .word-at .ensures) at (c .within .ensures)
+    ∙ held-word (a .rows .now) (a .asked .now) (a .u) (a .c) (c .before .before .before .before .loop .j)
+
+returns : tie.Need-returns Inv-loop μ-loop
+unfolding row-words row-bits
+returns c =
+    let a = c .before .before .before .before .before .before .before .args in
+    sym (every-word-fails (held-at (a .rows .now) (a .asked .now) (a .u) (a .c)) (c .before .before .before .before .before .loop .j)
+    row-words (omega arith) (sym (word-test (c .before)) ∙ not-true (c .before .within .result) (c .if1 .taken)))
+
+add-j : tie.Need-add-j Inv-loop μ-loop
+unfolding row-words
+add-j c = omega arith
+
+loop-less : tie.Need-loop-less Inv-loop μ-loop
+unfolding row-words
+loop-less c = omega arith
+
+loop-again : tie.Need-loop-again Inv-loop μ-loop
+unfolding row-words
+loop-again c =
+    let a = c .before .before .before .before .before .before .before .args in
+    let at = c .before .before .before .before .before .loop in (
+      omega arith,
+      every-next-word (held-at (a .rows .now) (a .asked .now) (a .u) (a .c)) (at .j) (at .inv .1)
+          (sym (word-test (c .before)) ∙ not-false (c .before .within .result) (c .if1 .left)),
+    )
+
+returns-2 : tie.Need-returns-2 Inv-loop μ-loop
+unfolding row-words row-bits
+returns-2 c =
+    let end : c .before .loop .j ≡ row-words = omega arith in
+    sym (rw end at (c .before .loop .inv .1))
+
+pub holds-asked-spec : {M : Type 1} → statement M
+holds-asked-spec =
+    tie.close
+    (tie.spec
+    Inv-loop
+    μ-loop
+    loop-holds
+    mul-word-at
+    add-word-at
+    word-at-requires
+    mul-within
+    add-within
+    mul-within-2
+    element-copy-out-within
+    within-requires
+    returns
+    add-j
+    loop-less
+    loop-again
+    returns-2)

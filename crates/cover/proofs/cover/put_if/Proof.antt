@@ -1,0 +1,50 @@
+-- `cover::cover::put_if`: one bit more in the word where the class stands, or nothing.
+use borrow.Author.Needs.{needs}
+use Prim.Native.Nat.{_/_, _<_}
+use native.Mathlib.Omega.{arith}
+use lib.ListN.{length}
+use Rattle.bits.specs.Bit.{word-bits}
+use Rattle.cells.specs.Rows.{row-words, row-bits}
+use Rattle.cells.specs.CellLaws.{cell-kept}
+use Rattle.cover.specs.CoverAllowed.{class-put}
+use Rattle.cover.proofs.cover.put_if.Statement.{statement}
+use Rattle.cover.proofs.cover.put_if.Tie as tie
+
+mul-with : tie.Need-mul-with
+mul-with c = search needs
+
+element-copy-out-with : tie.Need-element-copy-out-with
+unfolding row-bits row-words
+element-copy-out-with c = omega arith
+
+with-requires : tie.Need-with-requires
+with-requires c κs = search needs
+
+mul-allowed : tie.Need-mul-allowed
+mul-allowed c = search needs
+
+element-write-allowed : tie.Need-element-write-allowed
+unfolding row-bits row-words
+element-write-allowed c = omega arith
+
+returns : tie.Need-returns
+unfolding row-bits row-words
+returns c =
+    let start = c .before .before .before in
+    let within : start .args .c / word-bits < length (start .args .allowed .now) = omega arith in
+    rw (c .before .before .if1 .taken) (class-put (start .args .allowed .now) (start .args .c) (c .with .result) (start .pre .0) within (c .with .ensures))
+
+returns-2 : tie.Need-returns-2
+returns-2 c = rw (c .if1 .left) (cell-kept _ 0 _)
+
+pub put-if-spec : {M : Type 1} → statement M
+put-if-spec =
+    tie.close
+    (tie.spec
+    mul-with
+    element-copy-out-with
+    with-requires
+    mul-allowed
+    element-write-allowed
+    returns
+    returns-2)

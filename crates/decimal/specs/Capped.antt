@@ -1,0 +1,113 @@
+-- A count read into a number of the machine, which stops at a bound that no number of lines of a book reaches. A count that says a lesser number
+-- is read as that number, and any other as the bound, so a comparison with a number of lines comes out as it should whatever the length of the
+-- count is.
+use Prim.Native.Nat.{ℕ, suc, _+_, _-_, _*_, _<_, min}
+use Prim.Native.Char.{code}
+use native.Mathlib.Numerals.{add-one}
+use native.Mathlib.Omega.{arith}
+use mathlib.Core.Path.{_≡_, refl, sym, ap}
+use mathlib.Core.Bool.{Bool, true, false, So, cond}
+use mathlib.Core.List.{[], _∷_}
+use borrow.Author.Tests.{eqb-true, eq-eqb, ne-eqb}
+use lib.Dec.{eqb}
+use lib.ListN.{length, getD, drop}
+use lib.Seq.{drop-cons}
+use Rattle.spec.specs.Vocabulary.{all}
+use Rattle.spec.specs.Limits.{book-limit}
+use Rattle.spec.specs.Text.{Bytes}
+use Rattle.spec.specs.Decimal.{is-digit, is-count, number-after, number-of}
+use Rattle.bits.specs.Truth.{fails-unless, same-truth}
+use Rattle.decimal.specs.declared.digits.CountRead.{CountRead}
+use Rattle.decimal.specs.declared.digits.CountRead.the-variants.{Count, Off}
+
+-- one more than a book has bytes
+unfoldable pub count-cap : ℕ
+unfolding book-limit
+count-cap = suc book-limit
+
+-- a number, or the bound where it is greater
+abbrev pub capped : ℕ → ℕ
+capped n = min count-cap n
+
+-- what digits say, after those that said n
+abbrev pub digits-read : ℕ → Bytes → CountRead
+digits-read n digits = cond (all is-digit digits) (Count (capped (number-after n digits))) Off
+
+-- what a count says
+abbrev pub count-read : Bytes → CountRead
+count-read digits = cond (is-count digits) (Count (capped (number-of digits))) Off
+
+-- ---- digit by digit
+
+-- numbers that are read alike are read alike with digits behind them
+capped-after : (m n : ℕ) (digits : Bytes) → capped m ≡ capped n → capped (number-after m digits) ≡ capped (number-after n digits)
+capped-after m n [] e = e
+capped-after m n (b ∷ digits) e = capped-after (10 * m + (b - code "0")) (10 * n + (b - code "0")) digits (more (b - code "0"))
+  where
+    more : (d : ℕ) → capped (10 * m + d) ≡ capped (10 * n + d)
+    more d = omega arith
+
+capped-twice : (n : ℕ) → capped (capped n) ≡ capped n
+capped-twice n = omega arith
+
+digits-next : (n b : ℕ) (digits : Bytes) → So (is-digit b)
+    → digits-read n (b ∷ digits) ≡ digits-read (capped (10 * n + (b - code "0"))) digits
+digits-next n b digits e =
+    rw (e, capped-after (10 * n + (b - code "0")) (capped (10 * n + (b - code "0"))) digits (sym (capped-twice (10 * n + (b - code "0")))))
+
+-- the digits from a place on, where there is one
+pub digits-next-at : (n : ℕ) (field : Bytes) (i : ℕ) → i < length field → So (is-digit (getD field i 0))
+    → digits-read n (drop i field) ≡ digits-read (capped (10 * n + (getD field i 0 - code "0"))) (drop (i + 1) field)
+digits-next-at n field i h e = rw (add-one i, drop-cons field i 0 h) (digits-next n (getD field i 0) (drop (suc i) field) e)
+
+-- and where there is none
+pub digits-off-at : (n : ℕ) (field : Bytes) (i : ℕ) → i < length field → (So (is-digit (getD field i 0)) → ⊥)
+    → digits-read n (drop i field) ≡ Off
+digits-off-at n field i h e = rw (drop-cons field i 0 h, fails-unless (is-digit (getD field i 0)) e)
+
+-- ---- the first digit
+
+pub no-digits : (digits : Bytes) → length digits ≡ 0 → count-read digits ≡ Off
+no-digits [] e = refl
+no-digits (b ∷ digits) e = absurd (omega arith)
+
+pub count-zero : (digits : Bytes) → length digits ≡ 1 → getD digits 0 0 ≡ code "0" → count-read digits ≡ Count 0
+count-zero [] h e = absurd (omega arith)
+count-zero (b ∷ []) h e = rw e (ap Count capped-none)
+  where
+    capped-none : capped 0 ≡ 0
+    capped-none = omega arith
+count-zero (b ∷ next ∷ digits) h e = absurd (omega arith)
+
+pub leading-zero : (digits : Bytes) → (length digits ≡ 1 → ⊥) → getD digits 0 0 ≡ code "0" → (length digits ≡ 0 → ⊥) → count-read digits ≡ Off
+leading-zero [] h e some = absurd (some refl)
+leading-zero (b ∷ []) h e some = absurd (h refl)
+leading-zero (b ∷ next ∷ digits) h e some = rw e
+
+pub no-leading-zero : (digits : Bytes) → (length digits ≡ 0 → ⊥) → (getD digits 0 0 ≡ code "0" → ⊥) → count-read digits ≡ digits-read 0 digits
+no-leading-zero [] some other = absurd (some refl)
+no-leading-zero (b ∷ digits) some other = rw (ne-eqb b (code "0") other)
+
+-- ---- what was read
+
+-- a count that was read
+pub record CountSaid (digits : Bytes) (n : ℕ) : Type 0 where
+  pub count : So (is-count digits)
+  pub number : n ≡ capped (number-of digits)
+
+pub count-said : (digits : Bytes) (n : ℕ) → Count n ≡ count-read digits → CountSaid digits n
+count-said digits n e = choose (is-count digits) refl e
+  where
+    choose : (t : Bool) → is-count digits ≡ t → Count n ≡ cond t (Count (capped (number-of digits))) Off → CountSaid digits n
+    choose true p q = record { count = p; number = cc }
+    choose false p q = absurd (let z : _≡_ {A = ℕ} 0 1 = cc in omega arith)
+
+pub count-refused : (digits : Bytes) → Off ≡ count-read digits → So (is-count digits) → ⊥
+count-refused digits e p = let q : Off ≡ Count (capped (number-of digits)) = rw p at e in let z : _≡_ {A = ℕ} 0 1 = cc in omega arith
+
+-- a number below the bound is compared as it is
+pub capped-test : (m n : ℕ) → n < count-cap → eqb (capped m) n ≡ eqb m n
+capped-test m n h =
+    same-truth (eqb (capped m) n) (eqb m n)
+    (λ t. eq-eqb m n (let s = eqb-true (capped m) n t in omega arith))
+    (λ t. eq-eqb (capped m) n (let s = eqb-true m n t in omega arith))

@@ -1,0 +1,56 @@
+// Counts in decimal, of any length.
+use numbers::COUNT_CAP;
+ghost use mathlib.Core.Path.{_≡_};
+ghost use Prim.Native.Nat.{_+_, _-_, _*_, _≤_};
+ghost use Rattle.decimal.specs.Capped.{count-cap, capped, digits-read, count-read};
+
+// What reading a count finds: the number that it says, or COUNT_CAP where that is greater.
+pub enum CountRead {
+    Count(usize),
+    Off,
+}
+
+// The number n with a digit behind it, no greater than COUNT_CAP.
+fn with_digit(n: usize, digit: u8) -> usize
+    requires { ⌜ (n ≤ count-cap) × (48 ≤ digit) ⌝ }
+    ensures { λ r. ⌜ r ≡ capped (10 * n + (digit - 48)) ⌝ }
+{
+    let m = 10 * n + (digit - b'0') as usize;
+    if m < COUNT_CAP { m } else { COUNT_CAP }
+}
+
+// What digits say.
+fn digits_of(field: &[u8]) -> CountRead
+    ensures { λ r. ⌜ r ≡ digits-read 0 (now (field .entry)) ⌝ }
+{
+    let mut n = 0;
+    let mut i = 0;
+    while i < field.len() {
+        let b = field[i];
+        if b < b'0' {
+            return CountRead::Off;
+        }
+        if b'9' < b {
+            return CountRead::Off;
+        }
+        n = with_digit(n, b);
+        i += 1;
+    }
+    CountRead::Count(n)
+}
+
+// What a count says: digits without leading zeros.
+pub fn count_of(field: &[u8]) -> CountRead
+    ensures { λ r. ⌜ r ≡ count-read (now (field .entry)) ⌝ }
+{
+    if field.len() == 0 {
+        return CountRead::Off;
+    }
+    if field[0] != b'0' {
+        return digits_of(field);
+    }
+    if field.len() == 1 {
+        return CountRead::Count(0);
+    }
+    CountRead::Off
+}

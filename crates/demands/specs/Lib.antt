@@ -1,0 +1,12 @@
+-- Theorems only: the three demands, of the definitions.
+pub mod Reached
+pub mod Answers
+pub mod Believed
+pub mod Owed
+pub mod Settled
+pub mod EverySequence
+pub mod Demand1
+pub mod Demand3
+pub mod CheckerAlone
+pub mod PlacedOnce
+pub mod Demand2

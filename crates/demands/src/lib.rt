@@ -1,0 +1,1 @@
+// Theorems only: the three demands, of the definitions.

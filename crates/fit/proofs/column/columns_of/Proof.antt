@@ -1,0 +1,72 @@
+-- `fit::column::columns_of`: the words of the rows are put in one after the other.
+use Prim.Native.Nat.{_*_, _-_, _≤_}
+use native.Mathlib.Omega.{arith}
+use mathlib.Core.Path.{_≡_, refl, _∙_}
+use lib.ListN.{length}
+use Rattle.spec.specs.Limits.{user-limit}
+use Rattle.cells.specs.Rows.{row-words, row-bits}
+use Rattle.cells.specs.CellPlaces.{cell-words}
+use Rattle.fit.specs.Columns.{column-words}
+use Rattle.fit.specs.ColumnsMade.{PutInBelow, none-put-in, next-put-in, columns-made}
+use Rattle.fit.proofs.column.columns_of.Statement.{statement}
+use Rattle.fit.proofs.column.columns_of.Tie as tie
+
+abbrev Inv-loop : tie.InvT-loop
+Inv-loop rows columns₀ i₀ columns i = (i ≤ cell-words) × (length columns ≡ row-bits * column-words) × PutInBelow rows i columns
+
+abbrev μ-loop : tie.MeasureT-loop
+μ-loop rows columns₀ i₀ columns i = cell-words - i
+
+loop-holds : tie.Need-loop-holds Inv-loop μ-loop
+unfolding user-limit row-words row-bits
+loop-holds c = (omega arith, refl, none-put-in _ (row-bits * column-words))
+
+mul-put-in-columns : tie.Need-mul-put-in-columns Inv-loop μ-loop
+unfolding user-limit row-words
+mul-put-in-columns c = omega arith
+
+element-copy-out-put-in-columns : tie.Need-element-copy-out-put-in-columns Inv-loop μ-loop
+unfolding user-limit row-words
+element-copy-out-put-in-columns c = omega arith
+
+put-in-columns-requires : tie.Need-put-in-columns-requires Inv-loop μ-loop
+unfolding user-limit row-words
+put-in-columns-requires c κs = (omega arith, c .before .before .before .loop .inv .1)
+
+add-i : tie.Need-add-i Inv-loop μ-loop
+add-i c = omega arith
+
+loop-less : tie.Need-loop-less Inv-loop μ-loop
+unfolding user-limit row-words
+loop-less c = omega arith
+
+loop-again : tie.Need-loop-again Inv-loop μ-loop
+unfolding user-limit row-words row-bits
+loop-again c =
+    let at = c .before .before .before .before .loop in (
+      omega arith,
+      c .put-in-columns .ensures .sized ∙ at .inv .1,
+      next-put-in _ (at .i) _ _ (at .inv .2) (c .put-in-columns .ensures),
+    )
+
+returns : tie.Need-returns Inv-loop μ-loop
+unfolding user-limit row-words
+returns c =
+    let at = c .before .loop in
+    let end : at .i ≡ cell-words = omega arith in
+    columns-made _ (at .columns) (at .inv .1) (rw end at (at .inv .2))
+
+pub columns-of-spec : {M : Type 1} → statement M
+columns-of-spec =
+    tie.close
+    (tie.spec
+    Inv-loop
+    μ-loop
+    loop-holds
+    mul-put-in-columns
+    element-copy-out-put-in-columns
+    put-in-columns-requires
+    add-i
+    loop-less
+    loop-again
+    returns)

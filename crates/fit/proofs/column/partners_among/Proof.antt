@@ -1,0 +1,103 @@
+-- `fit::column::partners_among`: the positions of w are the words still to be counted. The lowest is counted next, and dropped.
+use Prim.Native.Nat.{_+_, _≤_}
+use native.Mathlib.Omega.{arith}
+use mathlib.Core.Path.{_≡_, _∙_}
+use borrow.Author.Tests.{ltb-false}
+use Rattle.spec.specs.Limits.{user-limit}
+use Rattle.bits.specs.Bit.{bit, word-bits}
+use Rattle.bits.specs.Laws.Count.{count-below-le}
+use Rattle.cells.specs.Rows.{row-words}
+use Rattle.fit.specs.Columns.{near-in-word}
+use Rattle.fit.specs.Laws.Column.{word-sum, word-sum-dropped, word-sum-of-none, near-sum-le, near-word-count}
+use Rattle.fit.proofs.column.partners_among.Statement.{statement}
+use Rattle.fit.proofs.column.partners_among.Tie as tie
+
+abbrev Inv-loop : tie.InvT-loop
+Inv-loop rows left it from some start most n₀ w₀ n w =
+    n + word-sum (λ q. near-in-word rows left (it .0) (from + q)) w ≡ start + word-sum (λ q. near-in-word rows left (it .0) (from + q)) some
+
+abbrev μ-loop : tie.MeasureT-loop
+μ-loop rows left it from some start most n₀ w₀ n w = w
+
+loop-holds : tie.Need-loop-holds Inv-loop μ-loop
+loop-holds c = omega arith
+
+lowest-requires : tie.Need-lowest-requires Inv-loop μ-loop
+lowest-requires c κs = omega arith
+
+add-i : tie.Need-add-i Inv-loop μ-loop
+unfolding user-limit row-words
+add-i c = omega (arith, c .lowest .ensures .within)
+
+mul-count : tie.Need-mul-count Inv-loop μ-loop
+unfolding user-limit row-words
+mul-count c = omega (arith, c .lowest .ensures .within)
+
+element-copy-out-count : tie.Need-element-copy-out-count Inv-loop μ-loop
+unfolding user-limit row-words
+element-copy-out-count c = omega (arith, c .lowest .ensures .within)
+
+fitting-requires : tie.Need-fitting-requires Inv-loop μ-loop
+unfolding user-limit row-words
+fitting-requires c κs = omega (arith, c .before .lowest .ensures .within)
+
+count-requires : tie.Need-count-requires Inv-loop μ-loop
+count-requires c κs = tt
+
+add-n : tie.Need-add-n Inv-loop μ-loop
+unfolding user-limit row-words
+add-n c =
+    let a = c .before .before .before .before .before .before .before .args in
+    let few : c .count .result ≤ word-bits = rw (c .count .ensures) (count-below-le word-bits _) in
+    omega (arith, c .before .before .before .before .before .before .loop .inv, near-sum-le (a .rows .now) (a .left .now) (a .it .0) word-bits (bit (a .some)) (λ q. a .from + q))
+
+without-lowest-requires : tie.Need-without-lowest-requires Inv-loop μ-loop
+without-lowest-requires c κs = omega arith
+
+loop-less : tie.Need-loop-less Inv-loop μ-loop
+loop-less c = c .without-lowest .ensures .less
+
+loop-again : tie.Need-loop-again Inv-loop μ-loop
+loop-again c =
+    let a = c .before .before .before .before .before .before .before .before .args in
+    let low = c .before .before .before .before .lowest in
+    let counted = c .before .count .ensures ∙ near-word-count (a .rows .now) (a .left .now) (a .it .0) (a .from + low .result) (c .before .before .fitting .ensures) in
+    omega (
+      arith,
+      c .before .before .before .before .before .before .before .loop .inv,
+      counted,
+      word-sum-dropped (λ q. near-in-word (a .rows .now) (a .left .now) (a .it .0) (a .from + q)) (low .ensures) (c .without-lowest .ensures),
+    )
+
+returns : tie.Need-returns Inv-loop μ-loop
+returns c =
+    let at = c .before .before .loop in
+    record { below = λ l. absurd (omega (arith, ltb-false, l)); not-more = omega (arith, at .inv) }
+
+returns-2 : tie.Need-returns-2 Inv-loop μ-loop
+returns-2 c =
+    let a = c .before .before .args in
+    let none : c .before .loop .w ≡ 0 = c .loop-test .left in
+    let all = rw none at (c .before .loop .inv) in
+    let nothing = word-sum-of-none (λ q. near-in-word (a .rows .now) (a .left .now) (a .it .0) (a .from + q)) in
+    record { below = λ l. omega (arith, all, nothing); not-more = omega (arith, all, nothing) }
+
+pub partners-among-spec : {M : Type 1} → statement M
+partners-among-spec =
+    tie.close
+    (tie.spec
+    Inv-loop
+    μ-loop
+    loop-holds
+    lowest-requires
+    add-i
+    mul-count
+    element-copy-out-count
+    fitting-requires
+    count-requires
+    add-n
+    without-lowest-requires
+    loop-less
+    loop-again
+    returns
+    returns-2)

@@ -1,0 +1,81 @@
+-- `fit::fit::fitting`: the cells of a word have one user. Where that user holds the grant's permission, those that fit are the same word of the grant's row;
+-- else none fits.
+use borrow.Author.Needs.{needs}
+use Prim.Native.Nat.{_+_, _*_, _/_, _%_}
+use native.Mathlib.Omega.{arith}
+use mathlib.Core.Path.{sym, _∙_}
+use mathlib.Core.Bool.{and-true, and-false}
+use lib.ListN.{getD}
+use Rattle.spec.specs.Limits.{user-limit}
+use Rattle.bits.specs.Bit.{bit}
+use Rattle.bits.specs.Laws.Bit.{bit-of-zero}
+use Rattle.cells.specs.Rows.{row-words, row-bits}
+use Rattle.cells.specs.Laws.CellPlace.{fit-by-word}
+use Rattle.fit.proofs.fit.fitting.Statement.{statement}
+use Rattle.fit.proofs.fit.fitting.Tie as tie
+
+mul-other : tie.Need-mul-other
+mul-other c = search needs
+
+add-other : tie.Need-add-other
+add-other c = search needs
+
+mul-other-2 : tie.Need-mul-other-2
+unfolding user-limit row-words
+mul-other-2 c = omega arith
+
+element-copy-out-other : tie.Need-element-copy-out-other
+unfolding user-limit row-words
+element-copy-out-other c = omega arith
+
+has-requires : tie.Need-has-requires
+has-requires c κs = search needs
+
+mul-result : tie.Need-mul-result
+mul-result c = search needs
+
+add-result : tie.Need-add-result
+add-result c = search needs
+
+mul-result-2 : tie.Need-mul-result-2
+mul-result-2 c = search needs
+
+element-copy-out-result : tie.Need-element-copy-out-result
+unfolding user-limit row-words
+element-copy-out-result c = omega arith
+
+returns : tie.Need-returns
+unfolding row-bits row-words
+returns c =
+    let a = c .before .before .before .before .args in
+    record {
+      bits = λ q l.
+          sym (fit-by-word (a .rows .now) (a .it .0) (a .i) q l ∙ rw (sym (c .before .before .has .ensures) ∙ c .before .if1 .taken) (and-true _));
+    }
+
+returns-2 : tie.Need-returns-2
+unfolding row-bits row-words
+returns-2 c =
+    let a = c .before .before .before .args in
+    record {
+      bits = λ q l.
+          sym (fit-by-word (a .rows .now) (a .it .0) (a .i) q l
+          ∙ rw (sym (c .before .has .ensures) ∙ c .if1 .left)
+          (and-false (bit (getD (a .rows .now) (a .it .0 / row-bits * row-words + a .i % row-words) 0) q) ∙ sym (bit-of-zero q)));
+    }
+
+pub fitting-spec : {M : Type 1} → statement M
+fitting-spec =
+    tie.close
+    (tie.spec
+    mul-other
+    add-other
+    mul-other-2
+    element-copy-out-other
+    has-requires
+    mul-result
+    add-result
+    mul-result-2
+    element-copy-out-result
+    returns
+    returns-2)

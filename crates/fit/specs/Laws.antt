@@ -1,0 +1,5 @@
+-- The laws behind what contracts cite.
+pub mod Fit
+pub mod Among
+pub mod Column
+pub mod FitWord

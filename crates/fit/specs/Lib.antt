@@ -1,0 +1,6 @@
+-- Which grants fit, over rows and columns of words.
+pub mod WitnessWords
+pub mod Columns
+pub mod ColumnsMade
+pub mod ColumnUnion
+pub mod Laws

@@ -1,0 +1,117 @@
+// The words in which grants can fit one: those of the users who hold its permission.
+use crate::fit::fitting;
+use bits::WORD_BITS;
+use cells::CellNo;
+use cells::ROW_BITS;
+use numbers::CELL_WORDS;
+use numbers::ROW_WORDS;
+ghost use mathlib.Core.Path.{_≡_};
+ghost use mathlib.Core.List.{List};
+ghost use Prim.Native.Nat.{ℕ, _+_, _*_, _≤_, _<_};
+ghost use lib.ListN.{length};
+ghost use Rattle.spec.specs.Vocabulary.{filter};
+ghost use Rattle.spec.specs.Limits.{user-limit};
+ghost use Rattle.spec.specs.Sheet.{Sheet};
+ghost use Rattle.spec.specs.Fit.{fits};
+ghost use Rattle.bits.specs.Counting.{sum-below};
+ghost use Rattle.bits.specs.Bit.{bit, word-bits};
+ghost use Rattle.cells.specs.Rows.{row-bits};
+ghost use Rattle.cells.specs.CellSets.{cell-grants};
+ghost use Rattle.cells.specs.CellPlaces.{cell-words, cell-limit, grant-of, CountedBelow, Shown, Part};
+ghost use Rattle.fit.specs.Columns.{column-words, near-if, Columns};
+ghost use Rattle.fit.specs.ColumnsMade.{PutIn};
+ghost use Rattle.fit.specs.ColumnUnion.{Reaches};
+
+// The words of a permission: a position for each word of the rows.
+pub const COLUMN_WORDS: usize = CELL_WORDS / WORD_BITS;
+
+// The words of all permissions.
+pub const PLACE_WORDS: usize = ROW_BITS * COLUMN_WORDS;
+
+// Puts word i of the rows into the columns of the permissions at the positions of a word.
+fn put_in_columns(columns: &mut [u64; PLACE_WORDS], i: usize, some: u64)
+    requires { ⌜ (i < cell-words) × (length (now columns) ≡ row-bits * column-words) ⌝ }
+    ensures { λ r. ⌜ PutIn i some (now (columns .entry)) (now (columns .exit)) ⌝ }
+{
+    let mut w = some;
+    while w != 0 {
+        let t = bits::lowest(w) * COLUMN_WORDS + i / WORD_BITS;
+        columns[t] = bits::with(columns[t], i % WORD_BITS);
+        w = bits::without_lowest(w);
+    }
+}
+
+// For each permission the words of the users who hold it. A row is one word.
+pub fn columns_of(rows: &[u64; CELL_WORDS]) -> [u64; PLACE_WORDS]
+    ensures { λ r. ⌜ Columns (now (rows .entry)) r ⌝ }
+{
+    let mut columns = [0; PLACE_WORDS];
+    let mut i = 0;
+    while i < CELL_WORDS {
+        put_in_columns(&mut columns, i, rows[i]);
+        i += 1;
+    }
+    columns
+}
+
+// Word j of the columns of the permissions at the positions of a word, all together.
+pub fn union_of(columns: &[u64; PLACE_WORDS], word: u64, j: usize) -> u64
+    requires { ⌜ j < column-words ⌝ }
+    ensures { λ r. ⌜ ((rows : List ℕ) → Columns rows (now (columns .entry)) → Reaches rows word j r) ⌝ }
+{
+    let mut some = 0;
+    let mut w = word;
+    while w != 0 {
+        some = some | columns[bits::lowest(w) * COLUMN_WORDS + j];
+        w = bits::without_lowest(w);
+    }
+    some
+}
+
+// The count so far, and how many grants of left fit the grant at a cell in the words at the positions of some. The count ends once it reaches most.
+fn partners_among<'a>(
+    rows: &'a [u64; CELL_WORDS],
+    left: &'a [u64; CELL_WORDS],
+    it: CellNo,
+    from: usize,
+    some: u64,
+    start: usize,
+    most: usize,
+) -> usize
+    requires { ⌜ (it .0 < cell-limit) × (from + word-bits ≤ cell-words) × (start ≤ cell-limit) ⌝ }
+    ensures { λ r. ⌜ CountedBelow most
+        (start + sum-below word-bits (λ (q : ℕ). near-if (bit some q) (now (rows .entry)) (now (left .entry)) (it .0) (from + q))) r ⌝ }
+{
+    let mut n = start;
+    let mut w = some;
+    while w != 0 && n < most {
+        let i = from + bits::lowest(w);
+        n += bits::count(left[i] & fitting(rows, it, i));
+        w = bits::without_lowest(w);
+    }
+    n
+}
+
+// How many grants of left fit the grant at a cell, itself among them where it is in left, counted in the words of its permission's column. The count ends
+// once it reaches most.
+pub fn partners_in_column<'a>(
+    rows: &'a [u64; CELL_WORDS],
+    columns: &'a [u64; PLACE_WORDS],
+    left: &'a [u64; CELL_WORDS],
+    it: CellNo,
+    most: usize,
+) -> usize
+    requires { ⌜ (it .0 < cell-limit) × Columns (now rows) (now columns) ⌝ }
+    ensures { λ r. ⌜ ((users : ℕ) (sheet : Sheet) → users ≤ user-limit → Shown (now (rows .entry)) users sheet → Part (now (left .entry)) (now (rows .entry))
+        → CountedBelow most (length (filter (fits sheet (grant-of (it .0))) (cell-grants sheet (now (left .entry))))) r) ⌝ }
+{
+    let p = it.0 % ROW_BITS;
+    let mut n = 0;
+    let mut j = 0;
+    while j < COLUMN_WORDS {
+        let some = columns[p * COLUMN_WORDS + j];
+        n = partners_among(rows, left, it, j * WORD_BITS, some, n, most);
+        j += 1;
+    }
+    n
+}

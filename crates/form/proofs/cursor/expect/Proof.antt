@@ -1,0 +1,99 @@
+-- `cursor::expect`: with the first i bytes of the word there, the rest of the word decides from there on.
+use Prim.Native.Nat.{_+_, _-_, _≤_}
+use native.Mathlib.Nat.{add-zero}
+use native.Mathlib.Omega.{arith}
+use lib.ListN.{length, drop, drop-of-length-le}
+use lib.Seq.{drop-cons}
+use Rattle.form.specs.declared.cursor.Step.{Step}
+use Rattle.form.specs.declared.cursor.Step.the-variants.{On, Off}
+use Rattle.form.specs.Steps.{Expects}
+use Rattle.form.specs.Laws.Step.{reads-nothing, expects-next, misses-byte, misses-at-end}
+use Rattle.form.proofs.cursor.expect.Statement.{statement}
+use Rattle.form.proofs.cursor.expect.Tie as tie
+
+abbrev Inv-loop : tie.InvT-loop
+Inv-loop book at word i₀ i =
+    (i ≤ length word)
+    × (at + i ≤ length book)
+    × ((r : Step) → Expects book (at + i) (drop i word) r → Expects book at word r)
+
+abbrev μ-loop : tie.MeasureT-loop
+μ-loop book at word i₀ i = length word - i
+
+loop-holds : tie.Need-loop-holds Inv-loop μ-loop
+loop-holds c =
+    let a = c .args in
+    (omega arith, omega (arith, c .pre), λ r e. rw (add-zero (a .at)) at e)
+
+add-if1 : tie.Need-add-if1 Inv-loop μ-loop
+add-if1 c = omega arith
+
+returns : tie.Need-returns Inv-loop μ-loop
+returns c =
+    let a = c .before .before .before .args in
+    let i = c .before .before .loop .i in
+    c .before .before .loop .inv .2 Off
+    (rw (drop-cons (a .word .now) i 0 (omega arith)) (misses-at-end (a .book .now) (a .at + i) _ _ (c .if1 .taken)))
+
+add-if2 : tie.Need-add-if2 Inv-loop μ-loop
+add-if2 c = omega arith
+
+shared-slice-read-if2 : tie.Need-shared-slice-read-if2 Inv-loop μ-loop
+shared-slice-read-if2 c = omega arith
+
+shared-slice-read-if2-2 : tie.Need-shared-slice-read-if2-2 Inv-loop μ-loop
+shared-slice-read-if2-2 c = omega arith
+
+returns-2 : tie.Need-returns-2 Inv-loop μ-loop
+returns-2 c =
+    let a = c .before .before .before .before .before .before .args in
+    let i = c .before .before .before .before .before .loop .i in
+    c .before .before .before .before .before .loop .inv .2 Off
+    (rw (drop-cons (a .word .now) i 0 (omega arith)) (misses-byte (a .book .now) (a .at + i) _ _ (omega arith) (c .if2 .taken)))
+
+add-i : tie.Need-add-i Inv-loop μ-loop
+add-i c = omega arith
+
+loop-less : tie.Need-loop-less Inv-loop μ-loop
+loop-less c = omega arith
+
+loop-again : tie.Need-loop-again Inv-loop μ-loop
+loop-again c =
+    let a = c .before .before .before .before .before .before .args in
+    let i = c .before .before .before .before .before .loop .i in (
+      omega arith,
+      omega arith,
+      λ r e.
+          c .before .before .before .before .before .loop .inv .2 r
+          (expects-next (a .book .now) (a .word .now) (a .at) i (omega arith) (omega arith) (c .if2 .left) r e),
+    )
+
+add-t12 : tie.Need-add-t12 Inv-loop μ-loop
+add-t12 c = omega arith
+
+returns-3 : tie.Need-returns-3 Inv-loop μ-loop
+returns-3 c =
+    let a = c .before .before .args in
+    let i = c .before .loop .i in
+    let whole : length (a .word .now) ≤ i = omega arith in
+    c .before .loop .inv .2 (On (a .at + i))
+    (rw (drop-of-length-le (a .word .now) whole) (reads-nothing (a .book .now) (a .at + i) (omega arith)))
+
+pub expect-spec : {M : Type 1} → statement M
+expect-spec =
+    tie.close
+    (tie.spec
+    Inv-loop
+    μ-loop
+    loop-holds
+    add-if1
+    returns
+    add-if2
+    shared-slice-read-if2
+    shared-slice-read-if2-2
+    returns-2
+    add-i
+    loop-less
+    loop-again
+    add-t12
+    returns-3)

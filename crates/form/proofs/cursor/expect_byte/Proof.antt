@@ -1,0 +1,28 @@
+-- `cursor::expect_byte`: nothing stands past the end, and before it the byte there decides.
+use borrow.Author.Needs.{needs}
+use mathlib.Core.List.{[]}
+use Rattle.form.specs.Laws.Step.{reads-this-byte, misses-byte, misses-at-end}
+use Rattle.form.proofs.cursor.expect_byte.Statement.{statement}
+use Rattle.form.proofs.cursor.expect_byte.Tie as tie
+
+returns : tie.Need-returns
+returns c = let a = c .before .args in misses-at-end (a .book .now) (a .at) (a .b) [] (c .if1 .taken)
+
+shared-slice-read-if2 : tie.Need-shared-slice-read-if2
+shared-slice-read-if2 c = search needs
+
+returns-2 : tie.Need-returns-2
+returns-2 c =
+    let a = c .before .before .before .args in
+    misses-byte (a .book .now) (a .at) (a .b) [] (search needs) (c .if2 .taken)
+
+add-t4 : tie.Need-add-t4
+add-t4 c = search needs
+
+returns-3 : tie.Need-returns-3
+returns-3 c =
+    let a = c .before .before .before .args in
+    reads-this-byte (a .book .now) (a .at) (a .b) (search needs) (c .if2 .left)
+
+pub expect-byte-spec : {M : Type 1} → statement M
+expect-byte-spec = tie.close (tie.spec returns shared-slice-read-if2 returns-2 add-t4 returns-3)

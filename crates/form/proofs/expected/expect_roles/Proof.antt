@@ -1,0 +1,97 @@
+-- `names::expect_roles`: the names of the roles below r stand there.
+use Prim.Native.Nat.{ℕ, _-_, _≤_}
+use native.Mathlib.Omega.{arith}
+use mathlib.Core.Path.{_≡_}
+use mathlib.Core.List.{[], _∷_}
+use borrow.Author.Needs.{needs}
+use Rattle.spec.specs.Text.{Bytes, comma}
+use Rattle.spec.specs.Book.{role-name}
+use Rattle.text.specs.LineLaws.{behind-comma}
+use Rattle.form.specs.Steps.{Reads}
+use Rattle.form.specs.Laws.Step.{reads-nothing, reads-then, reads-more, misses-first, misses-second, misses-known}
+use Rattle.form.specs.Pieces.{role-fields}
+use Rattle.form.proofs.expected.expect_roles.Statement.{statement}
+use Rattle.form.proofs.expected.expect_roles.Tie as tie
+
+abbrev Inv-loop : tie.InvT-loop
+Inv-loop book at roles next₀ r₀ next r = (r ≤ roles) × Reads book at (role-fields r) next
+
+abbrev μ-loop : tie.MeasureT-loop
+μ-loop book at roles next₀ r₀ next r = roles - r
+
+field : ℕ → Bytes
+field r = behind-comma (role-name r)
+
+loop-holds : tie.Need-loop-holds Inv-loop μ-loop
+loop-holds c = (omega arith, reads-nothing (c .before .args .book .now) (c .before .args .at) (c .before .pre .0))
+
+expect-byte-requires : tie.Need-expect-byte-requires Inv-loop μ-loop
+expect-byte-requires c κs = c .before .loop .inv .1 .within
+
+enum-known-name : tie.Need-enum-known-name Inv-loop μ-loop
+enum-known-name c = search needs
+
+enum-told : tie.Need-enum-told Inv-loop μ-loop
+enum-told c = search needs
+
+returns : tie.Need-returns Inv-loop μ-loop
+unfolding field
+returns c =
+    misses-known (c .before .before .before .before .loop .r) (c .before .before .before .before .before .before .args .roles) field (c .before .before .before .loop-test .taken) (c .before .before .before .before .loop .inv .1)
+    (misses-first (role-name (c .before .before .before .before .loop .r)) (rw (c .enum-told .given .1) at (c .before .before .expect-byte .ensures)))
+
+comma-there : (c : tie.After-known-told Inv-loop μ-loop) → Reads (c .before .before .before .before .before .before .before .args .book .now) (c .before .before .before .before .before .loop .next) (comma ∷ []) (c .before .name .given .0 .0)
+comma-there c = rw (c .before .name .given .1) at (c .before .before .before .expect-byte .ensures)
+
+expect-role-name-requires : tie.Need-expect-role-name-requires Inv-loop μ-loop
+expect-role-name-requires c κs = (comma-there c .within, omega (arith, c .before .before .before .before .before .before .before .pre .1, c .before .before .before .before .loop-test .taken))
+
+enum-known-after : tie.Need-enum-known-after Inv-loop μ-loop
+enum-known-after c = search needs
+
+enum-told-2 : tie.Need-enum-told-2 Inv-loop μ-loop
+enum-told-2 c = search needs
+
+returns-2 : tie.Need-returns-2 Inv-loop μ-loop
+unfolding field
+returns-2 c =
+    misses-known (c .before .before .before .before .before .before .before .before .loop .r) (c .before .before .before .before .before .before .before .before .before .before .args .roles) field (c .before .before .before .before .before .before .before .loop-test .taken) (c .before .before .before .before .before .before .before .before .loop .inv .1)
+    (misses-second (role-name (c .before .before .before .before .before .before .before .before .loop .r)) (comma-there (c .before .before .before)) (rw (c .enum-told2 .given .1) at (c .before .before .expect-role-name .ensures)))
+
+add-r : tie.Need-add-r Inv-loop μ-loop
+add-r c = omega arith
+
+loop-less : tie.Need-loop-less Inv-loop μ-loop
+loop-less c = omega arith
+
+loop-again : tie.Need-loop-again Inv-loop μ-loop
+unfolding field
+loop-again c = (
+  omega (arith, c .before .before .before .before .before .before .before .before .loop-test .taken),
+  reads-more (c .before .before .before .before .before .before .before .before .before .loop .r) field (c .before .before .before .before .before .before .before .before .before .loop .inv .1) (reads-then (comma-there (c .before .before .before .before)) (rw (c .before .after .given .1) at (c .before .before .before .expect-role-name .ensures))),
+)
+
+returns-3 : tie.Need-returns-3 Inv-loop μ-loop
+returns-3 c =
+    let all : c .before .loop .r ≡ c .before .before .before .args .roles = omega (arith, c .before .loop .inv .0, c .loop-test .left) in
+    rw all at (c .before .loop .inv .1)
+
+pub expect-roles-spec : {M : Type 1} → statement M
+expect-roles-spec =
+    tie.close
+    (tie.spec
+    Inv-loop
+    μ-loop
+    loop-holds
+    expect-byte-requires
+    enum-known-name
+    enum-told
+    returns
+    expect-role-name-requires
+    enum-known-after
+    enum-told-2
+    returns-2
+    add-r
+    loop-less
+    loop-again
+    returns-3)

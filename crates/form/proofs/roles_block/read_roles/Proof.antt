@@ -1,0 +1,59 @@
+-- `roles_block::read_roles`: the line of names, then the lines of the roles.
+use native.Mathlib.Omega.{arith}
+use borrow.Author.Needs.{needs}
+use Rattle.spec.specs.Sheet.{sheet-of}
+use Rattle.rules.specs.AcceptedFacts.{accepted-lawful}
+use Rattle.form.specs.Steps.{Reads}
+use Rattle.form.specs.Pieces.{roles-heading}
+use Rattle.form.specs.Laws.RoleLimit.{permissions-fit-a-row}
+use Rattle.form.specs.RoleSteps.{no-roles-heading, heading-then-roles}
+use Rattle.form.proofs.roles_block.read_roles.Statement.{statement}
+use Rattle.form.proofs.roles_block.read_roles.Tie as tie
+
+roles-heading-requires : tie.Need-roles-heading-requires
+roles-heading-requires c κs = (c .before .before .before .pre .0 .0, c .before .before .before .pre .0 .1)
+
+enum-known-lines : tie.Need-enum-known-lines
+enum-known-lines c = search needs
+
+enum-told : tie.Need-enum-told
+enum-told c = search needs
+
+returns : tie.Need-returns
+returns c = no-roles-heading (sheet-of (c .before .before .before .before .before .before .args .sheet .now)) (rw (c .enum-told .given .1) at (c .before .before .roles-heading .ensures))
+
+heading : (c : tie.After-known-told) → Reads (c .before .before .before .before .before .before .before .args .book .now) (c .before .before .before .before .before .before .before .args .at) (roles-heading (sheet-of (c .before .before .before .before .before .before .before .args .sheet .now))) (c .before .lines .given .0 .0)
+heading c = rw (c .before .lines .given .1) at (c .before .before .before .roles-heading .ensures)
+
+role-lines-requires : tie.Need-role-lines-requires
+role-lines-requires c κs = (
+  heading (c .before) .within,
+  omega (
+    arith,
+    permissions-fit-a-row,
+    c .before .before .before .before .before .before .before .before .pre .0 .1 .permission-total,
+    accepted-lawful (c .before .before .before .before .before .before .before .before .args .sheet .now) (c .before .before .before .before .before .before .before .before .pre .0 .1 .accepts) .few-permissions,
+  ),
+  c .before .before .before .before .before .before .before .before .pre .1 .0,
+  c .before .before .before .before .before .before .before .before .pre .1 .1,
+)
+
+same-length : tie.Need-same-length
+same-length c = c .before .before .role-lines .kept .1 .1 .0
+
+returns-2 : tie.Need-returns-2
+returns-2 c =
+    heading-then-roles (sheet-of (c .before .before .before .before .before .before .before .before .before .before .before .args .sheet .now)) (c .before .before .role-lines .last .1 .1 .0) (heading (c .before .before .before .before)) (c .before .before .role-lines .result)
+    (rw (c .before .before .before .before .before .before .before .before .before .before .before .pre .0 .1 .permission-total) at (c .before .before .role-lines .ensures))
+
+pub read-roles-spec : {M : Type 1} → statement M
+read-roles-spec =
+    tie.close
+    (tie.spec
+    roles-heading-requires
+    enum-known-lines
+    enum-told
+    returns
+    role-lines-requires
+    same-length
+    returns-2)

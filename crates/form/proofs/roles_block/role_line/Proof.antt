@@ -1,0 +1,45 @@
+-- `roles_block::role_line`: the role's name, then its cells.
+use borrow.Author.Needs.{needs}
+use Rattle.spec.specs.Book.{role-name}
+use Rattle.form.specs.Steps.{Reads}
+use Rattle.form.specs.LineSteps.{no-name, name-then-cells}
+use Rattle.form.proofs.roles_block.role_line.Statement.{statement}
+use Rattle.form.proofs.roles_block.role_line.Tie as tie
+
+expect-role-name-requires : tie.Need-expect-role-name-requires
+expect-role-name-requires c κs = (c .before .before .pre .0 .0, c .before .before .pre .0 .1)
+
+enum-known-cells : tie.Need-enum-known-cells
+enum-known-cells c = search needs
+
+enum-told : tie.Need-enum-told
+enum-told c = search needs
+
+returns : tie.Need-returns
+returns c = no-name (c .before .before .before .before .before .args .permissions) (rw (c .enum-told .given .1) at (c .before .before .expect-role-name .ensures))
+
+name : (c : tie.After-known-told) → Reads (c .before .before .before .before .before .before .args .book .now) (c .before .before .before .before .before .before .args .at) (role-name (c .before .before .before .before .before .before .args .role .0)) (c .before .cells .given .0 .0)
+name c = rw (c .before .cells .given .1) at (c .before .before .before .expect-role-name .ensures)
+
+read-line-cells-requires : tie.Need-read-line-cells-requires
+read-line-cells-requires c κs = (name (c .before) .within, c .before .before .before .before .before .before .before .pre .0 .2, c .before .before .before .before .before .before .before .pre .1 .0, c .before .before .before .before .before .before .before .pre .1 .1)
+
+same-length : tie.Need-same-length
+same-length c = c .before .before .read-line-cells .kept .1 .1 .0
+
+returns-2 : tie.Need-returns-2
+returns-2 c =
+    name-then-cells (c .before .before .before .before .before .before .before .before .before .before .args .role .0) (c .before .before .before .before .before .before .before .before .before .before .args .permissions) (c .before .before .before .before .before .before .before .before .before .before .args .gives .now) (c .before .before .read-line-cells .last .1 .1 .0) (name (c .before .before .before .before))
+    (c .before .before .read-line-cells .result) (c .before .before .read-line-cells .ensures)
+
+pub role-line-spec : {M : Type 1} → statement M
+role-line-spec =
+    tie.close
+    (tie.spec
+    expect-role-name-requires
+    enum-known-cells
+    enum-told
+    returns
+    read-line-cells-requires
+    same-length
+    returns-2)

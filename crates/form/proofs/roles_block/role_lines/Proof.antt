@@ -1,0 +1,110 @@
+-- `roles_block::role_lines`: the lines of the roles below r have been read; an empty line ends them, else the line of role r follows.
+use Prim.Native.Nat.{_-_, _≤_, _<_}
+use native.Mathlib.Omega.{arith}
+use mathlib.Core.Path.{_≡_, refl, _∙_}
+use borrow.Author.Needs.{needs}
+use lib.ListN.{length}
+use Rattle.spec.specs.Limits.{role-limit}
+use Rattle.spec.specs.Book.{role-name}
+use Rattle.form.specs.Laws.RoleLimit.{row-within}
+use Rattle.form.specs.RoleSteps.{roles-end, roles-full, roles-off}
+use Rattle.form.specs.RowSteps.{LinesBelow, lines-start, lines-more}
+use Rattle.form.proofs.roles_block.role_lines.Statement.{statement}
+use Rattle.form.proofs.roles_block.role_lines.Tie as tie
+
+abbrev Inv-loop : tie.InvT-loop
+Inv-loop book at gives₀ permissions next₀ r₀ gives next r =
+    (r ≤ role-limit) × (length gives ≡ length gives₀) × LinesBelow book at role-name permissions gives r next
+
+abbrev μ-loop : tie.MeasureT-loop
+μ-loop book at gives₀ permissions next₀ r₀ gives next r = role-limit - r
+
+loop-holds : tie.Need-loop-holds Inv-loop μ-loop
+loop-holds c = (omega arith, refl, lines-start role-name (c .before .before .args .permissions) (c .before .before .pre .0) (c .before .before .pre .3))
+
+expect-byte-requires : tie.Need-expect-byte-requires Inv-loop μ-loop
+expect-byte-requires c κs = c .loop .inv .2 .reads .within
+
+enum-known-end : tie.Need-enum-known-end Inv-loop μ-loop
+enum-known-end c = search needs
+
+same-length : tie.Need-same-length Inv-loop μ-loop
+same-length c = c .before .before .before .before .loop .inv .1
+
+returns : tie.Need-returns Inv-loop μ-loop
+returns c = roles-end (c .before .before .before .before .loop .inv .0) (c .before .before .before .before .loop .inv .2) (rw (c .before .end .given .1) at (c .before .before .before .expect-byte .ensures))
+
+enum-told : tie.Need-enum-told Inv-loop μ-loop
+enum-told c = search needs
+
+same-length-2 : tie.Need-same-length-2 Inv-loop μ-loop
+same-length-2 c = c .before .before .before .before .loop .inv .1
+
+returns-2 : tie.Need-returns-2 Inv-loop μ-loop
+unfolding role-limit
+returns-2 c =
+    roles-full (c .before .before .before .before .loop .inv .2) (omega (arith, c .if1 .taken)) (rw (c .before .enum-told .given .1) at (c .before .before .before .expect-byte .ensures))
+
+below : (c : tie.Else1 Inv-loop μ-loop) → c .before .before .before .before .loop .r < role-limit
+unfolding role-limit
+below c = omega (arith, c .before .before .before .before .loop .inv .0, c .if1 .left)
+
+role-line-requires : tie.Need-role-line-requires Inv-loop μ-loop
+role-line-requires c κs = (
+  (c .before .before .before .before .before .loop .inv .2 .reads .within, below (c .before), c .before .before .before .before .before .before .before .before .pre .1),
+  (
+    row-within (c .before .before .before .before .before .loop .r) role-limit _ (below (c .before)) (omega (arith, c .before .before .before .before .before .before .before .before .pre .2, c .before .before .before .before .before .loop .inv .1)),
+    c .before .before .before .before .before .loop .inv .2 .blank (c .before .before .before .before .before .loop .r) (omega arith),
+  ),
+)
+
+enum-known-after : tie.Need-enum-known-after Inv-loop μ-loop
+enum-known-after c = search needs
+
+enum-told-2 : tie.Need-enum-told-2 Inv-loop μ-loop
+enum-told-2 c = search needs
+
+same-length-3 : tie.Need-same-length-3 Inv-loop μ-loop
+same-length-3 c = c .before .before .before .before .role-line .kept .1 .1 .0 ∙ c .before .before .before .before .before .before .before .before .before .before .loop .inv .1
+
+returns-3 : tie.Need-returns-3 Inv-loop μ-loop
+returns-3 c =
+    roles-off (c .before .before .before .before .before .before .before .before .before .before .loop .inv .2) (rw (c .before .before .before .before .before .before .before .enum-told .given .1) at (c .before .before .before .before .before .before .before .before .before .expect-byte .ensures))
+    (rw (c .enum-told2 .given .1) at (c .before .before .before .before .role-line .ensures))
+
+add-r : tie.Need-add-r Inv-loop μ-loop
+unfolding role-limit
+add-r c = omega (arith, below (c .before .before .before .before .before .before .before), c .before .before .before .before .before .before .before .before .before .before .before .loop .inv .0)
+
+loop-less : tie.Need-loop-less Inv-loop μ-loop
+loop-less c = omega (arith, below (c .before .before .before .before .before .before .before))
+
+loop-again : tie.Need-loop-again Inv-loop μ-loop
+loop-again c = (
+  omega (arith, below (c .before .before .before .before .before .before .before)),
+  c .before .before .before .before .before .role-line .kept .1 .1 .0 ∙ c .before .before .before .before .before .before .before .before .before .before .before .loop .inv .1,
+  lines-more (c .before .before .before .before .before .before .before .before .before .before .before .before .before .before .pre .1) (c .before .before .before .before .before .before .before .before .before .before .before .loop .inv .2) (rw (c .before .after .given .1) at (c .before .before .before .before .before .role-line .ensures)),
+)
+
+pub role-lines-spec : {M : Type 1} → statement M
+role-lines-spec =
+    tie.close
+    (tie.spec
+    Inv-loop
+    μ-loop
+    loop-holds
+    expect-byte-requires
+    enum-known-end
+    same-length
+    returns
+    enum-told
+    same-length-2
+    returns-2
+    role-line-requires
+    enum-known-after
+    enum-told-2
+    same-length-3
+    returns-3
+    add-r
+    loop-less
+    loop-again)

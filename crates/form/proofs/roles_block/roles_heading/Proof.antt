@@ -1,0 +1,72 @@
+-- `roles_block::roles_heading`: the word, the names and the line feed, one after the other.
+use mathlib.Core.List.{_++_}
+use borrow.Author.Needs.{needs}
+use Rattle.spec.specs.Text.{ascii}
+use Rattle.spec.specs.Sheet.{sheet-of}
+use Rattle.text.specs.LineLaws.{line-end}
+use Rattle.form.specs.Steps.{Reads}
+use Rattle.form.specs.Laws.Step.{reads-then, expects-then, misses-first, misses-second}
+use Rattle.form.specs.Pieces.{name-fields}
+use Rattle.form.proofs.roles_block.roles_heading.Statement.{statement}
+use Rattle.form.proofs.roles_block.roles_heading.Tie as tie
+
+slice-aggregate-expect : tie.Need-slice-aggregate-expect
+slice-aggregate-expect c = search needs
+
+expect-requires : tie.Need-expect-requires
+expect-requires c κs = search needs
+
+enum-known-names : tie.Need-enum-known-names
+enum-known-names c = search needs
+
+enum-told : tie.Need-enum-told
+enum-told c = search needs
+
+returns : tie.Need-returns
+returns c =
+    misses-first line-end
+    (misses-first (name-fields (sheet-of (c .before .before .before .before .before .before .args .sheet .now) .permissions)) (rw (c .enum-told .given .1) at (c .before .before .expect .ensures)))
+
+word : (c : tie.After-known-told) → Reads (c .before .before .before .before .before .before .before .args .book .now) (c .before .before .before .before .before .before .before .args .at) (ascii "role") (c .before .names .given .0 .0)
+word c = rw (c .before .names .given .1) at (c .before .before .before .expect .ensures)
+
+expect-permissions-requires : tie.Need-expect-permissions-requires
+expect-permissions-requires c κs = (word c .within, c .before .before .before .before .before .before .before .pre .1)
+
+enum-known-end : tie.Need-enum-known-end
+enum-known-end c = search needs
+
+enum-told-2 : tie.Need-enum-told-2
+enum-told-2 c = search needs
+
+returns-2 : tie.Need-returns-2
+returns-2 c =
+    misses-first line-end
+    (misses-second (name-fields (sheet-of (c .before .before .before .before .before .before .before .before .before .before .args .sheet .now) .permissions)) (word (c .before .before .before))
+    (rw (c .enum-told2 .given .1) at (c .before .before .expect-permissions .ensures)))
+
+names : (c : tie.After-known-told2)
+    → Reads (c .before .before .before .before .before .before .before .before .before .before .before .args .book .now) (c .before .before .before .before .before .before .before .before .before .before .before .args .at) (ascii "role" ++ name-fields (sheet-of (c .before .before .before .before .before .before .before .before .before .before .before .args .sheet .now) .permissions)) (c .before .end .given .0 .0)
+names c = reads-then (word (c .before .before .before .before)) (rw (c .before .end .given .1) at (c .before .before .before .expect-permissions .ensures))
+
+expect-byte-requires : tie.Need-expect-byte-requires
+expect-byte-requires c κs = names c .within
+
+returns-3 : tie.Need-returns-3
+returns-3 c = expects-then line-end (names (c .before)) (c .expect-byte .result) (c .expect-byte .ensures)
+
+pub roles-heading-spec : {M : Type 1} → statement M
+roles-heading-spec =
+    tie.close
+    (tie.spec
+    slice-aggregate-expect
+    expect-requires
+    enum-known-names
+    enum-told
+    returns
+    expect-permissions-requires
+    enum-known-end
+    enum-told-2
+    returns-2
+    expect-byte-requires
+    returns-3)

@@ -1,0 +1,50 @@
+-- `witness_block::read_witness`: the line of names, then the lines to the end of the book.
+use borrow.Author.Needs.{needs}
+use Rattle.spec.specs.Text.{ascii}
+use Rattle.spec.specs.Sheet.{sheet-of}
+use Rattle.form.specs.Steps.{Reads}
+use Rattle.form.specs.WitnessSteps.{no-witness-heading, heading-then-lines}
+use Rattle.form.proofs.witness_block.read_witness.Statement.{statement}
+use Rattle.form.proofs.witness_block.read_witness.Tie as tie
+
+slice-aggregate-expect : tie.Need-slice-aggregate-expect
+slice-aggregate-expect c = search needs
+
+expect-requires : tie.Need-expect-requires
+expect-requires c κs = c .before .before .before .pre .0
+
+enum-known-lines : tie.Need-enum-known-lines
+enum-known-lines c = search needs
+
+enum-told : tie.Need-enum-told
+enum-told c = search needs
+
+none-requires : tie.Need-none-requires
+none-requires c κs = search needs
+
+returns : tie.Need-returns
+returns c = no-witness-heading (sheet-of (c .before .before .before .before .before .before .before .args .sheet .now)) (rw (c .before .enum-told .given .1) at (c .before .before .before .expect .ensures))
+
+heading : (c : tie.After-known-told) → Reads (c .before .before .before .before .before .before .before .args .book .now) (c .before .before .before .before .before .before .before .args .at) (ascii "user,permission\n") (c .before .lines .given .0 .0)
+heading c = rw (c .before .lines .given .1) at (c .before .before .before .expect .ensures)
+
+witness-lines-requires : tie.Need-witness-lines-requires
+witness-lines-requires c κs = (heading c .within, c .before .before .before .before .before .before .before .pre .1)
+
+returns-2 : tie.Need-returns-2
+returns-2 c =
+    heading-then-lines (sheet-of (c .before .before .before .before .before .before .before .before .args .sheet .now)) (heading (c .before)) (c .witness-lines .result .«of_form»)
+    (c .witness-lines .result .witness) (c .witness-lines .ensures)
+
+pub read-witness-spec : {M : Type 1} → statement M
+read-witness-spec =
+    tie.close
+    (tie.spec
+    slice-aggregate-expect
+    expect-requires
+    enum-known-lines
+    enum-told
+    none-requires
+    returns
+    witness-lines-requires
+    returns-2)

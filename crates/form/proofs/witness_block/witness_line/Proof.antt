@@ -1,0 +1,137 @@
+-- `witness_block::witness_line`: the user is what stands before the first comma, and the permission what stands from there up to the line feed.
+use Prim.Native.Nat.{_+_}
+use native.Mathlib.Omega.{arith}
+use mathlib.Core.Path.{sym, _∙_}
+use borrow.Author.Needs.{needs}
+use Rattle.spec.specs.Text.{comma, line-feed}
+use Rattle.spec.specs.Sheet.{sheet-of}
+use Rattle.rules.specs.AcceptedFacts.{Lawful, accepted-lawful}
+use Rattle.form.specs.Ended.{Ended}
+use Rattle.form.specs.Laws.NameFound.{user-found, user-unknown, permission-found, permission-unknown}
+use Rattle.form.specs.WitnessLineSteps.{no-comma-in-line, no-user, no-line-feed-in-line, no-permission, witness-at}
+use Rattle.form.proofs.witness_block.witness_line.Statement.{statement}
+use Rattle.form.proofs.witness_block.witness_line.Tie as tie
+
+part-end-requires : tie.Need-part-end-requires
+part-end-requires c κs = search needs
+
+enum-known-comma : tie.Need-enum-known-comma
+enum-known-comma c = search needs
+
+enum-told : tie.Need-enum-told
+enum-told c = search needs
+
+lawful : (c : tie.Start) → Lawful (sheet-of (c .args .sheet .now))
+lawful c = accepted-lawful (c .args .sheet .now) (c .pre .1 .0 .0 .accepts)
+
+returns : tie.Need-returns
+returns c = no-comma-in-line (sheet-of (c .before .before .before .before .before .args .sheet .now)) (lawful (c .before .before .before .before .before)) (rw (c .enum-told .given .1) at (c .before .before .part-end .ensures))
+
+first : (c : tie.After-known-told) → Ended (c .before .before .before .before .before .before .args .book .now) (c .before .before .before .before .before .before .args .at) comma (c .before .comma .given .0 .0)
+first c = rw (c .before .comma .given .1) at (c .before .before .before .part-end .ensures)
+
+sub-user-name : tie.Need-sub-user-name
+sub-user-name c = first c .forward
+
+part-user-name-start : tie.Need-part-user-name-start
+part-user-name-start c = first c .forward
+
+part-user-name-end : tie.Need-part-user-name-end
+part-user-name-end c = omega (arith, first c .within)
+
+find-user-in-requires : tie.Need-find-user-in-requires
+find-user-in-requires c κs = search needs
+
+enum-known-user : tie.Need-enum-known-user
+enum-known-user c = search needs
+
+enum-told-2 : tie.Need-enum-told-2
+enum-told-2 c = search needs
+
+returns-2 : tie.Need-returns-2
+returns-2 c =
+    no-user (sheet-of (c .before .before .before .before .before .before .before .before .before .before .args .sheet .now)) (lawful (c .before .before .before .before .before .before .before .before .before .before)) (first (c .before .before .before .before))
+    (user-unknown (sheet-of (c .before .before .before .before .before .before .before .before .before .before .args .sheet .now) .users) _ (sym (c .enum-told2 .given .1) ∙ c .before .before .find-user-in .ensures))
+
+add-start : tie.Need-add-start
+add-start c = omega (arith, first (c .before .before .before .before .before) .within)
+
+part-end-requires-2 : tie.Need-part-end-requires-2
+part-end-requires-2 c κs = omega (arith, first (c .before .before .before .before .before) .within)
+
+enum-known-end : tie.Need-enum-known-end
+enum-known-end c = search needs
+
+enum-told-3 : tie.Need-enum-told-3
+enum-told-3 c = search needs
+
+returns-3 : tie.Need-returns-3
+returns-3 c =
+    no-line-feed-in-line (sheet-of (c .before .before .before .before .before .before .before .before .before .before .before .before .before .before .args .sheet .now)) (lawful (c .before .before .before .before .before .before .before .before .before .before .before .before .before .before)) (first (c .before .before .before .before .before .before .before .before))
+    (rw (c .enum-told3 .given .1) at (c .before .before .part-end2 .ensures))
+
+second : (c : tie.After-known-told3) → Ended (c .before .before .before .before .before .before .before .before .before .before .before .before .before .before .before .args .book .now) (c .before .before .before .before .before .before .before .before .before .before .comma .given .0 .0 + 1) line-feed (c .before .end .given .0 .0)
+second c = rw (c .before .end .given .1) at (c .before .before .before .part-end2 .ensures)
+
+sub-permission-name : tie.Need-sub-permission-name
+sub-permission-name c = second c .forward
+
+part-permission-name-start : tie.Need-part-permission-name-start
+part-permission-name-start c = second c .forward
+
+part-permission-name-end : tie.Need-part-permission-name-end
+part-permission-name-end c = omega (arith, second c .within)
+
+find-permission-in-requires : tie.Need-find-permission-in-requires
+find-permission-in-requires c κs = search needs
+
+enum-known-permission : tie.Need-enum-known-permission
+enum-known-permission c = search needs
+
+enum-told-4 : tie.Need-enum-told-4
+enum-told-4 c = search needs
+
+returns-4 : tie.Need-returns-4
+returns-4 c =
+    no-permission (sheet-of (c .before .before .before .before .before .before .before .before .before .before .before .before .before .before .before .before .before .before .before .args .sheet .now)) (lawful (c .before .before .before .before .before .before .before .before .before .before .before .before .before .before .before .before .before .before .before)) (first (c .before .before .before .before .before .before .before .before .before .before .before .before .before)) (second (c .before .before .before .before))
+    (permission-unknown (sheet-of (c .before .before .before .before .before .before .before .before .before .before .before .before .before .before .before .before .before .before .before .args .sheet .now) .permissions) _ (sym (c .enum-told4 .given .1) ∙ c .before .before .find-permission-in .ensures))
+
+add-t20 : tie.Need-add-t20
+add-t20 c = omega (arith, second (c .before .before .before .before .before) .within, c .before .before .before .before .before .before .before .before .before .before .before .before .before .before .before .before .before .before .before .before .good .0 .1)
+
+returns-5 : tie.Need-returns-5
+returns-5 c =
+    witness-at (sheet-of (c .before .before .before .before .before .before .before .before .before .before .before .before .before .before .before .before .before .before .before .before .args .sheet .now)) (lawful (c .before .before .before .before .before .before .before .before .before .before .before .before .before .before .before .before .before .before .before .before)) (first (c .before .before .before .before .before .before .before .before .before .before .before .before .before .before)) (second (c .before .before .before .before .before)) _
+    (user-found (sheet-of (c .before .before .before .before .before .before .before .before .before .before .before .before .before .before .before .before .before .before .before .before .args .sheet .now) .users) _ (c .before .before .before .before .before .before .before .before .before .before .user .given .0 .0 .0) (sym (c .before .before .before .before .before .before .before .before .before .before .user .given .1) ∙ c .before .before .before .before .before .before .before .before .before .before .before .before .find-user-in .ensures))
+    (permission-found (sheet-of (c .before .before .before .before .before .before .before .before .before .before .before .before .before .before .before .before .before .before .before .before .args .sheet .now) .permissions) _ (c .before .permission .given .0 .0 .0)
+    (sym (c .before .permission .given .1) ∙ c .before .before .before .find-permission-in .ensures))
+
+pub witness-line-spec : {M : Type 1} → statement M
+witness-line-spec =
+    tie.close
+    (tie.spec
+    part-end-requires
+    enum-known-comma
+    enum-told
+    returns
+    sub-user-name
+    part-user-name-start
+    part-user-name-end
+    find-user-in-requires
+    enum-known-user
+    enum-told-2
+    returns-2
+    add-start
+    part-end-requires-2
+    enum-known-end
+    enum-told-3
+    returns-3
+    sub-permission-name
+    part-permission-name-start
+    part-permission-name-end
+    find-permission-in-requires
+    enum-known-permission
+    enum-told-4
+    returns-4
+    add-t20
+    returns-5)

@@ -1,0 +1,5 @@
+-- The laws behind what contracts cite.
+pub mod RoleLimit
+pub mod Step
+pub mod NameFound
+pub mod Aligned

@@ -1,0 +1,131 @@
+-- A book as the bytes that follow one another: the parts that a reader meets, each with the empty line that ends its block. Assumes nothing.
+use Prim.Native.Nat.{ℕ}
+use mathlib.Core.Path.{_≡_, ap, _∙_}
+use mathlib.Core.Bool.{Bool}
+use mathlib.Core.List.{List, [], _∷_, _++_, map, map-map, append-assoc}
+use lib.ListN.{length, getD}
+use Rattle.spec.specs.Vocabulary.{list-of, concat}
+use Rattle.spec.specs.Text.{ascii, Bytes, Line, comma, line-feed, line-text, text-of}
+use Rattle.spec.specs.Sheet.{Sheet, Grant, cell-text, user-count, permission-count, user-name}
+use Rattle.spec.specs.RoleSet.{RoleSet}
+use Rattle.spec.specs.Roles.{Standing}
+use Rattle.spec.specs.Decimal.{decimal}
+use Rattle.spec.specs.Book.{standing-word, role-name, Block, Said, counts-block, roles-block, users-block, witness-line, witness-block, blocks-saying, book-text}
+use Rattle.lists.specs.Listed.{listed, listed-same}
+use Rattle.cell_text.specs.CellsText.{cell-field}
+use Rattle.text.specs.LineLaws.{behind-comma, line-end, line-parts, line-parts-of, block-parts, four-blocks}
+
+-- ---- lines
+
+-- cells behind a name
+abbrev pub cell-fields : ℕ → (ℕ → Bool) → Bytes
+cell-fields count cell = listed count (λ i. cell-field (cell i))
+
+-- names behind a word
+abbrev pub name-fields : List Bytes → Bytes
+name-fields names = listed (length names) (λ i. behind-comma (getD names i []))
+
+abbrev pub role-fields : ℕ → Bytes
+role-fields count = listed count (λ r. behind-comma (role-name r))
+
+-- a line of a name and cells
+abbrev pub named-text : Bytes → ℕ → (ℕ → Bool) → Bytes
+named-text name count cells = name ++ (cell-fields count cells ++ line-end)
+
+-- such lines by number
+abbrev pub named-texts : (ℕ → Bytes) → ℕ → (ℕ → ℕ → Bool) → ℕ → Bytes
+named-texts name width cells count = listed count (λ i. named-text (name i) width (cells i))
+
+-- ---- parts
+
+-- block 1: its line of names, the two counts and the state
+abbrev pub counts-part : Bytes → Bytes → Standing → Bytes
+counts-part role-digits bound-digits standing =
+    ascii "roles,bound,state\n"
+    ++ ((role-digits ++ comma ∷ [])
+    ++ ((bound-digits ++ comma ∷ []) ++ ((standing-word standing ++ line-feed ∷ []) ++ line-end)))
+
+-- block 2: its line of names, and a line for each role
+abbrev pub roles-heading : Sheet → Bytes
+roles-heading sheet = (ascii "role" ++ name-fields (sheet .permissions)) ++ line-end
+
+abbrev pub roles-part : Sheet → ℕ → (ℕ → ℕ → Bool) → Bytes
+roles-part sheet count gives = roles-heading sheet ++ (named-texts role-name (permission-count sheet) gives count ++ line-end)
+
+-- block 3: its line of names, and a line for each user
+abbrev pub users-heading : ℕ → Bytes
+users-heading count = (ascii "user" ++ role-fields count) ++ line-end
+
+abbrev pub users-part : Sheet → ℕ → (ℕ → ℕ → Bool) → Bytes
+users-part sheet count has = users-heading count ++ (named-texts (user-name sheet) count has (user-count sheet) ++ line-end)
+
+-- block 4: its line of names, and the witness
+abbrev pub witness-text : Sheet → Grant → Bytes
+witness-text sheet g = line-text (witness-line sheet g)
+
+abbrev pub witness-texts : Sheet → List Grant → Bytes
+witness-texts sheet grants = concat (map (witness-text sheet) grants)
+
+abbrev pub witness-part : Sheet → List Grant → Bytes
+witness-part sheet grants = ascii "user,permission\n" ++ witness-texts sheet grants
+
+-- ---- the blocks are these parts
+
+counts-in-parts : (count bound : ℕ) (standing : Standing)
+    → text-of (counts-block count bound standing) ++ line-end ≡ counts-part (decimal count) (decimal bound) standing
+counts-in-parts count bound standing = simp append-assoc
+
+named-in-parts : (name : Bytes) (count : ℕ) (cells : ℕ → Bool)
+    → line-text (name ∷ list-of count (λ i. cell-text (cells i))) ≡ named-text name count cells
+named-in-parts name count cells =
+    line-parts name count (λ i. cell-text (cells i)) ∙ append-assoc name (cell-fields count cells) line-end
+
+-- a block of such lines
+block-in-parts : (heading : Line) (name : ℕ → Bytes) (width : ℕ) (cells : ℕ → ℕ → Bool) (count : ℕ)
+    → text-of (heading ∷ list-of count (λ i. name i ∷ list-of width (λ j. cell-text (cells i j)))) ++ line-end
+    ≡ line-text heading ++ (named-texts name width cells count ++ line-end)
+block-in-parts heading name width cells count =
+    rw (
+      block-parts heading count (λ i. name i ∷ list-of width (λ j. cell-text (cells i j))),
+      listed-same count (λ i. line-text (name i ∷ list-of width (λ j. cell-text (cells i j)))) (λ i. named-text (name i) width (cells i))
+          (λ i h. named-in-parts (name i) width (cells i)),
+    )
+    (append-assoc (line-text heading) (named-texts name width cells count) line-end)
+
+roles-in-parts : (sheet : Sheet) (roles : RoleSet)
+    → text-of (roles-block sheet roles) ++ line-end ≡ roles-part sheet (roles .count) (roles .gives)
+roles-in-parts sheet roles =
+    block-in-parts (ascii "role" ∷ sheet .permissions) role-name (permission-count sheet) (roles .gives) (roles .count)
+    ∙ rw (line-parts-of (ascii "role") (sheet .permissions))
+
+users-in-parts : (sheet : Sheet) (roles : RoleSet)
+    → text-of (users-block sheet roles) ++ line-end ≡ users-part sheet (roles .count) (roles .has)
+users-in-parts sheet roles =
+    block-in-parts (ascii "user" ∷ list-of (roles .count) role-name) (user-name sheet) (roles .count) (roles .has) (user-count sheet)
+    ∙ rw (line-parts (ascii "user") (roles .count) role-name)
+
+witness-in-parts : (sheet : Sheet) (grants : List Grant) → text-of (witness-block sheet grants) ≡ witness-part sheet grants
+witness-in-parts sheet grants = ap (λ l. ascii "user,permission\n" ++ concat l) (map-map line-text (witness-line sheet) grants)
+
+grouped : (a b c d e : Bytes) → (((((a ++ e) ++ b) ++ e) ++ c) ++ e) ++ d ≡ (a ++ e) ++ ((b ++ e) ++ ((c ++ e) ++ d))
+grouped a b c d e = simp append-assoc
+
+same-parts : {a b c d a′ b′ c′ d′ : Bytes} → a ≡ a′ → b ≡ b′ → c ≡ c′ → d ≡ d′ → a ++ (b ++ (c ++ d)) ≡ a′ ++ (b′ ++ (c′ ++ d′))
+same-parts p q r s = cc
+
+-- a book is its four parts
+pub book-in-parts : (sheet : Sheet) (says : Said)
+    → book-text sheet says
+    ≡ counts-part (decimal (says .count)) (decimal (says .bound)) (says .standing)
+    ++ (roles-part sheet (says .roles .count) (says .roles .gives)
+    ++ (users-part sheet (says .roles .count) (says .roles .has) ++ witness-part sheet (says .witness)))
+unfolding book-text blocks-saying
+book-in-parts sheet says =
+    let counts : Block = counts-block (says .count) (says .bound) (says .standing) in
+    let roles : Block = roles-block sheet (says .roles) in
+    let users : Block = users-block sheet (says .roles) in
+    let witness : Block = witness-block sheet (says .witness) in
+    four-blocks counts roles users witness
+    ∙ grouped (text-of counts) (text-of roles) (text-of users) (text-of witness) line-end
+    ∙ same-parts (counts-in-parts (says .count) (says .bound) (says .standing)) (roles-in-parts sheet (says .roles))
+    (users-in-parts sheet (says .roles)) (witness-in-parts sheet (says .witness))

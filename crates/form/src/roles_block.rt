@@ -1,0 +1,96 @@
+// Block 2: the permissions of each role.
+use crate::cursor::Step;
+use crate::cursor::expect;
+use crate::cursor::expect_byte;
+use crate::line::read_line_cells;
+use crate::expected::expect_permissions;
+use crate::expected::expect_role_name;
+use names::Layout;
+use numbers::ROLE_LIMIT;
+use numbers::RoleNo;
+ghost use Prim.Native.Nat.{_+_, _*_, _≤_, _<_};
+ghost use lib.ListN.{length};
+ghost use Rattle.spec.specs.Limits.{role-limit};
+ghost use Rattle.spec.specs.Sheet.{sheet-of};
+ghost use Rattle.spec.specs.Book.{role-name};
+ghost use Rattle.cells.specs.Rows.{row-words, row-bits};
+ghost use Rattle.names.specs.LaidOut.{LaidOut};
+ghost use Rattle.form.specs.Steps.{Expects};
+ghost use Rattle.form.specs.Pieces.{roles-heading};
+ghost use Rattle.form.specs.RowGrown.{Blank};
+ghost use Rattle.form.specs.LineSteps.{LineReads};
+ghost use Rattle.form.specs.RowSteps.{AllBlank};
+ghost use Rattle.form.specs.RoleSteps.{RoleLinesRead, RolesReads};
+
+// What reading the lines of roles finds: how many there are, and where to go on.
+pub enum RolesRead {
+    Roles(usize, usize),
+    Off,
+}
+
+// Reads the line of a role into its row.
+fn role_line(book: &[u8], at: usize, gives: &mut [u64], role: RoleNo, permissions: usize) -> Step
+    requires { ⌜ (at ≤ length (now book)) × (role .0 < role-limit) × (permissions ≤ row-bits) ⌝ }
+    requires { ⌜ ((role .0 + 1) * row-words ≤ length (now gives)) × Blank (now gives) (role .0) ⌝ }
+    ensures { λ r. ⌜ LineReads (now (book .entry)) at (role-name (role .0)) (role .0) permissions (now (gives .entry)) (now (gives .exit)) r ⌝ }
+{
+    let Step::On(cells) = expect_role_name(book, at, role) else {
+        return Step::Off;
+    };
+    let row = role.0;
+    read_line_cells(book, cells, gives, row, permissions)
+}
+
+// Reads the lines of the roles in order, up to the empty line behind them.
+fn role_lines(book: &[u8], at: usize, gives: &mut [u64], permissions: usize) -> RolesRead
+    requires { ⌜ (at ≤ length (now book)) × (permissions ≤ row-bits) × (role-limit * row-words ≤ length (now gives)) × AllBlank (now gives) ⌝ }
+    ensures { λ r. ⌜ RoleLinesRead (now (book .entry)) at permissions (now (gives .exit)) r ⌝ }
+{
+    let mut next = at;
+    let mut r = 0;
+    loop {
+        if let Step::On(end) = expect_byte(book, next, b'\n') {
+            return RolesRead::Roles(r, end);
+        }
+        if r == ROLE_LIMIT {
+            return RolesRead::Off;
+        }
+        let Step::On(after) = role_line(book, next, gives, RoleNo(r), permissions) else {
+            return RolesRead::Off;
+        };
+        next = after;
+        r += 1;
+    }
+}
+
+// Reads the line of names of block 2: `role` and the sheet's permissions.
+fn roles_heading<'a>(book: &'a [u8], at: usize, sheet: &'a [u8], layout: Layout) -> Step
+    requires { ⌜ (at ≤ length (now book)) × LaidOut (now sheet) layout ⌝ }
+    ensures { λ r. ⌜ Expects (now (book .entry)) at (roles-heading (sheet-of (now (sheet .entry)))) r ⌝ }
+{
+    let Step::On(names) = expect(book, at, b"role") else {
+        return Step::Off;
+    };
+    let Step::On(end) = expect_permissions(book, names, sheet, layout) else {
+        return Step::Off;
+    };
+    expect_byte(book, end, b'\n')
+}
+
+// Reads block 2 and the empty line behind it.
+pub fn read_roles<'a>(
+    book: &'a [u8],
+    at: usize,
+    sheet: &'a [u8],
+    layout: Layout,
+    gives: &mut [u64],
+) -> RolesRead
+    requires { ⌜ (at ≤ length (now book)) × LaidOut (now sheet) layout ⌝ }
+    requires { ⌜ (role-limit * row-words ≤ length (now gives)) × AllBlank (now gives) ⌝ }
+    ensures { λ r. ⌜ RolesReads (sheet-of (now (sheet .entry))) (now (book .entry)) at (now (gives .exit)) r ⌝ }
+{
+    let Step::On(lines) = roles_heading(book, at, sheet, layout) else {
+        return RolesRead::Off;
+    };
+    role_lines(book, lines, gives, layout.permissions)
+}

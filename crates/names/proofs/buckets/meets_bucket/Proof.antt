@@ -1,0 +1,98 @@
+-- `buckets::meets_bucket`: with no name met in the words before k, the word k is next.
+use Prim.Native.Nat.{ℕ, _-_, _+_, _*_, _≤_}
+use native.Mathlib.Omega.{arith}
+use mathlib.Core.Path.{_≡_, refl, sym, _∙_}
+use mathlib.Core.Bool.{Bool, false}
+use mathlib.Core.List.{List}
+use lib.ListN.{getD}
+use Rattle.spec.specs.Vocabulary.{some-below}
+use Rattle.spec.specs.Text.{Bytes}
+use Rattle.bits.specs.Truth.{or-fails}
+use Rattle.bits.specs.Laws.Below.{some-below-intro}
+use Rattle.bits.specs.Laws.Step.{some-below-step}
+use Rattle.bits.specs.Bit.{word-bits}
+use Rattle.names.specs.NamesAt.{places-of}
+use Rattle.names.specs.Buckets.{bucket-words, meets-word, meets-bucket}
+use Rattle.names.specs.declared.places.Places.{Places}
+use Rattle.names.proofs.buckets.meets_bucket.Statement.{statement}
+use Rattle.names.proofs.buckets.meets_bucket.Tie as tie
+
+abbrev Inv-loop : tie.InvT-loop
+Inv-loop s from to table bucket words name k₀ k = (k ≤ words) × (meets-bucket s (places-of from to) table bucket k name ≡ false)
+
+abbrev μ-loop : tie.MeasureT-loop
+μ-loop s from to table bucket words name k₀ k = words - k
+
+loop-holds : tie.Need-loop-holds Inv-loop μ-loop
+unfolding some-below
+loop-holds c = (omega arith, refl)
+
+mul-at : tie.Need-mul-at Inv-loop μ-loop
+mul-at c = omega arith
+
+add-at : tie.Need-add-at Inv-loop μ-loop
+add-at c = omega arith
+
+mul-meets-word : tie.Need-mul-meets-word Inv-loop μ-loop
+mul-meets-word c = omega arith
+
+element-copy-out-meets-word : tie.Need-element-copy-out-meets-word Inv-loop μ-loop
+element-copy-out-meets-word c = omega arith
+
+mul-meets-word-2 : tie.Need-mul-meets-word-2 Inv-loop μ-loop
+mul-meets-word-2 c = omega arith
+
+meets-word-requires : tie.Need-meets-word-requires Inv-loop μ-loop
+meets-word-requires c κs p l s =
+    c .before .before .before .before .before .pre .0 .part (c .before .before .before .before .before .args .bucket) (c .before .before .loop .k) p (omega arith) l s
+
+-- whether the word k has a name that is met
+abbrev met : Bytes → Places → List ℕ → ℕ → Bytes → ℕ → Bool
+met text places table bucket name k = meets-word text places (getD table (bucket * bucket-words + k) 0) (k * word-bits) name
+
+returns : tie.Need-returns Inv-loop μ-loop
+returns c =
+    let a = c .before .before .before .before .before .before .before .args in
+    let k = c .before .before .before .before .loop .k in
+    sym (some-below-intro (a .words) (met (a .s .now) (places-of (a .from .now) (a .to .now)) (a .table .now) (a .bucket) (a .name .now)) {i = k}
+    (c .before .before .before .loop-test .taken) (sym (c .before .meets-word .ensures) ∙ c .if1 .taken))
+
+add-k : tie.Need-add-k Inv-loop μ-loop
+add-k c = omega arith
+
+loop-less : tie.Need-loop-less Inv-loop μ-loop
+loop-less c = omega arith
+
+loop-again : tie.Need-loop-again Inv-loop μ-loop
+loop-again c =
+    let a = c .before .before .before .before .before .before .before .args in
+    let k = c .before .before .before .before .loop .k in
+    let test : ℕ → Bool = met (a .s .now) (places-of (a .from .now) (a .to .now)) (a .table .now) (a .bucket) (a .name .now) in (
+      omega arith,
+      some-below-step k test
+          ∙ or-fails (test k) (some-below k test) (sym (c .before .meets-word .ensures) ∙ c .if1 .left) (c .before .before .before .before .loop .inv .1),
+    )
+
+returns-2 : tie.Need-returns-2 Inv-loop μ-loop
+returns-2 c =
+    let all : c .before .loop .k ≡ c .before .before .before .before .args .words = omega arith in
+    sym (rw all at (c .before .loop .inv .1))
+
+pub meets-bucket-spec : {M : Type 1} → statement M
+meets-bucket-spec =
+    tie.close
+    (tie.spec
+    Inv-loop
+    μ-loop
+    loop-holds
+    mul-at
+    add-at
+    mul-meets-word
+    element-copy-out-meets-word
+    mul-meets-word-2
+    meets-word-requires
+    returns
+    add-k
+    loop-less
+    loop-again
+    returns-2)

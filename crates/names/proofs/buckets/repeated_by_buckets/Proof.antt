@@ -1,0 +1,130 @@
+-- `buckets::repeated_by_buckets`: the names before number i are noted in the table and no two of them are equal. The next one is compared with those of its
+-- own bucket, and equal names have one bucket.
+use Prim.Native.Nat.{_-_, _/_, _≤_, _<_}
+use native.Mathlib.Omega.{arith}
+use native.Mathlib.Numerals.{add-one}
+use mathlib.Core.Path.{_≡_, sym, _∙_}
+use Rattle.spec.specs.Limits.{user-limit}
+use Rattle.bits.specs.Bit.{word-bits}
+use Rattle.names.specs.NamesAt.{places-of}
+use Rattle.names.specs.Laws.NamesAt.{inside-part}
+use Rattle.names.specs.Buckets.{bucket-count, bucket-words}
+use Rattle.names.specs.Laws.Bucket.{bucket-below, noted-standing}
+use Rattle.names.specs.RepeatsLaws.{names-apart}
+use Rattle.names.specs.Laws.Meet.{Searched, none-searched, met-repeats, unmet-searched}
+use Rattle.names.specs.declared.places.Places.{Places}
+use Rattle.names.proofs.buckets.repeated_by_buckets.Statement.{statement}
+use Rattle.names.proofs.buckets.repeated_by_buckets.Tie as tie
+
+abbrev Inv-loop : tie.InvT-loop
+Inv-loop s from to count table₀ i₀ table i = (i ≤ count) × Searched table s (places-of from to) i
+
+abbrev μ-loop : tie.MeasureT-loop
+μ-loop s from to count table₀ i₀ table i = count - i
+
+abbrev places : tie.Start Inv-loop μ-loop → Places
+places start = places-of (start .args .from .now) (start .args .to .now)
+
+loop-holds : tie.Need-loop-holds Inv-loop μ-loop
+loop-holds c = let start = c .before in (omega arith, none-searched (start .args .s .now) (places start))
+
+part-at-requires : tie.Need-part-at-requires Inv-loop μ-loop
+part-at-requires c κs = inside-part (c .before .before .before .pre) (c .before .loop .i) (c .loop-test .taken)
+
+bucket-of-requires : tie.Need-bucket-of-requires Inv-loop μ-loop
+bucket-of-requires c κs = tt
+
+add-meets-bucket : tie.Need-add-meets-bucket Inv-loop μ-loop
+add-meets-bucket c = omega arith
+
+-- the name's bucket and its word there are within the table
+small : (c : tie.After-bucket-of Inv-loop μ-loop) → (c .bucket-of .result < bucket-count) × (c .before .before .before .loop .i / word-bits < bucket-words)
+unfolding user-limit
+small c =
+    let start = c .before .before .before .before .before in
+    (rw (c .bucket-of .ensures) (bucket-below (c .before .part-at .result .now)), omega (arith, start .pre .few, c .before .before .loop-test .taken))
+
+meets-bucket-requires : tie.Need-meets-bucket-requires Inv-loop μ-loop
+meets-bucket-requires c κs =
+    let loop = c .before .before .before .before .loop in
+    (noted-standing (loop .inv .1 .noted) (c .before .before .before .before .before .before .pre) (loop .inv .0), small (c .before) .0, omega (arith, small (c .before) .1))
+
+returns : tie.Need-returns Inv-loop μ-loop
+returns c =
+    let start = c .before .before .before .before .before .before .before .before in
+    let loop = c .before .before .before .before .before .before .loop in
+    sym (met-repeats (loop .table) (start .args .s .now) (places start) (start .args .count) (loop .i) (start .pre)
+    (c .before .before .before .before .before .loop-test .taken) (loop .inv .1) (c .before .before .before .before .part-at .result .now)
+    (c .before .before .before .before .part-at .ensures) (c .before .before .before .bucket-of .result)
+    (sym (c .before .meets-bucket .ensures) ∙ c .if1 .taken))
+
+mul-at : tie.Need-mul-at Inv-loop μ-loop
+mul-at c = omega (arith, small (c .before .before .before))
+
+add-at : tie.Need-add-at Inv-loop μ-loop
+add-at c = omega (arith, small (c .before .before .before))
+
+mul-with : tie.Need-mul-with Inv-loop μ-loop
+mul-with c = omega (arith, small (c .before .before .before))
+
+array-read-with : tie.Need-array-read-with Inv-loop μ-loop
+array-read-with c = omega (arith, small (c .before .before .before))
+
+with-requires : tie.Need-with-requires Inv-loop μ-loop
+with-requires c κs = omega arith
+
+mul-table : tie.Need-mul-table Inv-loop μ-loop
+mul-table c = omega (arith, small (c .before .before .before .before))
+
+array-write-table : tie.Need-array-write-table Inv-loop μ-loop
+array-write-table c = omega (arith, small (c .before .before .before .before))
+
+add-i : tie.Need-add-i Inv-loop μ-loop
+add-i c = omega arith
+
+loop-less : tie.Need-loop-less Inv-loop μ-loop
+loop-less c = omega arith
+
+loop-again : tie.Need-loop-again Inv-loop μ-loop
+loop-again c =
+    let start = c .before .before .before .before .before .before .before .before .before in
+    let loop = c .before .before .before .before .before .before .before .loop in (
+      omega arith,
+      rw add-one
+          (unmet-searched (loop .table) (start .args .s .now) (places start) (start .args .count) (loop .i) (start .pre)
+          (c .before .before .before .before .before .before .loop-test .taken) (loop .inv .1)
+          (c .before .before .before .before .before .part-at .result .now) (c .before .before .before .before .before .part-at .ensures)
+          (c .before .before .before .before .bucket-of .result) (c .before .before .before .before .bucket-of .ensures)
+          (sym (c .before .before .meets-bucket .ensures) ∙ c .before .if1 .left) (c .with .result) (c .with .ensures)),
+    )
+
+returns-2 : tie.Need-returns-2 Inv-loop μ-loop
+returns-2 c =
+    let start = c .before .before .before in
+    let loop = c .before .loop in
+    let all : loop .i ≡ start .args .count = omega arith in
+    sym (names-apart (start .args .s .now) (places start) (start .args .count) (rw all at (loop .inv .1 .apart)))
+
+pub repeated-by-buckets-spec : {M : Type 1} → statement M
+repeated-by-buckets-spec =
+    tie.close
+    (tie.spec
+    Inv-loop
+    μ-loop
+    loop-holds
+    part-at-requires
+    bucket-of-requires
+    add-meets-bucket
+    meets-bucket-requires
+    returns
+    mul-at
+    add-at
+    mul-with
+    array-read-with
+    with-requires
+    mul-table
+    array-write-table
+    add-i
+    loop-less
+    loop-again
+    returns-2)

@@ -1,0 +1,85 @@
+-- `buckets::repeated_few`: no two of the names before number i are equal, and the next one is compared with all of them.
+use Prim.Native.Nat.{_+_, _-_, _≤_}
+use native.Mathlib.Nat.{not-suc-le-zero}
+use native.Mathlib.Omega.{arith}
+use native.Mathlib.Numerals.{add-one}
+use mathlib.Core.Path.{_≡_, sym, _∙_}
+use borrow.Author.Tests.{ltb-true}
+use Rattle.names.specs.NamesAt.{places-of}
+use Rattle.names.specs.Laws.NamesAt.{inside-part}
+use Rattle.names.specs.RepeatsLaws.{Apart, names-apart}
+use Rattle.names.specs.Laws.Meet.{met-few, unmet-few}
+use Rattle.names.specs.declared.places.Places.{Places}
+use Rattle.names.proofs.buckets.repeated_few.Statement.{statement}
+use Rattle.names.proofs.buckets.repeated_few.Tie as tie
+
+abbrev Inv-loop : tie.InvT-loop
+Inv-loop s from to count i₀ i = (i ≤ count) × Apart s (places-of from to) i
+
+abbrev μ-loop : tie.MeasureT-loop
+μ-loop s from to count i₀ i = count - i
+
+abbrev places : tie.Start Inv-loop μ-loop → Places
+places start = places-of (start .args .from .now) (start .args .to .now)
+
+loop-holds : tie.Need-loop-holds Inv-loop μ-loop
+loop-holds c = (omega arith, λ i j h k. absurd (not-suc-le-zero k))
+
+part-at-requires : tie.Need-part-at-requires Inv-loop μ-loop
+part-at-requires c κs = inside-part (c .before .before .before .pre .0) (c .before .loop .i) (c .loop-test .taken)
+
+full-requires : tie.Need-full-requires Inv-loop μ-loop
+full-requires c κs = omega arith
+
+meets-word-requires : tie.Need-meets-word-requires Inv-loop μ-loop
+meets-word-requires c κs p l s =
+    let before = ltb-true p (c .before .before .before .loop .i) (sym (c .full .ensures p) ∙ s) in
+    let turn = c .before .before .loop-test .taken in
+    inside-part (c .before .before .before .before .before .pre .0) (0 + p) (omega arith)
+
+returns : tie.Need-returns Inv-loop μ-loop
+returns c =
+    let start = c .before .before .before .before .before .before .before in
+    let loop = c .before .before .before .before .before .loop in
+    sym (met-few (start .args .s .now) (places start) (start .args .count) (loop .i) (c .before .before .full .result) (c .before .before .before .before .loop-test .taken)
+    (c .before .before .full .ensures) (c .before .before .before .part-at .result .now) (c .before .before .before .part-at .ensures)
+    (sym (c .before .meets-word .ensures) ∙ c .if1 .taken))
+
+add-i : tie.Need-add-i Inv-loop μ-loop
+add-i c = omega arith
+
+loop-less : tie.Need-loop-less Inv-loop μ-loop
+loop-less c = omega arith
+
+loop-again : tie.Need-loop-again Inv-loop μ-loop
+loop-again c =
+    let start = c .before .before .before .before .before .before .before in
+    let loop = c .before .before .before .before .before .loop in (
+      omega arith,
+      rw add-one (unmet-few (start .args .s .now) (places start) (start .args .count) (loop .i) (c .before .before .full .result) (c .before .before .before .before .loop-test .taken)
+          (c .before .before .full .ensures) (c .before .before .before .part-at .result .now) (c .before .before .before .part-at .ensures) (omega arith) (loop .inv .1)
+          (sym (c .before .meets-word .ensures) ∙ c .if1 .left)),
+    )
+
+returns-2 : tie.Need-returns-2 Inv-loop μ-loop
+returns-2 c =
+    let start = c .before .before .before in
+    let loop = c .before .loop in
+    let all : loop .i ≡ start .args .count = omega arith in
+    sym (names-apart (start .args .s .now) (places start) (start .args .count) (rw all at (loop .inv .1)))
+
+pub repeated-few-spec : {M : Type 1} → statement M
+repeated-few-spec =
+    tie.close
+    (tie.spec
+    Inv-loop
+    μ-loop
+    loop-holds
+    part-at-requires
+    full-requires
+    meets-word-requires
+    returns
+    add-i
+    loop-less
+    loop-again
+    returns-2)

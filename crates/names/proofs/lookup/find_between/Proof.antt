@@ -1,0 +1,76 @@
+-- `lookup::find_between`: no number from `low` up to i is that of the name.
+use Prim.Native.Nat.{_-_, _≤_}
+use native.Mathlib.Omega.{arith}
+use native.Mathlib.Numerals.{add-one}
+use mathlib.Core.Path.{sym, _∙_}
+use Rattle.names.specs.NamesAt.{places-of}
+use Rattle.names.specs.Laws.NamesAt.{inside-part}
+use Rattle.names.specs.FoundBetween.{StandsNowhere, nowhere-yet, nowhere-more, nowhere-past}
+use Rattle.names.specs.declared.places.Places.{Places}
+use Rattle.names.proofs.lookup.find_between.Statement.{statement}
+use Rattle.names.proofs.lookup.find_between.Tie as tie
+
+abbrev Inv-loop : tie.InvT-loop
+Inv-loop s from to low high name i₀ i = (low ≤ i) × StandsNowhere s (places-of from to) name low i
+
+abbrev μ-loop : tie.MeasureT-loop
+μ-loop s from to low high name i₀ i = high - i
+
+abbrev places : tie.Start Inv-loop μ-loop → Places
+places start = places-of (start .args .from .now) (start .args .to .now)
+
+loop-holds : tie.Need-loop-holds Inv-loop μ-loop
+loop-holds c =
+    let start = c .before .before in (omega arith, nowhere-yet (start .args .s .now) (places start) (start .args .name .now) (start .args .low))
+
+part-at-requires : tie.Need-part-at-requires Inv-loop μ-loop
+part-at-requires c κs = inside-part (c .before .before .before .before .pre) (c .before .loop .i) (c .loop-test .taken)
+
+same-name-requires : tie.Need-same-name-requires Inv-loop μ-loop
+same-name-requires c κs = tt
+
+returns : tie.Need-returns Inv-loop μ-loop
+returns c =
+    let turn = c .before .before .before in
+    record {
+      from = turn .before .loop .inv .0;
+      below = turn .loop-test .taken;
+      equal = rw (c .before .before .part-at .ensures) at (sym (c .before .same-name .ensures) ∙ c .if1 .taken);
+    }
+
+add-i : tie.Need-add-i Inv-loop μ-loop
+add-i c = omega arith
+
+loop-less : tie.Need-loop-less Inv-loop μ-loop
+loop-less c = omega arith
+
+loop-again : tie.Need-loop-again Inv-loop μ-loop
+loop-again c =
+    let turn = c .before .before .before in
+    let start = turn .before .before .before .before in (
+      omega arith,
+      rw add-one
+          (nowhere-more (start .args .s .now) (places start) (start .args .name .now) (start .args .low) (turn .before .loop .i) (turn .before .loop .inv .1)
+          (rw (c .before .before .part-at .ensures) at (sym (c .before .same-name .ensures) ∙ c .if1 .left))),
+    )
+
+returns-2 : tie.Need-returns-2 Inv-loop μ-loop
+returns-2 c =
+    let start = c .before .before .before .before in
+    nowhere-past (start .args .s .now) (places start) (start .args .name .now) (start .args .low) (start .args .high) (c .before .loop .i)
+    (c .before .loop .inv .1) (c .loop-test .left)
+
+pub find-between-spec : {M : Type 1} → statement M
+find-between-spec =
+    tie.close
+    (tie.spec
+    Inv-loop
+    μ-loop
+    loop-holds
+    part-at-requires
+    same-name-requires
+    returns
+    add-i
+    loop-less
+    loop-again
+    returns-2)

@@ -1,0 +1,66 @@
+-- `lookup::find_from`: where no two names are equal, the number found in the later part is the name's; a name that does not stand there has the number
+-- found in the earlier part.
+use borrow.Author.Needs.{needs}
+use Prim.Native.Nat.{ℕ, _≤_, _<_}
+use native.Mathlib.Nat.{le-refl}
+use native.Mathlib.Omega.{arith}
+use mathlib.Core.Path.{sym, ap}
+use mathlib.Core.Logic.{⊎-elim}
+use Rattle.names.specs.NamesAt.{places-of, found}
+use Rattle.names.specs.Laws.NamesAt.{inside-fewer}
+use Rattle.names.specs.FoundBetween.{stands-number, found-early}
+use Rattle.names.specs.declared.places.Places.{Places}
+use Rattle.names.proofs.lookup.find_from.Statement.{statement}
+use Rattle.names.proofs.lookup.find_from.Tie as tie
+
+abbrev places : tie.Start → Places
+places start = places-of (start .args .from .now) (start .args .to .now)
+
+find-between-requires : tie.Need-find-between-requires
+find-between-requires c κs = search needs
+
+enum-known-late : tie.Need-enum-known-late
+enum-known-late c = search needs
+
+returns : tie.Need-returns
+returns c =
+    let start = c .before .before .before .before .before .before in
+    let told = rw (c .before .late .given .1) at (c .before .before .before .find-between .ensures) in
+    sym (ap found (stands-number (start .args .s .now) (places start) (start .args .name .now) (start .args .count) (start .pre .1) (start .args .first)
+    (start .args .count) (c .before .late .given .0 .0) (le-refl (start .args .count)) told))
+
+enum-told : tie.Need-enum-told
+enum-told c = search needs
+
+-- the earlier part ends at `first`, or at the last name
+abbrev Ends : tie.Joined1 → Type 0
+Ends c =
+    let args = c .before .before .before .before .before .before .args in
+    (c .if1 .end ≤ args .count) × ((i : ℕ) → i < args .first → i < args .count → i < c .if1 .end)
+
+ends : (c : tie.Joined1) → Ends c
+ends c =
+    ⊎-elim (λ w. let e = w .1 in let t = w .0 .taken in (omega arith, λ i h k. omega arith))
+    (λ w. let e = w .1 in (omega arith, λ i h k. omega arith)) (c .if1 .came)
+
+find-between-requires-2 : tie.Need-find-between-requires-2
+find-between-requires-2 c κs = inside-fewer (c .before .before .before .before .before .before .pre .0) (ends c .0)
+
+returns-2 : tie.Need-returns-2
+returns-2 c =
+    let start = c .before .before .before .before .before .before .before in
+    let joined = c .before in
+    let late = rw (joined .before .enum-told .given .1) at (joined .before .before .before .find-between .ensures) in
+    found-early (start .args .s .now) (places start) (start .args .name .now) (start .args .count) (start .pre .1) (start .args .first) (joined .if1 .end)
+    (ends joined .0) (ends joined .1) late (c .find-between2 .result) (c .find-between2 .ensures)
+
+pub find-from-spec : {M : Type 1} → statement M
+find-from-spec =
+    tie.close
+    (tie.spec
+    find-between-requires
+    enum-known-late
+    returns
+    enum-told
+    find-between-requires-2
+    returns-2)

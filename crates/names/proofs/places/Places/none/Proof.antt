@@ -1,0 +1,12 @@
+-- `Places::none`: both arrays are as long as they are written.
+use mathlib.Core.Path.{refl}
+use Rattle.spec.specs.Limits.{user-limit}
+use Rattle.names.proofs.places.Places.none.Statement.{statement}
+use Rattle.names.proofs.places.Places.none.Tie as tie
+
+returns : tie.Need-returns
+unfolding user-limit
+returns c = record { from-room = refl; to-room = refl }
+
+pub none-spec : {M : Type 1} → statement M
+none-spec = tie.close (tie.spec returns)

@@ -1,0 +1,7 @@
+-- The laws behind what contracts cite.
+pub mod NamesAt
+pub mod Bucket
+pub mod Meet
+pub mod LaidOut
+pub mod NamesThere
+pub mod Found

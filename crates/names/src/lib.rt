@@ -1,0 +1,15 @@
+// Names as parts of the sheet itself: where they stand, one by its number, the number of one, and whether one stands twice.
+mod buckets;
+mod layout;
+mod lookup;
+mod places;
+
+pub use layout::FoundPermission;
+pub use layout::FoundUser;
+pub use layout::Layout;
+pub use layout::find_permission_in;
+pub use layout::find_user_in;
+pub use layout::permission_name_in;
+pub use layout::user_name_in;
+pub use lookup::repeated;
+pub use places::Places;

@@ -1,0 +1,5 @@
+-- The laws behind what contracts cite.
+pub mod Output
+pub mod Front
+pub mod TaskOwed
+pub mod Printed

@@ -1,0 +1,90 @@
+-- `reduction::reduction::remove`: the cell's word loses its bit, and the log has one more entry at its end; no other entry changes.
+use borrow.Author.Needs.{needs}
+use native.Mathlib.Omega.{arith}
+use mathlib.Core.Path.{refl}
+use lib.ListN.{length-set}
+use lib.Seq.{getD-set-same, getD-set-other}
+use Rattle.spec.specs.Limits.{user-limit, grant-limit}
+use Rattle.cells.specs.Rows.{row-words}
+use Rattle.verdict.specs.Laws.ReductionRemove.{bit-cleared}
+use Rattle.reduction.proofs.reduction.remove.Statement.{statement}
+use Rattle.reduction.proofs.reduction.remove.Tie as tie
+
+mul-without : tie.Need-mul-without
+mul-without c = search needs
+
+element-copy-out-without : tie.Need-element-copy-out-without
+unfolding user-limit row-words
+element-copy-out-without c = omega arith
+
+without-requires : tie.Need-without-requires
+without-requires c κs = search needs
+
+mul-left : tie.Need-mul-left
+mul-left c = search needs
+
+element-write-left : tie.Need-element-write-left
+unfolding user-limit row-words
+element-write-left c = omega arith
+
+cast-removed : tie.Need-cast-removed
+unfolding user-limit row-words
+cast-removed c = omega arith
+
+mul-removed : tie.Need-mul-removed
+unfolding grant-limit
+mul-removed c = omega arith
+
+element-write-removed : tie.Need-element-write-removed
+unfolding grant-limit
+element-write-removed c = omega arith
+
+cast-partner : tie.Need-cast-partner
+unfolding user-limit row-words
+cast-partner c = omega arith
+
+mul-partner : tie.Need-mul-partner
+unfolding grant-limit
+mul-partner c = omega arith
+
+element-write-partner : tie.Need-element-write-partner
+unfolding grant-limit
+element-write-partner c = omega arith
+
+add-result : tie.Need-add-result
+unfolding grant-limit
+add-result c = omega arith
+
+returns : tie.Need-returns
+unfolding user-limit row-words
+returns c =
+    let a = c .before .before .before .args in
+    let given = c .before .before .before .pre in
+    record {
+      left = bit-cleared (a .left .now) (a .it .0) (c .before .without .result) (given .set) (c .before .without .ensures);
+      one-more = refl;
+      removed-length = length-set (a .removed .now) (a .count) (a .it .0);
+      partner-length = length-set (a .partner .now) (a .count) (a .other .0);
+      removed-last = getD-set-same (a .removed .now) (a .count) (a .it .0) 0 (omega (arith, given .logged .removed-length, given .room));
+      partner-last = getD-set-same (a .partner .now) (a .count) (a .other .0) 0 (omega (arith, given .logged .partner-length, given .room));
+      removed-kept = λ i other. getD-set-other (a .removed .now) (a .count) i (a .it .0) 0 other;
+      partner-kept = λ i other. getD-set-other (a .partner .now) (a .count) i (a .other .0) 0 other;
+    }
+
+pub remove-spec : {M : Type 1} → statement M
+remove-spec =
+    tie.close
+    (tie.spec
+    mul-without
+    element-copy-out-without
+    without-requires
+    mul-left
+    element-write-left
+    cast-removed
+    mul-removed
+    element-write-removed
+    cast-partner
+    mul-partner
+    element-write-partner
+    add-result
+    returns)

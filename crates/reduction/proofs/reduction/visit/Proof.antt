@@ -1,0 +1,62 @@
+-- `reduction::reduction::visit`: what is judged of the grant is carried out.
+use borrow.Author.Needs.{needs}
+use Rattle.verdict.specs.ReductionVerdict.{GrantJudged}
+use Rattle.verdict.specs.Laws.ReductionVisit.{removable, visit-stays, visit-single, visit-tied}
+use Rattle.verdict.specs.declared.judgement.Verdict.the-variants.{Tied}
+use Rattle.reduction.proofs.reduction.visit.Statement.{statement}
+use Rattle.reduction.proofs.reduction.visit.Tie as tie
+
+judge-requires : tie.Need-judge-requires
+judge-requires c κs = search needs
+
+enum-told : tie.Need-enum-told
+enum-told c = search needs
+
+enum-told-2 : tie.Need-enum-told-2
+enum-told-2 c = search needs
+
+remove-requires : tie.Need-remove-requires
+remove-requires c κs =
+    let given = c .before .before .before .before .before .before .before .pre in
+    removable (given .0) (given .2) (given .3) (given .2)
+
+enum-known-other : tie.Need-enum-known-other
+enum-known-other c = search needs
+
+-- what is judged of a grant that is tied
+judged-tied : (c : tie.After-other) →
+    let a = c .before .before .before .before .args in GrantJudged (a .rows .now) (a .left .now) (a .users) (a .it .0) (Tied (c .other .given .0 .0))
+judged-tied c = rw (c .other .given .1) at (c .before .before .judge .ensures)
+
+remove-requires-2 : tie.Need-remove-requires-2
+remove-requires-2 c κs =
+    let given = c .before .before .before .before .before .before .before .before .pre in
+    removable (given .0) (given .2) (given .3) (judged-tied (c .before .before .before .before) .named .0)
+
+returns : tie.Need-returns
+returns c =
+    visit-stays (c .before .before .before .before .pre .0) (rw (c .enum-told .given .1) at (c .before .before .judge .ensures))
+
+returns-2 : tie.Need-returns-2
+returns-2 c =
+    let given = c .before .before .before .before .before .before .before .before .pre in
+    visit-single (given .0) (given .2) (given .3) (rw (c .before .before .before .before .enum-told2 .given .1) at (c .before .before .before .before .before .before .judge .ensures)) (c .remove .ensures)
+
+returns-3 : tie.Need-returns-3
+returns-3 c =
+    let given = c .before .before .before .before .before .before .before .before .before .pre in
+    visit-tied (given .0) (given .2) (given .3) (judged-tied (c .before .before .before .before .before)) (c .remove2 .ensures)
+
+pub visit-spec : {M : Type 1} → statement M
+visit-spec =
+    tie.close
+    (tie.spec
+    judge-requires
+    enum-told
+    enum-told-2
+    remove-requires
+    enum-known-other
+    remove-requires-2
+    returns
+    returns-2
+    returns-3)

@@ -1,0 +1,3 @@
+-- The reduction: sweeps until one removes nothing, and the log of what was removed.
+pub mod ReductionResult
+pub mod Laws

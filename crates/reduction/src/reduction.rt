@@ -1,0 +1,211 @@
+// The reduction: sweeps that remove singles and tie dominating grants, until one removes nothing.
+use bits::WORD_BITS;
+use cells::CellNo;
+use fit::COLUMN_WORDS;
+use fit::PLACE_WORDS;
+use fit::columns_of;
+use numbers::CELL_WORDS;
+use numbers::GRANT_LIMIT;
+use numbers::ROW_WORDS;
+use verdict::Verdict;
+use verdict::insides;
+use verdict::judge;
+ghost use mathlib.Core.Path.{_≡_};
+ghost use mathlib.Core.Bool.{So};
+ghost use mathlib.Core.List.{[], _∷_};
+ghost use Prim.Native.Nat.{_*_, _/_, _<_, _≤_};
+ghost use lib.ListN.{length, getD};
+ghost use Rattle.spec.specs.Limits.{grant-limit};
+ghost use Rattle.spec.specs.Reduction.{singles-of};
+ghost use Rattle.bits.specs.Bit.{word-bits};
+ghost use Rattle.lists.specs.PassingBelow.{passing-below};
+ghost use Rattle.cells.specs.Rows.{row-words};
+ghost use Rattle.verdict.specs.Log.{log-of};
+ghost use Rattle.cells.specs.CellPlaces.{marked, Shows};
+ghost use Rattle.fit.specs.Columns.{Columns};
+ghost use Rattle.verdict.specs.Insides.{Insides};
+ghost use Rattle.verdict.specs.NearCells.{cells-of};
+ghost use Rattle.reduction.specs.ReductionResult.{ReducedFrom};
+ghost use Rattle.verdict.specs.ReductionWork.{work-of, word-cells, WorkReady, Visited, Settled, Removable, Removed};
+
+// The cells of the kernel, and the removals in order: the cell of each, and its partner's, which is its own where it was removed as single.
+#[repr(C)]
+pub struct Reduced {
+    pub left: [u64; CELL_WORDS],
+    pub removed: [u16; GRANT_LIMIT],
+    pub partner: [u16; GRANT_LIMIT],
+    pub count: usize,
+    pub singles: usize,
+}
+
+// One grant is removed, with the partner that it is tied to, or itself. How many removals there are then.
+fn remove<'a>(
+    left: &'a mut [u64; CELL_WORDS],
+    removed: &'a mut [u16; GRANT_LIMIT],
+    partner: &'a mut [u16; GRANT_LIMIT],
+    count: usize,
+    it: CellNo,
+    other: CellNo,
+) -> usize
+    requires { ⌜ Removable (it .0) (other .0) (work-of (now left) (now removed) (now partner) count) ⌝ }
+    ensures { λ r. ⌜ Removed (it .0) (other .0) (work-of (now (left .entry)) (now (removed .entry)) (now (partner .entry)) count)
+        (work-of (now (left .exit)) (now (removed .exit)) (now (partner .exit)) r) ⌝ }
+{
+    let at = it.0;
+    let i = at / WORD_BITS;
+    left[i] = bits::without(left[i], at % WORD_BITS);
+    removed[count] = at as u16;
+    partner[count] = other.0 as u16;
+    count + 1
+}
+
+// One grant is judged against those remaining at that moment.
+fn visit<'a>(
+    rows: &'a [u64; CELL_WORDS],
+    columns: &'a [u64; PLACE_WORDS],
+    inside: &'a [u64; COLUMN_WORDS],
+    left: &'a mut [u64; CELL_WORDS],
+    removed: &'a mut [u16; GRANT_LIMIT],
+    partner: &'a mut [u16; GRANT_LIMIT],
+    users: usize,
+    count: usize,
+    it: CellNo,
+) -> usize
+    requires { ⌜ WorkReady (now rows) users (work-of (now left) (now removed) (now partner) count) × Columns (now rows) (now columns)
+        × (it .0 < cells-of users) × So (marked (now left) (it .0)) × Insides (now rows) (now left) users (it .0 / word-bits) (now inside) ⌝ }
+    ensures { λ r. ⌜ Visited (now (rows .entry)) users (it .0 ∷ []) (work-of (now (left .entry)) (now (removed .entry)) (now (partner .entry)) count)
+        (work-of (now (left .exit)) (now (removed .exit)) (now (partner .exit)) r) ⌝ }
+{
+    match judge(rows, columns, inside, left, users, it) {
+        Verdict::Stays => count,
+        Verdict::Single => remove(left, removed, partner, count, it, it),
+        Verdict::Tied(other) => remove(left, removed, partner, count, it, other),
+    }
+}
+
+// The grants of word i are visited, in rising number.
+fn sweep_word<'a>(
+    rows: &'a [u64; CELL_WORDS],
+    columns: &'a [u64; PLACE_WORDS],
+    left: &'a mut [u64; CELL_WORDS],
+    removed: &'a mut [u16; GRANT_LIMIT],
+    partner: &'a mut [u16; GRANT_LIMIT],
+    users: usize,
+    count: usize,
+    i: usize,
+) -> usize
+    requires { ⌜ WorkReady (now rows) users (work-of (now left) (now removed) (now partner) count) × Columns (now rows) (now columns)
+        × (i < users * row-words) ⌝ }
+    ensures { λ r. ⌜ Visited (now (rows .entry)) users (word-cells i (getD (now (left .entry)) i 0))
+        (work-of (now (left .entry)) (now (removed .entry)) (now (partner .entry)) count)
+        (work-of (now (left .exit)) (now (removed .exit)) (now (partner .exit)) r) ⌝ }
+{
+    let mut w = left[i];
+    if w == 0 {
+        return count;
+    }
+    let mut count = count;
+    let inside = insides(rows, left, users, i);
+    while w != 0 {
+        let at = i * WORD_BITS + bits::lowest(w);
+        count = visit(
+            rows,
+            columns,
+            &inside,
+            left,
+            removed,
+            partner,
+            users,
+            count,
+            CellNo(at),
+        );
+        w = bits::without_lowest(w);
+    }
+    count
+}
+
+// All remaining grants are visited, in rising number.
+fn sweep<'a>(
+    rows: &'a [u64; CELL_WORDS],
+    columns: &'a [u64; PLACE_WORDS],
+    left: &'a mut [u64; CELL_WORDS],
+    removed: &'a mut [u16; GRANT_LIMIT],
+    partner: &'a mut [u16; GRANT_LIMIT],
+    users: usize,
+    count: usize,
+) -> usize
+    requires { ⌜ WorkReady (now rows) users (work-of (now left) (now removed) (now partner) count) × Columns (now rows) (now columns) ⌝ }
+    ensures { λ r. ⌜ Visited (now (rows .entry)) users (passing-below (cells-of users) (marked (now (left .entry))))
+        (work-of (now (left .entry)) (now (removed .entry)) (now (partner .entry)) count)
+        (work-of (now (left .exit)) (now (removed .exit)) (now (partner .exit)) r) ⌝ }
+{
+    let mut count = count;
+    let mut i = 0;
+    while i < users * ROW_WORDS {
+        count = sweep_word(rows, columns, left, removed, partner, users, count, i);
+        i += 1;
+    }
+    count
+}
+
+// Sweeps repeat until one removes nothing.
+fn sweeps<'a>(
+    rows: &'a [u64; CELL_WORDS],
+    columns: &'a [u64; PLACE_WORDS],
+    left: &'a mut [u64; CELL_WORDS],
+    removed: &'a mut [u16; GRANT_LIMIT],
+    partner: &'a mut [u16; GRANT_LIMIT],
+    users: usize,
+) -> usize
+    requires { ⌜ WorkReady (now rows) users (work-of (now left) (now removed) (now partner) 0) × Columns (now rows) (now columns) × (now left ≡ now rows) ⌝ }
+    ensures { λ r. ⌜ Settled (now (rows .entry)) users (work-of (now (left .exit)) (now (removed .exit)) (now (partner .exit)) r) ⌝ }
+{
+    let mut count = 0;
+    loop {
+        let after = sweep(rows, columns, left, removed, partner, users, count);
+        if after == count {
+            return after;
+        }
+        count = after;
+    }
+}
+
+// How many of the removals are singles.
+fn count_singles<'a>(
+    removed: &'a [u16; GRANT_LIMIT],
+    partner: &'a [u16; GRANT_LIMIT],
+    count: usize,
+) -> usize
+    requires { ⌜ count ≤ grant-limit ⌝ }
+    ensures { λ r. ⌜ r ≡ length (singles-of (log-of (now (removed .entry)) (now (partner .entry)) count)) ⌝ }
+{
+    let mut singles = 0;
+    let mut i = 0;
+    while i < count {
+        if removed[i] == partner[i] {
+            singles += 1;
+        }
+        i += 1;
+    }
+    singles
+}
+
+// The reduction of the sheet that the rows show. Past the removals the log is 0.
+pub fn reduce(rows: &[u64; CELL_WORDS], users: usize) -> Reduced
+    requires { ⌜ Shows (now rows) users ⌝ }
+    ensures { λ r. ⌜ ReducedFrom (now (rows .entry)) users r ⌝ }
+{
+    let mut left = *rows;
+    let mut removed = [0; GRANT_LIMIT];
+    let mut partner = [0; GRANT_LIMIT];
+    let columns = columns_of(rows);
+    let count = sweeps(rows, &columns, &mut left, &mut removed, &mut partner, users);
+    let singles = count_singles(&removed, &partner, count);
+    Reduced {
+        left,
+        removed,
+        partner,
+        count,
+        singles,
+    }
+}

@@ -1,0 +1,75 @@
+-- `body::read_body`: the loop reads the lines one by one (`BodyReading`), and each line starts at a later place than the one before.
+use Prim.Native.Nat.{suc, _-_}
+use native.Mathlib.Omega.{arith}
+use lib.ListN.{length}
+use Rattle.refusal.specs.Laws.Body.{BodyReading, body-starts, body-goes-on, body-ends}
+use Rattle.refusal.proofs.body.read_body.Statement.{statement}
+use Rattle.refusal.proofs.body.read_body.Tie as tie
+
+abbrev Inv-loop : tie.InvT-loop
+Inv-loop s at width body₀ from₀ body from = BodyReading s at width body from
+
+abbrev μ-loop : tie.MeasureT-loop
+μ-loop s at width body₀ from₀ body from = suc (length s) - from
+
+none-requires : tie.Need-none-requires Inv-loop μ-loop
+none-requires c κs = tt
+
+loop-holds : tie.Need-loop-holds Inv-loop μ-loop
+loop-holds c =
+    let start = c .before .before in
+    rw (c .none .ensures) (body-starts (start .args .s .now) (start .args .at) (start .args .width) (start .pre))
+
+read-line-requires : tie.Need-read-line-requires Inv-loop μ-loop
+read-line-requires c κs = omega arith
+
+sub-name-length : tie.Need-sub-name-length Inv-loop μ-loop
+sub-name-length c = omega arith
+
+part-name-length-start : tie.Need-part-name-length-start Inv-loop μ-loop
+part-name-length-start c = omega arith
+
+part-name-length-end : tie.Need-part-name-length-end Inv-loop μ-loop
+part-name-length-end c = omega arith
+
+name-length-requires : tie.Need-name-length-requires Inv-loop μ-loop
+name-length-requires c κs = tt
+
+with-requires : tie.Need-with-requires Inv-loop μ-loop
+with-requires c κs = omega arith
+
+loop-less : tie.Need-loop-less Inv-loop μ-loop
+loop-less c = omega arith
+
+loop-again : tie.Need-loop-again Inv-loop μ-loop
+loop-again c =
+    let turn = c .before .before .before .before in
+    let args = turn .before .before .before .before .args in
+    let loop = turn .before .loop in
+    rw (c .with .ensures, c .before .name-length .ensures)
+    (body-goes-on (args .s .now) (args .at) (args .width) (loop .body) (loop .from) (c .before .before .before .read-line .result) (loop .inv)
+    (turn .loop-test .taken) (c .before .before .before .read-line .ensures))
+
+returns : tie.Need-returns Inv-loop μ-loop
+returns c =
+    let args = c .before .before .before .before .args in
+    let loop = c .before .loop in
+    body-ends (args .s .now) (args .at) (args .width) (loop .body) (loop .from) (loop .inv) (c .loop-test .left)
+
+pub read-body-spec : {M : Type 1} → statement M
+read-body-spec =
+    tie.close
+    (tie.spec
+    Inv-loop
+    μ-loop
+    none-requires
+    loop-holds
+    read-line-requires
+    sub-name-length
+    part-name-length-start
+    part-name-length-end
+    name-length-requires
+    with-requires
+    loop-less
+    loop-again
+    returns)

@@ -1,0 +1,68 @@
+-- `refusal::all_allowed`: with the bytes before i allowed, the bytes from i on decide.
+use Prim.Native.Nat.{_-_, _≤_}
+use native.Mathlib.Omega.{arith}
+use native.Mathlib.Numerals.{add-one}
+use mathlib.Core.Path.{_≡_, refl, sym, _∙_}
+use borrow.Author.Tests.{not-true, not-false}
+use lib.ListN.{length, drop, drop-of-length-le}
+use Rattle.spec.specs.Vocabulary.{all}
+use Rattle.spec.specs.Text.{allowed-byte}
+use Rattle.lists.specs.DropLaws.{all-left}
+use Rattle.refusal.proofs.refusal.all_allowed.Statement.{statement}
+use Rattle.refusal.proofs.refusal.all_allowed.Tie as tie
+
+abbrev Inv-loop : tie.InvT-loop
+Inv-loop s i₀ i = all allowed-byte (drop i s) ≡ all allowed-byte s
+
+abbrev μ-loop : tie.MeasureT-loop
+μ-loop s i₀ i = length s - i
+
+loop-holds : tie.Need-loop-holds Inv-loop μ-loop
+loop-holds c = refl
+
+shared-slice-read-is-allowed : tie.Need-shared-slice-read-is-allowed Inv-loop μ-loop
+shared-slice-read-is-allowed c = omega arith
+
+is-allowed-requires : tie.Need-is-allowed-requires Inv-loop μ-loop
+is-allowed-requires c κs = tt
+
+returns : tie.Need-returns Inv-loop μ-loop
+returns c =
+    let turn = c .before .before .before in
+    let refused = sym (c .before .is-allowed .ensures) ∙ not-true _ (c .if1 .taken) in
+    rw (all-left (turn .before .before .before .args .s .now) (turn .before .loop .i) 0 (turn .loop-test .taken) allowed-byte, refused) at
+    (turn .before .loop .inv)
+
+add-i : tie.Need-add-i Inv-loop μ-loop
+add-i c = omega arith
+
+loop-less : tie.Need-loop-less Inv-loop μ-loop
+loop-less c = omega arith
+
+loop-again : tie.Need-loop-again Inv-loop μ-loop
+loop-again c =
+    let turn = c .before .before .before in
+    let passed = sym (c .before .is-allowed .ensures) ∙ not-false _ (c .if1 .left) in
+    rw add-one
+    (rw (all-left (turn .before .before .before .args .s .now) (turn .before .loop .i) 0 (turn .loop-test .taken) allowed-byte, passed) at
+    (turn .before .loop .inv))
+
+returns-2 : tie.Need-returns-2 Inv-loop μ-loop
+returns-2 c =
+    let past : length (c .before .before .before .args .s .now) ≤ c .before .loop .i = omega arith in
+    rw (drop-of-length-le (c .before .before .before .args .s .now) past) at (c .before .loop .inv)
+
+pub all-allowed-spec : {M : Type 1} → statement M
+all-allowed-spec =
+    tie.close
+    (tie.spec
+    Inv-loop
+    μ-loop
+    loop-holds
+    shared-slice-read-is-allowed
+    is-allowed-requires
+    returns
+    add-i
+    loop-less
+    loop-again
+    returns-2)

@@ -1,0 +1,1 @@
+// Theorems only: the checker accepts exactly the books that are right.

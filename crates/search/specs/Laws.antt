@@ -1,0 +1,19 @@
+-- The laws behind what contracts cite.
+pub mod Steps
+pub mod Runs
+pub mod Best
+pub mod Admissible
+pub mod SoundState
+pub mod Canonical
+pub mod Complete
+pub mod Potential
+pub mod Progress
+pub mod Rising
+pub mod SameFit
+pub mod Mark
+pub mod Placed
+pub mod Trail
+pub mod ClassEnd
+pub mod Moves
+pub mod Running
+pub mod Carried

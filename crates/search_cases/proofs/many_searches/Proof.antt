@@ -1,0 +1,72 @@
+-- `many_searches`: each search keeps the position standing and makes at most its budget of steps, so that their sum fits. The measure is the
+-- number of searches left.
+use Prim.Native.Nat.{_*_, _-_, _≤_}
+use native.Mathlib.Omega.{arith}
+use borrow.Author.Needs.{needs}
+use Rattle.spec.specs.Limits.{search-limit}
+use Rattle.search.specs.Laws.Carried.{searched-steps-le}
+use Rattle.search.specs.View.{PositionStands, kernel-given, view}
+use Rattle.search_cases.specs.Crown.{grants, part, most}
+use Rattle.search_cases.proofs.many_searches.Statement.{statement}
+use Rattle.search_cases.proofs.many_searches.Tie as tie
+
+few : grants ≤ search-limit
+unfolding search-limit
+few = omega arith
+
+abbrev Inv-loop : tie.InvT-loop
+Inv-loop fit position₀ steps₀ searches₀ position steps searches = PositionStands grants position × (steps ≤ part * searches) × (searches ≤ most)
+
+abbrev μ-loop : tie.MeasureT-loop
+μ-loop fit position₀ steps₀ searches₀ position steps searches = most - searches
+
+start-requires : tie.Need-start-requires Inv-loop μ-loop
+start-requires c κs = search needs
+
+loop-holds : tie.Need-loop-holds Inv-loop μ-loop
+loop-holds c = (c .start .ensures, omega arith, omega arith)
+
+search-requires : tie.Need-search-requires Inv-loop μ-loop
+search-requires c κs = λ l. c .before .before .before .loop .inv .0
+
+few-steps : (c : tie.After-search Inv-loop μ-loop) → c .search .result .steps ≤ part
+few-steps c =
+    let fit = c .before .before .before .before .before .before .args .fit .now in
+    searched-steps-le (kernel-given fit grants 0 3) part grants (view (c .before .before .before .before .loop .position) grants) (c .search .result)
+    (c .search .ensures .0)
+
+add-steps : tie.Need-add-steps Inv-loop μ-loop
+add-steps c = omega (arith, few-steps (c .before .before))
+
+add-searches : tie.Need-add-searches Inv-loop μ-loop
+add-searches c = omega arith
+
+loop-less : tie.Need-loop-less Inv-loop μ-loop
+loop-less c = omega arith
+
+loop-again : tie.Need-loop-again Inv-loop μ-loop
+loop-again c =
+    let searched = c .before .before in
+    (searched .search .ensures .1 .0 few, omega (arith, few-steps searched), omega arith)
+
+report-requires : tie.Need-report-requires Inv-loop μ-loop
+report-requires c κs = search needs
+
+returns : tie.Need-returns Inv-loop μ-loop
+returns c = search needs
+
+pub many-searches-spec : {M : Type 1} → statement M
+many-searches-spec =
+    tie.close
+    (tie.spec
+    Inv-loop
+    μ-loop
+    start-requires
+    loop-holds
+    search-requires
+    add-steps
+    add-searches
+    loop-less
+    loop-again
+    report-requires
+    returns)

@@ -1,0 +1,75 @@
+-- A test that tells whether something holds, and when two placements and two runs are the same. Assumes nothing.
+use Prim.Native.Nat.{ℕ, zero, suc, _<_}
+use native.Mathlib.Nat.{not-suc-le-zero}
+use mathlib.Core.Path.{_≡_, refl, sym, ap, _∙_}
+use mathlib.Core.Bool.{Bool, So, true, false, not, Bool·beq}
+use mathlib.Core.Logic.{⊎-elim}
+use mathlib.Core.List.{List}
+use lib.ListN.{length, getD, drop}
+use Rattle.spec.specs.Machine as machine
+use Rattle.bits.specs.Truth.{not-both}
+use Rattle.bits.specs.Laws.Below.{last-or-below}
+use Rattle.search.specs.declared.machine.Ran.{Ran}
+use Rattle.search.specs.View.{placed-of, view-ran}
+use Rattle.search.specs.Laws.Placed.{length-placed-of}
+
+-- the test passes just where P holds
+pub record Tells (test : Bool) (P : Type 0) : Type 0 where
+  pub passes : So test → P
+  pub when : P → So test
+
+-- where P cannot hold the test fails
+pub told-apart : {P : Type 0} → (P → ⊥) → Tells false P
+told-apart apart = record { passes = λ never. absurd (not-both never refl); when = λ p. absurd (apart p) }
+
+-- truth values by a test
+pub truth-differs : (a b : Bool) → So (not (Bool·beq a b)) → a ≡ b → ⊥
+truth-differs true true differs e = not-both differs refl
+truth-differs true false differs e = not-both refl e
+truth-differs false true differs e = not-both e refl
+truth-differs false false differs e = not-both differs refl
+
+pub truth-same : (a b : Bool) → not (Bool·beq a b) ≡ false → a ≡ b
+truth-same true true same = refl
+truth-same true false same = absurd (not-both refl same)
+truth-same false true same = absurd (not-both refl same)
+truth-same false false same = refl
+
+-- placements that are alike have the same class for each grant
+pub same-class : (a b : List ℕ) (n i : ℕ) → i < n → placed-of a n ≡ placed-of b n → getD a i 0 ≡ getD b i 0
+same-class a b zero i l e = absurd (not-suc-le-zero l)
+same-class a b (suc n) i l e =
+    ⊎-elim (λ last. rw last (ap (λ (placed : List ℕ). getD placed 0 0) e)) (λ below. same-class a b n i below (ap (drop 1) e)) (last-or-below l)
+
+-- ---- runs that came to the same state
+
+module _ (a b : Ran) (size : ℕ) where
+  pub same-steps : view-ran a size ≡ view-ran b size → a .steps ≡ b .steps
+  same-steps e = ap (λ (r : machine.Ran). r .steps) e
+
+  pub same-depth : view-ran a size ≡ view-ran b size → a .position .cursor .depth ≡ b .position .cursor .depth
+  same-depth e =
+      sym (length-placed-of (a .position .classes) (a .position .cursor .depth))
+      ∙ ap (λ (r : machine.Ran). length (r .state .placed)) e
+      ∙ length-placed-of (b .position .classes) (b .position .cursor .depth)
+
+  pub same-next : view-ran a size ≡ view-ran b size → a .position .cursor .next ≡ b .position .cursor .next
+  same-next e = ap (λ (r : machine.Ran). r .state .next) e
+
+  pub same-finished : view-ran a size ≡ view-ran b size → a .position .cursor .finished ≡ b .position .cursor .finished
+  same-finished e = ap (λ (r : machine.Ran). r .state .finished) e
+
+  pub same-placed : view-ran a size ≡ view-ran b size
+      → placed-of (a .position .classes) (a .position .cursor .depth) ≡ placed-of (b .position .classes) (a .position .cursor .depth)
+  same-placed e = ap (λ (r : machine.Ran). r .state .placed) e ∙ ap (placed-of (b .position .classes)) (sym (same-depth e))
+
+  -- with all else alike, the best placements tell
+  pub best-tells : {test : Bool} → a .steps ≡ b .steps → a .position .cursor .depth ≡ b .position .cursor .depth
+      → a .position .cursor .next ≡ b .position .cursor .next → a .position .cursor .finished ≡ b .position .cursor .finished
+      → placed-of (a .position .classes) (a .position .cursor .depth) ≡ placed-of (b .position .classes) (a .position .cursor .depth)
+      → Tells test (placed-of (a .position .best) size ≡ placed-of (b .position .best) size) → Tells test (view-ran a size ≡ view-ran b size)
+  best-tells steps depth next finished placed best =
+      record {
+        passes = λ s. rw (placed, best .passes s, depth, steps, next, finished);
+        when = λ e. best .when (ap (λ (r : machine.Ran). r .state .best) e);
+      }

@@ -1,0 +1,13 @@
+-- The laws behind what contracts cite.
+pub mod Preparing
+pub mod Anew
+pub mod Loading
+pub mod ClassesCopied
+pub mod TableKernel
+pub mod MovedOn
+pub mod CountsHeld
+pub mod SearchedHeld
+pub mod CodeSequence
+pub mod BestHeld
+pub mod BookHeld
+pub mod WritesHeld

@@ -1,0 +1,142 @@
+-- Sequences of calls of the code: each is made on the value after the call before. Whatever way calls are made, if their contracts give what is said here (`Tied`),
+-- each call is a step of a sequence of demand 3, between the sessions that the two values stand for; so the demands hold of every sequence of calls of the code.
+use Prim.Native.Nat.{ℕ}
+use mathlib.Core.Path.{_≡_, refl, sym, ap, _∙_}
+use mathlib.Core.List.{List, [], _∷_}
+use mathlib.Core.Option.{some}
+use mathlib.Core.Logic.{_≢_, _↔_}
+use Rattle.spec.specs.Text.{Bytes}
+use Rattle.spec.specs.Sheet.{Sheet, sheet-of}
+use Rattle.spec.specs.Rules.{Keeps}
+use Rattle.spec.specs.Book.{Said}
+use Rattle.spec.specs.Right.{Right}
+use Rattle.spec.specs.Session.{Session, fresh}
+use Rattle.spec.specs.Refusal.{Cause, sheet-causes, search-causes, write-causes}
+use Rattle.spec.specs.Calls.{LoadAnswer, load-refused, search-refused, write-refused}
+use Rattle.spec.specs.Sequence.{Call, load, search, write, WriteOutcome, Outcome, Event, Happens, Led, calls, last-accepted, brought-out}
+use Rattle.spec.specs.Demands.{Judged, OwedOfAll}
+use Rattle.demands.specs.Demand1.{demand-1}
+use Rattle.demands.specs.Demand2.{demand-2}
+use Rattle.demands.specs.Demand3.{demand-3}
+use Rattle.session.specs.CodeSession.{view, Sound}
+use Rattle.session.specs.declared.Session.{Session as CodeSession}
+
+-- the number that a call answered
+abbrev pub answered : (call : Call) → Outcome call → ℕ
+answered (load text) answer = answer .number
+answered (search budget) answer = answer .number
+answered (write buffer) written = written .answer .number
+
+-- what the contract of a call ensures, of the value that it was made on and the value after it: the one that a load or a search handed back; a writing
+-- hands none back, and the value that it was made on is the one after it
+pub record Ensured (call : Call) (outcome : Outcome call) (before after : CodeSession) : Type 0 where
+  pub happens : Happens call outcome (view before) (view after)
+  pub sound : Sound after
+  pub kept : answered call outcome ≢ 0 → after ≡ before
+
+-- what the contract of a call that makes a fresh session ensures
+pub record Fresh (s : CodeSession) : Type 0 where
+  pub stands : view s ≡ fresh
+  pub sound : Sound s
+
+-- a way to make calls: which values are made fresh, and between which values a call with its outcome is made, as its contract has it
+pub record Calling : Type 2 where
+  pub Made : CodeSession → Type 1
+  pub Step : (call : Call) → Outcome call → CodeSession → CodeSession → Type 1
+
+-- the events, the latest first, of the calls that led from a fresh value to this one
+abbrev pub Ran : Calling → List Event → CodeSession → Type 1
+Ran calling [] s = calling .Made s
+Ran calling (event ∷ earlier) s =
+    (before : CodeSession) × Ran calling earlier before × calling .Step (event .call) (event .outcome) before s
+
+-- the contracts give what the demands need; each may require that its value came from the calls
+pub record Tied (calling : Calling) : Type 1 where
+  pub fresh : (s : CodeSession) → calling .Made s → Fresh s
+  pub step : (call : Call) (outcome : Outcome call) (before after : CodeSession) → calling .Step call outcome before after → Sound before
+      → Ensured call outcome before after
+
+-- ---- the demands of calls of the code
+
+-- the causes by which a call can be refused
+abbrev pub causes : Call → Session → List Cause
+causes (load text) before = sheet-causes text
+causes (search budget) before = search-causes before
+causes (write buffer) before = write-causes before buffer
+
+-- a refusal: the number with counts 0, the very value handed back or left, and every lent byte untouched
+abbrev pub Refused : (call : Call) → Outcome call → CodeSession → CodeSession → Type 0
+Refused (load text) answer before after = (answer ≡ load-refused (answer .number)) × (after ≡ before)
+Refused (search budget) answer before after = (answer ≡ search-refused (answer .number)) × (after ≡ before)
+Refused (write buffer) written before after =
+    (written .answer ≡ write-refused (written .answer .number)) × (written .lent ≡ buffer) × (after ≡ before)
+
+-- demand 1: a call on any value that the calls led to is answered by the lowest number that applies, and a refusal changes nothing
+abbrev pub Demand1Of : Calling → Type 1
+Demand1Of calling =
+    (earlier : List Event) (before : CodeSession) → Ran calling earlier before
+    → (call : Call) (outcome : Outcome call) (after : CodeSession) → calling .Step call outcome before after
+    → Judged (causes call (view before)) (answered call outcome) (Refused call outcome before after)
+
+-- demand 2: a load is answered by 0 exactly where its bytes keep the rules, and then by the counts of the sheet that they are; each book that a writing brings
+-- out is right for the sheet of the last accepted load
+pub record Demand2Of (calling : Calling) : Type 1 where
+  pub accepts-sheets : (earlier : List Event) (before after : CodeSession) (text : Bytes) (answer : LoadAnswer) → Ran calling earlier before
+      → calling .Step (load text) answer before after → (answer .number ≡ 0) ↔ ((sheet : Sheet) × Keeps text sheet)
+  pub own-books : (earlier : List Event) (s : CodeSession) (buffer : Bytes) (written : WriteOutcome)
+      → Ran calling (record { call = write buffer; outcome = written } ∷ earlier) s → written .answer .number ≡ 0
+      → (text : Bytes) × (says : Said) × (last-accepted (calls earlier) ≡ some text) × Right (sheet-of text) (brought-out written) says
+
+-- demand 3: all that is owed of every sequence is owed of the calls of the code
+abbrev pub Demand3Of : Calling → Type 1
+Demand3Of calling = (events : List Event) (s : CodeSession) → Ran calling events s → OwedOfAll events
+
+-- ---- they follow
+
+-- the value is judged as the session that it stands for is, and a refusal hands back the very value
+judged : (call : Call) (outcome : Outcome call) (before after : CodeSession) → Ensured call outcome before after
+    → Judged (causes call (view before)) (answered call outcome) (Refused call outcome before after)
+judged (load text) answer before after e =
+    let j = demand-1 .loads (view before) (view after) text answer (e .happens) in
+    record { lowest = j .lowest; refused = λ n. (j .refused n .0, e .kept n) }
+judged (search budget) answer before after e =
+    let j = demand-1 .searches (view before) (view after) budget answer (e .happens) in
+    record { lowest = j .lowest; refused = λ n. (j .refused n .0, e .kept n) }
+judged (write buffer) written before after e =
+    let j = demand-1 .writes (view before) (view after) buffer (written .lent) (written .answer) (e .happens) in
+    record { lowest = j .lowest; refused = λ n. (j .refused n .0, j .refused n .1, e .kept n) }
+
+module _ {calling : Calling} (tied : Tied calling) where
+  -- what the calls led to is what the next call requires
+  pub ran-sound : (events : List Event) (s : CodeSession) → Ran calling events s → Sound s
+  ran-sound [] s ran = tied .fresh s ran .sound
+  ran-sound (event ∷ earlier) s ran =
+      tied .step (event .call) (event .outcome) (ran .0) s (ran .2) (ran-sound earlier (ran .0) (ran .1)) .sound
+
+  -- the calls of the code are a sequence of demand 3
+  pub ran-led : (events : List Event) (s : CodeSession) → Ran calling events s → Led events (view s)
+  ran-led [] s ran = tied .fresh s ran .stands
+  ran-led (event ∷ earlier) s ran = (
+    view (ran .0),
+    ran-led earlier (ran .0) (ran .1),
+    tied .step (event .call) (event .outcome) (ran .0) s (ran .2) (ran-sound earlier (ran .0) (ran .1)) .happens,
+  )
+
+  pub tied-demand-1 : Demand1Of calling
+  tied-demand-1 earlier before ran call outcome after step =
+      judged call outcome before after (tied .step call outcome before after step (ran-sound earlier before ran))
+
+  pub tied-demand-2 : Demand2Of calling
+  tied-demand-2 =
+      record {
+        accepts-sheets = λ earlier before after text answer ran step.
+            let happens = tied .step (load text) answer before after step (ran-sound earlier before ran) .happens in
+            let same = ap (λ (a : LoadAnswer). a .number) (happens .answers) in
+            let exact = demand-2 .accepts-sheets text in
+            (λ z. exact .0 (sym same ∙ z), λ keeps. same ∙ exact .1 keeps);
+        own-books = λ earlier s buffer written ran accepts.
+            demand-2 .own-books buffer written earlier (view s) (ran-led (record { call = write buffer; outcome = written } ∷ earlier) s ran) accepts;
+      }
+
+  pub tied-demand-3 : Demand3Of calling
+  tied-demand-3 events s ran = demand-3 .owed events (view s) (ran-led events s ran)

@@ -1,0 +1,55 @@
+-- A search of a session that holds a sheet does what the definition of a search says: its answer has the steps made and the counts where the search then
+-- stands, and the session after it has the state that the machine came to. Without a sheet it is refused, and the session stays.
+use Prim.Native.Nat.{ℕ}
+use mathlib.Core.Path.{_≡_, refl, ap, _∙_}
+use mathlib.Core.Bool.{So, false}
+use mathlib.Core.Option.{some}
+use Rattle.spec.specs.Machine.{State}
+use Rattle.spec.specs.Session.{no-sheet, loaded}
+use Rattle.spec.specs.Calls.{SearchAnswer, search-refused, searched-on, search-answer, after-search, Searches}
+use Rattle.search.specs.declared.machine.Ran.{Ran}
+use Rattle.roles.specs.StandingCases.{standing-case}
+use Rattle.blocks.specs.declared.counts.Counts.{Counts}
+use Rattle.session.specs.CodeSession.{text-in, state-in, view}
+use Rattle.session.specs.Counted.{CountsIn, moved-to, RanIn}
+use Rattle.session.specs.declared.Session.{Session as CodeSession}
+
+pub view-loaded : (s : CodeSession) → So (s .loaded) → view s ≡ loaded (text-in s) (state-in s)
+view-loaded s p = rw p
+
+pub view-no-sheet : (s : CodeSession) → s .loaded ≡ false → view s ≡ no-sheet
+view-no-sheet s f = rw f
+
+-- without a sheet
+pub searches-nothing : (s : CodeSession) → s .loaded ≡ false → (budget : ℕ) (answer : SearchAnswer) → answer ≡ search-refused 10
+    → Searches (view s) budget answer (view s)
+unfolding search-answer after-search
+searches-nothing s f budget answer e = rw (view-no-sheet s f) (record { answers = e; leaves = refl })
+
+-- the answer for the steps of a run and some counts
+abbrev pub found-answer : ℕ → Counts → SearchAnswer
+found-answer steps counts =
+    record {
+      number = 0;
+      steps = steps;
+      roles = counts .roles;
+      bound = counts .bound;
+      standing = some (standing-case (counts .standing));
+    }
+
+module _ {s : CodeSession} {budget : ℕ} {ran : Ran} (on : RanIn s budget ran) where
+  found-answers : {counts : Counts} → CountsIn (moved-to s (ran .position)) counts
+      → found-answer (ran .steps) counts ≡ search-answer (loaded (text-in s) (state-in s)) budget
+  unfolding search-answer searched-on
+  found-answers c = rw (on .steps, c .roles, c .bound, c .standing, on .state)
+
+  moved-leaves : loaded (text-in s) (state-in (moved-to s (ran .position))) ≡ after-search (loaded (text-in s) (state-in s)) budget
+  unfolding after-search searched-on
+  moved-leaves = ap (λ (st : State). loaded (text-in s) st) (on .state)
+
+  -- with one
+  pub searches-held : So (s .loaded) → {counts : Counts} → CountsIn (moved-to s (ran .position)) counts → (answer : SearchAnswer)
+      → answer ≡ found-answer (ran .steps) counts → Searches (view s) budget answer (view (moved-to s (ran .position)))
+  searches-held p c answer e =
+      rw (view-loaded s p, view-loaded (moved-to s (ran .position)) p)
+      (record { answers = e ∙ found-answers c; leaves = moved-leaves })

@@ -1,0 +1,71 @@
+-- The lines of every accepted sheet are found, within all limits and with no name twice. Assumes nothing.
+use Prim.Native.Nat.{_≤_}
+use native.Mathlib.Omega.{arith}
+use mathlib.Core.Path.{_≡_, ap, _∙_}
+use mathlib.Core.Bool.{Bool, So, not, _&&_}
+use mathlib.Core.List.{[], _∷_, _++_}
+use borrow.Author.Tests.{eq-eqb}
+use lib.ListN.{length}
+use Rattle.spec.specs.Vocabulary.{repeats}
+use Rattle.spec.specs.Limits.{grant-limit, permission-limit, user-limit}
+use Rattle.spec.specs.Text.{ascii, Bytes, line-text, text-of, same-name}
+use Rattle.spec.specs.Sheet.{sheet-of}
+use Rattle.spec.specs.Rules.{user-lines}
+use Rattle.spec.specs.Refusal.{refusal, accepted}
+use Rattle.bits.specs.Truth.{and-intro, and-left, and-right}
+use Rattle.lists.specs.TestLaws.{same-bytes-equal}
+use Rattle.lists.specs.SameLaws.{no-repeats}
+use Rattle.names.specs.NamesAt.{Inside, places-of}
+use Rattle.rules.specs.SheetLines.{sheet-text-lines}
+use Rattle.rules.specs.Accepted.{accepted-keeps}
+use Rattle.rules.specs.AcceptedFacts.{accepted-lawful}
+use Rattle.sheet.specs.FirstLine.{NamesFit}
+use Rattle.sheet.specs.UserLines.{Fit}
+use Rattle.sheet.specs.KeptSheet.{Notes, noted, LinesStand, SheetLines, users-are-inside, permissions-are-inside, noted-grants, noted-users, noted-said}
+use Rattle.sheet.specs.Laws.KeptRead.{apart, layout-of, KeptAs, kept-read}
+
+module _ (text : Bytes) (p : So (accepted text)) where
+  pub accepted-names : NamesFit (sheet-of text .permissions)
+  unfolding permission-limit
+  accepted-names =
+      let k = accepted-keeps text p in
+      record { some-name = k .some-permission; few = k .few-permissions; each = k .permission-names .each }
+
+  pub accepted-text : text ≡ line-text (ascii "user" ∷ sheet-of text .permissions) ++ text-of (user-lines (sheet-of text .users) (sheet-of text .rows))
+  accepted-text = accepted-keeps text p .written ∙ sheet-text-lines (sheet-of text)
+
+  pub accepted-fit : Fit (length (sheet-of text .permissions)) (sheet-of text .users) (sheet-of text .rows)
+  unfolding user-limit
+  accepted-fit =
+      let k = accepted-keeps text p in
+      record { few = k .few-users; as-many = k .a-row-each; each = k .user-names .each; even = k .even-rows }
+
+  -- what was noted is within the limits
+  pub accepted-users : (n : Notes) → LinesStand text n → 1 ≤ n .users
+  accepted-users n s =
+      omega (arith, accepted-lawful text p .some-user, ap (λ sheet. length (sheet .users)) (noted-said text n s), noted-users text n s)
+
+  pub accepted-grants : (n : Notes) → LinesStand text n → n .total ≤ grant-limit
+  accepted-grants n s = omega (arith, rw (noted-said text n s) at (accepted-lawful text p .few-grants), noted-grants text n s)
+
+  -- and has no name twice
+  pub accepted-apart : (n : Notes) → LinesStand text n → So (apart text n)
+  accepted-apart n s =
+      let k = accepted-lawful text p in
+      and-intro (not (repeats same-name (noted text n .users))) (not (repeats same-name (noted text n .permissions)))
+      (ap not (rw (noted-said text n s) at (no-repeats same-name same-bytes-equal [] (sheet-of text .users) (k .user-names .distinct))))
+      (ap not (rw (noted-said text n s) at (no-repeats same-name same-bytes-equal [] (sheet-of text .permissions) (k .permission-names .distinct))))
+
+-- so a sheet is accepted exactly where its lines are found and no name stands twice
+module _ (text : Bytes) (n : Notes) (good : Bool) (read : SheetLines text n good) where
+  pub kept-inside : So good
+      → Inside text (places-of (n .user-from) (n .user-to)) (n .users) × Inside text (places-of (n .permission-from) (n .permission-to)) (n .permissions)
+  kept-inside p = (users-are-inside text n (read .stands p .stand), permissions-are-inside text n (read .stands p .stand))
+
+  pub kept-as : So (good && apart text n) → KeptAs text (layout-of n) (n .words)
+  kept-as p = kept-read text n (read .stands (and-left good (apart text n) p)) (and-right good (apart text n) p)
+
+  pub unrefused-kept : refusal text ≡ 0 → So (good && apart text n)
+  unrefused-kept e =
+      let p = eq-eqb (refusal text) 0 e in
+      and-intro good (apart text n) (read .found p) (accepted-apart text p n (read .stands (read .found p) .stand))

@@ -1,0 +1,87 @@
+-- `table::table::holders`: cell by cell, one whose user holds the permission is put in and any other left out.
+use Prim.Native.Nat.{_-_, _≤_}
+use native.Mathlib.Omega.{arith}
+use mathlib.Core.Path.{_≡_, sym, _∙_}
+use mathlib.Core.Logic.{⊎-elim}
+use borrow.Author.Needs.{needs}
+use Rattle.cells.specs.Rows.{row-words, row-bits}
+use Rattle.table.specs.TableWords.{table-row, FirstBits}
+use Rattle.table.specs.Laws.Table.{no-bits, bit-put-in, bit-left-out}
+use Rattle.table.specs.Laws.TablePart.{all-cells}
+use Rattle.table.specs.TableParts.{user-holds-at}
+use Rattle.table.proofs.table.holders.Statement.{statement}
+use Rattle.table.proofs.table.holders.Tie as tie
+
+abbrev Inv-loop : tie.InvT-loop
+Inv-loop rows cells from p count word₀ q₀ word q = (q ≤ count) × FirstBits (user-holds-at rows cells from p) q word
+
+abbrev μ-loop : tie.MeasureT-loop
+μ-loop rows cells from p count word₀ q₀ word q = count - q
+
+cells-from-requires : tie.Need-cells-from-requires Inv-loop μ-loop
+cells-from-requires c κs = search needs
+
+loop-holds : tie.Need-loop-holds Inv-loop μ-loop
+loop-holds c = (omega arith, no-bits _)
+
+add-user-of : tie.Need-add-user-of Inv-loop μ-loop
+unfolding table-row
+add-user-of c = omega (arith, c .before .before .cells-from .ensures .not-past)
+
+mul-user-of : tie.Need-mul-user-of Inv-loop μ-loop
+unfolding table-row
+mul-user-of c = omega (arith, c .before .before .cells-from .ensures .not-past)
+
+shared-slice-read-user-of : tie.Need-shared-slice-read-user-of Inv-loop μ-loop
+shared-slice-read-user-of c = c .before .before .before .cells-from .ensures .there (c .before .before .loop .q) (omega arith)
+
+user-of-requires : tie.Need-user-of-requires Inv-loop μ-loop
+user-of-requires c κs = search needs
+
+holds-requires : tie.Need-holds-requires Inv-loop μ-loop
+unfolding row-bits row-words
+holds-requires c κs = omega (arith, c .user-of .ensures)
+
+with-requires : tie.Need-with-requires Inv-loop μ-loop
+with-requires c κs = omega (arith, c .before .before .before .before .before .before .cells-from .ensures .not-past)
+
+add-q : tie.Need-add-q Inv-loop μ-loop
+add-q c = omega arith
+
+loop-less : tie.Need-loop-less Inv-loop μ-loop
+loop-less c = omega arith
+
+loop-again : tie.Need-loop-again Inv-loop μ-loop
+loop-again c =
+    let at = c .before .before .before .before .before .loop in
+    let told = rw (c .before .before .user-of .ensures) at (c .before .holds .ensures) in
+    ⊎-elim
+    (λ w. (omega arith, rw (w .2) (bit-put-in _ (at .q) (at .word) (at .inv .1) _ (sym told ∙ w .0 .taken) (w .1 .ensures))))
+    (λ w. (omega arith, rw (w .1) (bit-left-out _ (at .q) (at .word) (at .inv .1) (sym told ∙ w .0 .left))))
+    (c .if1 .came)
+
+returns : tie.Need-returns Inv-loop μ-loop
+returns c =
+    let at = c .before in
+    let a = at .before .before .before .before .args in
+    let e : at .loop .q ≡ at .before .cells-from .result = omega arith in
+    all-cells (at .before .cells-from .ensures) (user-holds-at (a .rows .now) (a .cells .now) (a .from) (a .p)) (rw e at (at .loop .inv .1))
+
+pub holders-spec : {M : Type 1} → statement M
+holders-spec =
+    tie.close
+    (tie.spec
+    Inv-loop
+    μ-loop
+    cells-from-requires
+    loop-holds
+    add-user-of
+    mul-user-of
+    shared-slice-read-user-of
+    user-of-requires
+    holds-requires
+    with-requires
+    add-q
+    loop-less
+    loop-again
+    returns)

@@ -1,0 +1,68 @@
+-- `table::table::permissions_among`: cell by cell its permission is put in, and none is taken out.
+use Prim.Native.Nat.{ℕ, _-_, _%_, _≤_, _<_}
+use native.Mathlib.Omega.{arith}
+use mathlib.Core.Path.{_≡_}
+use mathlib.Core.Bool.{So}
+use borrow.Author.Needs.{needs}
+use lib.ListN.{getD}
+use Rattle.bits.specs.Bit.{bit}
+use Rattle.cells.specs.Rows.{row-words, row-bits}
+use Rattle.table.specs.Laws.TablePart.{permission-put-in}
+use Rattle.table.proofs.table.permissions_among.Statement.{statement}
+use Rattle.table.proofs.table.permissions_among.Tie as tie
+
+abbrev Inv-loop : tie.InvT-loop
+Inv-loop cells count word₀ i₀ word i = (i ≤ count) × ((j : ℕ) → j < i → So (bit word (getD cells j 0 % row-bits)))
+
+abbrev μ-loop : tie.MeasureT-loop
+μ-loop cells count word₀ i₀ word i = count - i
+
+loop-holds : tie.Need-loop-holds Inv-loop μ-loop
+loop-holds c = (omega arith, λ j l. absurd (omega arith))
+
+mul-permission-of : tie.Need-mul-permission-of Inv-loop μ-loop
+mul-permission-of c = omega arith
+
+shared-slice-read-permission-of : tie.Need-shared-slice-read-permission-of Inv-loop μ-loop
+shared-slice-read-permission-of c = omega arith
+
+permission-of-requires : tie.Need-permission-of-requires Inv-loop μ-loop
+permission-of-requires c κs = search needs
+
+with-requires : tie.Need-with-requires Inv-loop μ-loop
+unfolding row-bits row-words
+with-requires c κs = omega (arith, c .permission-of .ensures)
+
+add-i : tie.Need-add-i Inv-loop μ-loop
+add-i c = omega arith
+
+loop-less : tie.Need-loop-less Inv-loop μ-loop
+loop-less c = omega arith
+
+loop-again : tie.Need-loop-again Inv-loop μ-loop
+loop-again c =
+    let at = c .before .before .before .before in
+    let cells = at .before .before .args .cells .now in
+    (omega arith, permission-put-in cells (at .loop .i) (at .loop .word) _ _ (c .before .permission-of .ensures) (c .with .ensures) (at .loop .inv .1))
+
+returns : tie.Need-returns Inv-loop μ-loop
+returns c =
+    let at = c .before in
+    let e : at .loop .i ≡ at .before .before .args .count = omega arith in
+    rw e at (at .loop .inv .1)
+
+pub permissions-among-spec : {M : Type 1} → statement M
+permissions-among-spec =
+    tie.close
+    (tie.spec
+    Inv-loop
+    μ-loop
+    loop-holds
+    mul-permission-of
+    shared-slice-read-permission-of
+    permission-of-requires
+    with-requires
+    add-i
+    loop-less
+    loop-again
+    returns)

@@ -1,0 +1,174 @@
+-- `table::table::table_of`: grant by grant its two words are put in; past the last grant the words stay 0, and nothing fits there.
+use Prim.Native.Nat.{ℕ, _*_, _-_, _≤_, _<_}
+use native.Mathlib.Omega.{arith}
+use mathlib.Core.Path.{_≡_, _∙_}
+use borrow.Author.Needs.{needs}
+use lib.ListN.{length, length-set, length-replicate}
+use Rattle.cells.specs.Rows.{row-words, row-bits}
+use Rattle.table.specs.TableWords.{table-row, table-limit}
+use Rattle.table.specs.TableHeld.{HeldBy, own-user}
+use Rattle.table.specs.Laws.Table.{table-of}
+use Rattle.table.specs.Laws.TablePart.{Filled, nothing-filled, grant-filled, all-filled}
+use Rattle.table.proofs.table.table_of.Statement.{statement}
+use Rattle.table.proofs.table.table_of.Tie as tie
+
+abbrev Inv-loop : tie.InvT-loop
+Inv-loop rows cells count some low high last₀ words₀ i₀ last words i =
+    (i ≤ count) × (length words ≡ table-limit * table-row) × HeldBy rows cells (last .user) last × Filled rows cells i words
+
+abbrev μ-loop : tie.MeasureT-loop
+μ-loop rows cells count some low high last₀ words₀ i₀ last words i = count - i
+
+-- there is room for every grant
+within : (c : tie.In-loop Inv-loop μ-loop) → c .before .loop .i < table-limit
+within c = omega (arith, c .before .before .before .before .before .before .limited .ensures .1)
+
+-- its permission has a column
+column : (c : tie.After-permission-of Inv-loop μ-loop) → c .permission-of .result .0 < row-bits
+unfolding row-bits row-words
+column c = omega (arith, c .permission-of .ensures)
+
+limited-requires : tie.Need-limited-requires Inv-loop μ-loop
+limited-requires c κs = search needs
+
+permissions-among-requires : tie.Need-permissions-among-requires Inv-loop μ-loop
+permissions-among-requires c κs = search needs
+
+columns-requires : tie.Need-columns-requires Inv-loop μ-loop
+unfolding table-row
+columns-requires c κs = omega arith
+
+columns-requires-2 : tie.Need-columns-requires-2 Inv-loop μ-loop
+unfolding table-row
+columns-requires-2 c κs = omega arith
+
+held-by-requires : tie.Need-held-by-requires Inv-loop μ-loop
+held-by-requires c κs = search needs
+
+loop-holds : tie.Need-loop-holds Inv-loop μ-loop
+unfolding table-row
+loop-holds c = (omega arith, length-replicate {A = ℕ} (table-limit * table-row) 0, own-user (c .held-by .ensures), nothing-filled _ _)
+
+mul-it : tie.Need-mul-it Inv-loop μ-loop
+unfolding table-row
+mul-it c = omega (arith, within c)
+
+shared-slice-read-it : tie.Need-shared-slice-read-it Inv-loop μ-loop
+shared-slice-read-it c = omega arith
+
+held-again-requires : tie.Need-held-again-requires Inv-loop μ-loop
+held-again-requires c κs = search needs
+
+permission-of-requires : tie.Need-permission-of-requires Inv-loop μ-loop
+permission-of-requires c κs = search needs
+
+mul-words : tie.Need-mul-words Inv-loop μ-loop
+unfolding row-bits row-words
+mul-words c = omega (arith, column c)
+
+array-read-words : tie.Need-array-read-words Inv-loop μ-loop
+unfolding row-bits row-words
+array-read-words c = omega (arith, column c)
+
+mul-words-2 : tie.Need-mul-words-2 Inv-loop μ-loop
+unfolding table-row
+mul-words-2 c = omega (arith, within (c .before .before .before .before))
+
+mul-words-3 : tie.Need-mul-words-3 Inv-loop μ-loop
+unfolding table-row
+mul-words-3 c = omega (arith, within (c .before .before .before .before))
+
+array-write-words : tie.Need-array-write-words Inv-loop μ-loop
+unfolding table-row
+array-write-words c = omega (arith, within (c .before .before .before .before))
+
+mul-words-4 : tie.Need-mul-words-4 Inv-loop μ-loop
+unfolding row-bits row-words
+mul-words-4 c = omega (arith, column (c .before))
+
+array-read-words-2 : tie.Need-array-read-words-2 Inv-loop μ-loop
+unfolding row-bits row-words
+array-read-words-2 c = omega (arith, column (c .before))
+
+mul-words-5 : tie.Need-mul-words-5 Inv-loop μ-loop
+unfolding table-row
+mul-words-5 c = omega (arith, within (c .before .before .before .before .before))
+
+add-words : tie.Need-add-words Inv-loop μ-loop
+unfolding table-row
+add-words c = omega (arith, within (c .before .before .before .before .before))
+
+mul-words-6 : tie.Need-mul-words-6 Inv-loop μ-loop
+unfolding table-row
+mul-words-6 c = omega (arith, within (c .before .before .before .before .before))
+
+array-write-words-2 : tie.Need-array-write-words-2 Inv-loop μ-loop
+unfolding table-row
+array-write-words-2 c = omega (arith, within (c .before .before .before .before .before))
+
+add-i : tie.Need-add-i Inv-loop μ-loop
+unfolding table-row
+add-i c = omega (arith, within (c .before .before .before .before .before))
+
+loop-less : tie.Need-loop-less Inv-loop μ-loop
+loop-less c = omega arith
+
+loop-again : tie.Need-loop-again Inv-loop μ-loop
+unfolding table-row
+loop-again c =
+    let at-permission = c .before .before in
+    let at-held = at-permission .before in
+    let in-loop = at-held .before .before in
+    let at = in-loop .before in
+    let made = at .before .before in
+    let some = made .before .before in
+    let i = at .loop .i in
+    let p = at-permission .permission-of .result .0 in
+    let wanted = rw (← at-permission .permission-of .ensures) at (some .permissions-among .ensures i (omega arith)) in (
+      omega arith,
+      simp length-set (at .loop .inv .1),
+      own-user (at-held .held-again .ensures),
+      grant-filled (at .loop .inv .3) (within in-loop) (omega (arith, some .before .limited .ensures .0)) (at .loop .inv .1)
+          (at-permission .permission-of .ensures) (at-held .held-again .ensures .low) (at-held .held-again .ensures .high)
+          (made .before .columns .ensures .column p (column at-permission) wanted) (made .columns2 .ensures .column p (column at-permission) wanted),
+    )
+
+returns : tie.Need-returns Inv-loop μ-loop
+unfolding table-row
+returns c users sheet shown =
+    let at = c .before in
+    let limited = at .before .before .before .before .before .limited in
+    let end : at .loop .i ≡ limited .result = omega arith in
+    table-of _ _ (at .loop .words) (all-filled (at .loop .inv .3) (λ l. end ∙ limited .ensures .2 (omega arith))) shown
+
+pub table-of-spec : {M : Type 1} → statement M
+table-of-spec =
+    tie.close
+    (tie.spec
+    Inv-loop
+    μ-loop
+    limited-requires
+    permissions-among-requires
+    columns-requires
+    columns-requires-2
+    held-by-requires
+    loop-holds
+    mul-it
+    shared-slice-read-it
+    held-again-requires
+    permission-of-requires
+    mul-words
+    array-read-words
+    mul-words-2
+    mul-words-3
+    array-write-words
+    mul-words-4
+    array-read-words-2
+    mul-words-5
+    add-words
+    mul-words-6
+    array-write-words-2
+    add-i
+    loop-less
+    loop-again
+    returns)

@@ -1,0 +1,185 @@
+// The fit table of a kernel that can be searched.
+use bits::WORD_BITS;
+use cells::Kernel;
+use cells::ROW_BITS;
+use cells::holds;
+use cells::permission_of;
+use cells::user_of;
+use numbers::CELL_WORDS;
+use numbers::PermissionNo;
+ghost use mathlib.Core.Path.{_≡_};
+ghost use mathlib.Core.Bool.{So};
+ghost use mathlib.Core.List.{map};
+ghost use Prim.Native.Nat.{ℕ, _/_, _%_, _≤_, _<_};
+ghost use lib.ListN.{length, getD, take};
+ghost use Rattle.spec.specs.Sheet.{Sheet};
+ghost use Rattle.spec.specs.Reduction.{kernel};
+ghost use Rattle.bits.specs.Bit.{bit, word-bits};
+ghost use Rattle.cells.specs.Rows.{row-bits};
+ghost use Rattle.cells.specs.CellPlaces.{grant-of, Shown};
+ghost use Rattle.cells.specs.KernelArray.{KernelListed};
+ghost use Rattle.table.specs.TableWords.{table-limit, FirstBits, Table};
+ghost use Rattle.table.specs.TableParts.{CellsFrom, user-holds, permission-held, ColumnsOf};
+ghost use Rattle.table.specs.TableHeld.{HeldBy};
+
+// The words of a grant: bit j of grant i's words says that grants i and j fit.
+pub const TABLE_ROW: usize = 2;
+
+// The most grants that a table has room for.
+pub const TABLE_LIMIT: usize = TABLE_ROW * WORD_BITS;
+
+// The words of a table.
+pub const TABLE_WORDS: usize = TABLE_LIMIT * TABLE_ROW;
+
+// The cells of a word from a place on: as many as there are, or as the word has positions.
+fn cells_from(size: usize, from: usize) -> usize
+    ensures { λ r. ⌜ CellsFrom size from r ⌝ }
+{
+    if size <= from {
+        return 0;
+    }
+    if size - from < WORD_BITS {
+        return size - from;
+    }
+    WORD_BITS
+}
+
+// The cells of a word whose users hold a permission.
+fn holders<'a>(rows: &'a [u64], cells: &'a [u16], from: usize, p: usize) -> u64
+    requires { ⌜ (from < table-limit) × (p < row-bits) ⌝ }
+    ensures { λ r. ⌜ FirstBits (user-holds (now (rows .entry)) (now (cells .entry)) from p) word-bits r ⌝ }
+{
+    let count = cells_from(cells.len(), from);
+    let mut word = 0;
+    let mut q = 0;
+    while q < count {
+        if holds(rows, user_of(cells[from + q]), PermissionNo(p)) {
+            word = bits::with(word, q);
+        }
+        q += 1;
+    }
+    word
+}
+
+// The cells of a word whose permissions the user of a cell holds.
+fn held_word<'a>(rows: &'a [u64], cells: &'a [u16], from: usize, it: u16) -> u64
+    requires { ⌜ from < table-limit ⌝ }
+    ensures { λ r. ⌜ FirstBits (permission-held (now (rows .entry)) (now (cells .entry)) from (it / row-bits)) word-bits r ⌝ }
+{
+    let count = cells_from(cells.len(), from);
+    let mut word = 0;
+    let mut q = 0;
+    while q < count {
+        if holds(rows, user_of(it), permission_of(cells[from + q])) {
+            word = bits::with(word, q);
+        }
+        q += 1;
+    }
+    word
+}
+
+// The permissions of the first cells.
+fn permissions_among(cells: &[u16], count: usize) -> u64
+    requires { ⌜ count ≤ length (now cells) ⌝ }
+    ensures { λ r. ⌜ ((i : ℕ) → i < count → So (bit r (getD (now (cells .entry)) i 0 % row-bits))) ⌝ }
+{
+    let mut word = 0;
+    let mut i = 0;
+    while i < count {
+        word = bits::with(word, permission_of(cells[i]).0);
+        i += 1;
+    }
+    word
+}
+
+// For each permission of a set, the cells of a word whose users hold it.
+fn columns<'a>(rows: &'a [u64], cells: &'a [u16], from: usize, some: u64) -> [u64; ROW_BITS]
+    requires { ⌜ from < table-limit ⌝ }
+    ensures { λ r. ⌜ ColumnsOf (now (rows .entry)) (now (cells .entry)) from some row-bits r ⌝ }
+{
+    let mut words = [0; ROW_BITS];
+    let mut p = 0;
+    while p < ROW_BITS {
+        if bits::has(some, p) {
+            words[p] = holders(rows, cells, from, p);
+        }
+        p += 1;
+    }
+    words
+}
+
+// A user, and the cells whose permissions the user holds, in two words.
+struct HolderCells {
+    user: usize,
+    low: u64,
+    high: u64,
+}
+
+// The user of a cell, and the cells whose permissions that user holds.
+fn held_by<'a>(rows: &'a [u64], cells: &'a [u16], it: u16) -> HolderCells
+    ensures { λ r. ⌜ HeldBy (now (rows .entry)) (now (cells .entry)) (it / row-bits) r ⌝ }
+{
+    let low = held_word(rows, cells, 0, it);
+    let high = held_word(rows, cells, WORD_BITS, it);
+    HolderCells {
+        user: user_of(it).0,
+        low,
+        high,
+    }
+}
+
+// The same, where they may have been found already.
+fn held_again<'a>(last: HolderCells, rows: &'a [u64], cells: &'a [u16], it: u16) -> HolderCells
+    requires { ⌜ HeldBy (now rows) (now cells) (last .user) last ⌝ }
+    ensures { λ r. ⌜ HeldBy (now (rows .entry)) (now (cells .entry)) (it / row-bits) r ⌝ }
+{
+    if last.user == user_of(it).0 {
+        return last;
+    }
+    held_by(rows, cells, it)
+}
+
+// How many grants of so many a table has room for.
+fn limited(size: usize) -> usize
+    ensures { λ r. ⌜ (r ≤ size) × (r ≤ table-limit) × (r < table-limit → r ≡ size) ⌝ }
+{
+    if size < TABLE_LIMIT {
+        size
+    } else {
+        TABLE_LIMIT
+    }
+}
+
+// The fit table of the grants at some cells, as far as it has room: those that fit a grant are the cells whose permissions its user holds and whose users
+// hold its permission.
+fn table_of<'a>(rows: &'a [u64], cells: &'a [u16]) -> [u64; TABLE_WORDS]
+    ensures { λ r. ⌜ ((users : ℕ) (sheet : Sheet) → Shown (now (rows .entry)) users sheet → Table sheet (map grant-of (now (cells .entry))) r) ⌝ }
+{
+    let count = limited(cells.len());
+    let some = permissions_among(cells, count);
+    let low = columns(rows, cells, 0, some);
+    let high = columns(rows, cells, WORD_BITS, some);
+    let mut last = held_by(rows, cells, 0);
+    let mut words = [0; TABLE_WORDS];
+    let mut i = 0;
+    while i < count {
+        let it = cells[i];
+        last = held_again(last, rows, cells, it);
+        let p = permission_of(it).0;
+        words[i * TABLE_ROW] = last.low & low[p];
+        words[i * TABLE_ROW + 1] = last.high & high[p];
+        i += 1;
+    }
+    words
+}
+
+// The fit table of the kernel of the sheet that the rows show, or of its first grants if it has more than TABLE_LIMIT.
+pub fn fit_table(rows: &[u64; CELL_WORDS], grants: Kernel) -> [u64; TABLE_WORDS]
+    requires { ⌜ KernelListed (now rows) (grants .cells) (grants .size) ⌝ }
+    ensures { λ r. ⌜ ((users : ℕ) (sheet : Sheet) → Shown (now (rows .entry)) users sheet
+        → map grant-of (take (grants .size) (grants .cells)) ≡ kernel sheet → Table sheet (kernel sheet) r) ⌝ }
+{
+    let cells = grants.cells;
+    let size = grants.size;
+    table_of(rows, &cells[..size])
+}

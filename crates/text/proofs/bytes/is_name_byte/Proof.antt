@@ -1,0 +1,78 @@
+-- `bytes::is_name_byte`: the six tests in turn. Where one passes the byte is of a name, and where it fails the next ones decide.
+use borrow.Author.Needs.{needs}
+use borrow.Author.Tests.{eq-eqb, ne-eqb}
+use Prim.Native.Nat.{ℕ}
+use Prim.Native.Char.{code}
+use mathlib.Core.Path.{_≡_, sym, _∙_}
+use mathlib.Core.Bool.{Bool, _||_}
+use lib.Dec.{eqb}
+use Rattle.spec.specs.Text.{name-byte}
+use Rattle.text.proofs.bytes.is_name_byte.Statement.{statement}
+use Rattle.text.proofs.bytes.is_name_byte.Tie as tie
+
+abbrev other-name-byte : ℕ → Bool
+other-name-byte b = eqb b (code "-") || eqb b (code ".") || eqb b (code "_")
+
+is-between-requires : tie.Need-is-between-requires
+is-between-requires c κs = search needs
+
+returns : tie.Need-returns
+unfolding name-byte
+returns c = rw (sym (c .before .is-between .ensures) ∙ c .if1 .taken)
+
+is-between-requires-2 : tie.Need-is-between-requires-2
+is-between-requires-2 c κs = search needs
+
+returns-2 : tie.Need-returns-2
+unfolding name-byte
+returns-2 c =
+    rw (
+      sym (c .before .before .before .is-between .ensures) ∙ c .before .before .if1 .left,
+      sym (c .before .is-between2 .ensures) ∙ c .if2 .taken,
+    )
+
+is-between-requires-3 : tie.Need-is-between-requires-3
+is-between-requires-3 c κs = search needs
+
+returns-3 : tie.Need-returns-3
+unfolding name-byte
+returns-3 c =
+    rw (
+      sym (c .before .before .before .before .before .is-between .ensures) ∙ c .before .before .before .before .if1 .left,
+      sym (c .before .before .before .is-between2 .ensures) ∙ c .before .before .if2 .left,
+      sym (c .before .is-between3 .ensures) ∙ c .if3 .taken,
+    )
+
+-- a byte in none of the ranges
+past-ranges : (c : tie.Else3) → name-byte (c .before .before .before .before .before .before .args .b)
+    ≡ other-name-byte (c .before .before .before .before .before .before .args .b)
+unfolding name-byte
+past-ranges c =
+    rw (
+      sym (c .before .before .before .before .before .is-between .ensures) ∙ c .before .before .before .before .if1 .left,
+      sym (c .before .before .before .is-between2 .ensures) ∙ c .before .before .if2 .left,
+      sym (c .before .is-between3 .ensures) ∙ c .if3 .left,
+    )
+
+returns-4 : tie.Need-returns-4
+returns-4 c = rw (past-ranges (c .before), eq-eqb _ _ (c .if4 .taken))
+
+returns-5 : tie.Need-returns-5
+returns-5 c = rw (past-ranges (c .before .before), ne-eqb _ _ (c .before .if4 .left), eq-eqb _ _ (c .if5 .taken))
+
+returns-6 : tie.Need-returns-6
+returns-6 c = rw (past-ranges (c .before .before), ne-eqb _ _ (c .before .if4 .left), ne-eqb _ _ (c .if5 .left))
+
+pub is-name-byte-spec : {M : Type 1} → statement M
+is-name-byte-spec =
+    tie.close
+    (tie.spec
+    is-between-requires
+    returns
+    is-between-requires-2
+    returns-2
+    is-between-requires-3
+    returns-3
+    returns-4
+    returns-5
+    returns-6)

@@ -1,0 +1,50 @@
+-- `put::put_field`: the field is written behind its comma.
+use borrow.Author.Needs.{needs}
+use native.Mathlib.Omega.{arith}
+use mathlib.Core.List.{[], _∷_}
+use lib.ListN.{set}
+use Rattle.spec.specs.Text.{comma}
+use Rattle.text.specs.Written.{WrittenSoFar, byte-written, nothing-written, room-behind, then-same-length, then-written, within-buffer}
+use Rattle.text.proofs.put.put_field.Statement.{statement}
+use Rattle.text.proofs.put.put_field.Tie as tie
+
+behind-the-comma : (c : tie.Start) → WrittenSoFar (comma ∷ []) (c .args .field .now) (c .args .out .now) (set (c .args .out .now) 0 comma) 1
+behind-the-comma c =
+    record { written = byte-written [] comma (omega arith) (nothing-written (c .args .out .now)); fits = c .pre }
+
+slice-write-out : tie.Need-slice-write-out
+slice-write-out c = search needs
+
+sub-put-bytes : tie.Need-sub-put-bytes
+sub-put-bytes c = within-buffer (behind-the-comma (c .before .before))
+
+part-put-bytes-start : tie.Need-part-put-bytes-start
+part-put-bytes-start c = within-buffer (behind-the-comma (c .before .before))
+
+part-put-bytes-end : tie.Need-part-put-bytes-end
+part-put-bytes-end c = search needs
+
+put-bytes-requires : tie.Need-put-bytes-requires
+put-bytes-requires c κs = room-behind (behind-the-comma (c .before .before .before))
+
+add-result : tie.Need-add-result
+add-result c = search needs
+
+same-length : tie.Need-same-length
+same-length c = then-same-length (behind-the-comma (c .before .before .before .before .before .before)) (c .before .before .put-bytes .ensures)
+
+returns : tie.Need-returns
+returns c = then-written (behind-the-comma (c .before .before .before .before .before .before)) (c .before .before .put-bytes .ensures)
+
+pub put-field-spec : {M : Type 1} → statement M
+put-field-spec =
+    tie.close
+    (tie.spec
+    slice-write-out
+    sub-put-bytes
+    part-put-bytes-start
+    part-put-bytes-end
+    put-bytes-requires
+    add-result
+    same-length
+    returns)

@@ -1,0 +1,5 @@
+-- The laws behind what contracts cite.
+pub mod LastByte
+pub mod Text
+pub mod Byte
+pub mod TextBytes

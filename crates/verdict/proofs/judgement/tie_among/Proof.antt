@@ -1,0 +1,125 @@
+-- `verdict::judgement::tie_among`: the positions of w are the words still to be tried, and the others have no tie. The lowest is tried next, so the first that has a tie has the lowest.
+use borrow.Author.Needs.{needs}
+use native.Mathlib.Omega.{arith}
+use Prim.Native.Nat.{_+_, _*_, _<_}
+use mathlib.Core.Path.{sym, _∙_}
+use lib.Bits.{bitAnd}
+use lib.ListN.{getD}
+use Rattle.spec.specs.Limits.{user-limit}
+use Rattle.bits.specs.Bit.{bit, word-bits}
+use Rattle.bits.specs.Laws.Bit.{bit-and}
+use Rattle.bits.specs.Truth.{and-left}
+use Rattle.cells.specs.Rows.{row-words, row-bits}
+use Rattle.verdict.specs.NearCells.{tie-at}
+use Rattle.verdict.specs.Laws.Misfit.{holder-within}
+use Rattle.verdict.specs.Laws.PositionWalk.{Walk, walk-next}
+use Rattle.verdict.specs.Laws.Inside.{insides-untried}
+use Rattle.verdict.specs.Laws.TieWalk.{NoneAt, lowest-in-column, none-in-column}
+use Rattle.verdict.proofs.judgement.tie_among.Statement.{statement}
+use Rattle.verdict.proofs.judgement.tie_among.Tie as tie
+
+abbrev Inv-loop : tie.InvT-loop
+Inv-loop rows columns inside left users it j at w₀ w = Walk w₀ (NoneAt (tie-at rows left users (it .0)) users j) w
+
+abbrev μ-loop : tie.MeasureT-loop
+μ-loop rows columns inside left users it j at w₀ w = w
+
+holders-requires : tie.Need-holders-requires Inv-loop μ-loop
+unfolding user-limit row-words row-bits
+holders-requires c κs = omega arith
+
+mul-w : tie.Need-mul-w Inv-loop μ-loop
+unfolding user-limit row-words
+mul-w c = omega arith
+
+element-copy-out-w : tie.Need-element-copy-out-w Inv-loop μ-loop
+unfolding user-limit row-words
+element-copy-out-w c = omega arith
+
+loop-holds : tie.Need-loop-holds Inv-loop μ-loop
+unfolding row-words row-bits
+loop-holds c =
+    let s = c .before .before in
+    let a = s .args in
+    let held = c .before .holders .result in
+    let word = getD (a .inside .now) (a .j) 0 in
+    insides-untried (a .rows .now) (a .left .now) (a .users) (a .it .0) (s .pre .3) (a .j) held (bitAnd held word) (a .inside .now)
+    (c .before .holders .ensures (a .rows .now) (s .pre .4)) (s .pre .5) (s .pre .6) (bit-and held word)
+
+mul-i : tie.Need-mul-i Inv-loop μ-loop
+unfolding user-limit row-words
+mul-i c = omega arith
+
+lowest-requires : tie.Need-lowest-requires Inv-loop μ-loop
+lowest-requires c κs = omega arith
+
+add-i : tie.Need-add-i Inv-loop μ-loop
+unfolding user-limit row-words
+add-i c = omega (arith, c .lowest .ensures .within)
+
+-- the word to be tried is one of the users'
+within : (c : tie.After-lowest Inv-loop μ-loop) →
+    let a = c .before .before .before .before .before .args in a .j * word-bits + c .lowest .result < a .users * row-words
+unfolding row-words row-bits
+within c =
+    let s = c .before .before .before .before .before in
+    let held = c .before .before .before .before .holders .result in
+    let word = getD (s .args .inside .now) (s .args .j) 0 in
+    let q = c .lowest .result in
+    holder-within (c .before .before .before .before .holders .ensures (s .args .rows .now) (s .pre .4)) (c .lowest .ensures .within)
+    (and-left (bit held q) (bit word q) (sym (bit-and held word q) ∙ c .before .before .loop .inv .kept q (c .lowest .ensures .holds)))
+
+tie-in-requires : tie.Need-tie-in-requires Inv-loop μ-loop
+tie-in-requires c κs = let s = c .before .before .before .before .before in (s .pre .0, s .pre .1, within c, s .pre .3, s .pre .4)
+
+enum-known-found : tie.Need-enum-known-found Inv-loop μ-loop
+enum-known-found c = search needs
+
+returns : tie.Need-returns Inv-loop μ-loop
+returns c =
+    let s = c .before .before .before .before .before .before .before .before .before in
+    lowest-in-column (tie-at (s .args .rows .now) (s .args .left .now) (s .args .users) (s .args .it .0)) (s .args .users) (s .args .j) (s .pre .2)
+    (c .before .before .before .before .before .before .loop .inv) (c .before .before .before .before .lowest .ensures) (within (c .before .before .before .before))
+    (rw (c .before .found .given .1) at (c .before .before .before .tie-in .ensures))
+
+enum-told : tie.Need-enum-told Inv-loop μ-loop
+enum-told c = search needs
+
+without-lowest-requires : tie.Need-without-lowest-requires Inv-loop μ-loop
+without-lowest-requires c κs = omega arith
+
+loop-less : tie.Need-loop-less Inv-loop μ-loop
+loop-less c = c .without-lowest .ensures .less
+
+loop-again : tie.Need-loop-again Inv-loop μ-loop
+loop-again c =
+    walk-next (c .before .before .before .before .before .before .loop .inv) (c .before .before .before .before .lowest .ensures)
+    (λ inside. rw (c .before .enum-told .given .1) at (c .before .before .before .tie-in .ensures)) (c .without-lowest .ensures)
+
+returns-2 : tie.Need-returns-2 Inv-loop μ-loop
+returns-2 c =
+    let s = c .before .before .before .before in
+    none-in-column (tie-at (s .args .rows .now) (s .args .left .now) (s .args .users) (s .args .it .0)) (s .args .users) (s .args .j) (s .pre .2)
+    (rw (c .loop-test .left) at (c .before .loop .inv))
+
+pub tie-among-spec : {M : Type 1} → statement M
+tie-among-spec =
+    tie.close
+    (tie.spec
+    Inv-loop
+    μ-loop
+    holders-requires
+    mul-w
+    element-copy-out-w
+    loop-holds
+    mul-i
+    lowest-requires
+    add-i
+    tie-in-requires
+    enum-known-found
+    returns
+    enum-told
+    without-lowest-requires
+    loop-less
+    loop-again
+    returns-2)

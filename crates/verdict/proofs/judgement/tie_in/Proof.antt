@@ -1,0 +1,128 @@
+-- `verdict::judgement::tie_in`: the positions of w are the candidates still to be tried. Without a misfit the lowest is the lowest tie; a misfit fails it and all others that its user holds.
+use borrow.Author.Needs.{needs}
+use native.Mathlib.Omega.{arith}
+use Prim.Native.Nat.{_+_, _*_, _<_}
+use mathlib.Core.Path.{_≡_}
+use mathlib.Core.Bool.{So}
+use Rattle.spec.specs.Limits.{user-limit}
+use Rattle.bits.specs.Bit.{word-bits}
+use Rattle.cells.specs.Rows.{row-words}
+use Rattle.verdict.specs.NearTieLaws.{Untried, lowest-untried, none-untried}
+use Rattle.verdict.specs.Misfits.{misfit-at}
+use Rattle.verdict.specs.Laws.Misfit.{unless-misfit}
+use Rattle.verdict.specs.Laws.Candidate.{misfit-tried, fewer-untried}
+use Rattle.verdict.proofs.judgement.tie_in.Statement.{statement}
+use Rattle.verdict.proofs.judgement.tie_in.Tie as tie
+
+abbrev Inv-loop : tie.InvT-loop
+Inv-loop rows columns left users it i w₀ w = Untried rows left users (it .0) i w
+
+abbrev μ-loop : tie.MeasureT-loop
+μ-loop rows columns left users it i w₀ w = w
+
+candidates-requires : tie.Need-candidates-requires Inv-loop μ-loop
+unfolding user-limit row-words
+candidates-requires c κs = search needs
+
+loop-holds : tie.Need-loop-holds Inv-loop μ-loop
+loop-holds c = c .candidates .ensures (c .before .args .users) (c .before .pre .2)
+
+mul-other : tie.Need-mul-other Inv-loop μ-loop
+unfolding user-limit row-words
+mul-other c = omega arith
+
+lowest-requires : tie.Need-lowest-requires Inv-loop μ-loop
+lowest-requires c κs = omega arith
+
+add-other : tie.Need-add-other Inv-loop μ-loop
+unfolding user-limit row-words
+add-other c = omega (arith, c .lowest .ensures .within)
+
+misfit-requires : tie.Need-misfit-requires Inv-loop μ-loop
+unfolding user-limit row-words
+misfit-requires c κs = let s = c .before .before .before .before in (s .pre .0, s .pre .1, omega (arith, c .lowest .ensures .within), s .pre .4)
+
+mul-if1 : tie.Need-mul-if1 Inv-loop μ-loop
+unfolding user-limit row-words
+mul-if1 c = omega arith
+
+returns : tie.Need-returns Inv-loop μ-loop
+unfolding user-limit row-words
+returns c =
+    let a = c .before .before .before .before .before .before .args in
+    let low = c .before .before .lowest in
+    let all : c .before .misfit .result ≡ a .users * row-words = omega arith in
+    lowest-untried (a .rows .now) (a .left .now) (a .users) (a .it .0) (a .i) (c .before .before .before .before .loop .inv) (low .ensures)
+    (unless-misfit (a .rows .now) (a .left .now) (a .it .0) (a .i * word-bits + low .result) (a .users) (rw all at (c .before .misfit .ensures .earlier)))
+
+mul-apart : tie.Need-mul-apart Inv-loop μ-loop
+unfolding user-limit row-words
+mul-apart c = omega (arith, c .before .misfit .ensures .within)
+
+add-apart : tie.Need-add-apart Inv-loop μ-loop
+unfolding user-limit row-words
+add-apart c = omega (arith, c .before .misfit .ensures .within)
+
+mul-apart-2 : tie.Need-mul-apart-2 Inv-loop μ-loop
+unfolding user-limit row-words
+mul-apart-2 c = omega (arith, c .before .misfit .ensures .within)
+
+element-copy-out-apart : tie.Need-element-copy-out-apart Inv-loop μ-loop
+unfolding user-limit row-words
+element-copy-out-apart c = omega (arith, c .before .misfit .ensures .within)
+
+apart-requires : tie.Need-apart-requires Inv-loop μ-loop
+apart-requires c κs = tt
+
+-- the word that was found is one of the users', and a misfit
+found : (c : tie.Else1 Inv-loop μ-loop) →
+    let a = c .before .before .before .before .before .before .args in
+    let j = c .before .misfit .result in
+    (j < a .users * row-words) × So (misfit-at (a .rows .now) (a .left .now) (a .it .0) (a .i * word-bits + c .before .before .lowest .result) j)
+unfolding row-words
+found c =
+    let within : c .before .misfit .result < c .before .before .before .before .before .before .args .users * row-words = omega (arith, c .if1 .left, c .before .misfit .ensures .within) in
+    (within, c .before .misfit .ensures .passes within)
+
+loop-less : tie.Need-loop-less Inv-loop μ-loop
+unfolding row-words
+loop-less c =
+    let a = c .before .before .before .before .before .before .before .before .args in
+    fewer-untried (a .rows .now) (a .left .now) (a .users) (a .it .0) (a .i) (c .before .before .before .before .before .before .loop .w) (c .before .before .before .before .lowest .result)
+    (c .before .before .before .misfit .result) (c .apart .result) (c .before .before .before .before .lowest .ensures) (found (c .before .before) .1) (c .apart .ensures .1) (c .apart .ensures .0)
+
+loop-again : tie.Need-loop-again Inv-loop μ-loop
+unfolding row-words
+loop-again c =
+    let a = c .before .before .before .before .before .before .before .before .args in
+    misfit-tried (a .rows .now) (a .left .now) (a .users) (a .it .0) (a .i) (c .before .before .before .before .before .before .loop .w) (c .before .before .before .before .lowest .result)
+    (c .before .before .before .misfit .result) (c .apart .result) (c .before .before .before .before .lowest .ensures) (found (c .before .before) .1) (c .apart .ensures .1) (found (c .before .before) .0)
+    (c .before .before .before .before .before .before .loop .inv)
+
+returns-2 : tie.Need-returns-2 Inv-loop μ-loop
+returns-2 c =
+    let a = c .before .before .before .args in
+    none-untried (a .rows .now) (a .left .now) (a .users) (a .it .0) (a .i) (rw (c .loop-test .left) at (c .before .loop .inv))
+
+pub tie-in-spec : {M : Type 1} → statement M
+tie-in-spec =
+    tie.close
+    (tie.spec
+    Inv-loop
+    μ-loop
+    candidates-requires
+    loop-holds
+    mul-other
+    lowest-requires
+    add-other
+    misfit-requires
+    mul-if1
+    returns
+    mul-apart
+    add-apart
+    mul-apart-2
+    element-copy-out-apart
+    apart-requires
+    loop-less
+    loop-again
+    returns-2)

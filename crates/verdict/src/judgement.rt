@@ -1,0 +1,193 @@
+// The judgement of one grant against those remaining.
+use crate::domination::apart;
+use crate::domination::holders;
+use crate::domination::misfit;
+use bits::WORD_BITS;
+use cells::CellNo;
+use cells::ROW_BITS;
+use fit::COLUMN_WORDS;
+use fit::PLACE_WORDS;
+use fit::partners_in_column;
+use numbers::CELL_WORDS;
+use numbers::ROW_WORDS;
+ghost use mathlib.Core.Path.{_≡_};
+ghost use mathlib.Core.Bool.{So};
+ghost use Prim.Native.Nat.{ℕ, _+_, _*_, _/_, _<_, _≤_};
+ghost use lib.Dec.{eqb};
+ghost use lib.ListN.{length};
+ghost use Rattle.spec.specs.Vocabulary.{filter};
+ghost use Rattle.spec.specs.Limits.{user-limit};
+ghost use Rattle.spec.specs.Sheet.{Sheet};
+ghost use Rattle.spec.specs.Fit.{fits};
+ghost use Rattle.bits.specs.Counting.{count-below};
+ghost use Rattle.bits.specs.Bit.{bit, word-bits};
+ghost use Rattle.cells.specs.Rows.{row-words};
+ghost use Rattle.cells.specs.CellSets.{cell-grants};
+ghost use Rattle.cells.specs.CellPlaces.{cell-words, cell-limit, grant-of, marked, Shown, Part};
+ghost use Rattle.fit.specs.Columns.{Columns};
+ghost use Rattle.verdict.specs.Insides.{Insides};
+ghost use Rattle.verdict.specs.Misfits.{words-before};
+ghost use Rattle.verdict.specs.NearCells.{cells-of, tie-at};
+ghost use Rattle.verdict.specs.NearTieLaws.{Untried};
+ghost use Rattle.verdict.specs.ReductionVerdict.{FoundIn, Judgeable, GrantJudged};
+
+// The cell that a grant is tied to, if there is one.
+pub enum Found {
+    At(CellNo),
+    Nothing,
+}
+
+// A grant stays, or is removed as single or tied to another.
+pub enum Verdict {
+    Stays,
+    Single,
+    Tied(CellNo),
+}
+
+// Whether w, which has a position, has no other one.
+fn is_one(w: u64) -> bool
+    requires { ⌜ 0 < w ⌝ }
+    ensures { λ r. ⌜ r ≡ eqb (count-below word-bits (bit w)) 1 ⌝ }
+{
+    bits::without_lowest(w) == 0
+}
+
+// Whether no other grant of left fits the grant at a cell, which is one of left. All grants of its word do.
+fn is_single<'a>(
+    rows: &'a [u64; CELL_WORDS],
+    columns: &'a [u64; PLACE_WORDS],
+    left: &'a [u64; CELL_WORDS],
+    it: CellNo,
+) -> bool
+    requires { ⌜ (it .0 < cell-limit) × So (marked (now left) (it .0)) × Columns (now rows) (now columns) ⌝ }
+    ensures { λ r. ⌜ ((users : ℕ) (sheet : Sheet) → users ≤ user-limit → it .0 < cells-of users → Shown (now (rows .entry)) users sheet
+        → Part (now (left .entry)) (now (rows .entry))
+        → r ≡ eqb (length (filter (fits sheet (grant-of (it .0))) (cell-grants sheet (now (left .entry))))) 1) ⌝ }
+{
+    let at = it.0;
+    if !is_one(left[at / WORD_BITS]) {
+        return false;
+    }
+    partners_in_column(rows, columns, left, it, 2) == 1
+}
+
+// The positions of word i whose cells of left the grant at a cell may be tied to. There are none unless all cells of left in the word are in the grant's row.
+fn candidates<'a>(
+    rows: &'a [u64; CELL_WORDS],
+    left: &'a [u64; CELL_WORDS],
+    it: CellNo,
+    i: usize,
+) -> u64
+    requires { ⌜ (it .0 < cell-limit) × (i < cell-words) × Part (now left) (now rows) ⌝ }
+    ensures { λ r. ⌜ ((users : ℕ) → i < users * row-words
+        → Untried (now (rows .entry)) (now (left .entry)) users (it .0) i r) ⌝ }
+{
+    let at = it.0;
+    let w = left[i];
+    if !bits::within(w, rows[at / ROW_BITS * ROW_WORDS + i % ROW_WORDS]) {
+        return 0;
+    }
+    if i == at / WORD_BITS {
+        bits::without(w, at % WORD_BITS)
+    } else {
+        w
+    }
+}
+
+// The lowest cell of word i to which the grant at a cell is tied. A word that keeps it from one candidate keeps it from all that the word's user holds.
+fn tie_in<'a>(
+    rows: &'a [u64; CELL_WORDS],
+    columns: &'a [u64; PLACE_WORDS],
+    left: &'a [u64; CELL_WORDS],
+    users: usize,
+    it: CellNo,
+    i: usize,
+) -> Found
+    requires { ⌜ (users ≤ user-limit) × (it .0 < cell-limit) × (i < users * row-words) × Part (now left) (now rows) × Columns (now rows) (now columns) ⌝ }
+    ensures { λ r. ⌜ FoundIn (tie-at (now (rows .entry)) (now (left .entry)) users (it .0)) (i * word-bits) ((i + 1) * word-bits) r ⌝ }
+{
+    let mut w = candidates(rows, left, it, i);
+    while w != 0 {
+        let other = i * WORD_BITS + bits::lowest(w);
+        let j = misfit(rows, columns, left, users, it, CellNo(other));
+        if j == users * ROW_WORDS {
+            return Found::At(CellNo(other));
+        }
+        w = apart(w, rows[j / ROW_WORDS * ROW_WORDS + i % ROW_WORDS]);
+    }
+    Found::Nothing
+}
+
+// The lowest cell to which the grant at a cell is tied, among the users' words at word j of the columns. Only a word in its row, of a user who holds its permission, has one.
+fn tie_among<'a>(
+    rows: &'a [u64; CELL_WORDS],
+    columns: &'a [u64; PLACE_WORDS],
+    inside: &'a [u64; COLUMN_WORDS],
+    left: &'a [u64; CELL_WORDS],
+    users: usize,
+    it: CellNo,
+    j: usize,
+) -> Found
+    requires { ⌜ (users ≤ user-limit) × (it .0 < cell-limit) × (j * word-bits < users * row-words) × Part (now left) (now rows)
+        × Columns (now rows) (now columns) × Insides (now rows) (now left) users (it .0 / word-bits) (now inside) × So (marked (now left) (it .0)) ⌝ }
+    ensures { λ r. ⌜ FoundIn (tie-at (now (rows .entry)) (now (left .entry)) users (it .0))
+        (words-before users j * word-bits) (words-before users (j + 1) * word-bits) r ⌝ }
+{
+    let at = it.0;
+    let mut w = holders(columns, users, at % ROW_BITS, j) & inside[j];
+    while w != 0 {
+        let i = j * WORD_BITS + bits::lowest(w);
+        let found = tie_in(rows, columns, left, users, it, i);
+        if let Found::At(other) = found {
+            return Found::At(other);
+        }
+        w = bits::without_lowest(w);
+    }
+    Found::Nothing
+}
+
+// The lowest cell of left to which the grant at a cell is tied.
+fn tie<'a>(
+    rows: &'a [u64; CELL_WORDS],
+    columns: &'a [u64; PLACE_WORDS],
+    inside: &'a [u64; COLUMN_WORDS],
+    left: &'a [u64; CELL_WORDS],
+    users: usize,
+    it: CellNo,
+) -> Found
+    requires { ⌜ (users ≤ user-limit) × (it .0 < cell-limit) × Part (now left) (now rows) × Columns (now rows) (now columns)
+        × Insides (now rows) (now left) users (it .0 / word-bits) (now inside) × So (marked (now left) (it .0)) ⌝ }
+    ensures { λ r. ⌜ FoundIn (tie-at (now (rows .entry)) (now (left .entry)) users (it .0)) 0 (cells-of users) r ⌝ }
+{
+    let mut j = 0;
+    while j * WORD_BITS < users * ROW_WORDS {
+        let found = tie_among(rows, columns, inside, left, users, it, j);
+        if let Found::At(other) = found {
+            return Found::At(other);
+        }
+        j += 1;
+    }
+    Found::Nothing
+}
+
+// No other grant of left fits it: single; else it dominates another: tied to the lowest such.
+pub fn judge<'a>(
+    rows: &'a [u64; CELL_WORDS],
+    columns: &'a [u64; PLACE_WORDS],
+    inside: &'a [u64; COLUMN_WORDS],
+    left: &'a [u64; CELL_WORDS],
+    users: usize,
+    it: CellNo,
+) -> Verdict
+    requires { ⌜ Judgeable (now rows) (now left) users (it .0) × Columns (now rows) (now columns)
+        × Insides (now rows) (now left) users (it .0 / word-bits) (now inside) ⌝ }
+    ensures { λ r. ⌜ GrantJudged (now (rows .entry)) (now (left .entry)) users (it .0) r ⌝ }
+{
+    if is_single(rows, columns, left, it) {
+        return Verdict::Single;
+    }
+    match tie(rows, columns, inside, left, users, it) {
+        Found::At(other) => Verdict::Tied(other),
+        Found::Nothing => Verdict::Stays,
+    }
+}

@@ -1,0 +1,89 @@
+-- `witness::choice::better_in_word`: the cells at the positions of w are still to be passed. The lowest is next, and its position is dropped.
+use borrow.Author.Needs.{needs}
+use Prim.Native.Nat.{ℕ, _*_, _≤_, _<_}
+use native.Mathlib.Omega.{arith}
+use mathlib.Core.List.{List}
+use Rattle.spec.specs.Limits.{user-limit}
+use Rattle.bits.specs.Bit.{word-bits}
+use Rattle.cells.specs.Rows.{row-words}
+use Rattle.witness.specs.Counts.{Counted}
+use Rattle.witness.specs.WitnessWalk.{Walked, InWord, word-starts, word-goes-on, word-ends}
+use Rattle.witness.proofs.choice.better_in_word.Statement.{statement}
+use Rattle.witness.proofs.choice.better_in_word.Tie as tie
+
+abbrev Inv-loop : tie.InvT-loop
+Inv-loop left counts i from it₀ w₀ it w =
+    (rows : List ℕ) (users : ℕ) → users ≤ user-limit → i < users * row-words → Counted rows left users counts
+    → Walked rows left users it₀ (i * word-bits) → InWord rows left users i w it
+
+abbrev μ-loop : tie.MeasureT-loop
+μ-loop left counts i from it₀ w₀ it w = w
+
+mul-from : tie.Need-mul-from Inv-loop μ-loop
+unfolding user-limit row-words
+mul-from c = omega arith
+
+mul-w : tie.Need-mul-w Inv-loop μ-loop
+unfolding user-limit row-words
+mul-w c = omega arith
+
+element-copy-out-w : tie.Need-element-copy-out-w Inv-loop μ-loop
+unfolding user-limit row-words
+element-copy-out-w c = omega arith
+
+loop-holds : tie.Need-loop-holds Inv-loop μ-loop
+loop-holds c rows users few inside counted walked = word-starts _ _ _ _ _ walked
+
+lowest-requires : tie.Need-lowest-requires Inv-loop μ-loop
+lowest-requires c κs = omega arith
+
+add-n : tie.Need-add-n Inv-loop μ-loop
+unfolding user-limit row-words
+add-n c = omega (arith, c .lowest .ensures .within)
+
+mul-better : tie.Need-mul-better Inv-loop μ-loop
+unfolding user-limit row-words
+mul-better c = omega (arith, c .lowest .ensures .within)
+
+element-copy-out-better : tie.Need-element-copy-out-better Inv-loop μ-loop
+unfolding user-limit row-words
+element-copy-out-better c = omega (arith, c .lowest .ensures .within)
+
+better-requires : tie.Need-better-requires Inv-loop μ-loop
+better-requires c κs = search needs
+
+without-lowest-requires : tie.Need-without-lowest-requires Inv-loop μ-loop
+without-lowest-requires c κs = omega arith
+
+loop-less : tie.Need-loop-less Inv-loop μ-loop
+loop-less c = c .without-lowest .ensures .less
+
+loop-again : tie.Need-loop-again Inv-loop μ-loop
+loop-again c rows users few inside counted walked =
+    let at = c .before .before .before .before .before .loop in
+    rw (c .before .better .ensures)
+    (word-goes-on _ _ _ _ (at .it) (at .inv rows users few inside counted walked) (c .before .before .before .lowest .ensures) (c .without-lowest .ensures) few inside _ counted)
+
+returns : tie.Need-returns Inv-loop μ-loop
+returns c rows users few inside counted walked =
+    word-ends _ _ _ _ _ (rw (c .loop-test .left) at (c .before .loop .inv rows users few inside counted walked))
+
+pub better-in-word-spec : {M : Type 1} → statement M
+better-in-word-spec =
+    tie.close
+    (tie.spec
+    Inv-loop
+    μ-loop
+    mul-from
+    mul-w
+    element-copy-out-w
+    loop-holds
+    lowest-requires
+    add-n
+    mul-better
+    element-copy-out-better
+    better-requires
+    without-lowest-requires
+    loop-less
+    loop-again
+    returns)

@@ -1,0 +1,94 @@
+-- `witness::choice::dropped`: a word of left without the fitting word of the grant has the cells of left that do not fit it.
+use borrow.Author.Needs.{needs}
+use Prim.Native.Nat.{_*_, _-_, _≤_}
+use native.Mathlib.Omega.{arith}
+use mathlib.Core.Path.{_≡_, refl}
+use lib.ListN.{length, length-set}
+use Rattle.spec.specs.Limits.{user-limit}
+use Rattle.cells.specs.Rows.{row-words}
+use Rattle.cells.specs.CellPlaces.{cell-words}
+use Rattle.witness.specs.WitnessCells.{left-over, left-over-word}
+use Rattle.fit.specs.WitnessWords.{MadeWords, none-made, one-made, all-made}
+use Rattle.witness.proofs.choice.dropped.Statement.{statement}
+use Rattle.witness.proofs.choice.dropped.Tie as tie
+
+abbrev Inv-loop : tie.InvT-loop
+Inv-loop rows left users it words₀ i₀ words i = (i ≤ users * row-words) × (length words ≡ cell-words) × MadeWords (left-over rows left (it .0)) i words
+
+abbrev μ-loop : tie.MeasureT-loop
+μ-loop rows left users it words₀ i₀ words i = users * row-words - i
+
+loop-holds : tie.Need-loop-holds Inv-loop μ-loop
+unfolding user-limit row-words
+loop-holds c = (omega arith, refl, none-made _ cell-words)
+
+mul-loop : tie.Need-mul-loop Inv-loop μ-loop
+mul-loop c = omega arith
+
+mul-less : tie.Need-mul-less Inv-loop μ-loop
+unfolding user-limit
+mul-less c = omega arith
+
+element-copy-out-less : tie.Need-element-copy-out-less Inv-loop μ-loop
+unfolding user-limit
+element-copy-out-less c = omega arith
+
+fitting-requires : tie.Need-fitting-requires Inv-loop μ-loop
+unfolding user-limit
+fitting-requires c κs = search needs
+
+less-requires : tie.Need-less-requires Inv-loop μ-loop
+less-requires c κs = tt
+
+mul-words : tie.Need-mul-words Inv-loop μ-loop
+unfolding user-limit
+mul-words c = omega arith
+
+array-write-words : tie.Need-array-write-words Inv-loop μ-loop
+unfolding user-limit
+array-write-words c = omega arith
+
+add-i : tie.Need-add-i Inv-loop μ-loop
+add-i c = omega arith
+
+loop-less : tie.Need-loop-less Inv-loop μ-loop
+unfolding row-words
+loop-less c = omega arith
+
+loop-again : tie.Need-loop-again Inv-loop μ-loop
+unfolding row-words
+loop-again c =
+    let a = c .before .before .before .before .before .args in
+    let at = c .before .before .before .before .loop in (
+      omega arith,
+      simp length-set (at .inv .1),
+      one-made _ (at .i) (at .words) _ (at .inv .2) (omega arith)
+          (left-over-word (a .rows .now) (a .left .now) (a .it .0) (at .i) _ _ (c .before .fitting .ensures) (c .less .ensures)),
+    )
+
+returns : tie.Need-returns Inv-loop μ-loop
+unfolding row-words
+returns c =
+    let a = c .before .before .args in
+    let at = c .before .loop in
+    let end : at .i ≡ a .users * row-words = omega arith in
+    rw end at (all-made _ (at .i) (at .words) (at .inv .2))
+
+pub dropped-spec : {M : Type 1} → statement M
+dropped-spec =
+    tie.close
+    (tie.spec
+    Inv-loop
+    μ-loop
+    loop-holds
+    mul-loop
+    mul-less
+    element-copy-out-less
+    fitting-requires
+    less-requires
+    mul-words
+    array-write-words
+    add-i
+    loop-less
+    loop-again
+    returns)

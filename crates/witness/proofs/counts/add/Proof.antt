@@ -1,0 +1,83 @@
+-- `witness::counts::add`: the words of the columns are passed one after the other. The counts of the users still to come are as they were, and a user whom no
+-- column reaches has no grant that fits.
+use Prim.Native.Nat.{_+_, _*_, _-_, _/_, _≤_}
+use native.Mathlib.Nat.{add-zero}
+use native.Mathlib.Omega.{arith}
+use mathlib.Core.Path.{_≡_, _∙_}
+use Rattle.spec.specs.Limits.{user-limit}
+use Rattle.bits.specs.Bit.{word-bits}
+use Rattle.cells.specs.Rows.{row-words}
+use Rattle.cells.specs.CellPlaces.{cell-words}
+use Rattle.fit.specs.Columns.{column-words}
+use Rattle.witness.specs.CountChange.{word-of-position}
+use Rattle.witness.specs.FitCounts.{WordChanged, no-word-changed, no-user-changed, next-users-changed}
+use Rattle.witness.proofs.counts.add.Statement.{statement}
+use Rattle.witness.proofs.counts.add.Tie as tie
+
+abbrev Inv-loop : tie.InvT-loop
+Inv-loop counts₀ rows columns left i word j₀ counts j = (j ≤ column-words) × WordChanged (_+_) rows left i word (j * word-bits) counts₀ counts
+
+abbrev μ-loop : tie.MeasureT-loop
+μ-loop counts₀ rows columns left i word j₀ counts j = column-words - j
+
+returns : tie.Need-returns Inv-loop μ-loop
+returns c = rw (c .if1 .taken) (no-word-changed (_+_) add-zero _ _ _ _ _)
+
+loop-holds : tie.Need-loop-holds Inv-loop μ-loop
+loop-holds c = (omega arith, no-user-changed _ _ _ _ _ _)
+
+union-of-requires : tie.Need-union-of-requires Inv-loop μ-loop
+unfolding user-limit row-words
+union-of-requires c κs = omega arith
+
+add-to-users-requires : tie.Need-add-to-users-requires Inv-loop μ-loop
+unfolding user-limit row-words
+add-to-users-requires c κs =
+    let start = c .before .before .before .before .before in
+    let at = c .before .before .before .loop in (
+      start .pre .0,
+      omega arith,
+      at .inv .1 .sized ∙ start .pre .2,
+      λ n here p.
+          let column = word-of-position (at .j) (c .union-of .result) (n / word-bits) here in
+          rw (at .inv .1 .rest n (omega arith)) (start .pre .3 n (omega arith) p),
+    )
+
+add-j : tie.Need-add-j Inv-loop μ-loop
+add-j c = omega arith
+
+loop-less : tie.Need-loop-less Inv-loop μ-loop
+unfolding user-limit row-words
+loop-less c = omega arith
+
+loop-again : tie.Need-loop-again Inv-loop μ-loop
+unfolding user-limit row-words
+loop-again c =
+    let start = c .before .before .before .before .before .before in
+    let at = c .before .before .before .before .loop in (
+      omega arith,
+      next-users-changed _ _ _ _ _ add-zero (at .j) (c .before .union-of .result) _ (at .counts) _ (c .before .union-of .ensures _ (start .pre .1)) (at .inv .1)
+          (c .add-to-users .ensures),
+    )
+
+returns-2 : tie.Need-returns-2 Inv-loop μ-loop
+unfolding user-limit row-words
+returns-2 c =
+    let at = c .before .loop in
+    let end : at .j * word-bits ≡ cell-words = omega arith in
+    rw end at (at .inv .1)
+
+pub add-spec : {M : Type 1} → statement M
+add-spec =
+    tie.close
+    (tie.spec
+    Inv-loop
+    μ-loop
+    returns
+    loop-holds
+    union-of-requires
+    add-to-users-requires
+    add-j
+    loop-less
+    loop-again
+    returns-2)

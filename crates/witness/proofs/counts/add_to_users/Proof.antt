@@ -1,0 +1,76 @@
+-- `witness::counts::add_to_users`: the counts of the users at the positions of w are still as they were. The lowest is next, and its position is dropped.
+use Prim.Native.Nat.{_+_, _/_}
+use native.Mathlib.Omega.{arith}
+use mathlib.Core.Path.{_∙_}
+use mathlib.Core.Bool.{So}
+use Rattle.spec.specs.Limits.{user-limit}
+use Rattle.bits.specs.Bit.{word-bits}
+use Rattle.cells.specs.Rows.{row-words}
+use Rattle.witness.specs.CountChange.{at-position, lowest-at}
+use Rattle.witness.specs.FitCounts.{UsersChanging, users-start, users-go-on, users-end}
+use Rattle.witness.proofs.counts.add_to_users.Statement.{statement}
+use Rattle.witness.proofs.counts.add_to_users.Tie as tie
+
+abbrev Inv-loop : tie.InvT-loop
+Inv-loop counts₀ rows left i word j some from w₀ counts w = UsersChanging (_+_) rows left i word j some w counts₀ counts
+
+abbrev μ-loop : tie.MeasureT-loop
+μ-loop counts₀ rows left i word j some from w₀ counts w = w
+
+mul-from : tie.Need-mul-from Inv-loop μ-loop
+unfolding user-limit row-words
+mul-from c = omega arith
+
+loop-holds : tie.Need-loop-holds Inv-loop μ-loop
+loop-holds c = users-start _ _ _ _ _ _ _ _
+
+lowest-requires : tie.Need-lowest-requires Inv-loop μ-loop
+lowest-requires c κs = omega arith
+
+add-add-to-user : tie.Need-add-add-to-user Inv-loop μ-loop
+unfolding user-limit row-words
+add-add-to-user c = omega (arith, c .lowest .ensures .within)
+
+add-to-user-requires : tie.Need-add-to-user-requires Inv-loop μ-loop
+unfolding user-limit row-words
+add-to-user-requires c κs =
+    let start = c .before .before .before .before in
+    let at = c .before .before .before .loop in (
+      start .pre .0,
+      omega (arith, c .lowest .ensures .within, start .pre .1),
+      at .inv .sized ∙ start .pre .2,
+      λ n e p.
+          let here : So (at-position (start .args .j) (at .w) (n / word-bits)) = rw e (lowest-at (start .args .j) (at .w) (c .lowest .ensures)) in
+          rw (at .inv .still n here) (start .pre .3 n (at .inv .among (n / word-bits) here) p),
+    )
+
+without-lowest-requires : tie.Need-without-lowest-requires Inv-loop μ-loop
+without-lowest-requires c κs = omega arith
+
+loop-less : tie.Need-loop-less Inv-loop μ-loop
+loop-less c = c .without-lowest .ensures .less
+
+loop-again : tie.Need-loop-again Inv-loop μ-loop
+unfolding user-limit row-words
+loop-again c =
+    let at = c .before .before .before .before .before .loop in
+    users-go-on _ _ _ _ _ _ _ _ (at .counts) _ (at .inv) (c .before .before .lowest .ensures) (c .without-lowest .ensures) (c .before .add-to-user .ensures)
+
+returns : tie.Need-returns Inv-loop μ-loop
+returns c = users-end _ _ _ _ _ _ _ _ _ (rw (c .loop-test .left) at (c .before .loop .inv))
+
+pub add-to-users-spec : {M : Type 1} → statement M
+add-to-users-spec =
+    tie.close
+    (tie.spec
+    Inv-loop
+    μ-loop
+    mul-from
+    loop-holds
+    lowest-requires
+    add-add-to-user
+    add-to-user-requires
+    without-lowest-requires
+    loop-less
+    loop-again
+    returns)

@@ -1,0 +1,86 @@
+-- `witness::sets::counted`: after i words the sum is how many of the cells below i * word-bits are set.
+use borrow.Author.Needs.{needs}
+use Prim.Native.Nat.{_*_, _-_, _≤_}
+use native.Mathlib.Omega.{arith}
+use mathlib.Core.Path.{_≡_, sym}
+use Rattle.spec.specs.Limits.{user-limit}
+use Rattle.bits.specs.Counting.{count-below}
+use Rattle.bits.specs.Laws.Count.{count-below-le}
+use Rattle.bits.specs.Bit.{word-bits}
+use Rattle.cells.specs.Rows.{row-words}
+use Rattle.cells.specs.CellPlaces.{marked}
+use Rattle.fit.specs.Laws.FitWord.{marked-in-word, count-next-word}
+use Rattle.witness.proofs.sets.counted.Statement.{statement}
+use Rattle.witness.proofs.sets.counted.Tie as tie
+
+abbrev Inv-loop : tie.InvT-loop
+Inv-loop words users n₀ i₀ n i = (i ≤ users * row-words) × (n ≡ count-below (i * word-bits) (marked words))
+
+abbrev μ-loop : tie.MeasureT-loop
+μ-loop words users n₀ i₀ n i = users * row-words - i
+
+loop-holds : tie.Need-loop-holds Inv-loop μ-loop
+unfolding count-below
+loop-holds c = search needs
+
+mul-loop : tie.Need-mul-loop Inv-loop μ-loop
+mul-loop c = omega arith
+
+mul-count : tie.Need-mul-count Inv-loop μ-loop
+unfolding user-limit
+mul-count c = omega arith
+
+element-copy-out-count : tie.Need-element-copy-out-count Inv-loop μ-loop
+unfolding user-limit
+element-copy-out-count c = omega arith
+
+count-requires : tie.Need-count-requires Inv-loop μ-loop
+count-requires c κs = search needs
+
+add-n : tie.Need-add-n Inv-loop μ-loop
+unfolding user-limit
+add-n c =
+    let at = c .before .before .before .loop in
+    let few : c .count .result ≤ word-bits = rw (c .count .ensures) (count-below-le word-bits _) in
+    omega (arith, count-below-le (at .i * word-bits) (marked (c .before .before .before .before .args .words .now)))
+
+add-i : tie.Need-add-i Inv-loop μ-loop
+add-i c = omega arith
+
+loop-less : tie.Need-loop-less Inv-loop μ-loop
+unfolding row-words
+loop-less c = omega arith
+
+loop-again : tie.Need-loop-again Inv-loop μ-loop
+unfolding row-words
+loop-again c =
+    let a = c .before .before .before .before .args in
+    let at = c .before .before .before .loop in (
+      omega arith,
+      rw (count-next-word (marked (a .words .now)) (at .i) _ (λ q l. sym (marked-in-word (a .words .now) (at .i) q l)))
+          (omega (arith, at .inv .1, c .count .ensures)),
+    )
+
+returns : tie.Need-returns Inv-loop μ-loop
+unfolding row-words
+returns c =
+    let at = c .before .loop in
+    let end : at .i ≡ c .before .before .args .users * row-words = omega arith in
+    rw end at (at .inv .1)
+
+pub counted-spec : {M : Type 1} → statement M
+counted-spec =
+    tie.close
+    (tie.spec
+    Inv-loop
+    μ-loop
+    loop-holds
+    mul-loop
+    mul-count
+    element-copy-out-count
+    count-requires
+    add-n
+    add-i
+    loop-less
+    loop-again
+    returns)

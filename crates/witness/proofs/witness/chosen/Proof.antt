@@ -1,0 +1,42 @@
+-- `witness::witness::chosen`: from an empty set none is taken, and else the grants are taken by their counts.
+use borrow.Author.Needs.{needs}
+use Prim.Native.Nat.{_*_}
+use native.Mathlib.Omega.{arith}
+use mathlib.Core.Path.{_≡_}
+use Rattle.spec.specs.Limits.{grant-limit, user-limit}
+use Rattle.cells.specs.Rows.{row-words, row-bits}
+use Rattle.cells.specs.CellSets.{cell-grants}
+use Rattle.cells.specs.CellPlaces.{cell-words}
+use Rattle.witness.specs.WitnessChoice.{no-choice}
+use Rattle.witness.specs.WitnessWalk.{walk-starts, walk-passes, walk-ends}
+use Rattle.witness.specs.Laws.WitnessTaken.{none-taken}
+use Rattle.witness.specs.WitnessGreedy.{greedy-starts, greedy-ends}
+use Rattle.witness.proofs.witness.chosen.Statement.{statement}
+use Rattle.witness.proofs.witness.chosen.Tie as tie
+
+next-cell-requires : tie.Need-next-cell-requires
+next-cell-requires c κs = search needs
+
+mul-if1 : tie.Need-mul-if1
+unfolding user-limit
+mul-if1 c = omega arith
+
+chosen-by-counts-requires : tie.Need-chosen-by-counts-requires
+chosen-by-counts-requires c κs = search needs
+
+returns : tie.Need-returns
+returns c = search needs
+
+returns-2 : tie.Need-returns-2
+unfolding user-limit row-words row-bits
+returns-2 c sheet shown part =
+    let a = c .before .before .args in
+    let next = c .before .next-cell in
+    let end : next .result ≡ a .users * row-bits = omega (arith, next .ensures .not-past) in
+    let passed = walk-passes (a .rows .now) (a .kernel .now) (a .users) no-choice 0 (walk-starts _ _ _) (next .result) (next .ensures .not-before) (next .ensures .skipped) in
+    let none = walk-ends _ _ _ no-choice (next .result) passed end .is-fewest sheet shown part in
+    greedy-ends sheet _ _ _ _ grant-limit (greedy-starts sheet _ _ cell-words part) (none-taken sheet grant-limit (cell-grants sheet (a .kernel .now)) none)
+
+pub chosen-spec : {M : Type 1} → statement M
+chosen-spec =
+    tie.close (tie.spec next-cell-requires mul-if1 chosen-by-counts-requires returns returns-2)

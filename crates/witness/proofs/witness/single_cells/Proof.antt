@@ -1,0 +1,96 @@
+-- `witness::witness::single_cells`: the removals are looked at in order, and each single puts its cell in.
+use Prim.Native.Nat.{_-_, _≤_, _<_}
+use native.Mathlib.Numerals.{add-one}
+use native.Mathlib.Omega.{arith}
+use mathlib.Core.Path.{_≡_}
+use mathlib.Core.Logic.{⊎-elim}
+use borrow.Author.Tests.{ne-eqb}
+use lib.ListN.{getD}
+use Rattle.spec.specs.Limits.{grant-limit, user-limit}
+use Rattle.spec.specs.Reduction.{singles-of}
+use Rattle.cells.specs.Rows.{row-words}
+use Rattle.verdict.specs.Log.{log-of}
+use Rattle.cells.specs.CellPlaces.{cell-words, cell-limit}
+use Rattle.witness.specs.WitnessSingles.{CellsOf, no-singles, single-put-in, tied-left-out}
+use Rattle.witness.proofs.witness.single_cells.Statement.{statement}
+use Rattle.witness.proofs.witness.single_cells.Tie as tie
+
+abbrev Inv-loop : tie.InvT-loop
+Inv-loop removed partner count cells₀ i₀ cells i = (i ≤ count) × CellsOf cells (singles-of (log-of removed partner i))
+
+abbrev μ-loop : tie.MeasureT-loop
+μ-loop removed partner count cells₀ i₀ cells i = count - i
+
+loop-holds : tie.Need-loop-holds Inv-loop μ-loop
+unfolding user-limit row-words
+loop-holds c = (omega arith, no-singles (c .args .removed .now) (c .args .partner .now) cell-words)
+
+mul-at : tie.Need-mul-at Inv-loop μ-loop
+unfolding grant-limit
+mul-at c = omega arith
+
+element-copy-out-at : tie.Need-element-copy-out-at Inv-loop μ-loop
+unfolding grant-limit
+element-copy-out-at c = omega arith
+
+mul-if1 : tie.Need-mul-if1 Inv-loop μ-loop
+unfolding grant-limit
+mul-if1 c = omega arith
+
+element-copy-out-if1 : tie.Need-element-copy-out-if1 Inv-loop μ-loop
+unfolding grant-limit
+element-copy-out-if1 c = omega arith
+
+-- the cell is one of the sheet's words
+inside : (c : tie.Then1 Inv-loop μ-loop)
+    → getD (c .before .before .before .before .before .args .removed .now) (c .before .before .before .before .loop .i) 0 < cell-limit
+inside c = c .before .before .before .before .before .pre .1 (c .before .before .before .before .loop .i) (c .before .before .before .loop-test .taken)
+
+cast-cell : tie.Need-cast-cell Inv-loop μ-loop
+unfolding user-limit row-words
+cast-cell c = omega (arith, inside c)
+
+with-cell-requires : tie.Need-with-cell-requires Inv-loop μ-loop
+with-cell-requires c κs = inside c
+
+add-i : tie.Need-add-i Inv-loop μ-loop
+add-i c = omega arith
+
+loop-less : tie.Need-loop-less Inv-loop μ-loop
+loop-less c = omega arith
+
+loop-again : tie.Need-loop-again Inv-loop μ-loop
+loop-again c =
+    let a = c .before .before .before .before .before .args in
+    let at = c .before .before .before .before .loop in
+    ⊎-elim
+    (λ w. (
+      omega arith,
+      rw (w .2, add-one (at .i)) (single-put-in (a .removed .now) (a .partner .now) (at .i) (at .cells) (at .inv .1) (w .0 .taken) _ (w .1 .ensures)),
+    ))
+    (λ w. (
+      omega arith,
+      rw (w .1, add-one (at .i)) (tied-left-out (a .removed .now) (a .partner .now) (at .i) (at .cells) (at .inv .1) (ne-eqb _ _ (w .0 .left))),
+    ))
+    (c .if1 .came)
+
+returns : tie.Need-returns Inv-loop μ-loop
+returns c = let end : c .before .loop .i ≡ c .before .before .args .count = omega arith in rw end at (c .before .loop .inv .1)
+
+pub single-cells-spec : {M : Type 1} → statement M
+single-cells-spec =
+    tie.close
+    (tie.spec
+    Inv-loop
+    μ-loop
+    loop-holds
+    mul-at
+    element-copy-out-at
+    mul-if1
+    element-copy-out-if1
+    cast-cell
+    with-cell-requires
+    add-i
+    loop-less
+    loop-again
+    returns)

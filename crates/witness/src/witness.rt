@@ -1,0 +1,121 @@
+// The witness: the greedy choice from the kernel, and the singles.
+use crate::choice::dropped;
+use crate::choice::fewest;
+use crate::counts::first_counts;
+use crate::counts::recount;
+use crate::sets::counted;
+use crate::sets::joined;
+use crate::sets::with_cell;
+use cells::CellNo;
+use cells::ROW_BITS;
+use cells::next_cell;
+use fit::columns_of;
+use numbers::CELL_WORDS;
+use numbers::GRANT_LIMIT;
+ghost use Prim.Native.Nat.{ℕ, _≤_, _<_};
+ghost use lib.ListN.{getD};
+ghost use Rattle.spec.specs.Limits.{grant-limit, user-limit};
+ghost use Rattle.spec.specs.Sheet.{Sheet};
+ghost use Rattle.spec.specs.Reduction.{singles-of};
+ghost use Rattle.verdict.specs.Log.{log-of};
+ghost use Rattle.cells.specs.CellPlaces.{cell-limit, Shown, Part};
+ghost use Rattle.witness.specs.WitnessGreedy.{Chosen};
+ghost use Rattle.witness.specs.WitnessSingles.{CellsOf};
+ghost use Rattle.witness.specs.WitnessRows.{ReducedTo, ReducedRows, Witnessed};
+
+// The grants taken from a set one after the other, each with the fewest partners among those left, and dropped with them.
+fn chosen_by_counts<'a>(
+    rows: &'a [u64; CELL_WORDS],
+    kernel: &'a [u64; CELL_WORDS],
+    users: usize,
+) -> [u64; CELL_WORDS]
+    requires { ⌜ users ≤ user-limit ⌝ }
+    ensures { λ r. ⌜ ((sheet : Sheet) → Shown (now (rows .entry)) users sheet → Part (now (kernel .entry)) (now (rows .entry))
+        → Chosen sheet (now (rows .entry)) (now (kernel .entry)) r) ⌝ }
+{
+    let columns = columns_of(rows);
+    let mut counts = first_counts(rows, &columns, kernel, users);
+    let mut left = *kernel;
+    let mut taken = [0; CELL_WORDS];
+    let mut count = 0;
+    while count < GRANT_LIMIT {
+        let best = fewest(&left, &counts, users);
+        let cell = best.cell;
+        if best.partners == 0 {
+            return taken;
+        }
+        let more = with_cell(taken, cell);
+        let rest = dropped(rows, &left, users, cell);
+        recount(&mut counts, rows, &columns, &left, &rest, users);
+        taken = more;
+        left = rest;
+        count += 1;
+    }
+    taken
+}
+
+// The same, with nothing to count where the set is empty.
+fn chosen<'a>(
+    rows: &'a [u64; CELL_WORDS],
+    kernel: &'a [u64; CELL_WORDS],
+    users: usize,
+) -> [u64; CELL_WORDS]
+    requires { ⌜ users ≤ user-limit ⌝ }
+    ensures { λ r. ⌜ ((sheet : Sheet) → Shown (now (rows .entry)) users sheet → Part (now (kernel .entry)) (now (rows .entry))
+        → Chosen sheet (now (rows .entry)) (now (kernel .entry)) r) ⌝ }
+{
+    let first = next_cell(kernel, users, 0);
+    if first < users * ROW_BITS {
+        chosen_by_counts(rows, kernel, users)
+    } else {
+        [0; CELL_WORDS]
+    }
+}
+
+// The cells of the grants that a log of removals has as single.
+pub fn single_cells<'a>(
+    removed: &'a [u16; GRANT_LIMIT],
+    partner: &'a [u16; GRANT_LIMIT],
+    count: usize,
+) -> [u64; CELL_WORDS]
+    requires { ⌜ (count ≤ grant-limit) × ((i : ℕ) → i < count → getD (now removed) i 0 < cell-limit) ⌝ }
+    ensures { λ r. ⌜ CellsOf r (singles-of (log-of (now (removed .entry)) (now (partner .entry)) count)) ⌝ }
+{
+    let mut cells = [0; CELL_WORDS];
+    let mut i = 0;
+    while i < count {
+        let at = removed[i];
+        if at == partner[i] {
+            let cell = at as usize;
+            let more = with_cell(cells, CellNo(cell));
+            cells = more;
+        }
+        i += 1;
+    }
+    cells
+}
+
+// The witness: its grants by their cells, and w.
+#[repr(C)]
+pub struct Witness {
+    pub cells: [u64; CELL_WORDS],
+    pub count: usize,
+}
+
+// The witness of the sheet that the rows show: the grants taken from its kernel and all its singles.
+pub fn witness_of<'a>(
+    rows: &'a [u64; CELL_WORDS],
+    kernel: &'a [u64; CELL_WORDS],
+    singles: &'a [u64; CELL_WORDS],
+    users: usize,
+) -> Witness
+    requires { ⌜ ReducedRows (now rows) users (now kernel) (now singles) ⌝ }
+    ensures { λ r. ⌜ ((sheet : Sheet) → Shown (now (rows .entry)) users sheet
+        → ReducedTo sheet (now (rows .entry)) (now (kernel .entry)) (now (singles .entry))
+        → Witnessed sheet (now (rows .entry)) (r .cells) (r .count)) ⌝ }
+{
+    let taken = chosen(rows, kernel, users);
+    let cells = joined(&taken, singles, users);
+    let count = counted(&cells, users);
+    Witness { cells, count }
+}
