@@ -1,7 +1,7 @@
 // A line of a name and cells, from its cells on.
-use crate::row_cells::read_cells;
 use crate::cursor::Step;
 use crate::cursor::expect_byte;
+use crate::row_cells::read_cells;
 ghost use Prim.Native.Nat.{_+_, _*_, _≤_};
 ghost use lib.ListN.{length};
 ghost use Rattle.cells.specs.Rows.{row-words, row-bits};

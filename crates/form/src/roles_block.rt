@@ -2,9 +2,9 @@
 use crate::cursor::Step;
 use crate::cursor::expect;
 use crate::cursor::expect_byte;
-use crate::line::read_line_cells;
 use crate::expected::expect_permissions;
 use crate::expected::expect_role_name;
+use crate::line::read_line_cells;
 use names::Layout;
 use numbers::ROLE_LIMIT;
 use numbers::RoleNo;

@@ -2,8 +2,8 @@
 use crate::cursor::Step;
 use crate::cursor::expect;
 use crate::cursor::expect_byte;
-use crate::line::read_line_cells;
 use crate::expected::expect_roles;
+use crate::line::read_line_cells;
 use names::Layout;
 use numbers::USER_LIMIT;
 use numbers::UserNo;

@@ -19,9 +19,9 @@ pub use answers::Named;
 pub use answers::SearchAnswer;
 pub use answers::WriteAnswer;
 pub use loading::Loaded;
-pub use searching::Searched;
-use search::Position;
 use numbers::SHEET_LIMIT;
+use search::Position;
+pub use searching::Searched;
 
 // Whether a sheet was accepted, its bytes, what was found of it, and where the search stands. The fields are the session's own: what it stands for
 // is its `view`, and which values come from the calls is said by `Sound`.

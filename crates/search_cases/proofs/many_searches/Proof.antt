@@ -20,9 +20,6 @@ Inv-loop fit position₀ steps₀ searches₀ position steps searches = Position
 abbrev μ-loop : tie.MeasureT-loop
 μ-loop fit position₀ steps₀ searches₀ position steps searches = most - searches
 
-start-requires : tie.Need-start-requires Inv-loop μ-loop
-start-requires c κs = search needs
-
 loop-holds : tie.Need-loop-holds Inv-loop μ-loop
 loop-holds c = (c .start .ensures, omega arith, omega arith)
 
@@ -38,22 +35,10 @@ few-steps c =
 add-steps : tie.Need-add-steps Inv-loop μ-loop
 add-steps c = omega (arith, few-steps (c .before .before))
 
-add-searches : tie.Need-add-searches Inv-loop μ-loop
-add-searches c = omega arith
-
-loop-less : tie.Need-loop-less Inv-loop μ-loop
-loop-less c = omega arith
-
 loop-again : tie.Need-loop-again Inv-loop μ-loop
 loop-again c =
     let searched = c .before .before in
     (searched .search .ensures .1 .0 few, omega (arith, few-steps searched), omega arith)
-
-report-requires : tie.Need-report-requires Inv-loop μ-loop
-report-requires c κs = search needs
-
-returns : tie.Need-returns Inv-loop μ-loop
-returns c = search needs
 
 pub many-searches-spec : {M : Type 1} → statement M
 many-searches-spec =
@@ -61,12 +46,12 @@ many-searches-spec =
     (tie.spec
     Inv-loop
     μ-loop
-    start-requires
+    (λ c κs. search needs)
     loop-holds
     search-requires
     add-steps
-    add-searches
-    loop-less
+    (λ c. omega arith)
+    (λ c. omega arith)
     loop-again
-    report-requires
-    returns)
+    (λ c κs. search needs)
+    (λ c. search needs))

@@ -8,12 +8,6 @@ use Rattle.search_cases.specs.Crown.{users, grants}
 use Rattle.search_cases.proofs.start.Statement.{statement}
 use Rattle.search_cases.proofs.start.Tie as tie
 
-by-user-requires : tie.Need-by-user-requires
-by-user-requires c κs = search needs
-
-start-requires : tie.Need-start-requires
-start-requires c κs = search needs
-
 few : grants ≤ search-limit
 unfolding search-limit
 few = omega arith
@@ -22,4 +16,4 @@ returns : tie.Need-returns
 returns c = rw (c .start .ensures) (started-stands (c .before .by-user .result) grants users 0 3 (c .before .by-user .ensures) few)
 
 pub start-spec : {M : Type 1} → statement M
-start-spec = tie.close (tie.spec by-user-requires start-requires returns)
+start-spec = tie.close (tie.spec (λ c κs. search needs) (λ c κs. search needs) returns)

@@ -11,28 +11,10 @@ use Rattle.worked_book.proofs.print.Tie as tie
 within : (c : tie.After-known-told) → c .before .written .given .0 .0 ≤ length (c .before .before .before .before .write-if-room .last .0)
 within c = bytes-within _ _ (c .before .before .before .before .write-if-room .ensures) (c .before .written .given .1)
 
-read-requires : tie.Need-read-requires
-read-requires c κs = search needs
-
-returns : tie.Need-returns
-returns c = search needs
-
-slice-aggregate-write-if-room : tie.Need-slice-aggregate-write-if-room
-slice-aggregate-write-if-room c = search needs
-
 write-if-room-requires : tie.Need-write-if-room-requires
 write-if-room-requires c κs =
     let laid-out = c .before .before .before .before .read .ensures .1 .0 (c .before .before .if1 .left) .0 in
     search (needs, laid-out)
-
-enum-known-written : tie.Need-enum-known-written
-enum-known-written c = search needs
-
-enum-told : tie.Need-enum-told
-enum-told c = search needs
-
-returns-2 : tie.Need-returns-2
-returns-2 c = search needs
 
 array-share-prefix-out : tie.Need-array-share-prefix-out
 array-share-prefix-out c = within c
@@ -40,24 +22,18 @@ array-share-prefix-out c = within c
 slice-aggregate-write-all : tie.Need-slice-aggregate-write-all
 slice-aggregate-write-all c = sym (length-take-le _ _ (within (c .before)))
 
-write-all-requires : tie.Need-write-all-requires
-write-all-requires c κs = search needs
-
-returns-3 : tie.Need-returns-3
-returns-3 c = search needs
-
 pub print-spec : {M : Type 1} → statement M
 print-spec =
     tie.close
     (tie.spec
-    read-requires
-    returns
-    slice-aggregate-write-if-room
+    (λ c κs. search needs)
+    (λ c. search needs)
+    (λ c. search needs)
     write-if-room-requires
-    enum-known-written
-    enum-told
-    returns-2
+    (λ c. search needs)
+    (λ c. search needs)
+    (λ c. search needs)
     array-share-prefix-out
     slice-aggregate-write-all
-    write-all-requires
-    returns-3)
+    (λ c κs. search needs)
+    (λ c. search needs))

@@ -10,15 +10,9 @@ use Rattle.blocks.specs.RowsSaid.{grant-cells-elim}
 use Rattle.worked_book.proofs.without_grants.Statement.{statement}
 use Rattle.worked_book.proofs.without_grants.Tie as tie
 
-slice-aggregate-print : tie.Need-slice-aggregate-print
-slice-aggregate-print c = search needs
-
 print-requires : tie.Need-print-requires
 unfolding row-words row-bits every-below bit sheet-of sheet-of-lines
 print-requires c κs = (omega arith, grant-cells-elim _ _ refl)
 
-returns : tie.Need-returns
-returns c = search needs
-
 pub without-grants-spec : {M : Type 1} → statement M
-without-grants-spec = tie.close (tie.spec slice-aggregate-print print-requires returns)
+without-grants-spec = tie.close (tie.spec (λ c. search needs) print-requires (λ c. search needs))

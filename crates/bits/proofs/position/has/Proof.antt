@@ -5,12 +5,9 @@ use Rattle.bits.specs.Bit.{bit}
 use Rattle.bits.proofs.position.has.Statement.{statement}
 use Rattle.bits.proofs.position.has.Tie as tie
 
-shr-result : tie.Need-shr-result
-shr-result c = search needs
-
 returns : tie.Need-returns
 unfolding bit
 returns c = refl
 
 pub has-spec : {M : Type 1} → statement M
-has-spec = tie.close (tie.spec shr-result returns)
+has-spec = tie.close (tie.spec (λ c. search needs) returns)

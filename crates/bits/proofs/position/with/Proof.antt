@@ -7,12 +7,9 @@ use Rattle.bits.specs.Laws.Bit.{bit-or, bit-one-shifted, one-shifted}
 use Rattle.bits.proofs.position.with.Statement.{statement}
 use Rattle.bits.proofs.position.with.Tie as tie
 
-shl-result : tie.Need-shl-result
-shl-result c = search needs
-
 returns : tie.Need-returns
 returns c q =
     rw (one-shifted word-bits (c .pre)) (bit-or (c .args .w) (2 ^ c .args .p) q ∙ rw (bit-one-shifted (c .args .p) q))
 
 pub with-spec : {M : Type 1} → statement M
-with-spec = tie.close (tie.spec shl-result returns)
+with-spec = tie.close (tie.spec (λ c. search needs) returns)

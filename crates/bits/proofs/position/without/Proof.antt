@@ -8,13 +8,10 @@ use Rattle.bits.specs.Laws.Bit.{bit-and-not, bit-one-shifted, one-shifte
 use Rattle.bits.proofs.position.without.Statement.{statement}
 use Rattle.bits.proofs.position.without.Tie as tie
 
-shl-result : tie.Need-shl-result
-shl-result c = search needs
-
 returns : tie.Need-returns
 returns c q =
     rw (one-shifted word-bits (c .pre))
     (bit-and-not word-bits (c .args .w) (2 ^ c .args .p) (c .fits .w .fits) (pow-lt (c .pre)) q ∙ rw (bit-one-shifted (c .args .p) q))
 
 pub without-spec : {M : Type 1} → statement M
-without-spec = tie.close (tie.spec shl-result returns)
+without-spec = tie.close (tie.spec (λ c. search needs) returns)

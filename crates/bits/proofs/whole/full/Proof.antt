@@ -8,9 +8,6 @@ use Rattle.bits.specs.Laws.Bit.{bit-full, one-shifted}
 use Rattle.bits.proofs.whole.full.Statement.{statement}
 use Rattle.bits.proofs.whole.full.Tie as tie
 
-shl-result : tie.Need-shl-result
-shl-result c = search needs
-
 short : (c : tie.Else1) → c .before .args .n < word-bits
 short c = omega arith
 
@@ -24,4 +21,4 @@ returns-2 : tie.Need-returns-2
 returns-2 c q = rw (one-shifted word-bits (short c)) (bit-full (c .before .args .n) q)
 
 pub full-spec : {M : Type 1} → statement M
-full-spec = tie.close (tie.spec shl-result sub-result returns returns-2)
+full-spec = tie.close (tie.spec (λ c. search needs) sub-result returns returns-2)

@@ -5,9 +5,6 @@ use Rattle.bits.specs.Laws.Word.{bit-drop-lowest, drop-lowest-less}
 use Rattle.bits.proofs.whole.without_lowest.Statement.{statement}
 use Rattle.bits.proofs.whole.without_lowest.Tie as tie
 
-sub-result : tie.Need-sub-result
-sub-result c = search needs
-
 returns : tie.Need-returns
 returns c =
     let w = c .args .w in
@@ -17,4 +14,4 @@ returns c =
     }
 
 pub without-lowest-spec : {M : Type 1} → statement M
-without-lowest-spec = tie.close (tie.spec sub-result returns)
+without-lowest-spec = tie.close (tie.spec (λ c. search needs) returns)

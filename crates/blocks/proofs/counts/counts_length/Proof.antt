@@ -5,23 +5,14 @@ use Rattle.blocks.specs.LengthsMeasured.{counts-measured}
 use Rattle.blocks.proofs.counts.counts_length.Statement.{statement}
 use Rattle.blocks.proofs.counts.counts_length.Tie as tie
 
-decimal-length-requires : tie.Need-decimal-length-requires
-decimal-length-requires c κs = search needs
-
 add-roles : tie.Need-add-roles
 add-roles c = omega (arith, c .decimal-length .ensures .small)
-
-decimal-length-requires-2 : tie.Need-decimal-length-requires-2
-decimal-length-requires-2 c κs = search needs
 
 add-bound : tie.Need-add-bound
 add-bound c = omega (arith, c .decimal-length2 .ensures .small)
 
 add-result : tie.Need-add-result
 add-result c = omega (arith, c .before .before .decimal-length .ensures .small, c .decimal-length2 .ensures .small)
-
-standing-length-requires : tie.Need-standing-length-requires
-standing-length-requires c κs = search needs
 
 add-result-2 : tie.Need-add-result-2
 add-result-2 c =
@@ -42,11 +33,11 @@ pub counts-length-spec : {M : Type 1} → statement M
 counts-length-spec =
     tie.close
     (tie.spec
-    decimal-length-requires
+    (λ c κs. search needs)
     add-roles
-    decimal-length-requires-2
+    (λ c κs. search needs)
     add-bound
     add-result
-    standing-length-requires
+    (λ c κs. search needs)
     add-result-2
     returns)

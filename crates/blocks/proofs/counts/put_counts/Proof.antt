@@ -45,9 +45,6 @@ behind-bound : (c : tie.After-put-counted2)
     (with-rest (a .put-counted .result) (a .put-counted .last .0) (c .put-counted2 .last .0)) (a .put-counted .result + c .put-counted2 .result)
 behind-bound c = record { written = then-written (behind-roles (first c)) (c .put-counted2 .ensures); fits = room (start (first c)) }
 
-slice-aggregate-put-counted : tie.Need-slice-aggregate-put-counted
-slice-aggregate-put-counted c = search needs
-
 put-counted-requires : tie.Need-put-counted-requires
 put-counted-requires c κs =
     let s = c .before .before .before in
@@ -58,12 +55,6 @@ sub-put-counted c = within-buffer (behind-roles (c .before .before))
 
 part-put-counted-start : tie.Need-part-put-counted-start
 part-put-counted-start c = within-buffer (behind-roles (c .before .before))
-
-part-put-counted-end : tie.Need-part-put-counted-end
-part-put-counted-end c = search needs
-
-slice-aggregate-put-counted-2 : tie.Need-slice-aggregate-put-counted-2
-slice-aggregate-put-counted-2 c = search needs
 
 put-counted-requires-2 : tie.Need-put-counted-requires-2
 put-counted-requires-2 c κs = room-behind (behind-roles (c .before .before .before .before))
@@ -76,9 +67,6 @@ sub-put-standing c = within-buffer (behind-bound (c .before .before))
 
 part-put-standing-start : tie.Need-part-put-standing-start
 part-put-standing-start c = within-buffer (behind-bound (c .before .before))
-
-part-put-standing-end : tie.Need-part-put-standing-end
-part-put-standing-end c = search needs
 
 put-standing-requires : tie.Need-put-standing-requires
 put-standing-requires c κs = room-behind (behind-bound (c .before .before .before))
@@ -99,17 +87,17 @@ pub put-counts-spec : {M : Type 1} → statement M
 put-counts-spec =
     tie.close
     (tie.spec
-    slice-aggregate-put-counted
+    (λ c. search needs)
     put-counted-requires
     sub-put-counted
     part-put-counted-start
-    part-put-counted-end
-    slice-aggregate-put-counted-2
+    (λ c. search needs)
+    (λ c. search needs)
     put-counted-requires-2
     add-bound
     sub-put-standing
     part-put-standing-start
-    part-put-standing-end
+    (λ c. search needs)
     put-standing-requires
     add-result
     same-length

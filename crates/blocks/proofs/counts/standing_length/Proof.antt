@@ -13,15 +13,6 @@ use Rattle.blocks.proofs.counts.standing_length.Tie as tie
 abbrev text : StandingValue → Bytes
 text standing = standing-text (standing-case standing)
 
-enum-told : tie.Need-enum-told
-enum-told c = search needs
-
-enum-told-2 : tie.Need-enum-told-2
-enum-told-2 c = search needs
-
-enum-told-3 : tie.Need-enum-told-3
-enum-told-3 c = search needs
-
 returns : tie.Need-returns
 returns c = measured-as (sym (ap text (c .before .enum-told .given .1))) (record { counted = refl; small = omega arith })
 
@@ -33,4 +24,4 @@ returns-3 c = measured-as (sym (ap text (c .before .enum-told3 .given .1))) (rec
 
 pub standing-length-spec : {M : Type 1} → statement M
 standing-length-spec =
-    tie.close (tie.spec enum-told enum-told-2 enum-told-3 returns returns-2 returns-3)
+    tie.close (tie.spec (λ c. search needs) (λ c. search needs) (λ c. search needs) returns returns-2 returns-3)

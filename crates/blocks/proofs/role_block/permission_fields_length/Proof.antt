@@ -45,9 +45,6 @@ add-total-2 c = omega (arith, short c, c .before .before .before .before .loop .
 add-i : tie.Need-add-i Inv-loop μ-loop
 add-i c = omega (arith, permissions-fit (c .before .before .before .before .before .before .before .before .before .pre))
 
-loop-less : tie.Need-loop-less Inv-loop μ-loop
-loop-less c = omega arith
-
 loop-again : tie.Need-loop-again Inv-loop μ-loop
 loop-again c =
     let a = (c .before .before .before) in
@@ -70,6 +67,6 @@ permission-fields-length-spec =
     add-total
     add-total-2
     add-i
-    loop-less
+    (λ c. omega arith)
     loop-again
     returns)

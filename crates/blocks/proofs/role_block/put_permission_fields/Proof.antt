@@ -32,9 +32,6 @@ sub-put-field c = within-buffer (part-ready (c .before .before .before .before .
 part-put-field-start : tie.Need-part-put-field-start Inv-loop μ-loop
 part-put-field-start c = within-buffer (part-ready (c .before .before .before .before .loop .inv) (c .before .before .before .loop-test .taken))
 
-part-put-field-end : tie.Need-part-put-field-end Inv-loop μ-loop
-part-put-field-end c = search needs
-
 put-field-requires : tie.Need-put-field-requires Inv-loop μ-loop
 put-field-requires c κs =
     fits-as (ap behind-comma (sym (c .before .permission-name-in .ensures)))
@@ -48,12 +45,6 @@ add-at c =
       part-within (a .before .loop .inv) (a .loop-test .taken)
           (written-as (ap behind-comma (c .before .before .before .before .permission-name-in .ensures)) (c .before .before .put-field .ensures)),
     )
-
-add-i : tie.Need-add-i Inv-loop μ-loop
-add-i c = omega arith
-
-loop-less : tie.Need-loop-less Inv-loop μ-loop
-loop-less c = omega arith
 
 loop-again : tie.Need-loop-again Inv-loop μ-loop
 loop-again c =
@@ -77,11 +68,11 @@ put-permission-fields-spec =
     permission-name-in-requires
     sub-put-field
     part-put-field-start
-    part-put-field-end
+    (λ c. search needs)
     put-field-requires
     add-at
-    add-i
-    loop-less
+    (λ c. omega arith)
+    (λ c. omega arith)
     loop-again
     same-length
     returns)

@@ -57,9 +57,6 @@ sub-put-cells c = within-buffer (behind-first (c .before .before))
 part-put-cells-start : tie.Need-part-put-cells-start
 part-put-cells-start c = within-buffer (behind-first (c .before .before))
 
-part-put-cells-end : tie.Need-part-put-cells-end
-part-put-cells-end c = search needs
-
 put-cells-requires : tie.Need-put-cells-requires
 put-cells-requires c κs =
     let s = c .before .before .before .before .before .before .before in
@@ -87,7 +84,7 @@ put-role-line-spec =
     put-role-name-requires
     sub-put-cells
     part-put-cells-start
-    part-put-cells-end
+    (λ c. search needs)
     put-cells-requires
     add-end
     slice-write-out

@@ -25,9 +25,6 @@ sub-put-role-line c = within-buffer (part-ready (c .before .loop .inv) (c .loop-
 part-put-role-line-start : tie.Need-part-put-role-line-start Inv-loop μ-loop
 part-put-role-line-start c = within-buffer (part-ready (c .before .loop .inv) (c .loop-test .taken))
 
-part-put-role-line-end : tie.Need-part-put-role-line-end Inv-loop μ-loop
-part-put-role-line-end c = search needs
-
 put-role-line-requires : tie.Need-put-role-line-requires Inv-loop μ-loop
 unfolding row-words
 put-role-line-requires c κs =
@@ -37,12 +34,6 @@ add-at : tie.Need-add-at Inv-loop μ-loop
 add-at c =
     let a = (c .before .before .before .before) in
     omega (arith, part-within (a .before .loop .inv) (a .loop-test .taken) (c .before .before .put-role-line .ensures))
-
-add-i : tie.Need-add-i Inv-loop μ-loop
-add-i c = omega arith
-
-loop-less : tie.Need-loop-less Inv-loop μ-loop
-loop-less c = omega arith
 
 loop-again : tie.Need-loop-again Inv-loop μ-loop
 loop-again c =
@@ -64,11 +55,11 @@ put-role-lines-spec =
     loop-holds
     sub-put-role-line
     part-put-role-line-start
-    part-put-role-line-end
+    (λ c. search needs)
     put-role-line-requires
     add-at
-    add-i
-    loop-less
+    (λ c. omega arith)
+    (λ c. omega arith)
     loop-again
     same-length
     returns)

@@ -46,9 +46,6 @@ sub-put-role-lines c = within-buffer (behind-heading (c .before .before))
 part-put-role-lines-start : tie.Need-part-put-role-lines-start
 part-put-role-lines-start c = within-buffer (behind-heading (c .before .before))
 
-part-put-role-lines-end : tie.Need-part-put-role-lines-end
-part-put-role-lines-end c = search needs
-
 put-role-lines-requires : tie.Need-put-role-lines-requires
 put-role-lines-requires c κs =
     let s = c .before .before .before .before .before .before .before .before in
@@ -73,7 +70,7 @@ put-roles-spec =
     put-roles-heading-requires
     sub-put-role-lines
     part-put-role-lines-start
-    part-put-role-lines-end
+    (λ c. search needs)
     put-role-lines-requires
     add-result
     same-length

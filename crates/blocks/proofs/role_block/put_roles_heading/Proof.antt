@@ -41,9 +41,6 @@ behind-second c =
     let a = c .before .before .before .before in
     behind-fields (room (start a)) (written a) (c .put-permission-fields .ensures)
 
-slice-aggregate-put-bytes : tie.Need-slice-aggregate-put-bytes
-slice-aggregate-put-bytes c = search needs
-
 put-bytes-requires : tie.Need-put-bytes-requires
 put-bytes-requires c κs = name-fits (room (c .before .before .before .before))
 
@@ -52,9 +49,6 @@ sub-put-permission-fields c = within-buffer (behind-first (c .before .before))
 
 part-put-permission-fields-start : tie.Need-part-put-permission-fields-start
 part-put-permission-fields-start c = within-buffer (behind-first (c .before .before))
-
-part-put-permission-fields-end : tie.Need-part-put-permission-fields-end
-part-put-permission-fields-end c = search needs
 
 put-permission-fields-requires : tie.Need-put-permission-fields-requires
 put-permission-fields-requires c κs =
@@ -79,11 +73,11 @@ pub put-roles-heading-spec : {M : Type 1} → statement M
 put-roles-heading-spec =
     tie.close
     (tie.spec
-    slice-aggregate-put-bytes
+    (λ c. search needs)
     put-bytes-requires
     sub-put-permission-fields
     part-put-permission-fields-start
-    part-put-permission-fields-end
+    (λ c. search needs)
     put-permission-fields-requires
     add-end
     slice-write-out

@@ -38,12 +38,6 @@ add-total-3 : tie.Need-add-total-3 Inv-loop μ-loop
 unfolding row-bits row-words
 add-total-3 c = omega (arith, c .role-name-length .ensures .small, c .before .before .loop .inv [] .small)
 
-add-i : tie.Need-add-i Inv-loop μ-loop
-add-i c = omega arith
-
-loop-less : tie.Need-loop-less Inv-loop μ-loop
-loop-less c = omega arith
-
 loop-again : tie.Need-loop-again Inv-loop μ-loop
 loop-again c =
     let a = (c .before) in
@@ -67,7 +61,7 @@ role-lines-length-spec =
     add-total
     add-total-2
     add-total-3
-    add-i
-    loop-less
+    (λ c. omega arith)
+    (λ c. omega arith)
     loop-again
     returns)

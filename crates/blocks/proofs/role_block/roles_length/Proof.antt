@@ -12,15 +12,6 @@ use Rattle.blocks.specs.ShownLaws.{roles-parts}
 use Rattle.blocks.proofs.role_block.roles_length.Statement.{statement}
 use Rattle.blocks.proofs.role_block.roles_length.Tie as tie
 
-permission-fields-length-requires : tie.Need-permission-fields-length-requires
-permission-fields-length-requires c κs = search needs
-
-add-heading : tie.Need-add-heading
-add-heading c = search needs
-
-add-heading-2 : tie.Need-add-heading-2
-add-heading-2 c = search needs
-
 role-lines-length-requires : tie.Need-role-lines-length-requires
 role-lines-length-requires c κs =
     let s = c .before .before .before in
@@ -40,9 +31,9 @@ pub roles-length-spec : {M : Type 1} → statement M
 roles-length-spec =
     tie.close
     (tie.spec
-    permission-fields-length-requires
-    add-heading
-    add-heading-2
+    (λ c κs. search needs)
+    (λ c. search needs)
+    (λ c. search needs)
     role-lines-length-requires
     add-result
     returns)

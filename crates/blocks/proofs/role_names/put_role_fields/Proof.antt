@@ -24,9 +24,6 @@ sub-put-role-field c = within-buffer (part-ready (c .before .loop .inv) (c .loop
 part-put-role-field-start : tie.Need-part-put-role-field-start Inv-loop μ-loop
 part-put-role-field-start c = within-buffer (part-ready (c .before .loop .inv) (c .loop-test .taken))
 
-part-put-role-field-end : tie.Need-part-put-role-field-end Inv-loop μ-loop
-part-put-role-field-end c = search needs
-
 put-role-field-requires : tie.Need-put-role-field-requires Inv-loop μ-loop
 put-role-field-requires c κs = (omega arith, room-behind (part-ready (c .before .before .loop .inv) (c .before .loop-test .taken)))
 
@@ -34,12 +31,6 @@ add-at : tie.Need-add-at Inv-loop μ-loop
 add-at c =
     let a = (c .before .before .before .before) in
     omega (arith, part-within (a .before .loop .inv) (a .loop-test .taken) (c .before .before .put-role-field .ensures))
-
-add-i : tie.Need-add-i Inv-loop μ-loop
-add-i c = omega arith
-
-loop-less : tie.Need-loop-less Inv-loop μ-loop
-loop-less c = omega arith
 
 loop-again : tie.Need-loop-again Inv-loop μ-loop
 loop-again c =
@@ -61,11 +52,11 @@ put-role-fields-spec =
     loop-holds
     sub-put-role-field
     part-put-role-field-start
-    part-put-role-field-end
+    (λ c. search needs)
     put-role-field-requires
     add-at
-    add-i
-    loop-less
+    (λ c. omega arith)
+    (λ c. omega arith)
     loop-again
     same-length
     returns)

@@ -8,9 +8,6 @@ use Rattle.text.specs.Written.{fits-as, written-as}
 use Rattle.blocks.proofs.role_names.put_role_name.Statement.{statement}
 use Rattle.blocks.proofs.role_names.put_role_name.Tie as tie
 
-slice-aggregate-put-counted : tie.Need-slice-aggregate-put-counted
-slice-aggregate-put-counted c = search needs
-
 add-put-counted : tie.Need-add-put-counted
 unfolding row-bits row-words
 add-put-counted c = omega arith
@@ -20,9 +17,6 @@ put-counted-requires c κs =
     let s = c .before .before .before .before in
     fits-as (role-name-parts (s .args .role .0)) (s .pre .1)
 
-same-length : tie.Need-same-length
-same-length c = search needs
-
 returns : tie.Need-returns
 returns c =
     written-as (sym (role-name-parts (c .before .before .before .before .before .before .before .args .role .0)))
@@ -31,4 +25,4 @@ returns c =
 pub put-role-name-spec : {M : Type 1} → statement M
 put-role-name-spec =
     tie.close
-    (tie.spec slice-aggregate-put-counted add-put-counted put-counted-requires same-length returns)
+    (tie.spec (λ c. search needs) add-put-counted put-counted-requires (λ c. search needs) returns)

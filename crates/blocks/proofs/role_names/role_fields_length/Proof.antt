@@ -18,21 +18,12 @@ abbrev μ-loop : tie.MeasureT-loop
 loop-holds : tie.Need-loop-holds Inv-loop μ-loop
 loop-holds c = adding-starts _ _ _
 
-role-name-length-requires : tie.Need-role-name-length-requires Inv-loop μ-loop
-role-name-length-requires c κs = omega arith
-
 add-total : tie.Need-add-total Inv-loop μ-loop
 add-total c = omega (arith, c .role-name-length .ensures .small)
 
 add-total-2 : tie.Need-add-total-2 Inv-loop μ-loop
 unfolding row-bits row-words
 add-total-2 c = omega (arith, c .role-name-length .ensures .small, c .before .before .loop .inv .small)
-
-add-i : tie.Need-add-i Inv-loop μ-loop
-add-i c = omega arith
-
-loop-less : tie.Need-loop-less Inv-loop μ-loop
-loop-less c = omega arith
 
 loop-again : tie.Need-loop-again Inv-loop μ-loop
 loop-again c =
@@ -51,10 +42,10 @@ role-fields-length-spec =
     Inv-loop
     μ-loop
     loop-holds
-    role-name-length-requires
+    (λ c κs. omega arith)
     add-total
     add-total-2
-    add-i
-    loop-less
+    (λ c. omega arith)
+    (λ c. omega arith)
     loop-again
     returns)

@@ -10,9 +10,6 @@ add-decimal-length : tie.Need-add-decimal-length
 unfolding row-bits row-words
 add-decimal-length c = omega arith
 
-decimal-length-requires : tie.Need-decimal-length-requires
-decimal-length-requires c κs = search needs
-
 add-result : tie.Need-add-result
 add-result c = omega (arith, c .decimal-length .ensures .small)
 
@@ -21,4 +18,4 @@ returns c = role-name-measured (c .before .before .args .role .0) (c .decimal-le
 
 pub role-name-length-spec : {M : Type 1} → statement M
 role-name-length-spec =
-    tie.close (tie.spec add-decimal-length decimal-length-requires add-result returns)
+    tie.close (tie.spec add-decimal-length (λ c κs. search needs) add-result returns)

@@ -47,9 +47,6 @@ behind-second c =
     let a = c .before .before .before .before in
     behind-fields (room (start a)) (written a) (c .put-cells .ensures)
 
-user-name-in-requires : tie.Need-user-name-in-requires
-user-name-in-requires c κs = search needs
-
 put-bytes-requires : tie.Need-put-bytes-requires
 put-bytes-requires c κs = fits-as (sym (c .before .user-name-in .ensures)) (name-fits (room (c .before .before .before .before .before)))
 
@@ -58,9 +55,6 @@ sub-put-cells c = within-buffer (behind-first (c .before .before))
 
 part-put-cells-start : tie.Need-part-put-cells-start
 part-put-cells-start c = within-buffer (behind-first (c .before .before))
-
-part-put-cells-end : tie.Need-part-put-cells-end
-part-put-cells-end c = search needs
 
 put-cells-requires : tie.Need-put-cells-requires
 put-cells-requires c κs =
@@ -86,11 +80,11 @@ pub put-user-line-spec : {M : Type 1} → statement M
 put-user-line-spec =
     tie.close
     (tie.spec
-    user-name-in-requires
+    (λ c κs. search needs)
     put-bytes-requires
     sub-put-cells
     part-put-cells-start
-    part-put-cells-end
+    (λ c. search needs)
     put-cells-requires
     add-end
     slice-write-out

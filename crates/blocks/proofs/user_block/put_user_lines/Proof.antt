@@ -28,9 +28,6 @@ sub-put-user-line c = within-buffer (part-ready (c .before .loop .inv) (c .loop-
 part-put-user-line-start : tie.Need-part-put-user-line-start Inv-loop μ-loop
 part-put-user-line-start c = within-buffer (part-ready (c .before .loop .inv) (c .loop-test .taken))
 
-part-put-user-line-end : tie.Need-part-put-user-line-end Inv-loop μ-loop
-part-put-user-line-end c = search needs
-
 put-user-line-requires : tie.Need-put-user-line-requires Inv-loop μ-loop
 unfolding row-words
 put-user-line-requires c κs =
@@ -44,12 +41,6 @@ add-at : tie.Need-add-at Inv-loop μ-loop
 add-at c =
     let a = (c .before .before .before .before .before .before) in
     omega (arith, part-within (a .before .loop .inv) (a .loop-test .taken) (c .before .before .put-user-line .ensures))
-
-add-i : tie.Need-add-i Inv-loop μ-loop
-add-i c = omega arith
-
-loop-less : tie.Need-loop-less Inv-loop μ-loop
-loop-less c = omega arith
 
 loop-again : tie.Need-loop-again Inv-loop μ-loop
 loop-again c =
@@ -71,11 +62,11 @@ put-user-lines-spec =
     loop-holds
     sub-put-user-line
     part-put-user-line-start
-    part-put-user-line-end
+    (λ c. search needs)
     put-user-line-requires
     add-at
-    add-i
-    loop-less
+    (λ c. omega arith)
+    (λ c. omega arith)
     loop-again
     same-length
     returns)

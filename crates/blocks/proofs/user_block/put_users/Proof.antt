@@ -45,9 +45,6 @@ sub-put-user-lines c = within-buffer (behind-heading (c .before .before))
 part-put-user-lines-start : tie.Need-part-put-user-lines-start
 part-put-user-lines-start c = within-buffer (behind-heading (c .before .before))
 
-part-put-user-lines-end : tie.Need-part-put-user-lines-end
-part-put-user-lines-end c = search needs
-
 put-user-lines-requires : tie.Need-put-user-lines-requires
 put-user-lines-requires c κs =
     (c .before .before .before .before .before .before .before .before .pre .0, room-behind (behind-heading (c .before .before .before)))
@@ -71,7 +68,7 @@ put-users-spec =
     put-users-heading-requires
     sub-put-user-lines
     part-put-user-lines-start
-    part-put-user-lines-end
+    (λ c. search needs)
     put-user-lines-requires
     add-result
     same-length

@@ -40,9 +40,6 @@ behind-second c =
     let a = c .before .before .before .before in
     behind-fields (room (start a)) (written a) (c .put-role-fields .ensures)
 
-slice-aggregate-put-bytes : tie.Need-slice-aggregate-put-bytes
-slice-aggregate-put-bytes c = search needs
-
 put-bytes-requires : tie.Need-put-bytes-requires
 put-bytes-requires c κs = name-fits (room (c .before .before .before))
 
@@ -51,9 +48,6 @@ sub-put-role-fields c = within-buffer (behind-first (c .before .before))
 
 part-put-role-fields-start : tie.Need-part-put-role-fields-start
 part-put-role-fields-start c = within-buffer (behind-first (c .before .before))
-
-part-put-role-fields-end : tie.Need-part-put-role-fields-end
-part-put-role-fields-end c = search needs
 
 put-role-fields-requires : tie.Need-put-role-fields-requires
 put-role-fields-requires c κs =
@@ -78,11 +72,11 @@ pub put-users-heading-spec : {M : Type 1} → statement M
 put-users-heading-spec =
     tie.close
     (tie.spec
-    slice-aggregate-put-bytes
+    (λ c. search needs)
     put-bytes-requires
     sub-put-role-fields
     part-put-role-fields-start
-    part-put-role-fields-end
+    (λ c. search needs)
     put-role-fields-requires
     add-end
     slice-write-out

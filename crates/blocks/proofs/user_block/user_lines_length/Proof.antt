@@ -55,9 +55,6 @@ add-i : tie.Need-add-i Inv-loop μ-loop
 unfolding user-limit
 add-i c = omega (arith, few-users (c .before .before .before .before .before .before .before .before .before .pre .0))
 
-loop-less : tie.Need-loop-less Inv-loop μ-loop
-loop-less c = omega arith
-
 loop-again : tie.Need-loop-again Inv-loop μ-loop
 loop-again c =
     let a = (c .before .before .before) in
@@ -85,6 +82,6 @@ user-lines-length-spec =
     add-total-2
     add-total-3
     add-i
-    loop-less
+    (λ c. omega arith)
     loop-again
     returns)

@@ -11,18 +11,6 @@ use Rattle.blocks.specs.ShownLaws.{users-parts}
 use Rattle.blocks.proofs.user_block.users_length.Statement.{statement}
 use Rattle.blocks.proofs.user_block.users_length.Tie as tie
 
-role-fields-length-requires : tie.Need-role-fields-length-requires
-role-fields-length-requires c κs = search needs
-
-add-heading : tie.Need-add-heading
-add-heading c = search needs
-
-add-heading-2 : tie.Need-add-heading-2
-add-heading-2 c = search needs
-
-user-lines-length-requires : tie.Need-user-lines-length-requires
-user-lines-length-requires c κs = search needs
-
 add-result : tie.Need-add-result
 add-result c = omega (arith, c .before .role-fields-length .ensures .small, c .user-lines-length .ensures [] .small)
 
@@ -36,9 +24,9 @@ pub users-length-spec : {M : Type 1} → statement M
 users-length-spec =
     tie.close
     (tie.spec
-    role-fields-length-requires
-    add-heading
-    add-heading-2
-    user-lines-length-requires
+    (λ c κs. search needs)
+    (λ c. search needs)
+    (λ c. search needs)
+    (λ c κs. search needs)
     add-result
     returns)

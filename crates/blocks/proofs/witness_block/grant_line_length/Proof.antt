@@ -22,12 +22,6 @@ permission-short c =
     fits-as (sym (c .permission-name-in .ensures))
     (placed-permission-name-short (c .before .before .before .pre .1) (c .before .before .before .args .permission .0) (c .before .before .before .pre .3))
 
-user-name-in-requires : tie.Need-user-name-in-requires
-user-name-in-requires c κs = search needs
-
-permission-name-in-requires : tie.Need-permission-name-in-requires
-permission-name-in-requires c κs = search needs
-
 add-result : tie.Need-add-result
 unfolding name-limit
 add-result c = omega (arith, user-short c, permission-short c)
@@ -45,4 +39,4 @@ returns c =
 pub grant-line-length-spec : {M : Type 1} → statement M
 grant-line-length-spec =
     tie.close
-    (tie.spec user-name-in-requires permission-name-in-requires add-result add-result-2 returns)
+    (tie.spec (λ c κs. search needs) (λ c κs. search needs) add-result add-result-2 returns)

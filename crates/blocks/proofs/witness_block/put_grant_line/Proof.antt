@@ -41,12 +41,6 @@ behind-second c =
     behind-fields (room (start a)) (written a)
     (written-as (ap behind-comma (c .before .before .before .before .before .before .permission-name-in .ensures)) (c .put-field .ensures))
 
-user-name-in-requires : tie.Need-user-name-in-requires
-user-name-in-requires c κs = search needs
-
-permission-name-in-requires : tie.Need-permission-name-in-requires
-permission-name-in-requires c κs = search needs
-
 put-bytes-requires : tie.Need-put-bytes-requires
 put-bytes-requires c κs = fits-as (sym (c .before .before .user-name-in .ensures)) (name-fits (room (c .before .before .before .before .before)))
 
@@ -55,9 +49,6 @@ sub-put-field c = within-buffer (behind-first (c .before .before))
 
 part-put-field-start : tie.Need-part-put-field-start
 part-put-field-start c = within-buffer (behind-first (c .before .before))
-
-part-put-field-end : tie.Need-part-put-field-end
-part-put-field-end c = search needs
 
 put-field-requires : tie.Need-put-field-requires
 put-field-requires c κs =
@@ -83,12 +74,12 @@ pub put-grant-line-spec : {M : Type 1} → statement M
 put-grant-line-spec =
     tie.close
     (tie.spec
-    user-name-in-requires
-    permission-name-in-requires
+    (λ c κs. search needs)
+    (λ c κs. search needs)
     put-bytes-requires
     sub-put-field
     part-put-field-start
-    part-put-field-end
+    (λ c. search needs)
     put-field-requires
     add-end
     slice-write-out

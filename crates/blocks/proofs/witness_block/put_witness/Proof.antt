@@ -38,9 +38,6 @@ behind-heading : (c : tie.After-put-bytes)
     → WrittenSoFar (heading (start c)) (lines (start c)) (start c .args .out .now) (c .put-bytes .last .0) (c .put-bytes .result)
 behind-heading c = record { written = c .put-bytes .ensures; fits = fits (start c) }
 
-slice-aggregate-put-bytes : tie.Need-slice-aggregate-put-bytes
-slice-aggregate-put-bytes c = search needs
-
 put-bytes-requires : tie.Need-put-bytes-requires
 put-bytes-requires c κs =
     let s = c .before .before .before .before .before in
@@ -51,9 +48,6 @@ sub-put-witness-rows c = within-buffer (behind-heading (c .before .before))
 
 part-put-witness-rows-start : tie.Need-part-put-witness-rows-start
 part-put-witness-rows-start c = within-buffer (behind-heading (c .before .before))
-
-part-put-witness-rows-end : tie.Need-part-put-witness-rows-end
-part-put-witness-rows-end c = search needs
 
 put-witness-rows-requires : tie.Need-put-witness-rows-requires
 put-witness-rows-requires c κs =
@@ -76,11 +70,11 @@ pub put-witness-spec : {M : Type 1} → statement M
 put-witness-spec =
     tie.close
     (tie.spec
-    slice-aggregate-put-bytes
+    (λ c. search needs)
     put-bytes-requires
     sub-put-witness-rows
     part-put-witness-rows-start
-    part-put-witness-rows-end
+    (λ c. search needs)
     put-witness-rows-requires
     add-result
     same-length

@@ -60,9 +60,6 @@ sub-put-grant-line c = within-buffer (part-ready (c .before .loop .inv .0) (c .l
 part-put-grant-line-start : tie.Need-part-put-grant-line-start Inv-loop μ-loop
 part-put-grant-line-start c = within-buffer (part-ready (c .before .loop .inv .0) (c .loop-test .taken))
 
-part-put-grant-line-end : tie.Need-part-put-grant-line-end Inv-loop μ-loop
-part-put-grant-line-end c = search needs
-
 put-grant-line-requires : tie.Need-put-grant-line-requires Inv-loop μ-loop
 put-grant-line-requires c κs =
     let a = c .before in
@@ -115,7 +112,7 @@ put-witness-row-spec =
     loop-holds
     sub-put-grant-line
     part-put-grant-line-start
-    part-put-grant-line-end
+    (λ c. search needs)
     put-grant-line-requires
     add-at
     add-next-set

@@ -27,9 +27,6 @@ sub-put-witness-row c = within-buffer (part-ready (c .before .loop .inv) (c .loo
 part-put-witness-row-start : tie.Need-part-put-witness-row-start Inv-loop μ-loop
 part-put-witness-row-start c = within-buffer (part-ready (c .before .loop .inv) (c .loop-test .taken))
 
-part-put-witness-row-end : tie.Need-part-put-witness-row-end Inv-loop μ-loop
-part-put-witness-row-end c = search needs
-
 put-witness-row-requires : tie.Need-put-witness-row-requires Inv-loop μ-loop
 unfolding row-words
 put-witness-row-requires c κs =
@@ -48,12 +45,6 @@ add-at : tie.Need-add-at Inv-loop μ-loop
 add-at c =
     let a = (c .before .before .before .before .before .before .before .before) in
     omega (arith, part-within (a .before .loop .inv) (a .loop-test .taken) (c .before .before .put-witness-row .ensures))
-
-add-i : tie.Need-add-i Inv-loop μ-loop
-add-i c = omega arith
-
-loop-less : tie.Need-loop-less Inv-loop μ-loop
-loop-less c = omega arith
 
 loop-again : tie.Need-loop-again Inv-loop μ-loop
 loop-again c =
@@ -75,11 +66,11 @@ put-witness-rows-spec =
     loop-holds
     sub-put-witness-row
     part-put-witness-row-start
-    part-put-witness-row-end
+    (λ c. search needs)
     put-witness-row-requires
     add-at
-    add-i
-    loop-less
+    (λ c. omega arith)
+    (λ c. omega arith)
     loop-again
     same-length
     returns)

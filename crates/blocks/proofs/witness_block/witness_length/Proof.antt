@@ -9,12 +9,6 @@ use Rattle.blocks.specs.WitnessText.{witness-parts}
 use Rattle.blocks.proofs.witness_block.witness_length.Statement.{statement}
 use Rattle.blocks.proofs.witness_block.witness_length.Tie as tie
 
-witness-rows-length-requires : tie.Need-witness-rows-length-requires
-witness-rows-length-requires c κs = search needs
-
-add-result : tie.Need-add-result
-add-result c = search needs
-
 returns : tie.Need-returns
 returns c =
     let s = (c .before .before .before .before) in
@@ -27,4 +21,4 @@ returns c =
     })
 
 pub witness-length-spec : {M : Type 1} → statement M
-witness-length-spec = tie.close (tie.spec witness-rows-length-requires add-result returns)
+witness-length-spec = tie.close (tie.spec (λ c κs. search needs) (λ c. search needs) returns)

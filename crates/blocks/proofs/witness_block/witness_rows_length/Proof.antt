@@ -45,9 +45,6 @@ add-i : tie.Need-add-i Inv-loop μ-loop
 unfolding user-limit
 add-i c = omega (arith, few-users (c .before .before .before .before .before .before .before .before .before .before .before .before .before .before .before .pre .0))
 
-loop-less : tie.Need-loop-less Inv-loop μ-loop
-loop-less c = omega arith
-
 loop-again : tie.Need-loop-again Inv-loop μ-loop
 loop-again c =
     let a = (c .before .before .before .before .before) in
@@ -69,6 +66,6 @@ witness-rows-length-spec =
     witness-row-length-requires
     add-total
     add-i
-    loop-less
+    (λ c. omega arith)
     loop-again
     returns)

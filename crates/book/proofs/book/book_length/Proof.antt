@@ -9,20 +9,8 @@ use Rattle.blocks.specs.Laws.Laid.{few-users}
 use Rattle.book.proofs.book.book_length.Statement.{statement}
 use Rattle.book.proofs.book.book_length.Tie as tie
 
-counts-length-requires : tie.Need-counts-length-requires
-counts-length-requires c κs = search needs
-
-add-first : tie.Need-add-first
-add-first c = search needs
-
-roles-length-requires : tie.Need-roles-length-requires
-roles-length-requires c κs = search needs
-
 add-second : tie.Need-add-second
 add-second c = omega (arith, c .roles-length .ensures [] .small)
-
-users-length-requires : tie.Need-users-length-requires
-users-length-requires c κs = search needs
 
 add-third : tie.Need-add-third
 add-third c = omega (arith, c .users-length .ensures [] .small)
@@ -67,11 +55,11 @@ pub book-length-spec : {M : Type 1} → statement M
 book-length-spec =
     tie.close
     (tie.spec
-    counts-length-requires
-    add-first
-    roles-length-requires
+    (λ c κs. search needs)
+    (λ c. search needs)
+    (λ c κs. search needs)
     add-second
-    users-length-requires
+    (λ c κs. search needs)
     add-third
     add-result
     add-result-2

@@ -172,9 +172,6 @@ sub-put-empty-line c = within-buffer (behind-first (c .before .before))
 part-put-empty-line-start : tie.Need-part-put-empty-line-start
 part-put-empty-line-start c = within-buffer (behind-first (c .before .before))
 
-part-put-empty-line-end : tie.Need-part-put-empty-line-end
-part-put-empty-line-end c = search needs
-
 put-empty-line-requires : tie.Need-put-empty-line-requires
 put-empty-line-requires c κs = room-behind (behind-first (c .before .before .before))
 
@@ -186,9 +183,6 @@ sub-put-roles c = within-buffer (at-second (c .before .before))
 
 part-put-roles-start : tie.Need-part-put-roles-start
 part-put-roles-start c = within-buffer (at-second (c .before .before))
-
-part-put-roles-end : tie.Need-part-put-roles-end
-part-put-roles-end c = search needs
 
 put-roles-requires : tie.Need-put-roles-requires
 unfolding row-bits row-words
@@ -205,9 +199,6 @@ sub-put-empty-line-2 c = within-buffer (behind-second (c .before .before))
 part-put-empty-line-start-2 : tie.Need-part-put-empty-line-start-2
 part-put-empty-line-start-2 c = within-buffer (behind-second (c .before .before))
 
-part-put-empty-line-end-2 : tie.Need-part-put-empty-line-end-2
-part-put-empty-line-end-2 c = search needs
-
 put-empty-line-requires-2 : tie.Need-put-empty-line-requires-2
 put-empty-line-requires-2 c κs = room-behind (behind-second (c .before .before .before))
 
@@ -219,9 +210,6 @@ sub-put-users c = within-buffer (at-third (c .before .before))
 
 part-put-users-start : tie.Need-part-put-users-start
 part-put-users-start c = within-buffer (at-third (c .before .before))
-
-part-put-users-end : tie.Need-part-put-users-end
-part-put-users-end c = search needs
 
 put-users-requires : tie.Need-put-users-requires
 unfolding row-words user-limit
@@ -238,9 +226,6 @@ sub-put-empty-line-3 c = within-buffer (behind-third (c .before .before))
 part-put-empty-line-start-3 : tie.Need-part-put-empty-line-start-3
 part-put-empty-line-start-3 c = within-buffer (behind-third (c .before .before))
 
-part-put-empty-line-end-3 : tie.Need-part-put-empty-line-end-3
-part-put-empty-line-end-3 c = search needs
-
 put-empty-line-requires-3 : tie.Need-put-empty-line-requires-3
 put-empty-line-requires-3 c κs = room-behind (behind-third (c .before .before .before))
 
@@ -252,9 +237,6 @@ sub-put-witness c = within-buffer (at-fourth (c .before .before))
 
 part-put-witness-start : tie.Need-part-put-witness-start
 part-put-witness-start c = within-buffer (at-fourth (c .before .before))
-
-part-put-witness-end : tie.Need-part-put-witness-end
-part-put-witness-end c = search needs
 
 put-witness-requires : tie.Need-put-witness-requires
 unfolding row-words user-limit
@@ -282,32 +264,32 @@ write-book-spec =
     put-counts-requires
     sub-put-empty-line
     part-put-empty-line-start
-    part-put-empty-line-end
+    (λ c. search needs)
     put-empty-line-requires
     add-from
     sub-put-roles
     part-put-roles-start
-    part-put-roles-end
+    (λ c. search needs)
     put-roles-requires
     add-second
     sub-put-empty-line-2
     part-put-empty-line-start-2
-    part-put-empty-line-end-2
+    (λ c. search needs)
     put-empty-line-requires-2
     add-from-2
     sub-put-users
     part-put-users-start
-    part-put-users-end
+    (λ c. search needs)
     put-users-requires
     add-third
     sub-put-empty-line-3
     part-put-empty-line-start-3
-    part-put-empty-line-end-3
+    (λ c. search needs)
     put-empty-line-requires-3
     add-from-3
     sub-put-witness
     part-put-witness-start
-    part-put-witness-end
+    (λ c. search needs)
     put-witness-requires
     add-result
     same-length

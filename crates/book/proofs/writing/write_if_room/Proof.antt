@@ -10,9 +10,6 @@ use Rattle.book.proofs.writing.write_if_room.Tie as tie
 abbrev text : tie.Start → Bytes
 text c = rows-book (c .args .s .now) (c .args .has .now) (c .args .gives .now) (c .args .witness .now) (c .args .counts)
 
-book-length-requires : tie.Need-book-length-requires
-book-length-requires c κs = search needs
-
 returns : tie.Need-returns
 returns c =
     let s = (c .before .before .before .before) in
@@ -23,9 +20,6 @@ write-book-requires : tie.Need-write-book-requires
 write-book-requires c κs =
     let s = (c .before .before .before .before .before) in
     (s .pre, omega (arith, c .before .if1 .left, c .before .before .book-length .ensures (s .args .has .now) (s .args .gives .now)))
-
-same-length : tie.Need-same-length
-same-length c = search needs
 
 returns-2 : tie.Need-returns-2
 returns-2 c =
@@ -40,4 +34,4 @@ returns-2 c =
 
 pub write-if-room-spec : {M : Type 1} → statement M
 write-if-room-spec =
-    tie.close (tie.spec book-length-requires returns write-book-requires same-length returns-2)
+    tie.close (tie.spec (λ c κs. search needs) returns write-book-requires (λ c. search needs) returns-2)

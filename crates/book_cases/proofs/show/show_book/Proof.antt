@@ -8,18 +8,6 @@ use Rattle.book_cases.proofs.show.show_book.Tie as tie
 slice-aggregate-show : tie.Need-slice-aggregate-show
 slice-aggregate-show c = simp length-take (omega arith)
 
-show-requires : tie.Need-show-requires
-show-requires c κs = search needs
-
-unmade-requires : tie.Need-unmade-requires
-unmade-requires c κs = search needs
-
-returns : tie.Need-returns
-returns c = search needs
-
-returns-2 : tie.Need-returns-2
-returns-2 c = search needs
-
 pub show-book-spec : {M : Type 1} → statement M
 show-book-spec =
-    tie.close (tie.spec slice-aggregate-show show-requires unmade-requires returns returns-2)
+    tie.close (tie.spec slice-aggregate-show (λ c κs. search needs) (λ c κs. search needs) (λ c. search needs) (λ c. search needs))

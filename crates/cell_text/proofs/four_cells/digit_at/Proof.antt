@@ -4,11 +4,8 @@ use Rattle.cell_text.specs.FourRead.{digit-is}
 use Rattle.cell_text.proofs.four_cells.digit_at.Statement.{statement}
 use Rattle.cell_text.proofs.four_cells.digit_at.Tie as tie
 
-shr-result : tie.Need-shr-result
-shr-result c = search needs
-
 returns : tie.Need-returns
 returns c = digit-is (c .args .n) (c .args .p)
 
 pub digit-at-spec : {M : Type 1} → statement M
-digit-at-spec = tie.close (tie.spec shr-result returns)
+digit-at-spec = tie.close (tie.spec (λ c. search needs) returns)

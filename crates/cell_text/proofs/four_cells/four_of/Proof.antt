@@ -20,9 +20,6 @@ returns c =
       blank = λ f. refl;
     }
 
-sets-cells-requires : tie.Need-sets-cells-requires
-sets-cells-requires c κs = search needs
-
 returns-2 : tie.Need-returns-2
 returns-2 c =
     let over = c .before .before in
@@ -33,9 +30,6 @@ returns-2 c =
       off = λ f x y z u e. four-unset (over .before .args .n - no-cells) fails x y z u (omega (arith, over .if1 .left, e));
       blank = λ f. refl;
     }
-
-side-by-side-requires : tie.Need-side-by-side-requires
-side-by-side-requires c κs = search needs
 
 returns-3 : tie.Need-returns-3
 returns-3 c =
@@ -51,4 +45,4 @@ returns-3 c =
 
 pub four-of-spec : {M : Type 1} → statement M
 four-of-spec =
-    tie.close (tie.spec returns sets-cells-requires returns-2 side-by-side-requires returns-3)
+    tie.close (tie.spec returns (λ c κs. search needs) returns-2 (λ c κs. search needs) returns-3)

@@ -21,15 +21,6 @@ abbrev μ-loop : tie.MeasureT-loop
 loop-holds : tie.Need-loop-holds Inv-loop μ-loop
 loop-holds c = (omega arith, omega arith, omega arith, cells-start (c .before .args .s .now) (c .before .args .at) (omega arith))
 
-mul-four-cells : tie.Need-mul-four-cells Inv-loop μ-loop
-mul-four-cells c = omega arith
-
-add-four-cells : tie.Need-add-four-cells Inv-loop μ-loop
-add-four-cells c = omega arith
-
-four-cells-requires : tie.Need-four-cells-requires Inv-loop μ-loop
-four-cells-requires c κs = omega arith
-
 returns : tie.Need-returns Inv-loop μ-loop
 returns c =
     let four = c .before .before in
@@ -42,18 +33,6 @@ returns c =
           (stand-from (4 * loop .i) 4 (start .args .at + 8 * loop .i) (omega arith) (omega arith) stand);
       blank = λ f. refl;
     }
-
-mul-word : tie.Need-mul-word Inv-loop μ-loop
-mul-word c = omega arith
-
-shl-word : tie.Need-shl-word Inv-loop μ-loop
-shl-word c = omega arith
-
-add-i : tie.Need-add-i Inv-loop μ-loop
-add-i c = omega arith
-
-loop-less : tie.Need-loop-less Inv-loop μ-loop
-loop-less c = omega arith
 
 loop-again : tie.Need-loop-again Inv-loop μ-loop
 loop-again c =
@@ -80,13 +59,13 @@ fours-word-spec =
     Inv-loop
     μ-loop
     loop-holds
-    mul-four-cells
-    add-four-cells
-    four-cells-requires
+    (λ c. omega arith)
+    (λ c. omega arith)
+    (λ c κs. omega arith)
     returns
-    mul-word
-    shl-word
-    add-i
-    loop-less
+    (λ c. omega arith)
+    (λ c. omega arith)
+    (λ c. omega arith)
+    (λ c. omega arith)
     loop-again
     returns-2)

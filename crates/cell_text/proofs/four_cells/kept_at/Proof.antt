@@ -4,11 +4,8 @@ use Rattle.cell_text.specs.FourRead.{kept-digit}
 use Rattle.cell_text.proofs.four_cells.kept_at.Statement.{statement}
 use Rattle.cell_text.proofs.four_cells.kept_at.Tie as tie
 
-shl-result : tie.Need-shl-result
-shl-result c = search needs
-
 returns : tie.Need-returns
 returns c = kept-digit (c .args .n) (c .args .p) (c .fits .n .fits) (c .pre)
 
 pub kept-at-spec : {M : Type 1} → statement M
-kept-at-spec = tie.close (tie.spec shl-result returns)
+kept-at-spec = tie.close (tie.spec (λ c. search needs) returns)

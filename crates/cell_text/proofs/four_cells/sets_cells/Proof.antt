@@ -19,18 +19,6 @@ third-small c = rw (c .kept-at3 .ensures) (omega (arith, one-if-small (bit (c .b
 fourth-small : (c : tie.After-kept-at4) → c .kept-at4 .result ≤ 2 ^ 56
 fourth-small c = rw (c .kept-at4 .ensures) (omega (arith, one-if-small (bit (c .before .before .before .before .args .n) 56)))
 
-kept-at-requires : tie.Need-kept-at-requires
-kept-at-requires c κs = search needs
-
-kept-at-requires-2 : tie.Need-kept-at-requires-2
-kept-at-requires-2 c κs = search needs
-
-kept-at-requires-3 : tie.Need-kept-at-requires-3
-kept-at-requires-3 c κs = search needs
-
-kept-at-requires-4 : tie.Need-kept-at-requires-4
-kept-at-requires-4 c κs = search needs
-
 add-result : tie.Need-add-result
 add-result c = omega (arith, first-small (c .before .before .before), second-small (c .before .before))
 
@@ -48,10 +36,10 @@ pub sets-cells-spec : {M : Type 1} → statement M
 sets-cells-spec =
     tie.close
     (tie.spec
-    kept-at-requires
-    kept-at-requires-2
-    kept-at-requires-3
-    kept-at-requires-4
+    (λ c κs. search needs)
+    (λ c κs. search needs)
+    (λ c κs. search needs)
+    (λ c κs. search needs)
     add-result
     add-result-2
     add-result-3

@@ -19,23 +19,11 @@ third-small c = rw (c .digit-at3 .ensures) (omega (arith, one-if-small (bit (c .
 fourth-small : (c : tie.After-digit-at4) → c .digit-at4 .result ≤ 1
 fourth-small c = rw (c .digit-at4 .ensures) (omega (arith, one-if-small (bit (c .before .before .before .before .args .n) 56)))
 
-digit-at-requires : tie.Need-digit-at-requires
-digit-at-requires c κs = search needs
-
-digit-at-requires-2 : tie.Need-digit-at-requires-2
-digit-at-requires-2 c κs = search needs
-
 mul-second : tie.Need-mul-second
 mul-second c = omega (arith, second-small c)
 
-digit-at-requires-3 : tie.Need-digit-at-requires-3
-digit-at-requires-3 c κs = search needs
-
 mul-third : tie.Need-mul-third
 mul-third c = omega (arith, third-small c)
-
-digit-at-requires-4 : tie.Need-digit-at-requires-4
-digit-at-requires-4 c κs = search needs
 
 mul-fourth : tie.Need-mul-fourth
 mul-fourth c = omega (arith, fourth-small c)
@@ -57,12 +45,12 @@ pub side-by-side-spec : {M : Type 1} → statement M
 side-by-side-spec =
     tie.close
     (tie.spec
-    digit-at-requires
-    digit-at-requires-2
+    (λ c κs. search needs)
+    (λ c κs. search needs)
     mul-second
-    digit-at-requires-3
+    (λ c κs. search needs)
     mul-third
-    digit-at-requires-4
+    (λ c κs. search needs)
     mul-fourth
     add-result
     add-result-2

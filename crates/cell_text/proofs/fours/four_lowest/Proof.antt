@@ -19,26 +19,14 @@ third-small c = rw (c .digit-at3 .ensures) (one-if-small (bit (c .before .before
 fourth-small : (c : tie.After-digit-at4) → c .digit-at4 .result ≤ 1
 fourth-small c = rw (c .digit-at4 .ensures) (one-if-small (bit (c .before .before .before .before .args .word) 3))
 
-digit-at-requires : tie.Need-digit-at-requires
-digit-at-requires c κs = search needs
-
 mul-first : tie.Need-mul-first
 mul-first c = omega (arith, first-small c)
-
-digit-at-requires-2 : tie.Need-digit-at-requires-2
-digit-at-requires-2 c κs = search needs
 
 mul-second : tie.Need-mul-second
 mul-second c = omega (arith, second-small c)
 
-digit-at-requires-3 : tie.Need-digit-at-requires-3
-digit-at-requires-3 c κs = search needs
-
 mul-third : tie.Need-mul-third
 mul-third c = omega (arith, third-small c)
-
-digit-at-requires-4 : tie.Need-digit-at-requires-4
-digit-at-requires-4 c κs = search needs
 
 mul-fourth : tie.Need-mul-fourth
 mul-fourth c = omega (arith, fourth-small c)
@@ -64,13 +52,13 @@ pub four-lowest-spec : {M : Type 1} → statement M
 four-lowest-spec =
     tie.close
     (tie.spec
-    digit-at-requires
+    (λ c κs. search needs)
     mul-first
-    digit-at-requires-2
+    (λ c κs. search needs)
     mul-second
-    digit-at-requires-3
+    (λ c κs. search needs)
     mul-third
-    digit-at-requires-4
+    (λ c κs. search needs)
     mul-fourth
     add-result
     add-result-2

@@ -38,17 +38,11 @@ mul-four-lowest c = omega (arith, c .loop-test .taken, c .before .before .before
 shr-four-lowest : tie.Need-shr-four-lowest Inv-loop μ-loop
 shr-four-lowest c = omega (arith, c .loop-test .taken, c .before .before .before .pre .0)
 
-four-lowest-requires : tie.Need-four-lowest-requires Inv-loop μ-loop
-four-lowest-requires c κs = search needs
-
 sub-put-eight : tie.Need-sub-put-eight Inv-loop μ-loop
 sub-put-eight c = within-buffer (part-ready (c .before .before .loop .inv) (c .before .loop-test .taken))
 
 part-put-eight-start : tie.Need-part-put-eight-start Inv-loop μ-loop
 part-put-eight-start c = within-buffer (part-ready (c .before .before .loop .inv) (c .before .loop-test .taken))
-
-part-put-eight-end : tie.Need-part-put-eight-end Inv-loop μ-loop
-part-put-eight-end c = search needs
 
 put-eight-requires : tie.Need-put-eight-requires Inv-loop μ-loop
 put-eight-requires c κs =
@@ -59,12 +53,6 @@ add-at : tie.Need-add-at Inv-loop μ-loop
 add-at c =
     let a = (c .before .before .before .before .before) in
     omega (arith, part-within (a .before .loop .inv) (a .loop-test .taken) (written (c .before .before)))
-
-add-i : tie.Need-add-i Inv-loop μ-loop
-add-i c = omega arith
-
-loop-less : tie.Need-loop-less Inv-loop μ-loop
-loop-less c = omega arith
 
 loop-again : tie.Need-loop-again Inv-loop μ-loop
 loop-again c =
@@ -88,14 +76,14 @@ put-fours-spec =
     loop-holds
     mul-four-lowest
     shr-four-lowest
-    four-lowest-requires
+    (λ c κs. search needs)
     sub-put-eight
     part-put-eight-start
-    part-put-eight-end
+    (λ c. search needs)
     put-eight-requires
     add-at
-    add-i
-    loop-less
+    (λ c. omega arith)
+    (λ c. omega arith)
     loop-again
     same-length
     returns)

@@ -18,12 +18,6 @@ Inv-loop s at count word₀ i₀ word i = (i ≤ count) × (at + 2 * count ≤ l
 abbrev μ-loop : tie.MeasureT-loop
 μ-loop s at count word₀ i₀ word i = count - i
 
-sub-if1 : tie.Need-sub-if1 Inv-loop μ-loop
-sub-if1 c = omega arith
-
-mul-if1 : tie.Need-mul-if1 Inv-loop μ-loop
-mul-if1 c = omega arith
-
 returns : tie.Need-returns Inv-loop μ-loop
 returns c = record { good = λ p. absurd (false≢true p); off = λ f ones stand. omega (arith, stand .within); blank = λ f. refl }
 
@@ -41,28 +35,10 @@ returns-2 c =
       blank = λ f. refl;
     }
 
-mul-i : tie.Need-mul-i Inv-loop μ-loop
-mul-i c = omega arith
-
 loop-holds : tie.Need-loop-holds Inv-loop μ-loop
 loop-holds c =
     let read = c .before .before in
     (omega arith, omega arith, read .fours-word .ensures .good (not-false _ (c .if2 .left)))
-
-mul-place : tie.Need-mul-place Inv-loop μ-loop
-mul-place c = omega arith
-
-add-place : tie.Need-add-place Inv-loop μ-loop
-add-place c = omega arith
-
-add-cell : tie.Need-add-cell Inv-loop μ-loop
-add-cell c = omega arith
-
-shared-slice-read-cell : tie.Need-shared-slice-read-cell Inv-loop μ-loop
-shared-slice-read-cell c = omega arith
-
-shared-slice-read-is-cell : tie.Need-shared-slice-read-is-cell Inv-loop μ-loop
-shared-slice-read-is-cell c = omega arith
 
 is-cell-requires : tie.Need-is-cell-requires Inv-loop μ-loop
 is-cell-requires c κs = tt
@@ -77,15 +53,6 @@ returns-3 c =
       off = λ f. cells-off (start .args .s .now) (start .args .at) (loop .i) (start .args .count) (omega arith) fails;
       blank = λ f. refl;
     }
-
-with-cell-requires : tie.Need-with-cell-requires Inv-loop μ-loop
-with-cell-requires c κs = omega arith
-
-add-i : tie.Need-add-i Inv-loop μ-loop
-add-i c = omega arith
-
-loop-less : tie.Need-loop-less Inv-loop μ-loop
-loop-less c = omega arith
 
 loop-again : tie.Need-loop-again Inv-loop μ-loop
 loop-again c =
@@ -111,22 +78,22 @@ cells-word-spec =
     (tie.spec
     Inv-loop
     μ-loop
-    sub-if1
-    mul-if1
+    (λ c. omega arith)
+    (λ c. omega arith)
     returns
     fours-word-requires
     returns-2
-    mul-i
+    (λ c. omega arith)
     loop-holds
-    mul-place
-    add-place
-    add-cell
-    shared-slice-read-cell
-    shared-slice-read-is-cell
+    (λ c. omega arith)
+    (λ c. omega arith)
+    (λ c. omega arith)
+    (λ c. omega arith)
+    (λ c. omega arith)
     is-cell-requires
     returns-3
-    with-cell-requires
-    add-i
-    loop-less
+    (λ c κs. omega arith)
+    (λ c. omega arith)
+    (λ c. omega arith)
     loop-again
     returns-4)

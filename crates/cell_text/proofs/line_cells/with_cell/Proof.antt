@@ -15,15 +15,9 @@ shifted : (d i q : ℕ) → i < word-bits → (d ≡ 0) ⊎ (d ≡ 1) → bit (d
 shifted d i q h (inl e) = rw (e, zero-mul (2 ^ i)) (bit-of-zero q ∙ sym (and-false (eqb q i)))
 shifted d i q h (inr e) = rw (e, one-shifted word-bits h) (bit-one-shifted i q ∙ sym (and-true (eqb q i)))
 
-cast-result : tie.Need-cast-result
-cast-result c = search needs
-
-shl-result : tie.Need-shl-result
-shl-result c = search needs
-
 returns : tie.Need-returns
 returns c q =
     bit-or (c .args .word) (c .args .cell % 2 * 2 ^ c .args .i % 2 ^ word-bits) q ∙ rw (shifted (c .args .cell % 2) (c .args .i) q (c .pre) (even-or-odd (c .args .cell)))
 
 pub with-cell-spec : {M : Type 1} → statement M
-with-cell-spec = tie.close (tie.spec cast-result shl-result returns)
+with-cell-spec = tie.close (tie.spec (λ c. search needs) (λ c. search needs) returns)

@@ -5,14 +5,8 @@ use Rattle.cells.specs.KernelWalk.{shifted-to-none, shifted-to-lowest}
 use Rattle.cell_text.proofs.next.next_position.Statement.{statement}
 use Rattle.cell_text.proofs.next.next_position.Tie as tie
 
-shr-rest : tie.Need-shr-rest
-shr-rest c = search needs
-
 returns : tie.Need-returns
 returns c = let a = c .before .args in shifted-to-none (a .word) (a .from) (omega arith) (omega arith) (c .if1 .taken)
-
-lowest-requires : tie.Need-lowest-requires
-lowest-requires c κs = omega arith
 
 add-result : tie.Need-add-result
 add-result c = omega (arith, c .lowest .ensures .within)
@@ -21,4 +15,4 @@ returns-2 : tie.Need-returns-2
 returns-2 c = let a = c .before .before .args in shifted-to-lowest (a .word) (a .from) (omega arith) (c .lowest .ensures)
 
 pub next-position-spec : {M : Type 1} → statement M
-next-position-spec = tie.close (tie.spec shr-rest returns lowest-requires add-result returns-2)
+next-position-spec = tie.close (tie.spec (λ c. search needs) returns (λ c κs. omega arith) add-result returns-2)

@@ -21,13 +21,10 @@ shared-slice-read-has : tie.Need-shared-slice-read-has
 unfolding row-words row-bits
 shared-slice-read-has c = omega arith
 
-has-requires : tie.Need-has-requires
-has-requires c κs = search needs
-
 returns : tie.Need-returns
 unfolding row-words
 returns c = c .has .ensures
 
 pub cell-at-spec : {M : Type 1} → statement M
 cell-at-spec =
-    tie.close (tie.spec mul-has add-has mul-has-2 shared-slice-read-has has-requires returns)
+    tie.close (tie.spec mul-has add-has mul-has-2 shared-slice-read-has (λ c κs. search needs) returns)

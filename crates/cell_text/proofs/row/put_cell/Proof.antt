@@ -7,17 +7,8 @@ use Rattle.cell_text.specs.Laws.CellsWritten.{cell-field-length, cell-wr
 use Rattle.cell_text.proofs.row.put_cell.Statement.{statement}
 use Rattle.cell_text.proofs.row.put_cell.Tie as tie
 
-slice-write-out : tie.Need-slice-write-out
-slice-write-out c = search needs
-
-cell-byte-requires : tie.Need-cell-byte-requires
-cell-byte-requires c κs = search needs
-
 slice-write-out-2 : tie.Need-slice-write-out-2
 slice-write-out-2 c = omega (arith, cell-field-length (c .before .before .args .cell), length-set (c .before .before .args .out .now) 0 comma)
-
-same-length : tie.Need-same-length
-same-length c = search needs
 
 returns : tie.Need-returns
 returns c =
@@ -25,4 +16,4 @@ returns c =
 
 pub put-cell-spec : {M : Type 1} → statement M
 put-cell-spec =
-    tie.close (tie.spec slice-write-out cell-byte-requires slice-write-out-2 same-length returns)
+    tie.close (tie.spec (λ c. search needs) (λ c κs. search needs) slice-write-out-2 (λ c. search needs) returns)

@@ -125,9 +125,6 @@ sub-put-cell c = within-buffer (part-ready (standing (c .before .before)) (c .be
 part-put-cell-start : tie.Need-part-put-cell-start Inv-loop μ-loop
 part-put-cell-start c = within-buffer (part-ready (standing (c .before .before)) (c .before .loop-test .taken))
 
-part-put-cell-end : tie.Need-part-put-cell-end Inv-loop μ-loop
-part-put-cell-end c = search needs
-
 put-cell-requires : tie.Need-put-cell-requires Inv-loop μ-loop
 put-cell-requires c κs =
     fits-as (ap cell-field (sym (set-is (c .before))))
@@ -137,12 +134,6 @@ add-at : tie.Need-add-at Inv-loop μ-loop
 add-at c =
     let a = (c .before .before .before .before .before) in
     omega (arith, part-within (standing (a .before)) (a .loop-test .taken) (written (c .before .before)))
-
-add-i : tie.Need-add-i Inv-loop μ-loop
-add-i c = omega arith
-
-loop-less : tie.Need-loop-less Inv-loop μ-loop
-loop-less c = omega arith
 
 loop-again : tie.Need-loop-again Inv-loop μ-loop
 loop-again c before l =
@@ -170,11 +161,11 @@ put-cells-spec =
     has-requires
     sub-put-cell
     part-put-cell-start
-    part-put-cell-end
+    (λ c. search needs)
     put-cell-requires
     add-at
-    add-i
-    loop-less
+    (λ c. omega arith)
+    (λ c. omega arith)
     loop-again
     same-length
     returns)

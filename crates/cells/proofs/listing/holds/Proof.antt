@@ -7,21 +7,9 @@ use Rattle.cells.specs.Laws.KernelFit.{unheld-past}
 use Rattle.cells.proofs.listing.holds.Statement.{statement}
 use Rattle.cells.proofs.listing.holds.Tie as tie
 
-mul-i : tie.Need-mul-i
-mul-i c = search needs
-
 add-i : tie.Need-add-i
 unfolding row-words
 add-i c = omega arith
-
-mul-has : tie.Need-mul-has
-mul-has c = search needs
-
-shared-slice-read-has : tie.Need-shared-slice-read-has
-shared-slice-read-has c = search needs
-
-has-requires : tie.Need-has-requires
-has-requires c κs = search needs
 
 returns : tie.Need-returns
 unfolding row-words
@@ -33,4 +21,4 @@ returns-2 c = let a = c .before .before .before .args in sym (unheld-past (a .ro
 
 pub holds-spec : {M : Type 1} → statement M
 holds-spec =
-    tie.close (tie.spec mul-i add-i mul-has shared-slice-read-has has-requires returns returns-2)
+    tie.close (tie.spec (λ c. search needs) add-i (λ c. search needs) (λ c. search needs) (λ c κs. search needs) returns returns-2)

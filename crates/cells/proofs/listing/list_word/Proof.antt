@@ -27,9 +27,6 @@ mul-cells : tie.Need-mul-cells Inv-loop μ-loop
 unfolding user-limit row-words
 mul-cells c = omega arith
 
-lowest-requires : tie.Need-lowest-requires Inv-loop μ-loop
-lowest-requires c κs = omega arith
-
 add-cells : tie.Need-add-cells Inv-loop μ-loop
 unfolding user-limit row-words
 add-cells c = omega (arith, c .lowest .ensures .within)
@@ -49,9 +46,6 @@ element-write-cells c = omega (arith, ltb-true)
 add-size : tie.Need-add-size Inv-loop μ-loop
 unfolding grant-limit
 add-size c = omega (arith, ltb-true)
-
-without-lowest-requires : tie.Need-without-lowest-requires Inv-loop μ-loop
-without-lowest-requires c κs = omega arith
 
 loop-less : tie.Need-loop-less Inv-loop μ-loop
 loop-less c = c .without-lowest .ensures .less
@@ -79,13 +73,13 @@ list-word-spec =
     μ-loop
     loop-holds
     mul-cells
-    lowest-requires
+    (λ c κs. omega arith)
     add-cells
     cast-cells
     mul-cells-2
     element-write-cells
     add-size
-    without-lowest-requires
+    (λ c κs. omega arith)
     loop-less
     loop-again
     returns

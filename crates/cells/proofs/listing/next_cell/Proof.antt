@@ -31,9 +31,6 @@ element-copy-out-next-position : tie.Need-element-copy-out-next-position Inv-loo
 unfolding user-limit
 element-copy-out-next-position c = omega arith
 
-next-position-requires : tie.Need-next-position-requires Inv-loop μ-loop
-next-position-requires c κs = omega arith
-
 mul-result : tie.Need-mul-result Inv-loop μ-loop
 unfolding user-limit
 mul-result c = omega arith
@@ -49,9 +46,6 @@ returns c =
     let at = c .before .before .before .before .loop in
     found-in-word (a .words .now) (a .from) (at .n) (c .before .next-position .result) (c .before .next-position .ensures) (a .users * row-bits)
     (at .inv .0) (omega arith) (c .if1 .taken) (at .inv .2)
-
-add-n : tie.Need-add-n Inv-loop μ-loop
-add-n c = omega arith
 
 mul-n : tie.Need-mul-n Inv-loop μ-loop
 unfolding user-limit
@@ -89,11 +83,11 @@ next-cell-spec =
     mul-loop
     mul-next-position
     element-copy-out-next-position
-    next-position-requires
+    (λ c κs. omega arith)
     mul-result
     add-result
     returns
-    add-n
+    (λ c. omega arith)
     mul-n
     loop-less
     loop-again

@@ -6,15 +6,6 @@ use Rattle.cells.specs.KernelWalk.{shifted-to-none, shifted-to-lowest}
 use Rattle.cells.proofs.listing.next_position.Statement.{statement}
 use Rattle.cells.proofs.listing.next_position.Tie as tie
 
-shr-rest : tie.Need-shr-rest
-shr-rest c = search needs
-
-lowest-requires : tie.Need-lowest-requires
-lowest-requires c κs = search needs
-
-add-result : tie.Need-add-result
-add-result c = search needs
-
 returns : tie.Need-returns
 returns c =
     let s = c .before .before in
@@ -26,4 +17,4 @@ returns-2 c =
     shifted-to-none (s .args .word) (s .args .from) (s .fits .word .fits) (le-of-lt (s .pre)) (omega arith)
 
 pub next-position-spec : {M : Type 1} → statement M
-next-position-spec = tie.close (tie.spec shr-rest lowest-requires add-result returns returns-2)
+next-position-spec = tie.close (tie.spec (λ c. search needs) (λ c κs. search needs) (λ c. search needs) returns returns-2)

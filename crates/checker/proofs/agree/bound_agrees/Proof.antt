@@ -4,20 +4,11 @@ use borrow.Author.Needs.{needs}
 use Rattle.checker.proofs.agree.bound_agrees.Statement.{statement}
 use Rattle.checker.proofs.agree.bound_agrees.Tie as tie
 
-enum-told : tie.Need-enum-told
-enum-told c = search needs
-
 returns : tie.Need-returns
 returns c = rw (c .before .enum-told .given .1, ne-eqb _ _ (c .if1 .taken))
 
-enum-told-2 : tie.Need-enum-told-2
-enum-told-2 c = search needs
-
 returns-2 : tie.Need-returns-2
 returns-2 c = rw (c .before .enum-told2 .given .1, ne-eqb _ _ (c .if2 .taken))
-
-enum-told-3 : tie.Need-enum-told-3
-enum-told-3 c = search needs
 
 returns-3 : tie.Need-returns-3
 returns-3 c = rw (c .before .enum-told3 .given .1, ne-eqb _ _ (c .if3 .taken))
@@ -35,11 +26,11 @@ pub bound-agrees-spec : {M : Type 1} → statement M
 bound-agrees-spec =
     tie.close
     (tie.spec
-    enum-told
+    (λ c. search needs)
     returns
-    enum-told-2
+    (λ c. search needs)
     returns-2
-    enum-told-3
+    (λ c. search needs)
     returns-3
     returns-4
     returns-5

@@ -7,9 +7,6 @@ use Rattle.checker.proofs.agree.counts_agree.Tie as tie
 returns : tie.Need-returns
 returns c = rw (ne-eqb _ _ (c .if1 .taken))
 
-bound-agrees-requires : tie.Need-bound-agrees-requires
-bound-agrees-requires c κs = search needs
-
 returns-2 : tie.Need-returns-2
 returns-2 c = rw (eq-eqb _ _ (c .before .if1 .left)) (c .bound-agrees .ensures)
 
@@ -18,5 +15,5 @@ counts-agree-spec =
     tie.close
     (tie.spec
     returns
-    bound-agrees-requires
+    (λ c κs. search needs)
     returns-2)

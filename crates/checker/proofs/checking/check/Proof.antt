@@ -9,25 +9,13 @@ use Rattle.checker.specs.Laws.CheckSteps.{users-within, refused-for-shee
 use Rattle.checker.proofs.checking.check.Statement.{statement}
 use Rattle.checker.proofs.checking.check.Tie as tie
 
-read-requires : tie.Need-read-requires
-read-requires c κs = search needs
-
-refused-requires : tie.Need-refused-requires
-refused-requires c κs = search needs
-
 returns : tie.Need-returns
 returns c = refused-for-sheet (c .before .before .read .ensures .0) (c .before .if1 .taken) (c .refused .ensures)
-
-refused-requires-2 : tie.Need-refused-requires-2
-refused-requires-2 c κs = search needs
 
 returns-2 : tie.Need-returns-2
 unfolding book-limit
 returns-2 c =
     refused-too-long (sym (c .before .before .before .read .ensures .0) ∙ c .before .before .if1 .left) (omega (arith, c .before .if2 .taken)) (c .refused2 .ensures)
-
-slice-aggregate-check-book : tie.Need-slice-aggregate-check-book
-slice-aggregate-check-book c = search needs
 
 check-book-requires : tie.Need-check-book-requires
 unfolding book-limit user-limit row-words
@@ -36,9 +24,6 @@ check-book-requires c κs =
     let size : length (c .before .before .before .before .before .read .result .rows) ≡ 256 = search needs in
     ((read .0, read .1, users-within (read .0) _ size), omega (arith, c .before .before .before .if2 .left))
 
-returns-3 : tie.Need-returns-3
-returns-3 c = search needs
-
 pub check-spec : {M : Type 1} → statement M
 check-spec =
-    tie.close (tie.spec read-requires refused-requires returns refused-requires-2 returns-2 slice-aggregate-check-book check-book-requires returns-3)
+    tie.close (tie.spec (λ c κs. search needs) (λ c κs. search needs) returns (λ c κs. search needs) returns-2 (λ c. search needs) check-book-requires (λ c. search needs))

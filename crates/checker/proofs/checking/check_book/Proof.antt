@@ -22,18 +22,6 @@ counted c = c .before .before .before .before .before .before
 abbrev sheet : tie.Start → Sheet
 sheet c = sheet-of (c .args .sheet .now)
 
-read-counts-requires : tie.Need-read-counts-requires
-read-counts-requires c κs = search needs
-
-enum-known-counts : tie.Need-enum-known-counts
-enum-known-counts c = search needs
-
-enum-told : tie.Need-enum-told
-enum-told c = search needs
-
-refused-requires : tie.Need-refused-requires
-refused-requires c κs = search needs
-
 returns : tie.Need-returns
 returns c =
     let read = c .before .before .before in
@@ -45,24 +33,12 @@ first : (c : tie.After-known-told)
     → CountsAt (call c .args .book .now) 0 (c .before .counts .given .0 .0) (c .before .counts .given .0 .1 .0)
 first c = rw (c .before .counts .given .1) at (c .before .before .before .read-counts .ensures)
 
-slice-aggregate-read-roles : tie.Need-slice-aggregate-read-roles
-slice-aggregate-read-roles c = search needs
-
 read-roles-requires : tie.Need-read-roles-requires
 unfolding role-limit row-words
 read-roles-requires c κs = (
   (first (c .before) .reads .within, call (c .before) .pre .0 .0),
   (omega arith, zeros-blank (role-limit * row-words)),
 )
-
-enum-known-roles : tie.Need-enum-known-roles
-enum-known-roles c = search needs
-
-enum-told-2 : tie.Need-enum-told-2
-enum-told-2 c = search needs
-
-refused-requires-2 : tie.Need-refused-requires-2
-refused-requires-2 c κs = search needs
 
 returns-2 : tie.Need-returns-2
 returns-2 c =
@@ -81,9 +57,6 @@ front c =
       roles-at = rw (c .before .roles .given .1) at (c .before .before .before .before .read-roles .ensures);
     }
 
-slice-aggregate-check-from-users : tie.Need-slice-aggregate-check-from-users
-slice-aggregate-check-from-users c = search needs
-
 check-from-users-requires : tie.Need-check-from-users-requires
 unfolding role-limit row-words
 check-from-users-requires c κs =
@@ -95,24 +68,21 @@ check-from-users-requires c κs =
       ),
     )
 
-returns-3 : tie.Need-returns-3
-returns-3 c = search needs
-
 pub check-book-spec : {M : Type 1} → statement M
 check-book-spec =
     tie.close
     (tie.spec
-    read-counts-requires
-    enum-known-counts
-    enum-told
-    refused-requires
+    (λ c κs. search needs)
+    (λ c. search needs)
+    (λ c. search needs)
+    (λ c κs. search needs)
     returns
-    slice-aggregate-read-roles
+    (λ c. search needs)
     read-roles-requires
-    enum-known-roles
-    enum-told-2
-    refused-requires-2
+    (λ c. search needs)
+    (λ c. search needs)
+    (λ c κs. search needs)
     returns-2
-    slice-aggregate-check-from-users
+    (λ c. search needs)
     check-from-users-requires
-    returns-3)
+    (λ c. search needs))

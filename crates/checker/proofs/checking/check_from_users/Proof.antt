@@ -34,12 +34,6 @@ has c = c .before .before .before .before .read-users .last .1 .1 .1 .1 .0
 size : (c : tie.After-no-rows) → length (c .no-rows .result) ≡ user-limit * row-words
 size c = ap length (c .no-rows .ensures) ∙ length-replicate (user-limit * row-words) 0
 
-no-rows-requires : tie.Need-no-rows-requires
-no-rows-requires c κs = search needs
-
-slice-aggregate-read-users : tie.Need-slice-aggregate-read-users
-slice-aggregate-read-users c = search needs
-
 read-users-requires : tie.Need-read-users-requires
 read-users-requires c κs =
     let pre = call (c .before) .pre in (
@@ -49,15 +43,6 @@ read-users-requires c κs =
         rw (c .before .no-rows .ensures) (zeros-blank (user-limit * row-words)),
       ),
     )
-
-enum-known-last : tie.Need-enum-known-last
-enum-known-last c = search needs
-
-enum-told : tie.Need-enum-told
-enum-told c = search needs
-
-refused-requires : tie.Need-refused-requires
-refused-requires c κs = search needs
 
 returns : tie.Need-returns
 returns c =
@@ -74,9 +59,6 @@ users c = rw (c .before .last .given .1) at (c .before .before .before .before .
 read-witness-requires : tie.Need-read-witness-requires
 read-witness-requires c κs = (users c .within, call (rows c) .pre .0 .0)
 
-refused-requires-2 : tie.Need-refused-requires-2
-refused-requires-2 c κs = search needs
-
 returns-2 : tie.Need-returns-2
 returns-2 c =
     let read = c .before .before .before in
@@ -89,9 +71,6 @@ witness : (c : tie.Else1)
     → WitnessPart (sheet (call (rows (c .before .before .before)))) (call (rows (c .before .before .before)) .args .book .now)
     (c .before .before .before .before .last .given .0 .0) (c .before .before .read-witness .result .witness)
 witness c = rw (not-false (c .before .before .read-witness .result .«of_form») (c .if1 .left)) at (c .before .before .read-witness .ensures)
-
-slice-aggregate-judge-book : tie.Need-slice-aggregate-judge-book
-slice-aggregate-judge-book c = search needs
 
 judge-book-requires : tie.Need-judge-book-requires
 judge-book-requires c κs =
@@ -118,16 +97,16 @@ pub check-from-users-spec : {M : Type 1} → statement M
 check-from-users-spec =
     tie.close
     (tie.spec
-    no-rows-requires
-    slice-aggregate-read-users
+    (λ c κs. search needs)
+    (λ c. search needs)
     read-users-requires
-    enum-known-last
-    enum-told
-    refused-requires
+    (λ c. search needs)
+    (λ c. search needs)
+    (λ c κs. search needs)
     returns
     read-witness-requires
-    refused-requires-2
+    (λ c κs. search needs)
     returns-2
-    slice-aggregate-judge-book
+    (λ c. search needs)
     judge-book-requires
     returns-3)

@@ -59,12 +59,6 @@ lines c says s =
     c .witness-stands .ensures
     ∙ witness-as-said s (start .args .rows .now) (start .pre .0 .1 .rows) (wide start) (counts (counted (judged c)) says s)
 
-counts-agree-requires : tie.Need-counts-agree-requires
-counts-agree-requires c κs = search needs
-
-refused-requires : tie.Need-refused-requires
-refused-requires c κs = search needs
-
 returns : tie.Need-returns
 returns c =
     record {
@@ -82,9 +76,6 @@ rows-agree-requires c κs =
       start .pre .1 .1 .2,
     )
 
-refused-requires-2 : tie.Need-refused-requires-2
-refused-requires-2 c κs = search needs
-
 returns-2 : tie.Need-returns-2
 returns-2 c =
     let at = c .before .before in
@@ -100,9 +91,6 @@ witness-stands-requires c κs =
     let start = agreed at in
     let said = start .pre .1 .0 in
     lines-as-said (said .said) (start .args .rows .now) (start .pre .0 .1 .rows) (wide start) (counts at (said .says) (said .said)) (room start)
-
-refused-requires-3 : tie.Need-refused-requires-3
-refused-requires-3 c κs = search needs
 
 -- the product is the sheet, from where the witness has been judged
 product : (c : tie.After-witness-stands) (says : Said) → Said-here (agreed (counted (judged c))) says
@@ -133,13 +121,13 @@ pub judge-book-spec : {M : Type 1} → statement M
 judge-book-spec =
     tie.close
     (tie.spec
-    counts-agree-requires
-    refused-requires
+    (λ c κs. search needs)
+    (λ c κs. search needs)
     returns
     rows-agree-requires
-    refused-requires-2
+    (λ c κs. search needs)
     returns-2
     witness-stands-requires
-    refused-requires-3
+    (λ c κs. search needs)
     returns-3
     returns-4)

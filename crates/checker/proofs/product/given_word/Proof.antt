@@ -21,14 +21,8 @@ roles-word-requires : tie.Need-roles-word-requires Inv-loop μ-loop
 unfolding row-words
 roles-word-requires c κs = (c .loop-test .taken, c .before .before .before .before .pre .2)
 
-mul-with-given : tie.Need-mul-with-given Inv-loop μ-loop
-mul-with-given c = omega arith
-
 with-given-requires : tie.Need-with-given-requires Inv-loop μ-loop
 with-given-requires c κs = (c .before .before .before .before .before .pre .1, roles-have-rows (c .roles-word .ensures) (c .before .before .before .before .before .pre .3))
-
-add-j : tie.Need-add-j Inv-loop μ-loop
-add-j c = omega arith
 
 loop-less : tie.Need-loop-less Inv-loop μ-loop
 unfolding row-words
@@ -53,9 +47,9 @@ given-word-spec =
     μ-loop
     loop-holds
     roles-word-requires
-    mul-with-given
+    (λ c. omega arith)
     with-given-requires
-    add-j
+    (λ c. omega arith)
     loop-less
     loop-again
     returns)

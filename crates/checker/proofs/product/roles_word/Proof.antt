@@ -14,9 +14,6 @@ use Rattle.checker.proofs.product.roles_word.Tie as tie
 word-there : (c : tie.Start) → c .args .u * row-words + c .args .j < length (c .args .has .now)
 word-there c = word-below (c .args .u) (c .args .u + 1) (c .args .j) _ (omega arith) (c .pre .0) (c .pre .1)
 
-mul-result : tie.Need-mul-result
-mul-result c = search needs
-
 add-result : tie.Need-add-result
 unfolding row-words
 add-result c = omega (arith, word-there (c .before))
@@ -29,12 +26,6 @@ shared-slice-read-result : tie.Need-shared-slice-read-result
 unfolding row-words
 shared-slice-read-result c = word-there (c .before .before)
 
-cells-in-word-requires : tie.Need-cells-in-word-requires
-cells-in-word-requires c κs = search needs
-
-full-requires : tie.Need-full-requires
-full-requires c κs = search needs
-
 returns : tie.Need-returns
 unfolding row-words
 returns c =
@@ -45,10 +36,10 @@ pub roles-word-spec : {M : Type 1} → statement M
 roles-word-spec =
     tie.close
     (tie.spec
-    mul-result
+    (λ c. search needs)
     add-result
     mul-result-2
     shared-slice-read-result
-    cells-in-word-requires
-    full-requires
+    (λ c κs. search needs)
+    (λ c κs. search needs)
     returns)

@@ -38,12 +38,6 @@ returns c =
     (missed-below-intro (c .before .before .before .before .before .before .before .args .users) (row-agrees (c .before .before .before .before .before .before .before .args .rows .now) (roles-in (c .before .before .before .before .before .before .before .args .has .now) (c .before .before .before .before .before .before .before .args .gives .now) (c .before .before .before .before .before .before .before .args .roles)))
     (c .before .before .loop-test .taken) (sym (c .before .row-agrees .ensures) ∙ not-true _ (c .if1 .taken)))
 
-add-u : tie.Need-add-u Inv-loop μ-loop
-add-u c = omega arith
-
-loop-less : tie.Need-loop-less Inv-loop μ-loop
-loop-less c = omega arith
-
 loop-again : tie.Need-loop-again Inv-loop μ-loop
 loop-again c = (
   omega (arith, c .before .before .loop-test .taken),
@@ -66,7 +60,7 @@ rows-agree-spec =
     loop-holds
     row-agrees-requires
     returns
-    add-u
-    loop-less
+    (λ c. omega arith)
+    (λ c. omega arith)
     loop-again
     returns-2)

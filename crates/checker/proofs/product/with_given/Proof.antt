@@ -23,9 +23,6 @@ abbrev μ-loop : tie.MeasureT-loop
 loop-holds : tie.Need-loop-holds Inv-loop μ-loop
 loop-holds c = (c .before .pre .1, λ q. refl)
 
-lowest-requires : tie.Need-lowest-requires Inv-loop μ-loop
-lowest-requires c κs = omega arith
-
 -- the row of the lowest role is among the words
 word-there : (c : tie.After-lowest Inv-loop μ-loop)
     → (c .before .before .before .before .args .first + c .lowest .result) * row-words + c .before .before .before .before .args .k
@@ -56,9 +53,6 @@ shared-slice-read-word : tie.Need-shared-slice-read-word Inv-loop μ-loop
 unfolding row-words
 shared-slice-read-word c = word-there (c .before)
 
-without-lowest-requires : tie.Need-without-lowest-requires Inv-loop μ-loop
-without-lowest-requires c κs = omega arith
-
 loop-less : tie.Need-loop-less Inv-loop μ-loop
 loop-less c = c .without-lowest .ensures .less
 
@@ -88,13 +82,13 @@ with-given-spec =
     Inv-loop
     μ-loop
     loop-holds
-    lowest-requires
+    (λ c κs. omega arith)
     add-role
     mul-word
     add-word
     mul-word-2
     shared-slice-read-word
-    without-lowest-requires
+    (λ c κs. omega arith)
     loop-less
     loop-again
     returns)

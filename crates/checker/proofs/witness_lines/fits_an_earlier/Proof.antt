@@ -48,12 +48,6 @@ returns c =
     (some-below-intro (c .before .before .before .before .before .before .before .args .j) (λ n. lines-fit (c .before .before .before .before .before .before .before .args .rows .now) (line-of (c .before .before .before .before .before .before .before .args .t2) n) (line-of (c .before .before .before .before .before .before .before .args .t2) (c .before .before .before .before .before .before .before .args .j))) (c .before .before .before .before .loop-test .taken)
     (sym (c .before .fits2 .ensures) ∙ c .if1 .taken))
 
-add-i : tie.Need-add-i Inv-loop μ-loop
-add-i c = omega arith
-
-loop-less : tie.Need-loop-less Inv-loop μ-loop
-loop-less c = omega arith
-
 loop-again : tie.Need-loop-again Inv-loop μ-loop
 loop-again c = (
   omega (arith, c .before .before .before .before .loop-test .taken),
@@ -81,7 +75,7 @@ fits-an-earlier-spec =
     element-copy-out-fits-2
     fits-requires
     returns
-    add-i
-    loop-less
+    (λ c. omega arith)
+    (λ c. omega arith)
     loop-again
     returns-2)

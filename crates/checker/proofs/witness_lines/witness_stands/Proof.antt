@@ -55,12 +55,6 @@ returns-2 c =
     (ap (λ (b : Bool). line-held (c .before .before .before .before .before .before .before .before .args .rows .now) (line-of (c .before .before .before .before .before .before .before .before .args .t2) (c .before .before .before .before .before .before .loop .j)) && not b) (sym (c .before .fits-an-earlier .ensures) ∙ c .if2 .taken)
     ∙ and-false (line-held (c .before .before .before .before .before .before .before .before .args .rows .now) (line-of (c .before .before .before .before .before .before .before .before .args .t2) (c .before .before .before .before .before .before .loop .j)))))
 
-add-j : tie.Need-add-j Inv-loop μ-loop
-add-j c = omega arith
-
-loop-less : tie.Need-loop-less Inv-loop μ-loop
-loop-less c = omega arith
-
 loop-again : tie.Need-loop-again Inv-loop μ-loop
 loop-again c = (
   omega (arith, c .before .before .before .before .before .loop-test .taken),
@@ -91,7 +85,7 @@ witness-stands-spec =
     returns
     fits-an-earlier-requires
     returns-2
-    add-j
-    loop-less
+    (λ c. omega arith)
+    (λ c. omega arith)
     loop-again
     returns-3)

@@ -12,9 +12,6 @@ use Rattle.cover.proofs.cover.add_asked.Tie as tie
 below : (c : tie.Start) → word-of (c .args .c) (c .args .p) < class-words
 below c = word-below row-bits (c .args .c) (c .args .p) (c .pre .0 .0) (c .pre .0 .1)
 
-mul-i : tie.Need-mul-i
-mul-i c = search needs
-
 add-i : tie.Need-add-i
 unfolding row-bits row-words
 add-i c = omega (arith, below c)
@@ -26,9 +23,6 @@ mul-with c = omega (arith, below c)
 element-copy-out-with : tie.Need-element-copy-out-with
 unfolding row-bits row-words
 element-copy-out-with c = below c
-
-with-requires : tie.Need-with-requires
-with-requires c κs = search needs
 
 mul-asked : tie.Need-mul-asked
 unfolding row-bits row-words
@@ -49,11 +43,11 @@ pub add-asked-spec : {M : Type 1} → statement M
 add-asked-spec =
     tie.close
     (tie.spec
-    mul-i
+    (λ c. search needs)
     add-i
     mul-with
     element-copy-out-with
-    with-requires
+    (λ c κs. search needs)
     mul-asked
     element-write-asked
     returns)

@@ -5,9 +5,6 @@ use mathlib.Core.Path.{_≡_}
 use Rattle.cover.proofs.cover.allowed_next.Statement.{statement}
 use Rattle.cover.proofs.cover.allowed_next.Tie as tie
 
-allowed-to-requires : tie.Need-allowed-to-requires
-allowed-to-requires c κs = search needs
-
 returns : tie.Need-returns
 returns c so-far =
     let a = c .before .before .args in
@@ -18,4 +15,4 @@ returns-2 : tie.Need-returns-2
 returns-2 c so-far = c .allowed-to .ensures
 
 pub allowed-next-spec : {M : Type 1} → statement M
-allowed-next-spec = tie.close (tie.spec allowed-to-requires returns returns-2)
+allowed-next-spec = tie.close (tie.spec (λ c κs. search needs) returns returns-2)

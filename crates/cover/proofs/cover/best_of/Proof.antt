@@ -5,14 +5,8 @@ use Rattle.cover.specs.Laws.CoverArray.{held-cells, best-of-cells}
 use Rattle.cover.proofs.cover.best_of.Statement.{statement}
 use Rattle.cover.proofs.cover.best_of.Tie as tie
 
-grouped-by-permission-requires : tie.Need-grouped-by-permission-requires
-grouped-by-permission-requires c κs = search needs
-
 grouped-by-fit-requires : tie.Need-grouped-by-fit-requires
 grouped-by-fit-requires c κs = (c .before .before .before .pre, c .grouped-by-permission .ensures .0)
-
-with-fewer-requires : tie.Need-with-fewer-requires
-with-fewer-requires c κs = search needs
 
 returns : tie.Need-returns
 returns c =
@@ -25,4 +19,4 @@ returns c =
     )
 
 pub best-of-spec : {M : Type 1} → statement M
-best-of-spec = tie.close (tie.spec grouped-by-permission-requires grouped-by-fit-requires with-fewer-requires returns)
+best-of-spec = tie.close (tie.spec (λ c κs. search needs) grouped-by-fit-requires (λ c κs. search needs) returns)

@@ -16,9 +16,6 @@ element-copy-out-c : tie.Need-element-copy-out-c
 unfolding row-bits row-words
 element-copy-out-c c = omega arith
 
-cast-result : tie.Need-cast-result
-cast-result c = omega arith
-
 returns : tie.Need-returns
 unfolding grant-limit
 returns c =
@@ -32,4 +29,4 @@ returns-2 c =
     rw (ne-eqb (getD (a .table .now) (a .p) 0) no-class (c .if1 .left))
 
 pub class-of-permission-spec : {M : Type 1} → statement M
-class-of-permission-spec = tie.close (tie.spec mul-c element-copy-out-c cast-result returns returns-2)
+class-of-permission-spec = tie.close (tie.spec mul-c element-copy-out-c (λ c. omega arith) returns returns-2)

@@ -22,9 +22,6 @@ abbrev μ-loop : tie.MeasureT-loop
 loop-holds : tie.Need-loop-holds Inv-loop μ-loop
 loop-holds c = all-left _ _
 
-lowest-requires : tie.Need-lowest-requires Inv-loop μ-loop
-lowest-requires c κs = omega arith
-
 mul-is-lacked : tie.Need-mul-is-lacked Inv-loop μ-loop
 unfolding row-words
 mul-is-lacked c = omega arith
@@ -40,9 +37,6 @@ is-lacked-requires c κs = omega (arith, c .lowest .ensures .within)
 returns : tie.Need-returns Inv-loop μ-loop
 returns c =
     lowest-left _ _ (c .before .before .before .before .loop .inv) (c .before .before .lowest .ensures) (rw (c .before .is-lacked .ensures) at (c .if1 .taken))
-
-without-lowest-requires : tie.Need-without-lowest-requires Inv-loop μ-loop
-without-lowest-requires c κs = omega arith
 
 loop-less : tie.Need-loop-less Inv-loop μ-loop
 loop-less c = c .without-lowest .ensures .less
@@ -62,12 +56,12 @@ free-in-word-spec =
     Inv-loop
     μ-loop
     loop-holds
-    lowest-requires
+    (λ c κs. omega arith)
     mul-is-lacked
     add-is-lacked
     is-lacked-requires
     returns
-    without-lowest-requires
+    (λ c κs. omega arith)
     loop-less
     loop-again
     returns-2)

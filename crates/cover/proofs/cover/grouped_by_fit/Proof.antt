@@ -30,12 +30,6 @@ loop-holds : tie.Need-loop-holds Inv-loop μ-loop
 unfolding grant-limit row-bits row-words
 loop-holds c = (omega arith, refl, refl, refl, λ held. none-fitted _ _ _ 0 class-words row-words _ refl refl (omega arith), zeros-blank 0 grant-limit)
 
-mul-user-of : tie.Need-mul-user-of Inv-loop μ-loop
-mul-user-of c = omega arith
-
-shared-slice-read-user-of : tie.Need-shared-slice-read-user-of Inv-loop μ-loop
-shared-slice-read-user-of c = omega arith
-
 user-of-requires : tie.Need-user-of-requires Inv-loop μ-loop
 user-of-requires c κs = tt
 
@@ -45,12 +39,6 @@ user-below c =
     let d = c .before .before .before .loop .d in
     rw (c .user-of .ensures)
     (user-has-room (getD (c .before .before .before .before .before .before .args .cells .now) d 0) (omega (arith, c .before .shared-slice-known3 .given d)))
-
-mul-permission-of : tie.Need-mul-permission-of Inv-loop μ-loop
-mul-permission-of c = omega arith
-
-shared-slice-read-permission-of : tie.Need-shared-slice-read-permission-of Inv-loop μ-loop
-shared-slice-read-permission-of c = omega arith
 
 permission-of-requires : tie.Need-permission-of-requires Inv-loop μ-loop
 permission-of-requires c κs = tt
@@ -143,12 +131,6 @@ cast-counted c = omega arith
 counted-requires : tie.Need-counted-requires Inv-loop μ-loop
 counted-requires c κs = tt
 
-add-d : tie.Need-add-d Inv-loop μ-loop
-add-d c = omega arith
-
-loop-less : tie.Need-loop-less Inv-loop μ-loop
-loop-less c = omega arith
-
 loop-again : tie.Need-loop-again Inv-loop μ-loop
 loop-again c =
     let found-class = c .before .before .before .before .before .before in
@@ -178,11 +160,11 @@ grouped-by-fit-spec =
     Inv-loop
     μ-loop
     loop-holds
-    mul-user-of
-    shared-slice-read-user-of
+    (λ c. omega arith)
+    (λ c. omega arith)
     user-of-requires
-    mul-permission-of
-    shared-slice-read-permission-of
+    (λ c. omega arith)
+    (λ c. omega arith)
     permission-of-requires
     allowed-next-requires
     class-for-requires
@@ -195,7 +177,7 @@ grouped-by-fit-spec =
     array-write-classes
     cast-counted
     counted-requires
-    add-d
-    loop-less
+    (λ c. omega arith)
+    (λ c. omega arith)
     loop-again
     returns-2)

@@ -23,12 +23,6 @@ loop-holds : tie.Need-loop-holds Inv-loop μ-loop
 unfolding grant-limit row-bits row-words
 loop-holds c = (omega arith, none-keyed (permission-at-cell (c .before .args .cells .now)) grant-limit row-bits refl refl)
 
-mul-permission-of : tie.Need-mul-permission-of Inv-loop μ-loop
-mul-permission-of c = omega arith
-
-shared-slice-read-permission-of : tie.Need-shared-slice-read-permission-of Inv-loop μ-loop
-shared-slice-read-permission-of c = omega arith
-
 permission-of-requires : tie.Need-permission-of-requires Inv-loop μ-loop
 permission-of-requires c κs = tt
 
@@ -63,12 +57,6 @@ array-write-classes c = omega arith
 counted-requires : tie.Need-counted-requires Inv-loop μ-loop
 counted-requires c κs = tt
 
-add-d : tie.Need-add-d Inv-loop μ-loop
-add-d c = omega arith
-
-loop-less : tie.Need-loop-less Inv-loop μ-loop
-loop-less c = omega arith
-
 loop-again : tie.Need-loop-again Inv-loop μ-loop
 loop-again c =
     let in-loop = c .before .before .before .before .before in
@@ -94,8 +82,8 @@ grouped-by-permission-spec =
     Inv-loop
     μ-loop
     loop-holds
-    mul-permission-of
-    shared-slice-read-permission-of
+    (λ c. omega arith)
+    (λ c. omega arith)
     permission-of-requires
     class-of-permission-requires
     mul-table
@@ -103,7 +91,7 @@ grouped-by-permission-spec =
     mul-classes
     array-write-classes
     counted-requires
-    add-d
-    loop-less
+    (λ c. omega arith)
+    (λ c. omega arith)
     loop-again
     returns)

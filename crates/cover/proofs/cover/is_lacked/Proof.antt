@@ -5,9 +5,6 @@ use Rattle.cells.specs.Rows.{row-words, row-bits}
 use Rattle.cover.proofs.cover.is_lacked.Statement.{statement}
 use Rattle.cover.proofs.cover.is_lacked.Tie as tie
 
-mul-has : tie.Need-mul-has
-mul-has c = search needs
-
 add-has : tie.Need-add-has
 unfolding row-bits row-words
 add-has c = omega arith
@@ -20,13 +17,10 @@ element-copy-out-has : tie.Need-element-copy-out-has
 unfolding row-bits row-words
 element-copy-out-has c = omega arith
 
-has-requires : tie.Need-has-requires
-has-requires c κs = search needs
-
 returns : tie.Need-returns
 unfolding row-words
 returns c = c .has .ensures
 
 pub is-lacked-spec : {M : Type 1} → statement M
 is-lacked-spec =
-    tie.close (tie.spec mul-has add-has mul-has-2 element-copy-out-has has-requires returns)
+    tie.close (tie.spec (λ c. search needs) add-has mul-has-2 element-copy-out-has (λ c κs. search needs) returns)

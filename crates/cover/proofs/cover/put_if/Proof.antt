@@ -10,18 +10,9 @@ use Rattle.cover.specs.CoverAllowed.{class-put}
 use Rattle.cover.proofs.cover.put_if.Statement.{statement}
 use Rattle.cover.proofs.cover.put_if.Tie as tie
 
-mul-with : tie.Need-mul-with
-mul-with c = search needs
-
 element-copy-out-with : tie.Need-element-copy-out-with
 unfolding row-bits row-words
 element-copy-out-with c = omega arith
-
-with-requires : tie.Need-with-requires
-with-requires c κs = search needs
-
-mul-allowed : tie.Need-mul-allowed
-mul-allowed c = search needs
 
 element-write-allowed : tie.Need-element-write-allowed
 unfolding row-bits row-words
@@ -41,10 +32,10 @@ pub put-if-spec : {M : Type 1} → statement M
 put-if-spec =
     tie.close
     (tie.spec
-    mul-with
+    (λ c. search needs)
     element-copy-out-with
-    with-requires
-    mul-allowed
+    (λ c κs. search needs)
+    (λ c. search needs)
     element-write-allowed
     returns
     returns-2)

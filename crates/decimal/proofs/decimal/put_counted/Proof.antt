@@ -37,9 +37,6 @@ sub-put-decimal c = within-buffer (behind-mark (c .before .before))
 part-put-decimal-start : tie.Need-part-put-decimal-start
 part-put-decimal-start c = within-buffer (behind-mark (c .before .before))
 
-part-put-decimal-end : tie.Need-part-put-decimal-end
-part-put-decimal-end c = search needs
-
 put-decimal-requires : tie.Need-put-decimal-requires
 put-decimal-requires c κs = room-behind (behind-mark (c .before .before .before))
 
@@ -59,7 +56,7 @@ put-counted-spec =
     put-bytes-requires
     sub-put-decimal
     part-put-decimal-start
-    part-put-decimal-end
+    (λ c. search needs)
     put-decimal-requires
     add-result
     same-length

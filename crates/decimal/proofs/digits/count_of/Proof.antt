@@ -8,12 +8,6 @@ use Rattle.decimal.proofs.digits.count_of.Tie as tie
 returns : tie.Need-returns
 returns c = sym (no-digits (c .before .before .args .field .now) (c .if1 .taken))
 
-shared-slice-read-if2 : tie.Need-shared-slice-read-if2
-shared-slice-read-if2 c = search needs
-
-digits-of-requires : tie.Need-digits-of-requires
-digits-of-requires c κs = search needs
-
 returns-2 : tie.Need-returns-2
 returns-2 c = c .digits-of .ensures ∙ sym (no-leading-zero (c .before .before .before .before .before .args .field .now) (c .before .before .before .if1 .left) (c .before .if2 .taken))
 
@@ -24,4 +18,4 @@ returns-4 : tie.Need-returns-4
 returns-4 c = sym (leading-zero (c .before .before .before .before .before .args .field .now) (c .if3 .left) (c .before .if2 .left) (c .before .before .before .if1 .left))
 
 pub count-of-spec : {M : Type 1} → statement M
-count-of-spec = tie.close (tie.spec returns shared-slice-read-if2 digits-of-requires returns-2 returns-3 returns-4)
+count-of-spec = tie.close (tie.spec returns (λ c. search needs) (λ c κs. search needs) returns-2 returns-3 returns-4)

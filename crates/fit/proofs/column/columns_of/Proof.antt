@@ -33,9 +33,6 @@ put-in-columns-requires : tie.Need-put-in-columns-requires Inv-loop μ-loop
 unfolding user-limit row-words
 put-in-columns-requires c κs = (omega arith, c .before .before .before .loop .inv .1)
 
-add-i : tie.Need-add-i Inv-loop μ-loop
-add-i c = omega arith
-
 loop-less : tie.Need-loop-less Inv-loop μ-loop
 unfolding user-limit row-words
 loop-less c = omega arith
@@ -66,7 +63,7 @@ columns-of-spec =
     mul-put-in-columns
     element-copy-out-put-in-columns
     put-in-columns-requires
-    add-i
+    (λ c. omega arith)
     loop-less
     loop-again
     returns)

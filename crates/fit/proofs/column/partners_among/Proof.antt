@@ -19,12 +19,6 @@ Inv-loop rows left it from some start most n₀ w₀ n w =
 abbrev μ-loop : tie.MeasureT-loop
 μ-loop rows left it from some start most n₀ w₀ n w = w
 
-loop-holds : tie.Need-loop-holds Inv-loop μ-loop
-loop-holds c = omega arith
-
-lowest-requires : tie.Need-lowest-requires Inv-loop μ-loop
-lowest-requires c κs = omega arith
-
 add-i : tie.Need-add-i Inv-loop μ-loop
 unfolding user-limit row-words
 add-i c = omega (arith, c .lowest .ensures .within)
@@ -50,9 +44,6 @@ add-n c =
     let a = c .before .before .before .before .before .before .before .args in
     let few : c .count .result ≤ word-bits = rw (c .count .ensures) (count-below-le word-bits _) in
     omega (arith, c .before .before .before .before .before .before .loop .inv, near-sum-le (a .rows .now) (a .left .now) (a .it .0) word-bits (bit (a .some)) (λ q. a .from + q))
-
-without-lowest-requires : tie.Need-without-lowest-requires Inv-loop μ-loop
-without-lowest-requires c κs = omega arith
 
 loop-less : tie.Need-loop-less Inv-loop μ-loop
 loop-less c = c .without-lowest .ensures .less
@@ -88,15 +79,15 @@ partners-among-spec =
     (tie.spec
     Inv-loop
     μ-loop
-    loop-holds
-    lowest-requires
+    (λ c. omega arith)
+    (λ c κs. omega arith)
     add-i
     mul-count
     element-copy-out-count
     fitting-requires
     count-requires
     add-n
-    without-lowest-requires
+    (λ c κs. omega arith)
     loop-less
     loop-again
     returns

@@ -26,21 +26,6 @@ loop-holds : tie.Need-loop-holds Inv-loop μ-loop
 unfolding sum-below
 loop-holds c = (omega arith, record { below = λ l. refl; not-more = omega arith })
 
-mul-some : tie.Need-mul-some Inv-loop μ-loop
-mul-some c = omega arith
-
-add-some : tie.Need-add-some Inv-loop μ-loop
-add-some c = omega arith
-
-mul-some-2 : tie.Need-mul-some-2 Inv-loop μ-loop
-mul-some-2 c = omega arith
-
-element-copy-out-some : tie.Need-element-copy-out-some Inv-loop μ-loop
-element-copy-out-some c = omega arith
-
-mul-partners-among : tie.Need-mul-partners-among Inv-loop μ-loop
-mul-partners-among c = omega arith
-
 partners-among-requires : tie.Need-partners-among-requires Inv-loop μ-loop
 unfolding user-limit row-words
 partners-among-requires c κs =
@@ -51,9 +36,6 @@ partners-among-requires c κs =
       at .inv .1 .not-more,
       near-sum-le (a .rows .now) (a .left .now) (a .it .0) (at .j * word-bits) (held-in (a .rows .now) (a .it .0 % row-bits)) (λ i. i),
     )
-
-add-j : tie.Need-add-j Inv-loop μ-loop
-add-j c = omega arith
 
 loop-less : tie.Need-loop-less Inv-loop μ-loop
 unfolding user-limit row-words
@@ -85,13 +67,13 @@ partners-in-column-spec =
     Inv-loop
     μ-loop
     loop-holds
-    mul-some
-    add-some
-    mul-some-2
-    element-copy-out-some
-    mul-partners-among
+    (λ c. omega arith)
+    (λ c. omega arith)
+    (λ c. omega arith)
+    (λ c. omega arith)
+    (λ c. omega arith)
     partners-among-requires
-    add-j
+    (λ c. omega arith)
     loop-less
     loop-again
     returns)

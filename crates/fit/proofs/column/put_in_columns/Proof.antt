@@ -24,9 +24,6 @@ loop-holds : tie.Need-loop-holds Inv-loop μ-loop
 unfolding user-limit row-words row-bits
 loop-holds c = record { sized = refl; lacks = λ n. refl }
 
-lowest-requires : tie.Need-lowest-requires Inv-loop μ-loop
-lowest-requires c κs = omega arith
-
 mul-t : tie.Need-mul-t Inv-loop μ-loop
 mul-t c = omega (arith, c .lowest .ensures .within)
 
@@ -34,25 +31,13 @@ add-t : tie.Need-add-t Inv-loop μ-loop
 unfolding user-limit row-words
 add-t c = omega (arith, c .lowest .ensures .within)
 
-mul-with : tie.Need-mul-with Inv-loop μ-loop
-mul-with c = omega arith
-
 element-copy-out-with : tie.Need-element-copy-out-with Inv-loop μ-loop
 unfolding user-limit row-words row-bits
 element-copy-out-with c = omega (arith, c .lowest .ensures .within)
 
-with-requires : tie.Need-with-requires Inv-loop μ-loop
-with-requires c κs = search needs
-
-mul-columns : tie.Need-mul-columns Inv-loop μ-loop
-mul-columns c = omega arith
-
 element-write-columns : tie.Need-element-write-columns Inv-loop μ-loop
 unfolding user-limit row-words row-bits
 element-write-columns c = omega (arith, c .before .before .lowest .ensures .within)
-
-without-lowest-requires : tie.Need-without-lowest-requires Inv-loop μ-loop
-without-lowest-requires c κs = omega arith
 
 loop-less : tie.Need-loop-less Inv-loop μ-loop
 loop-less c = c .without-lowest .ensures .less
@@ -82,15 +67,15 @@ put-in-columns-spec =
     Inv-loop
     μ-loop
     loop-holds
-    lowest-requires
+    (λ c κs. omega arith)
     mul-t
     add-t
-    mul-with
+    (λ c. omega arith)
     element-copy-out-with
-    with-requires
-    mul-columns
+    (λ c κs. search needs)
+    (λ c. omega arith)
     element-write-columns
-    without-lowest-requires
+    (λ c κs. omega arith)
     loop-less
     loop-again
     returns)

@@ -18,9 +18,6 @@ abbrev μ-loop : tie.MeasureT-loop
 loop-holds : tie.Need-loop-holds Inv-loop μ-loop
 loop-holds c rows made = reach-starts _ _ _
 
-lowest-requires : tie.Need-lowest-requires Inv-loop μ-loop
-lowest-requires c κs = omega arith
-
 mul-some : tie.Need-mul-some Inv-loop μ-loop
 unfolding user-limit row-words
 mul-some c = omega (arith, c .lowest .ensures .within)
@@ -36,9 +33,6 @@ mul-some-2 c = omega (arith, c .lowest .ensures .within)
 element-copy-out-some : tie.Need-element-copy-out-some Inv-loop μ-loop
 unfolding user-limit row-words
 element-copy-out-some c = omega (arith, c .lowest .ensures .within)
-
-without-lowest-requires : tie.Need-without-lowest-requires Inv-loop μ-loop
-without-lowest-requires c κs = omega arith
 
 loop-less : tie.Need-loop-less Inv-loop μ-loop
 loop-less c = c .without-lowest .ensures .less
@@ -61,12 +55,12 @@ union-of-spec =
     Inv-loop
     μ-loop
     loop-holds
-    lowest-requires
+    (λ c κs. omega arith)
     mul-some
     add-some
     mul-some-2
     element-copy-out-some
-    without-lowest-requires
+    (λ c κs. omega arith)
     loop-less
     loop-again
     returns)

@@ -14,12 +14,6 @@ use Rattle.cells.specs.Laws.CellPlace.{fit-by-word}
 use Rattle.fit.proofs.fit.fitting.Statement.{statement}
 use Rattle.fit.proofs.fit.fitting.Tie as tie
 
-mul-other : tie.Need-mul-other
-mul-other c = search needs
-
-add-other : tie.Need-add-other
-add-other c = search needs
-
 mul-other-2 : tie.Need-mul-other-2
 unfolding user-limit row-words
 mul-other-2 c = omega arith
@@ -27,18 +21,6 @@ mul-other-2 c = omega arith
 element-copy-out-other : tie.Need-element-copy-out-other
 unfolding user-limit row-words
 element-copy-out-other c = omega arith
-
-has-requires : tie.Need-has-requires
-has-requires c κs = search needs
-
-mul-result : tie.Need-mul-result
-mul-result c = search needs
-
-add-result : tie.Need-add-result
-add-result c = search needs
-
-mul-result-2 : tie.Need-mul-result-2
-mul-result-2 c = search needs
 
 element-copy-out-result : tie.Need-element-copy-out-result
 unfolding user-limit row-words
@@ -68,14 +50,14 @@ pub fitting-spec : {M : Type 1} → statement M
 fitting-spec =
     tie.close
     (tie.spec
-    mul-other
-    add-other
+    (λ c. search needs)
+    (λ c. search needs)
     mul-other-2
     element-copy-out-other
-    has-requires
-    mul-result
-    add-result
-    mul-result-2
+    (λ c κs. search needs)
+    (λ c. search needs)
+    (λ c. search needs)
+    (λ c. search needs)
     element-copy-out-result
     returns
     returns-2)

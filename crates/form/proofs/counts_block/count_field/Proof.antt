@@ -8,15 +8,6 @@ use Rattle.form.specs.CountSteps.{count-at, no-comma-behind, no-count}
 use Rattle.form.proofs.counts_block.count_field.Statement.{statement}
 use Rattle.form.proofs.counts_block.count_field.Tie as tie
 
-part-end-requires : tie.Need-part-end-requires
-part-end-requires c κs = search needs
-
-enum-known-to : tie.Need-enum-known-to
-enum-known-to c = search needs
-
-enum-told : tie.Need-enum-told
-enum-told c = search needs
-
 returns : tie.Need-returns
 returns c = no-comma-behind (rw (c .enum-told .given .1) at (c .before .before .part-end .ensures))
 
@@ -32,15 +23,6 @@ part-count-of-start c = ended c .forward
 part-count-of-end : tie.Need-part-count-of-end
 part-count-of-end c = omega (arith, ended c .within)
 
-count-of-requires : tie.Need-count-of-requires
-count-of-requires c κs = search needs
-
-enum-known-n : tie.Need-enum-known-n
-enum-known-n c = search needs
-
-enum-told-2 : tie.Need-enum-told-2
-enum-told-2 c = search needs
-
 returns-2 : tie.Need-returns-2
 returns-2 c = no-count (ended (c .before .before .before .before)) (sym (c .enum-told2 .given .1) ∙ c .before .before .count-of .ensures)
 
@@ -54,16 +36,16 @@ pub count-field-spec : {M : Type 1} → statement M
 count-field-spec =
     tie.close
     (tie.spec
-    part-end-requires
-    enum-known-to
-    enum-told
+    (λ c κs. search needs)
+    (λ c. search needs)
+    (λ c. search needs)
     returns
     sub-count-of
     part-count-of-start
     part-count-of-end
-    count-of-requires
-    enum-known-n
-    enum-told-2
+    (λ c κs. search needs)
+    (λ c. search needs)
+    (λ c. search needs)
     returns-2
     add-t8
     returns-3)

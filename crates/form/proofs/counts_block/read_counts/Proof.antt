@@ -8,18 +8,6 @@ use Rattle.form.specs.CountSteps.{CountAt, standing-text, after-heading,
 use Rattle.form.proofs.counts_block.read_counts.Statement.{statement}
 use Rattle.form.proofs.counts_block.read_counts.Tie as tie
 
-slice-aggregate-expect : tie.Need-slice-aggregate-expect
-slice-aggregate-expect c = search needs
-
-expect-requires : tie.Need-expect-requires
-expect-requires c κs = search needs
-
-enum-known-first : tie.Need-enum-known-first
-enum-known-first c = search needs
-
-enum-told : tie.Need-enum-told
-enum-told c = search needs
-
 returns : tie.Need-returns
 returns c =
     λ role-digits bound-digits s p q. misses-first (after-heading role-digits bound-digits s) (rw (c .enum-told .given .1) at (c .before .before .expect .ensures))
@@ -30,12 +18,6 @@ heading c = rw (c .before .first .given .1) at (c .before .before .before .expec
 count-field-requires : tie.Need-count-field-requires
 count-field-requires c κs = heading c .within
 
-enum-known-roles : tie.Need-enum-known-roles
-enum-known-roles c = search needs
-
-enum-told-2 : tie.Need-enum-told-2
-enum-told-2 c = search needs
-
 returns-2 : tie.Need-returns-2
 returns-2 c = no-roles (heading (c .before .before .before)) (rw (c .enum-told2 .given .1) at (c .before .before .count-field .ensures))
 
@@ -45,12 +27,6 @@ roles c = rw (c .before .roles .given .1) at (c .before .before .before .count-f
 count-field-requires-2 : tie.Need-count-field-requires-2
 count-field-requires-2 c κs = roles c .reads .within
 
-enum-known-bound : tie.Need-enum-known-bound
-enum-known-bound c = search needs
-
-enum-told-3 : tie.Need-enum-told-3
-enum-told-3 c = search needs
-
 returns-3 : tie.Need-returns-3
 returns-3 c = no-bound (heading (c .before .before .before .before .before .before .before)) (roles (c .before .before .before)) (rw (c .enum-told3 .given .1) at (c .before .before .count-field2 .ensures))
 
@@ -59,12 +35,6 @@ bound c = rw (c .before .bound .given .1) at (c .before .before .before .count-f
 
 standing-field-requires : tie.Need-standing-field-requires
 standing-field-requires c κs = bound c .reads .within
-
-enum-known-standing : tie.Need-enum-known-standing
-enum-known-standing c = search needs
-
-enum-told-4 : tie.Need-enum-told-4
-enum-told-4 c = search needs
 
 returns-4 : tie.Need-returns-4
 returns-4 c =
@@ -76,12 +46,6 @@ standing c = rw (c .before .standing .given .1) at (c .before .before .before .s
 
 expect-byte-requires : tie.Need-expect-byte-requires
 expect-byte-requires c κs = standing c .within
-
-enum-known-next : tie.Need-enum-known-next
-enum-known-next c = search needs
-
-enum-told-5 : tie.Need-enum-told-5
-enum-told-5 c = search needs
 
 returns-5 : tie.Need-returns-5
 returns-5 c =
@@ -104,25 +68,25 @@ pub read-counts-spec : {M : Type 1} → statement M
 read-counts-spec =
     tie.close
     (tie.spec
-    slice-aggregate-expect
-    expect-requires
-    enum-known-first
-    enum-told
+    (λ c. search needs)
+    (λ c κs. search needs)
+    (λ c. search needs)
+    (λ c. search needs)
     returns
     count-field-requires
-    enum-known-roles
-    enum-told-2
+    (λ c. search needs)
+    (λ c. search needs)
     returns-2
     count-field-requires-2
-    enum-known-bound
-    enum-told-3
+    (λ c. search needs)
+    (λ c. search needs)
     returns-3
     standing-field-requires
-    enum-known-standing
-    enum-told-4
+    (λ c. search needs)
+    (λ c. search needs)
     returns-4
     expect-byte-requires
-    enum-known-next
-    enum-told-5
+    (λ c. search needs)
+    (λ c. search needs)
     returns-5
     returns-6)

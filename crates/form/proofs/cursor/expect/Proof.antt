@@ -25,9 +25,6 @@ loop-holds c =
     let a = c .args in
     (omega arith, omega (arith, c .pre), λ r e. rw (add-zero (a .at)) at e)
 
-add-if1 : tie.Need-add-if1 Inv-loop μ-loop
-add-if1 c = omega arith
-
 returns : tie.Need-returns Inv-loop μ-loop
 returns c =
     let a = c .before .before .before .args in
@@ -35,27 +32,12 @@ returns c =
     c .before .before .loop .inv .2 Off
     (rw (drop-cons (a .word .now) i 0 (omega arith)) (misses-at-end (a .book .now) (a .at + i) _ _ (c .if1 .taken)))
 
-add-if2 : tie.Need-add-if2 Inv-loop μ-loop
-add-if2 c = omega arith
-
-shared-slice-read-if2 : tie.Need-shared-slice-read-if2 Inv-loop μ-loop
-shared-slice-read-if2 c = omega arith
-
-shared-slice-read-if2-2 : tie.Need-shared-slice-read-if2-2 Inv-loop μ-loop
-shared-slice-read-if2-2 c = omega arith
-
 returns-2 : tie.Need-returns-2 Inv-loop μ-loop
 returns-2 c =
     let a = c .before .before .before .before .before .before .args in
     let i = c .before .before .before .before .before .loop .i in
     c .before .before .before .before .before .loop .inv .2 Off
     (rw (drop-cons (a .word .now) i 0 (omega arith)) (misses-byte (a .book .now) (a .at + i) _ _ (omega arith) (c .if2 .taken)))
-
-add-i : tie.Need-add-i Inv-loop μ-loop
-add-i c = omega arith
-
-loop-less : tie.Need-loop-less Inv-loop μ-loop
-loop-less c = omega arith
 
 loop-again : tie.Need-loop-again Inv-loop μ-loop
 loop-again c =
@@ -67,9 +49,6 @@ loop-again c =
           c .before .before .before .before .before .loop .inv .2 r
           (expects-next (a .book .now) (a .word .now) (a .at) i (omega arith) (omega arith) (c .if2 .left) r e),
     )
-
-add-t12 : tie.Need-add-t12 Inv-loop μ-loop
-add-t12 c = omega arith
 
 returns-3 : tie.Need-returns-3 Inv-loop μ-loop
 returns-3 c =
@@ -86,14 +65,14 @@ expect-spec =
     Inv-loop
     μ-loop
     loop-holds
-    add-if1
+    (λ c. omega arith)
     returns
-    add-if2
-    shared-slice-read-if2
-    shared-slice-read-if2-2
+    (λ c. omega arith)
+    (λ c. omega arith)
+    (λ c. omega arith)
     returns-2
-    add-i
-    loop-less
+    (λ c. omega arith)
+    (λ c. omega arith)
     loop-again
-    add-t12
+    (λ c. omega arith)
     returns-3)

@@ -8,16 +8,10 @@ use Rattle.form.proofs.cursor.expect_byte.Tie as tie
 returns : tie.Need-returns
 returns c = let a = c .before .args in misses-at-end (a .book .now) (a .at) (a .b) [] (c .if1 .taken)
 
-shared-slice-read-if2 : tie.Need-shared-slice-read-if2
-shared-slice-read-if2 c = search needs
-
 returns-2 : tie.Need-returns-2
 returns-2 c =
     let a = c .before .before .before .args in
     misses-byte (a .book .now) (a .at) (a .b) [] (search needs) (c .if2 .taken)
-
-add-t4 : tie.Need-add-t4
-add-t4 c = search needs
 
 returns-3 : tie.Need-returns-3
 returns-3 c =
@@ -25,4 +19,4 @@ returns-3 c =
     reads-this-byte (a .book .now) (a .at) (a .b) (search needs) (c .if2 .left)
 
 pub expect-byte-spec : {M : Type 1} → statement M
-expect-byte-spec = tie.close (tie.spec returns shared-slice-read-if2 returns-2 add-t4 returns-3)
+expect-byte-spec = tie.close (tie.spec returns (λ c. search needs) returns-2 (λ c. search needs) returns-3)

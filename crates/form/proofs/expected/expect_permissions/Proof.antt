@@ -34,12 +34,6 @@ loop-holds c = (omega arith, reads-nothing (c .before .before .before .before .b
 expect-byte-requires : tie.Need-expect-byte-requires Inv-loop μ-loop
 expect-byte-requires c κs = c .before .loop .inv .1 .within
 
-enum-known-start : tie.Need-enum-known-start Inv-loop μ-loop
-enum-known-start c = search needs
-
-enum-told : tie.Need-enum-told Inv-loop μ-loop
-enum-told c = search needs
-
 more : (c : tie.In-loop Inv-loop μ-loop) → c .before .loop .p < length (sheet-of (c .before .before .before .before .before .before .before .args .sheet .now) .permissions)
 more c = omega (arith, c .loop-test .taken, c .before .before .before .before .before .before .before .pre .1 .permission-total)
 
@@ -58,12 +52,6 @@ permission-name-in-requires c κs =
 
 expect-requires : tie.Need-expect-requires Inv-loop μ-loop
 expect-requires c κs = comma-there (c .before .before .before) .within
-
-enum-known-after : tie.Need-enum-known-after Inv-loop μ-loop
-enum-known-after c = search needs
-
-enum-told-2 : tie.Need-enum-told-2 Inv-loop μ-loop
-enum-told-2 c = search needs
 
 returns-2 : tie.Need-returns-2 Inv-loop μ-loop
 returns-2 c =
@@ -98,13 +86,13 @@ expect-permissions-spec =
     μ-loop
     loop-holds
     expect-byte-requires
-    enum-known-start
-    enum-told
+    (λ c. search needs)
+    (λ c. search needs)
     returns
     permission-name-in-requires
     expect-requires
-    enum-known-after
-    enum-told-2
+    (λ c. search needs)
+    (λ c. search needs)
     returns-2
     add-p
     loop-less

@@ -10,9 +10,6 @@ use Rattle.form.specs.Laws.RoleLimit.{roles-fit-a-row, role-name-short}
 use Rattle.form.proofs.expected.expect_role_name.Statement.{statement}
 use Rattle.form.proofs.expected.expect_role_name.Tie as tie
 
-slice-aggregate-put-role-name : tie.Need-slice-aggregate-put-role-name
-slice-aggregate-put-role-name c = search needs
-
 put-role-name-requires : tie.Need-put-role-name-requires
 put-role-name-requires c κs =
     let h = c .before .before .pre .1 in
@@ -35,9 +32,6 @@ slice-aggregate-expect c =
     let w = c .before .before .put-role-name in
     sym (length-take-le (w .result) (w .last .0) (name-within (c .before .before)))
 
-expect-requires : tie.Need-expect-requires
-expect-requires c κs = search needs
-
 returns : tie.Need-returns
 returns c =
     let w = c .before .before .before .put-role-name in
@@ -49,9 +43,9 @@ pub expect-role-name-spec : {M : Type 1} → statement M
 expect-role-name-spec =
     tie.close
     (tie.spec
-    slice-aggregate-put-role-name
+    (λ c. search needs)
     put-role-name-requires
     array-share-prefix-name
     slice-aggregate-expect
-    expect-requires
+    (λ c κs. search needs)
     returns)

@@ -28,12 +28,6 @@ loop-holds c = (omega arith, reads-nothing (c .before .args .book .now) (c .befo
 expect-byte-requires : tie.Need-expect-byte-requires Inv-loop μ-loop
 expect-byte-requires c κs = c .before .loop .inv .1 .within
 
-enum-known-name : tie.Need-enum-known-name Inv-loop μ-loop
-enum-known-name c = search needs
-
-enum-told : tie.Need-enum-told Inv-loop μ-loop
-enum-told c = search needs
-
 returns : tie.Need-returns Inv-loop μ-loop
 unfolding field
 returns c =
@@ -46,23 +40,11 @@ comma-there c = rw (c .before .name .given .1) at (c .before .before .before .ex
 expect-role-name-requires : tie.Need-expect-role-name-requires Inv-loop μ-loop
 expect-role-name-requires c κs = (comma-there c .within, omega (arith, c .before .before .before .before .before .before .before .pre .1, c .before .before .before .before .loop-test .taken))
 
-enum-known-after : tie.Need-enum-known-after Inv-loop μ-loop
-enum-known-after c = search needs
-
-enum-told-2 : tie.Need-enum-told-2 Inv-loop μ-loop
-enum-told-2 c = search needs
-
 returns-2 : tie.Need-returns-2 Inv-loop μ-loop
 unfolding field
 returns-2 c =
     misses-known (c .before .before .before .before .before .before .before .before .loop .r) (c .before .before .before .before .before .before .before .before .before .before .args .roles) field (c .before .before .before .before .before .before .before .loop-test .taken) (c .before .before .before .before .before .before .before .before .loop .inv .1)
     (misses-second (role-name (c .before .before .before .before .before .before .before .before .loop .r)) (comma-there (c .before .before .before)) (rw (c .enum-told2 .given .1) at (c .before .before .expect-role-name .ensures)))
-
-add-r : tie.Need-add-r Inv-loop μ-loop
-add-r c = omega arith
-
-loop-less : tie.Need-loop-less Inv-loop μ-loop
-loop-less c = omega arith
 
 loop-again : tie.Need-loop-again Inv-loop μ-loop
 unfolding field
@@ -84,14 +66,14 @@ expect-roles-spec =
     μ-loop
     loop-holds
     expect-byte-requires
-    enum-known-name
-    enum-told
+    (λ c. search needs)
+    (λ c. search needs)
     returns
     expect-role-name-requires
-    enum-known-after
-    enum-told-2
+    (λ c. search needs)
+    (λ c. search needs)
     returns-2
-    add-r
-    loop-less
+    (λ c. omega arith)
+    (λ c. omega arith)
     loop-again
     returns-3)

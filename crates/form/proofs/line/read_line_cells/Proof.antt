@@ -5,15 +5,6 @@ use Rattle.form.specs.LineSteps.{no-cells, cells-then-end}
 use Rattle.form.proofs.line.read_line_cells.Statement.{statement}
 use Rattle.form.proofs.line.read_line_cells.Tie as tie
 
-read-cells-requires : tie.Need-read-cells-requires
-read-cells-requires c κs = search needs
-
-enum-known-end : tie.Need-enum-known-end
-enum-known-end c = search needs
-
-enum-told : tie.Need-enum-told
-enum-told c = search needs
-
 same-length : tie.Need-same-length
 same-length c = c .before .before .before .before .read-cells .kept .1 .1 .0
 
@@ -37,9 +28,9 @@ pub read-line-cells-spec : {M : Type 1} → statement M
 read-line-cells-spec =
     tie.close
     (tie.spec
-    read-cells-requires
-    enum-known-end
-    enum-told
+    (λ c κs. search needs)
+    (λ c. search needs)
+    (λ c. search needs)
     same-length
     returns
     expect-byte-requires

@@ -13,12 +13,6 @@ use Rattle.form.proofs.roles_block.read_roles.Tie as tie
 roles-heading-requires : tie.Need-roles-heading-requires
 roles-heading-requires c κs = (c .before .before .before .pre .0 .0, c .before .before .before .pre .0 .1)
 
-enum-known-lines : tie.Need-enum-known-lines
-enum-known-lines c = search needs
-
-enum-told : tie.Need-enum-told
-enum-told c = search needs
-
 returns : tie.Need-returns
 returns c = no-roles-heading (sheet-of (c .before .before .before .before .before .before .args .sheet .now)) (rw (c .enum-told .given .1) at (c .before .before .roles-heading .ensures))
 
@@ -51,8 +45,8 @@ read-roles-spec =
     tie.close
     (tie.spec
     roles-heading-requires
-    enum-known-lines
-    enum-told
+    (λ c. search needs)
+    (λ c. search needs)
     returns
     role-lines-requires
     same-length

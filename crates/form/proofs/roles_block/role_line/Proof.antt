@@ -9,12 +9,6 @@ use Rattle.form.proofs.roles_block.role_line.Tie as tie
 expect-role-name-requires : tie.Need-expect-role-name-requires
 expect-role-name-requires c κs = (c .before .before .pre .0 .0, c .before .before .pre .0 .1)
 
-enum-known-cells : tie.Need-enum-known-cells
-enum-known-cells c = search needs
-
-enum-told : tie.Need-enum-told
-enum-told c = search needs
-
 returns : tie.Need-returns
 returns c = no-name (c .before .before .before .before .before .args .permissions) (rw (c .enum-told .given .1) at (c .before .before .expect-role-name .ensures))
 
@@ -37,8 +31,8 @@ role-line-spec =
     tie.close
     (tie.spec
     expect-role-name-requires
-    enum-known-cells
-    enum-told
+    (λ c. search needs)
+    (λ c. search needs)
     returns
     read-line-cells-requires
     same-length

@@ -25,17 +25,11 @@ loop-holds c = (omega arith, refl, lines-start role-name (c .before .before .arg
 expect-byte-requires : tie.Need-expect-byte-requires Inv-loop μ-loop
 expect-byte-requires c κs = c .loop .inv .2 .reads .within
 
-enum-known-end : tie.Need-enum-known-end Inv-loop μ-loop
-enum-known-end c = search needs
-
 same-length : tie.Need-same-length Inv-loop μ-loop
 same-length c = c .before .before .before .before .loop .inv .1
 
 returns : tie.Need-returns Inv-loop μ-loop
 returns c = roles-end (c .before .before .before .before .loop .inv .0) (c .before .before .before .before .loop .inv .2) (rw (c .before .end .given .1) at (c .before .before .before .expect-byte .ensures))
-
-enum-told : tie.Need-enum-told Inv-loop μ-loop
-enum-told c = search needs
 
 same-length-2 : tie.Need-same-length-2 Inv-loop μ-loop
 same-length-2 c = c .before .before .before .before .loop .inv .1
@@ -57,12 +51,6 @@ role-line-requires c κs = (
     c .before .before .before .before .before .loop .inv .2 .blank (c .before .before .before .before .before .loop .r) (omega arith),
   ),
 )
-
-enum-known-after : tie.Need-enum-known-after Inv-loop μ-loop
-enum-known-after c = search needs
-
-enum-told-2 : tie.Need-enum-told-2 Inv-loop μ-loop
-enum-told-2 c = search needs
 
 same-length-3 : tie.Need-same-length-3 Inv-loop μ-loop
 same-length-3 c = c .before .before .before .before .role-line .kept .1 .1 .0 ∙ c .before .before .before .before .before .before .before .before .before .before .loop .inv .1
@@ -94,15 +82,15 @@ role-lines-spec =
     μ-loop
     loop-holds
     expect-byte-requires
-    enum-known-end
+    (λ c. search needs)
     same-length
     returns
-    enum-told
+    (λ c. search needs)
     same-length-2
     returns-2
     role-line-requires
-    enum-known-after
-    enum-told-2
+    (λ c. search needs)
+    (λ c. search needs)
     same-length-3
     returns-3
     add-r

@@ -13,12 +13,6 @@ use Rattle.form.proofs.users_block.read_users.Tie as tie
 users-heading-requires : tie.Need-users-heading-requires
 users-heading-requires c κs = (c .before .before .before .pre .0 .0, c .before .before .before .pre .0 .2)
 
-enum-known-lines : tie.Need-enum-known-lines
-enum-known-lines c = search needs
-
-enum-told : tie.Need-enum-told
-enum-told c = search needs
-
 returns : tie.Need-returns
 returns c = no-users-heading (sheet-of (c .before .before .before .before .before .before .args .sheet .now)) (c .before .before .before .before .before .before .args .roles) (rw (c .enum-told .given .1) at (c .before .before .users-heading .ensures))
 
@@ -30,12 +24,6 @@ user-lines-requires c κs = (
   (heading (c .before) .within, c .before .before .before .before .before .before .before .before .pre .0 .1, omega (arith, roles-fit-a-row, c .before .before .before .before .before .before .before .before .pre .0 .2)),
   (c .before .before .before .before .before .before .before .before .pre .1 .0, c .before .before .before .before .before .before .before .before .pre .1 .1),
 )
-
-enum-known-end : tie.Need-enum-known-end
-enum-known-end c = search needs
-
-enum-told-2 : tie.Need-enum-told-2
-enum-told-2 c = search needs
 
 same-length : tie.Need-same-length
 same-length c = c .before .before .before .before .user-lines .kept .1 .1 .1 .1 .0
@@ -65,12 +53,12 @@ read-users-spec =
     tie.close
     (tie.spec
     users-heading-requires
-    enum-known-lines
-    enum-told
+    (λ c. search needs)
+    (λ c. search needs)
     returns
     user-lines-requires
-    enum-known-end
-    enum-told-2
+    (λ c. search needs)
+    (λ c. search needs)
     same-length
     returns-2
     expect-byte-requires

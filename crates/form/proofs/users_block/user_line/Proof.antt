@@ -12,12 +12,6 @@ user-name-in-requires c κs = (c .before .before .before .pre .0 .1, c .before .
 expect-requires : tie.Need-expect-requires
 expect-requires c κs = c .before .before .before .before .pre .0 .0
 
-enum-known-cells : tie.Need-enum-known-cells
-enum-known-cells c = search needs
-
-enum-told : tie.Need-enum-told
-enum-told c = search needs
-
 returns : tie.Need-returns
 returns c = no-name (c .before .before .before .before .before .before .before .args .roles) (rw (c .enum-told .given .1, c .before .before .before .user-name-in .ensures) at (c .before .before .expect .ensures))
 
@@ -42,8 +36,8 @@ user-line-spec =
     (tie.spec
     user-name-in-requires
     expect-requires
-    enum-known-cells
-    enum-told
+    (λ c. search needs)
+    (λ c. search needs)
     returns
     read-line-cells-requires
     same-length

@@ -36,12 +36,6 @@ user-line-requires c κs =
       ),
     )
 
-enum-known-after : tie.Need-enum-known-after Inv-loop μ-loop
-enum-known-after c = search needs
-
-enum-told : tie.Need-enum-told Inv-loop μ-loop
-enum-told c = search needs
-
 same-length : tie.Need-same-length Inv-loop μ-loop
 same-length c = c .before .before .before .before .user-line .kept .1 .1 .1 .1 .1 .0 ∙ c .before .before .before .before .before .before .before .before .before .loop .inv .1
 
@@ -79,8 +73,8 @@ user-lines-spec =
     μ-loop
     loop-holds
     user-line-requires
-    enum-known-after
-    enum-told
+    (λ c. search needs)
+    (λ c. search needs)
     same-length
     returns
     add-u

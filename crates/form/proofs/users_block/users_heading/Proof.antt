@@ -9,18 +9,6 @@ use Rattle.form.specs.Pieces.{role-fields}
 use Rattle.form.proofs.users_block.users_heading.Statement.{statement}
 use Rattle.form.proofs.users_block.users_heading.Tie as tie
 
-slice-aggregate-expect : tie.Need-slice-aggregate-expect
-slice-aggregate-expect c = search needs
-
-expect-requires : tie.Need-expect-requires
-expect-requires c κs = search needs
-
-enum-known-names : tie.Need-enum-known-names
-enum-known-names c = search needs
-
-enum-told : tie.Need-enum-told
-enum-told c = search needs
-
 returns : tie.Need-returns
 returns c =
     misses-first line-end
@@ -31,12 +19,6 @@ word c = rw (c .before .names .given .1) at (c .before .before .before .expect .
 
 expect-roles-requires : tie.Need-expect-roles-requires
 expect-roles-requires c κs = (word c .within, c .before .before .before .before .before .before .pre .1)
-
-enum-known-end : tie.Need-enum-known-end
-enum-known-end c = search needs
-
-enum-told-2 : tie.Need-enum-told-2
-enum-told-2 c = search needs
 
 returns-2 : tie.Need-returns-2
 returns-2 c =
@@ -58,14 +40,14 @@ pub users-heading-spec : {M : Type 1} → statement M
 users-heading-spec =
     tie.close
     (tie.spec
-    slice-aggregate-expect
-    expect-requires
-    enum-known-names
-    enum-told
+    (λ c. search needs)
+    (λ c κs. search needs)
+    (λ c. search needs)
+    (λ c. search needs)
     returns
     expect-roles-requires
-    enum-known-end
-    enum-told-2
+    (λ c. search needs)
+    (λ c. search needs)
     returns-2
     expect-byte-requires
     returns-3)

@@ -7,20 +7,8 @@ use Rattle.form.specs.WitnessSteps.{no-witness-heading, heading-then-lin
 use Rattle.form.proofs.witness_block.read_witness.Statement.{statement}
 use Rattle.form.proofs.witness_block.read_witness.Tie as tie
 
-slice-aggregate-expect : tie.Need-slice-aggregate-expect
-slice-aggregate-expect c = search needs
-
 expect-requires : tie.Need-expect-requires
 expect-requires c κs = c .before .before .before .pre .0
-
-enum-known-lines : tie.Need-enum-known-lines
-enum-known-lines c = search needs
-
-enum-told : tie.Need-enum-told
-enum-told c = search needs
-
-none-requires : tie.Need-none-requires
-none-requires c κs = search needs
 
 returns : tie.Need-returns
 returns c = no-witness-heading (sheet-of (c .before .before .before .before .before .before .before .args .sheet .now)) (rw (c .before .enum-told .given .1) at (c .before .before .before .expect .ensures))
@@ -40,11 +28,11 @@ pub read-witness-spec : {M : Type 1} → statement M
 read-witness-spec =
     tie.close
     (tie.spec
-    slice-aggregate-expect
+    (λ c. search needs)
     expect-requires
-    enum-known-lines
-    enum-told
-    none-requires
+    (λ c. search needs)
+    (λ c. search needs)
+    (λ c κs. search needs)
     returns
     witness-lines-requires
     returns-2)

@@ -12,15 +12,6 @@ use Rattle.form.specs.WitnessLineSteps.{no-comma-in-line, no-user, no-li
 use Rattle.form.proofs.witness_block.witness_line.Statement.{statement}
 use Rattle.form.proofs.witness_block.witness_line.Tie as tie
 
-part-end-requires : tie.Need-part-end-requires
-part-end-requires c κs = search needs
-
-enum-known-comma : tie.Need-enum-known-comma
-enum-known-comma c = search needs
-
-enum-told : tie.Need-enum-told
-enum-told c = search needs
-
 lawful : (c : tie.Start) → Lawful (sheet-of (c .args .sheet .now))
 lawful c = accepted-lawful (c .args .sheet .now) (c .pre .1 .0 .0 .accepts)
 
@@ -39,15 +30,6 @@ part-user-name-start c = first c .forward
 part-user-name-end : tie.Need-part-user-name-end
 part-user-name-end c = omega (arith, first c .within)
 
-find-user-in-requires : tie.Need-find-user-in-requires
-find-user-in-requires c κs = search needs
-
-enum-known-user : tie.Need-enum-known-user
-enum-known-user c = search needs
-
-enum-told-2 : tie.Need-enum-told-2
-enum-told-2 c = search needs
-
 returns-2 : tie.Need-returns-2
 returns-2 c =
     no-user (sheet-of (c .before .before .before .before .before .before .before .before .before .before .args .sheet .now)) (lawful (c .before .before .before .before .before .before .before .before .before .before)) (first (c .before .before .before .before))
@@ -58,12 +40,6 @@ add-start c = omega (arith, first (c .before .before .before .before .before) .w
 
 part-end-requires-2 : tie.Need-part-end-requires-2
 part-end-requires-2 c κs = omega (arith, first (c .before .before .before .before .before) .within)
-
-enum-known-end : tie.Need-enum-known-end
-enum-known-end c = search needs
-
-enum-told-3 : tie.Need-enum-told-3
-enum-told-3 c = search needs
 
 returns-3 : tie.Need-returns-3
 returns-3 c =
@@ -81,15 +57,6 @@ part-permission-name-start c = second c .forward
 
 part-permission-name-end : tie.Need-part-permission-name-end
 part-permission-name-end c = omega (arith, second c .within)
-
-find-permission-in-requires : tie.Need-find-permission-in-requires
-find-permission-in-requires c κs = search needs
-
-enum-known-permission : tie.Need-enum-known-permission
-enum-known-permission c = search needs
-
-enum-told-4 : tie.Need-enum-told-4
-enum-told-4 c = search needs
 
 returns-4 : tie.Need-returns-4
 returns-4 c =
@@ -110,28 +77,28 @@ pub witness-line-spec : {M : Type 1} → statement M
 witness-line-spec =
     tie.close
     (tie.spec
-    part-end-requires
-    enum-known-comma
-    enum-told
+    (λ c κs. search needs)
+    (λ c. search needs)
+    (λ c. search needs)
     returns
     sub-user-name
     part-user-name-start
     part-user-name-end
-    find-user-in-requires
-    enum-known-user
-    enum-told-2
+    (λ c κs. search needs)
+    (λ c. search needs)
+    (λ c. search needs)
     returns-2
     add-start
     part-end-requires-2
-    enum-known-end
-    enum-told-3
+    (λ c. search needs)
+    (λ c. search needs)
     returns-3
     sub-permission-name
     part-permission-name-start
     part-permission-name-end
-    find-permission-in-requires
-    enum-known-permission
-    enum-told-4
+    (λ c κs. search needs)
+    (λ c. search needs)
+    (λ c. search needs)
     returns-4
     add-t20
     returns-5)

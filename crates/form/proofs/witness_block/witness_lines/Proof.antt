@@ -30,9 +30,6 @@ turn c = c .before .before .before .before .before .before .before .before .befo
 abbrev call : tie.In-loop Inv-loop μ-loop → tie.Start Inv-loop μ-loop
 call c = c .before .before .before .before .before .before .before .before
 
-none-requires : tie.Need-none-requires Inv-loop μ-loop
-none-requires c κs = search needs
-
 loop-holds : tie.Need-loop-holds Inv-loop μ-loop
 loop-holds c =
     let start = c .before .before .before .before .before .before in
@@ -50,12 +47,6 @@ witness-line-requires c κs =
       ),
     )
 
-enum-known-line : tie.Need-enum-known-line Inv-loop μ-loop
-enum-known-line c = search needs
-
-enum-told : tie.Need-enum-told Inv-loop μ-loop
-enum-told c = search needs
-
 returns : tie.Need-returns Inv-loop μ-loop
 returns c =
     let here = c .before .before .before .before .before .before .before .before .before in
@@ -67,12 +58,6 @@ line : (c : tie.After-known-told Inv-loop μ-loop)
     → WitnessAt (sheet-of (call (turn c) .args .sheet .now)) (call (turn c) .args .book .now) (turn c .before .loop .next) (c .before .line .given .0 .0)
     (c .before .line .given .0 .1 .0)
 line c = rw (c .before .line .given .1) at (c .before .before .before .witness-line .ensures)
-
-mul-first : tie.Need-mul-first Inv-loop μ-loop
-mul-first c = search needs
-
-array-set-from-first : tie.Need-array-set-from-first Inv-loop μ-loop
-array-set-from-first c = search needs
 
 add-lines : tie.Need-add-lines Inv-loop μ-loop
 add-lines c = omega (arith, lines-bound (turn (c .before) .before .loop .inv), call (turn (c .before)) .good .0 .1)
@@ -105,14 +90,14 @@ witness-lines-spec =
     (tie.spec
     Inv-loop
     μ-loop
-    none-requires
+    (λ c κs. search needs)
     loop-holds
     witness-line-requires
-    enum-known-line
-    enum-told
+    (λ c. search needs)
+    (λ c. search needs)
     returns
-    mul-first
-    array-set-from-first
+    (λ c. search needs)
+    (λ c. search needs)
     add-lines
     loop-less
     loop-again

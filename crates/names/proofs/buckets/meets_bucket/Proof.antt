@@ -27,21 +27,6 @@ loop-holds : tie.Need-loop-holds Inv-loop μ-loop
 unfolding some-below
 loop-holds c = (omega arith, refl)
 
-mul-at : tie.Need-mul-at Inv-loop μ-loop
-mul-at c = omega arith
-
-add-at : tie.Need-add-at Inv-loop μ-loop
-add-at c = omega arith
-
-mul-meets-word : tie.Need-mul-meets-word Inv-loop μ-loop
-mul-meets-word c = omega arith
-
-element-copy-out-meets-word : tie.Need-element-copy-out-meets-word Inv-loop μ-loop
-element-copy-out-meets-word c = omega arith
-
-mul-meets-word-2 : tie.Need-mul-meets-word-2 Inv-loop μ-loop
-mul-meets-word-2 c = omega arith
-
 meets-word-requires : tie.Need-meets-word-requires Inv-loop μ-loop
 meets-word-requires c κs p l s =
     c .before .before .before .before .before .pre .0 .part (c .before .before .before .before .before .args .bucket) (c .before .before .loop .k) p (omega arith) l s
@@ -56,12 +41,6 @@ returns c =
     let k = c .before .before .before .before .loop .k in
     sym (some-below-intro (a .words) (met (a .s .now) (places-of (a .from .now) (a .to .now)) (a .table .now) (a .bucket) (a .name .now)) {i = k}
     (c .before .before .before .loop-test .taken) (sym (c .before .meets-word .ensures) ∙ c .if1 .taken))
-
-add-k : tie.Need-add-k Inv-loop μ-loop
-add-k c = omega arith
-
-loop-less : tie.Need-loop-less Inv-loop μ-loop
-loop-less c = omega arith
 
 loop-again : tie.Need-loop-again Inv-loop μ-loop
 loop-again c =
@@ -85,14 +64,14 @@ meets-bucket-spec =
     Inv-loop
     μ-loop
     loop-holds
-    mul-at
-    add-at
-    mul-meets-word
-    element-copy-out-meets-word
-    mul-meets-word-2
+    (λ c. omega arith)
+    (λ c. omega arith)
+    (λ c. omega arith)
+    (λ c. omega arith)
+    (λ c. omega arith)
     meets-word-requires
     returns
-    add-k
-    loop-less
+    (λ c. omega arith)
+    (λ c. omega arith)
     loop-again
     returns-2)

@@ -18,9 +18,6 @@ loop-holds : tie.Need-loop-holds Inv-loop μ-loop
 loop-holds c =
     let a = c .before .before .args in none-walked (a .s .now) (places-of (a .from .now) (a .to .now)) (a .word) (a .first) (a .name .now)
 
-lowest-requires : tie.Need-lowest-requires Inv-loop μ-loop
-lowest-requires c κs = omega arith
-
 -- the name at the lowest position stands in the text
 there : (c : tie.After-lowest Inv-loop μ-loop)
     → let a = c .before .before .before .before .before .args in
@@ -48,9 +45,6 @@ returns c =
     (c .before .before .before .lowest .ensures)
     (rw (c .before .before .part-at .ensures) at (sym (c .before .same-name .ensures) ∙ c .if1 .taken)))
 
-without-lowest-requires : tie.Need-without-lowest-requires Inv-loop μ-loop
-without-lowest-requires c κs = omega arith
-
 loop-less : tie.Need-loop-less Inv-loop μ-loop
 loop-less c = c .without-lowest .ensures .less
 
@@ -76,12 +70,12 @@ meets-word-spec =
     Inv-loop
     μ-loop
     loop-holds
-    lowest-requires
+    (λ c κs. omega arith)
     add-i
     part-at-requires
     same-name-requires
     returns
-    without-lowest-requires
+    (λ c κs. omega arith)
     loop-less
     loop-again
     returns-2)

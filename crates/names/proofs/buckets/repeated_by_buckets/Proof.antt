@@ -34,9 +34,6 @@ part-at-requires c κs = inside-part (c .before .before .before .pre) (c .before
 bucket-of-requires : tie.Need-bucket-of-requires Inv-loop μ-loop
 bucket-of-requires c κs = tt
 
-add-meets-bucket : tie.Need-add-meets-bucket Inv-loop μ-loop
-add-meets-bucket c = omega arith
-
 -- the name's bucket and its word there are within the table
 small : (c : tie.After-bucket-of Inv-loop μ-loop) → (c .bucket-of .result < bucket-count) × (c .before .before .before .loop .i / word-bits < bucket-words)
 unfolding user-limit
@@ -70,20 +67,11 @@ mul-with c = omega (arith, small (c .before .before .before))
 array-read-with : tie.Need-array-read-with Inv-loop μ-loop
 array-read-with c = omega (arith, small (c .before .before .before))
 
-with-requires : tie.Need-with-requires Inv-loop μ-loop
-with-requires c κs = omega arith
-
 mul-table : tie.Need-mul-table Inv-loop μ-loop
 mul-table c = omega (arith, small (c .before .before .before .before))
 
 array-write-table : tie.Need-array-write-table Inv-loop μ-loop
 array-write-table c = omega (arith, small (c .before .before .before .before))
-
-add-i : tie.Need-add-i Inv-loop μ-loop
-add-i c = omega arith
-
-loop-less : tie.Need-loop-less Inv-loop μ-loop
-loop-less c = omega arith
 
 loop-again : tie.Need-loop-again Inv-loop μ-loop
 loop-again c =
@@ -114,17 +102,17 @@ repeated-by-buckets-spec =
     loop-holds
     part-at-requires
     bucket-of-requires
-    add-meets-bucket
+    (λ c. omega arith)
     meets-bucket-requires
     returns
     mul-at
     add-at
     mul-with
     array-read-with
-    with-requires
+    (λ c κs. omega arith)
     mul-table
     array-write-table
-    add-i
-    loop-less
+    (λ c. omega arith)
+    (λ c. omega arith)
     loop-again
     returns-2)

@@ -28,9 +28,6 @@ loop-holds c = (omega arith, λ i j h k. absurd (not-suc-le-zero k))
 part-at-requires : tie.Need-part-at-requires Inv-loop μ-loop
 part-at-requires c κs = inside-part (c .before .before .before .pre .0) (c .before .loop .i) (c .loop-test .taken)
 
-full-requires : tie.Need-full-requires Inv-loop μ-loop
-full-requires c κs = omega arith
-
 meets-word-requires : tie.Need-meets-word-requires Inv-loop μ-loop
 meets-word-requires c κs p l s =
     let before = ltb-true p (c .before .before .before .loop .i) (sym (c .full .ensures p) ∙ s) in
@@ -44,12 +41,6 @@ returns c =
     sym (met-few (start .args .s .now) (places start) (start .args .count) (loop .i) (c .before .before .full .result) (c .before .before .before .before .loop-test .taken)
     (c .before .before .full .ensures) (c .before .before .before .part-at .result .now) (c .before .before .before .part-at .ensures)
     (sym (c .before .meets-word .ensures) ∙ c .if1 .taken))
-
-add-i : tie.Need-add-i Inv-loop μ-loop
-add-i c = omega arith
-
-loop-less : tie.Need-loop-less Inv-loop μ-loop
-loop-less c = omega arith
 
 loop-again : tie.Need-loop-again Inv-loop μ-loop
 loop-again c =
@@ -76,10 +67,10 @@ repeated-few-spec =
     μ-loop
     loop-holds
     part-at-requires
-    full-requires
+    (λ c κs. omega arith)
     meets-word-requires
     returns
-    add-i
-    loop-less
+    (λ c. omega arith)
+    (λ c. omega arith)
     loop-again
     returns-2)

@@ -15,12 +15,6 @@ there c = permissions-there (c .pre .0) (c .args .permissions) (c .pre .1)
 find-from-requires : tie.Need-find-from-requires
 find-from-requires c κs = let names = there (c .before .before) in (names .inside, names .apart)
 
-enum-known-i : tie.Need-enum-known-i
-enum-known-i c = search needs
-
-enum-told : tie.Need-enum-told
-enum-told c = search needs
-
 returns : tie.Need-returns
 returns c =
     let found = c .before .before .before in
@@ -36,4 +30,4 @@ returns-2 c =
     permission-nowhere (name-number (sheet-of (start .args .s .now) .permissions) (start .args .name .now)) (sym (c .enum-told .given .1) ∙ told)
 
 pub find-permission-in-spec : {M : Type 1} → statement M
-find-permission-in-spec = tie.close (tie.spec find-from-requires enum-known-i enum-told returns returns-2)
+find-permission-in-spec = tie.close (tie.spec find-from-requires (λ c. search needs) (λ c. search needs) returns returns-2)

@@ -38,12 +38,6 @@ returns c =
       equal = rw (c .before .before .part-at .ensures) at (sym (c .before .same-name .ensures) ∙ c .if1 .taken);
     }
 
-add-i : tie.Need-add-i Inv-loop μ-loop
-add-i c = omega arith
-
-loop-less : tie.Need-loop-less Inv-loop μ-loop
-loop-less c = omega arith
-
 loop-again : tie.Need-loop-again Inv-loop μ-loop
 loop-again c =
     let turn = c .before .before .before in
@@ -70,7 +64,7 @@ find-between-spec =
     part-at-requires
     same-name-requires
     returns
-    add-i
-    loop-less
+    (λ c. omega arith)
+    (λ c. omega arith)
     loop-again
     returns-2)

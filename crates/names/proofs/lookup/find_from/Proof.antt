@@ -16,21 +16,12 @@ use Rattle.names.proofs.lookup.find_from.Tie as tie
 abbrev places : tie.Start → Places
 places start = places-of (start .args .from .now) (start .args .to .now)
 
-find-between-requires : tie.Need-find-between-requires
-find-between-requires c κs = search needs
-
-enum-known-late : tie.Need-enum-known-late
-enum-known-late c = search needs
-
 returns : tie.Need-returns
 returns c =
     let start = c .before .before .before .before .before .before in
     let told = rw (c .before .late .given .1) at (c .before .before .before .find-between .ensures) in
     sym (ap found (stands-number (start .args .s .now) (places start) (start .args .name .now) (start .args .count) (start .pre .1) (start .args .first)
     (start .args .count) (c .before .late .given .0 .0) (le-refl (start .args .count)) told))
-
-enum-told : tie.Need-enum-told
-enum-told c = search needs
 
 -- the earlier part ends at `first`, or at the last name
 abbrev Ends : tie.Joined1 → Type 0
@@ -58,9 +49,9 @@ pub find-from-spec : {M : Type 1} → statement M
 find-from-spec =
     tie.close
     (tie.spec
-    find-between-requires
-    enum-known-late
+    (λ c κs. search needs)
+    (λ c. search needs)
     returns
-    enum-told
+    (λ c. search needs)
     find-between-requires-2
     returns-2)

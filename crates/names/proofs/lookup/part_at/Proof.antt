@@ -21,18 +21,6 @@ element-copy-out-end : tie.Need-element-copy-out-end
 unfolding user-limit
 element-copy-out-end c = c .before .pre .0
 
-sub-result : tie.Need-sub-result
-sub-result c = search needs
-
-part-result-start : tie.Need-part-result-start
-part-result-start c = search needs
-
-part-result-end : tie.Need-part-result-end
-part-result-end c = search needs
-
-returns : tie.Need-returns
-returns c = search needs
-
 pub part-at-spec : {M : Type 1} → statement M
 part-at-spec =
     tie.close
@@ -41,7 +29,7 @@ part-at-spec =
     element-copy-out-start
     mul-end
     element-copy-out-end
-    sub-result
-    part-result-start
-    part-result-end
-    returns)
+    (λ c. search needs)
+    (λ c. search needs)
+    (λ c. search needs)
+    (λ c. search needs))

@@ -12,18 +12,6 @@ use Rattle.play.proofs.lines.put_checked.Tie as tie
 abbrev numbers : tie.Start → List ℕ
 numbers s = let a = s .args .answer in a .number ∷ a .roles ∷ a .«witness_lines» ∷ []
 
-slice-aggregate-put-numbers-line : tie.Need-slice-aggregate-put-numbers-line
-slice-aggregate-put-numbers-line c = search needs
-
-slice-aggregate-put-numbers-line-2 : tie.Need-slice-aggregate-put-numbers-line-2
-slice-aggregate-put-numbers-line-2 c = search needs
-
-put-numbers-line-requires : tie.Need-put-numbers-line-requires
-put-numbers-line-requires c κs = search needs
-
-same-length : tie.Need-same-length
-same-length c = search needs
-
 returns : tie.Need-returns
 returns c =
     let f = c .before .before in
@@ -34,8 +22,8 @@ pub put-checked-spec : {M : Type 1} → statement M
 put-checked-spec =
     tie.close
     (tie.spec
-    slice-aggregate-put-numbers-line
-    slice-aggregate-put-numbers-line-2
-    put-numbers-line-requires
-    same-length
+    (λ c. search needs)
+    (λ c. search needs)
+    (λ c κs. search needs)
+    (λ c. search needs)
     returns)

@@ -44,30 +44,6 @@ behind-digits c =
       fits = omega (arith, eight b, spelled b .hex .ensures .0 .1, start b .pre, length-append (text b) (line-feed ∷ []));
     }
 
-hex-requires : tie.Need-hex-requires
-hex-requires c κs = search needs
-
-slice-aggregate-put-bytes : tie.Need-slice-aggregate-put-bytes
-slice-aggregate-put-bytes c = search needs
-
-put-bytes-requires : tie.Need-put-bytes-requires
-put-bytes-requires c κs = search needs
-
-sub-put-bytes : tie.Need-sub-put-bytes
-sub-put-bytes c = search needs
-
-part-put-bytes-start : tie.Need-part-put-bytes-start
-part-put-bytes-start c = search needs
-
-part-put-bytes-end : tie.Need-part-put-bytes-end
-part-put-bytes-end c = search needs
-
-array-share-prefix-text : tie.Need-array-share-prefix-text
-array-share-prefix-text c = search needs
-
-slice-aggregate-put-bytes-2 : tie.Need-slice-aggregate-put-bytes-2
-slice-aggregate-put-bytes-2 c = search needs
-
 put-bytes-requires-2 : tie.Need-put-bytes-requires-2
 put-bytes-requires-2 c κs = room-behind (behind-blank (c .before .before .before .before))
 
@@ -93,14 +69,14 @@ pub put-digest-spec : {M : Type 1} → statement M
 put-digest-spec =
     tie.close
     (tie.spec
-    hex-requires
-    slice-aggregate-put-bytes
-    put-bytes-requires
-    sub-put-bytes
-    part-put-bytes-start
-    part-put-bytes-end
-    array-share-prefix-text
-    slice-aggregate-put-bytes-2
+    (λ c κs. search needs)
+    (λ c. search needs)
+    (λ c κs. search needs)
+    (λ c. search needs)
+    (λ c. search needs)
+    (λ c. search needs)
+    (λ c. search needs)
+    (λ c. search needs)
     put-bytes-requires-2
     add-end
     slice-write-out

@@ -9,18 +9,6 @@ use Rattle.play.proofs.lines.put_front.Tie as tie
 abbrev start : tie.After-put-bytes → tie.Start
 start c = c .before .before .before .before .before
 
-put-bytes-requires : tie.Need-put-bytes-requires
-put-bytes-requires c κs = omega arith
-
-sub-put-numbers : tie.Need-sub-put-numbers
-sub-put-numbers c = search needs
-
-part-put-numbers-start : tie.Need-part-put-numbers-start
-part-put-numbers-start c = search needs
-
-part-put-numbers-end : tie.Need-part-put-numbers-end
-part-put-numbers-end c = search needs
-
 put-numbers-requires : tie.Need-put-numbers-requires
 put-numbers-requires c κs =
     let b = c .before .before .before in
@@ -38,9 +26,6 @@ add-result c =
     let n = c .before .before .put-numbers .ensures in
     omega (arith, end-within (behind-word (start b .args .numbers .now) (b .put-bytes .ensures) (n .0 .counted) (n .1) (start b .pre)) (n .0))
 
-same-length : tie.Need-same-length
-same-length c = search needs
-
 returns : tie.Need-returns
 returns c =
     let b = c .before .before .before .before .before .before in
@@ -53,11 +38,11 @@ pub put-front-spec : {M : Type 1} → statement M
 put-front-spec =
     tie.close
     (tie.spec
-    put-bytes-requires
-    sub-put-numbers
-    part-put-numbers-start
-    part-put-numbers-end
+    (λ c κs. omega arith)
+    (λ c. search needs)
+    (λ c. search needs)
+    (λ c. search needs)
     put-numbers-requires
     add-result
-    same-length
+    (λ c. search needs)
     returns)

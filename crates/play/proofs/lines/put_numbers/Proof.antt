@@ -31,18 +31,6 @@ sub-put-counted c = within-buffer (part-ready (c .before .loop .inv) (c .loop-te
 part-put-counted-start : tie.Need-part-put-counted-start Inv-loop μ-loop
 part-put-counted-start c = within-buffer (part-ready (c .before .loop .inv) (c .loop-test .taken))
 
-part-put-counted-end : tie.Need-part-put-counted-end Inv-loop μ-loop
-part-put-counted-end c = search needs
-
-slice-aggregate-put-counted : tie.Need-slice-aggregate-put-counted Inv-loop μ-loop
-slice-aggregate-put-counted c = search needs
-
-mul-put-counted : tie.Need-mul-put-counted Inv-loop μ-loop
-mul-put-counted c = search needs
-
-shared-slice-read-put-counted : tie.Need-shared-slice-read-put-counted Inv-loop μ-loop
-shared-slice-read-put-counted c = search needs
-
 put-counted-requires : tie.Need-put-counted-requires Inv-loop μ-loop
 put-counted-requires c κs =
     let turn = c .before .before .before in
@@ -52,12 +40,6 @@ add-at : tie.Need-add-at Inv-loop μ-loop
 add-at c =
     let turn = c .before .before .before .before .before .before in
     omega (arith, part-within (turn .before .loop .inv) (turn .loop-test .taken) (c .before .before .put-counted .ensures))
-
-add-i : tie.Need-add-i Inv-loop μ-loop
-add-i c = omega arith
-
-loop-less : tie.Need-loop-less Inv-loop μ-loop
-loop-less c = omega arith
 
 loop-again : tie.Need-loop-again Inv-loop μ-loop
 loop-again c =
@@ -81,14 +63,14 @@ put-numbers-spec =
     loop-holds
     sub-put-counted
     part-put-counted-start
-    part-put-counted-end
-    slice-aggregate-put-counted
-    mul-put-counted
-    shared-slice-read-put-counted
+    (λ c. search needs)
+    (λ c. search needs)
+    (λ c. search needs)
+    (λ c. search needs)
     put-counted-requires
     add-at
-    add-i
-    loop-less
+    (λ c. omega arith)
+    (λ c. omega arith)
     loop-again
     same-length
     returns)

@@ -16,17 +16,11 @@ behind : (c : tie.After-put-front)
     (c .put-front .result)
 behind c = behind-front (c .put-front .ensures .0) (omega (arith, c .put-front .ensures .1, start c .pre))
 
-put-front-requires : tie.Need-put-front-requires
-put-front-requires c κs = search needs
-
 slice-write-out : tie.Need-slice-write-out
 slice-write-out c = byte-within (behind (c .before .before))
 
 add-result : tie.Need-add-result
 add-result c = omega (arith, byte-within (behind (c .before .before)))
-
-same-length : tie.Need-same-length
-same-length c = search needs
 
 returns : tie.Need-returns
 returns c = then-byte (behind (c .before .before))
@@ -34,4 +28,4 @@ returns c = then-byte (behind (c .before .before))
 pub put-numbers-line-spec : {M : Type 1} → statement M
 put-numbers-line-spec =
     tie.close
-    (tie.spec put-front-requires slice-write-out add-result same-length returns)
+    (tie.spec (λ c κs. search needs) slice-write-out add-result (λ c. search needs) returns)

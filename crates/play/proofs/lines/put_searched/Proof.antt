@@ -32,27 +32,6 @@ behind : (c : tie.After-put-front)
     → WrittenSoFar (front (start c)) (ending (start c)) (start c .args .out .now) (c .put-front .last .0) (c .put-front .result)
 behind c = behind-front (c .put-front .ensures .0) (omega (arith, c .put-front .ensures .1, start c .pre, state-room (state-said (start c .args .answer .state))))
 
-cast-result : tie.Need-cast-result
-cast-result c = search needs
-
-slice-aggregate-put-front : tie.Need-slice-aggregate-put-front
-slice-aggregate-put-front c = search needs
-
-slice-aggregate-put-front-2 : tie.Need-slice-aggregate-put-front-2
-slice-aggregate-put-front-2 c = search needs
-
-put-front-requires : tie.Need-put-front-requires
-put-front-requires c κs = search needs
-
-sub-put-state : tie.Need-sub-put-state
-sub-put-state c = search needs
-
-part-put-state-start : tie.Need-part-put-state-start
-part-put-state-start c = search needs
-
-part-put-state-end : tie.Need-part-put-state-end
-part-put-state-end c = search needs
-
 put-state-requires : tie.Need-put-state-requires
 put-state-requires c κs =
     let f = c .before .before .before in
@@ -68,9 +47,6 @@ put-state-requires c κs =
 add-result : tie.Need-add-result
 add-result c = omega (arith, end-within (behind (c .before .before .before .before .before .before)) (c .before .before .put-state .ensures))
 
-same-length : tie.Need-same-length
-same-length c = search needs
-
 returns : tie.Need-returns
 returns c =
     let f = c .before .before .before .before .before .before in
@@ -82,14 +58,14 @@ pub put-searched-spec : {M : Type 1} → statement M
 put-searched-spec =
     tie.close
     (tie.spec
-    cast-result
-    slice-aggregate-put-front
-    slice-aggregate-put-front-2
-    put-front-requires
-    sub-put-state
-    part-put-state-start
-    part-put-state-end
+    (λ c. search needs)
+    (λ c. search needs)
+    (λ c. search needs)
+    (λ c κs. search needs)
+    (λ c. search needs)
+    (λ c. search needs)
+    (λ c. search needs)
     put-state-requires
     add-result
-    same-length
+    (λ c. search needs)
     returns)

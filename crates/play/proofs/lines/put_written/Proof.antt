@@ -44,27 +44,6 @@ digest-put c =
     written-as (ap (λ (n : ℕ). (blank ∷ digits 16 digest-digits n) ++ line-feed ∷ []) (summed (front-put c) .adler-32 .ensures))
     (c .before .before .put-digest .ensures)
 
-adler-32-requires : tie.Need-adler-32-requires
-adler-32-requires c κs = search needs
-
-slice-aggregate-put-front : tie.Need-slice-aggregate-put-front
-slice-aggregate-put-front c = search needs
-
-slice-aggregate-put-front-2 : tie.Need-slice-aggregate-put-front-2
-slice-aggregate-put-front-2 c = search needs
-
-put-front-requires : tie.Need-put-front-requires
-put-front-requires c κs = search needs
-
-sub-put-digest : tie.Need-sub-put-digest
-sub-put-digest c = search needs
-
-part-put-digest-start : tie.Need-part-put-digest-start
-part-put-digest-start c = search needs
-
-part-put-digest-end : tie.Need-part-put-digest-end
-part-put-digest-end c = search needs
-
 put-digest-requires : tie.Need-put-digest-requires
 put-digest-requires c κs =
     let f = c .before .before .before in
@@ -80,9 +59,6 @@ put-digest-requires c κs =
 add-result : tie.Need-add-result
 add-result c = omega (arith, end-within (behind (front-put c)) (digest-put c))
 
-same-length : tie.Need-same-length
-same-length c = search needs
-
 returns : tie.Need-returns
 returns c =
     let f = front-put c in
@@ -93,14 +69,14 @@ pub put-written-spec : {M : Type 1} → statement M
 put-written-spec =
     tie.close
     (tie.spec
-    adler-32-requires
-    slice-aggregate-put-front
-    slice-aggregate-put-front-2
-    put-front-requires
-    sub-put-digest
-    part-put-digest-start
-    part-put-digest-end
+    (λ c κs. search needs)
+    (λ c. search needs)
+    (λ c. search needs)
+    (λ c κs. search needs)
+    (λ c. search needs)
+    (λ c. search needs)
+    (λ c. search needs)
     put-digest-requires
     add-result
-    same-length
+    (λ c. search needs)
     returns)

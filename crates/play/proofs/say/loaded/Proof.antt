@@ -4,31 +4,19 @@ use Rattle.porvuund.specs.Laws.Front.{count-within, front-counted}
 use Rattle.play.proofs.say.loaded.Statement.{statement}
 use Rattle.play.proofs.say.loaded.Tie as tie
 
-slice-aggregate-put-loaded : tie.Need-slice-aggregate-put-loaded
-slice-aggregate-put-loaded c = search needs
-
-put-loaded-requires : tie.Need-put-loaded-requires
-put-loaded-requires c κs = search needs
-
 array-share-prefix-out : tie.Need-array-share-prefix-out
 array-share-prefix-out c = count-within (c .before .put-loaded .ensures)
 
 slice-aggregate-write-all : tie.Need-slice-aggregate-write-all
 slice-aggregate-write-all c = front-counted (c .before .before .put-loaded .ensures)
 
-write-all-requires : tie.Need-write-all-requires
-write-all-requires c κs = search needs
-
-returns : tie.Need-returns
-returns c = search needs
-
 pub loaded-spec : {M : Type 1} → statement M
 loaded-spec =
     tie.close
     (tie.spec
-    slice-aggregate-put-loaded
-    put-loaded-requires
+    (λ c. search needs)
+    (λ c κs. search needs)
     array-share-prefix-out
     slice-aggregate-write-all
-    write-all-requires
-    returns)
+    (λ c κs. search needs)
+    (λ c. search needs))

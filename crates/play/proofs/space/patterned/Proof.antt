@@ -15,18 +15,6 @@ abbrev μ-loop : tie.MeasureT-loop
 loop-holds : tie.Need-loop-holds Inv-loop μ-loop
 loop-holds c = (omega arith, pattern-starts _ (search needs))
 
-pattern-byte-requires : tie.Need-pattern-byte-requires Inv-loop μ-loop
-pattern-byte-requires c κs = omega arith
-
-array-write-space : tie.Need-array-write-space Inv-loop μ-loop
-array-write-space c = omega arith
-
-add-i : tie.Need-add-i Inv-loop μ-loop
-add-i c = omega arith
-
-loop-less : tie.Need-loop-less Inv-loop μ-loop
-loop-less c = omega arith
-
 loop-again : tie.Need-loop-again Inv-loop μ-loop
 loop-again c =
     let at = c .before .before .loop in
@@ -44,9 +32,9 @@ patterned-spec =
     Inv-loop
     μ-loop
     loop-holds
-    pattern-byte-requires
-    array-write-space
-    add-i
-    loop-less
+    (λ c κs. omega arith)
+    (λ c. omega arith)
+    (λ c. omega arith)
+    (λ c. omega arith)
     loop-again
     returns)

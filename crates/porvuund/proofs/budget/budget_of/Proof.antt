@@ -5,15 +5,6 @@ use Rattle.porvuund.specs.BudgetRead.{budget-if-number, budget-if-none}
 use Rattle.porvuund.proofs.budget.budget_of.Statement.{statement}
 use Rattle.porvuund.proofs.budget.budget_of.Tie as tie
 
-read-budget-requires : tie.Need-read-budget-requires
-read-budget-requires c κs = search needs
-
-enum-known-n : tie.Need-enum-known-n
-enum-known-n c = search needs
-
-enum-told : tie.Need-enum-told
-enum-told c = search needs
-
 returns : tie.Need-returns
 returns c =
     let read = c .before .before .before in
@@ -25,4 +16,4 @@ returns-2 c =
     budget-if-none (read .before .before .args .word .now) (sym (c .enum-told .given .1) ∙ read .read-budget .ensures)
 
 pub budget-of-spec : {M : Type 1} → statement M
-budget-of-spec = tie.close (tie.spec read-budget-requires enum-known-n enum-told returns returns-2)
+budget-of-spec = tie.close (tie.spec (λ c κs. search needs) (λ c. search needs) (λ c. search needs) returns returns-2)

@@ -10,12 +10,6 @@ use Rattle.porvuund.proofs.budget.read_budget.Tie as tie
 returns : tie.Need-returns
 returns c = sym (no-digits (c .before .before .args .word .now) (c .if1 .taken))
 
-digits-of-requires : tie.Need-digits-of-requires
-digits-of-requires c κs = search needs
-
-cast-t6 : tie.Need-cast-t6
-cast-t6 c = search needs
-
 returns-2 : tie.Need-returns-2
 unfolding budget-cap
 returns-2 c =
@@ -33,4 +27,4 @@ returns-3 c =
     sym (budget-missing s (c .before .before .if1 .left) (rw e at great))
 
 pub read-budget-spec : {M : Type 1} → statement M
-read-budget-spec = tie.close (tie.spec returns digits-of-requires cast-t6 returns-2 returns-3)
+read-budget-spec = tie.close (tie.spec returns (λ c κs. search needs) (λ c. search needs) returns-2 returns-3)

@@ -9,12 +9,6 @@ mul-m : tie.Need-mul-m
 unfolding budget-cap
 mul-m c = omega arith
 
-sub-m : tie.Need-sub-m
-sub-m c = search needs
-
-cast-m : tie.Need-cast-m
-cast-m c = search needs
-
 add-m : tie.Need-add-m
 unfolding budget-cap
 add-m c = omega arith
@@ -28,4 +22,4 @@ unfolding budget-cap
 returns-2 c = omega arith
 
 pub with-digit-spec : {M : Type 1} → statement M
-with-digit-spec = tie.close (tie.spec mul-m sub-m cast-m add-m returns returns-2)
+with-digit-spec = tie.close (tie.spec mul-m (λ c. search needs) (λ c. search needs) add-m returns returns-2)

@@ -12,26 +12,11 @@ start c = c .before .before .before .before
 sheet-number : (c : tie.After-load) → c .load .result .answer .number ≡ refusal (start c .args .sheet .now)
 sheet-number c = loaded-number (start c .args .sheet .now) (c .load .ensures .0)
 
-fresh-requires : tie.Need-fresh-requires
-fresh-requires c κs = search needs
-
-load-requires : tie.Need-load-requires
-load-requires c κs = search needs
-
 returns : tie.Need-returns
 returns c =
     let l = c .before in
     let s = start l in
     refused-by-load (s .args .sheet .now) (s .args .budget) (s .args .out .now) (l .load .result .answer .number) (sheet-number l) (c .if1 .taken)
-
-search-requires : tie.Need-search-requires
-search-requires c κs = search needs
-
-write-requires : tie.Need-write-requires
-write-requires c κs = search needs
-
-same-length : tie.Need-same-length
-same-length c = search needs
 
 returns-2 : tie.Need-returns-2
 returns-2 c =
@@ -46,10 +31,10 @@ pub porvuund-book-spec : {M : Type 1} → statement M
 porvuund-book-spec =
     tie.close
     (tie.spec
-    fresh-requires
-    load-requires
+    (λ c κs. search needs)
+    (λ c κs. search needs)
     returns
-    search-requires
-    write-requires
-    same-length
+    (λ c κs. search needs)
+    (λ c κs. search needs)
+    (λ c. search needs)
     returns-2)

@@ -29,11 +29,8 @@ slice-write-out c = byte-within (behind-digits (c .before .before))
 add-result : tie.Need-add-result
 add-result c = omega (arith, byte-within (behind-digits (c .before .before)))
 
-same-length : tie.Need-same-length
-same-length c = search needs
-
 returns : tie.Need-returns
 returns c = then-byte (behind-digits (c .before .before))
 
 pub put-number-line-spec : {M : Type 1} → statement M
-put-number-line-spec = tie.close (tie.spec put-decimal-requires slice-write-out add-result same-length returns)
+put-number-line-spec = tie.close (tie.spec put-decimal-requires slice-write-out add-result (λ c. search needs) returns)

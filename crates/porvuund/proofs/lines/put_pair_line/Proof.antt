@@ -52,9 +52,6 @@ sub-put-number-line c = within-buffer (behind-comma c)
 part-put-number-line-start : tie.Need-part-put-number-line-start
 part-put-number-line-start c = within-buffer (behind-comma c)
 
-part-put-number-line-end : tie.Need-part-put-number-line-end
-part-put-number-line-end c = search needs
-
 put-number-line-requires : tie.Need-put-number-line-requires
 put-number-line-requires c κs = room-behind (behind-comma (c .before))
 
@@ -76,7 +73,7 @@ put-pair-line-spec =
     add-from
     sub-put-number-line
     part-put-number-line-start
-    part-put-number-line-end
+    (λ c. search needs)
     put-number-line-requires
     add-result
     same-length

@@ -25,12 +25,6 @@ books : (c : tie.After-porvuund-book)
     Books (s .args .sheet .now) (budget-of (s .args .word .now ∷ [])) (s .args .out .now) (book-said (c .porvuund-book .result)) (c .porvuund-book .last .1 .1 .0)
 books c = rw (c .before .before .budget-of .ensures) at (c .porvuund-book .ensures)
 
-budget-of-requires : tie.Need-budget-of-requires
-budget-of-requires c κs = search needs
-
-porvuund-book-requires : tie.Need-porvuund-book-requires
-porvuund-book-requires c κs = search needs
-
 returns : tie.Need-returns
 returns c =
     let b = c .before .before in
@@ -53,4 +47,4 @@ returns-2 c =
 pub book-output-spec : {M : Type 1} → statement M
 book-output-spec =
     tie.close
-    (tie.spec budget-of-requires porvuund-book-requires returns put-number-line-requires returns-2)
+    (tie.spec (λ c κs. search needs) (λ c κs. search needs) returns put-number-line-requires returns-2)

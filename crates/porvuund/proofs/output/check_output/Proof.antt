@@ -12,9 +12,6 @@ use Rattle.porvuund.proofs.output.check_output.Tie as tie
 abbrev start : tie.After-porvuund-check → tie.Start
 start c = c .before .before .before
 
-porvuund-check-requires : tie.Need-porvuund-check-requires
-porvuund-check-requires c κs = search needs
-
 put-pair-line-requires : tie.Need-put-pair-line-requires
 put-pair-line-requires c κs =
     let known = c .before .before .struct-known .given in
@@ -45,7 +42,7 @@ pub check-output-spec : {M : Type 1} → statement M
 check-output-spec =
     tie.close
     (tie.spec
-    porvuund-check-requires
+    (λ c κs. search needs)
     put-pair-line-requires
     returns
     put-number-line-requires

@@ -5,12 +5,6 @@ use Rattle.porvuund.specs.SearchNumbers.{searches-as}
 use Rattle.porvuund.proofs.sessions.porvuund_search.Statement.{statement}
 use Rattle.porvuund.proofs.sessions.porvuund_search.Tie as tie
 
-search-requires : tie.Need-search-requires
-search-requires c κs = search needs
-
-number-of-requires : tie.Need-number-of-requires
-number-of-requires c κs = search needs
-
 returns : tie.Need-returns
 returns c =
     let searched = c .before .before .before .search .ensures in (
@@ -19,4 +13,4 @@ returns c =
     )
 
 pub porvuund-search-spec : {M : Type 1} → statement M
-porvuund-search-spec = tie.close (tie.spec search-requires number-of-requires returns)
+porvuund-search-spec = tie.close (tie.spec (λ c κs. search needs) (λ c κs. search needs) returns)

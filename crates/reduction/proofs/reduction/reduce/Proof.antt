@@ -17,11 +17,8 @@ sweeps-requires c κs = (
   refl,
 )
 
-count-singles-requires : tie.Need-count-singles-requires
-count-singles-requires c κs = search needs
-
 returns : tie.Need-returns
 returns c = settled-reduced (c .before .before .before .sweeps .ensures) (c .count-singles .ensures)
 
 pub reduce-spec : {M : Type 1} → statement M
-reduce-spec = tie.close (tie.spec columns-of-requires sweeps-requires count-singles-requires returns)
+reduce-spec = tie.close (tie.spec columns-of-requires sweeps-requires (λ c κs. search needs) returns)

@@ -10,18 +10,9 @@ use Rattle.verdict.specs.Laws.ReductionRemove.{bit-cleared}
 use Rattle.reduction.proofs.reduction.remove.Statement.{statement}
 use Rattle.reduction.proofs.reduction.remove.Tie as tie
 
-mul-without : tie.Need-mul-without
-mul-without c = search needs
-
 element-copy-out-without : tie.Need-element-copy-out-without
 unfolding user-limit row-words
 element-copy-out-without c = omega arith
-
-without-requires : tie.Need-without-requires
-without-requires c κs = search needs
-
-mul-left : tie.Need-mul-left
-mul-left c = search needs
 
 element-write-left : tie.Need-element-write-left
 unfolding user-limit row-words
@@ -75,10 +66,10 @@ pub remove-spec : {M : Type 1} → statement M
 remove-spec =
     tie.close
     (tie.spec
-    mul-without
+    (λ c. search needs)
     element-copy-out-without
-    without-requires
-    mul-left
+    (λ c κs. search needs)
+    (λ c. search needs)
     element-write-left
     cast-removed
     mul-removed

@@ -45,9 +45,6 @@ mul-at : tie.Need-mul-at Inv-loop μ-loop
 unfolding user-limit row-words
 mul-at c = omega (arith, c .before .before .before .before .before .before .pre .0 .few-users)
 
-lowest-requires : tie.Need-lowest-requires Inv-loop μ-loop
-lowest-requires c κs = omega arith
-
 add-at : tie.Need-add-at Inv-loop μ-loop
 unfolding user-limit row-words
 add-at c = omega (arith, c .before .before .before .before .before .before .before .pre .0 .few-users, c .lowest .ensures .within)
@@ -64,9 +61,6 @@ visit-requires c κs =
       at .0 .set (low .result) (low .ensures .within) (low .ensures .holds),
       rw (digits-div i (low .ensures .within)) (at .1),
     )
-
-without-lowest-requires : tie.Need-without-lowest-requires Inv-loop μ-loop
-without-lowest-requires c κs = omega arith
 
 loop-less : tie.Need-loop-less Inv-loop μ-loop
 loop-less c = c .without-lowest .ensures .less
@@ -92,10 +86,10 @@ sweep-word-spec =
     insides-requires
     loop-holds
     mul-at
-    lowest-requires
+    (λ c κs. omega arith)
     add-at
     visit-requires
-    without-lowest-requires
+    (λ c κs. omega arith)
     loop-less
     loop-again
     returns-2)

@@ -6,22 +6,10 @@ use Rattle.verdict.specs.declared.judgement.Verdict.the-variants.{Tied}
 use Rattle.reduction.proofs.reduction.visit.Statement.{statement}
 use Rattle.reduction.proofs.reduction.visit.Tie as tie
 
-judge-requires : tie.Need-judge-requires
-judge-requires c κs = search needs
-
-enum-told : tie.Need-enum-told
-enum-told c = search needs
-
-enum-told-2 : tie.Need-enum-told-2
-enum-told-2 c = search needs
-
 remove-requires : tie.Need-remove-requires
 remove-requires c κs =
     let given = c .before .before .before .before .before .before .before .pre in
     removable (given .0) (given .2) (given .3) (given .2)
-
-enum-known-other : tie.Need-enum-known-other
-enum-known-other c = search needs
 
 -- what is judged of a grant that is tied
 judged-tied : (c : tie.After-other) →
@@ -51,11 +39,11 @@ pub visit-spec : {M : Type 1} → statement M
 visit-spec =
     tie.close
     (tie.spec
-    judge-requires
-    enum-told
-    enum-told-2
+    (λ c κs. search needs)
+    (λ c. search needs)
+    (λ c. search needs)
     remove-requires
-    enum-known-other
+    (λ c. search needs)
     remove-requires-2
     returns
     returns-2

@@ -20,26 +20,8 @@ loop-holds c =
     let start = c .before .before in
     rw (c .none .ensures) (body-starts (start .args .s .now) (start .args .at) (start .args .width) (start .pre))
 
-read-line-requires : tie.Need-read-line-requires Inv-loop μ-loop
-read-line-requires c κs = omega arith
-
-sub-name-length : tie.Need-sub-name-length Inv-loop μ-loop
-sub-name-length c = omega arith
-
-part-name-length-start : tie.Need-part-name-length-start Inv-loop μ-loop
-part-name-length-start c = omega arith
-
-part-name-length-end : tie.Need-part-name-length-end Inv-loop μ-loop
-part-name-length-end c = omega arith
-
 name-length-requires : tie.Need-name-length-requires Inv-loop μ-loop
 name-length-requires c κs = tt
-
-with-requires : tie.Need-with-requires Inv-loop μ-loop
-with-requires c κs = omega arith
-
-loop-less : tie.Need-loop-less Inv-loop μ-loop
-loop-less c = omega arith
 
 loop-again : tie.Need-loop-again Inv-loop μ-loop
 loop-again c =
@@ -64,12 +46,12 @@ read-body-spec =
     μ-loop
     none-requires
     loop-holds
-    read-line-requires
-    sub-name-length
-    part-name-length-start
-    part-name-length-end
+    (λ c κs. omega arith)
+    (λ c. omega arith)
+    (λ c. omega arith)
+    (λ c. omega arith)
     name-length-requires
-    with-requires
-    loop-less
+    (λ c κs. omega arith)
+    (λ c. omega arith)
     loop-again
     returns)

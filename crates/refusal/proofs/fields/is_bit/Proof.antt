@@ -4,17 +4,8 @@ use mathlib.Core.Path.{sym, _∙_}
 use Rattle.refusal.proofs.fields.is_bit.Statement.{statement}
 use Rattle.refusal.proofs.fields.is_bit.Tie as tie
 
-slice-aggregate-same-bytes : tie.Need-slice-aggregate-same-bytes
-slice-aggregate-same-bytes c = search needs
-
-same-bytes-requires : tie.Need-same-bytes-requires
-same-bytes-requires c κs = search needs
-
 returns : tie.Need-returns
 returns c = rw (sym (c .before .same-bytes .ensures) ∙ c .if1 .taken)
-
-is-one-requires : tie.Need-is-one-requires
-is-one-requires c κs = search needs
 
 returns-2 : tie.Need-returns-2
 returns-2 c = rw (sym (c .before .before .same-bytes .ensures) ∙ c .before .if1 .left) (c .is-one .ensures)
@@ -22,4 +13,4 @@ returns-2 c = rw (sym (c .before .before .same-bytes .ensures) ∙ c .before .if
 pub is-bit-spec : {M : Type 1} → statement M
 is-bit-spec =
     tie.close
-    (tie.spec slice-aggregate-same-bytes same-bytes-requires returns is-one-requires returns-2)
+    (tie.spec (λ c. search needs) (λ c κs. search needs) returns (λ c κs. search needs) returns-2)

@@ -55,9 +55,6 @@ part-with-start c = omega (arith, read c)
 part-with-end : tie.Need-part-with-end Inv-loop μ-loop
 part-with-end c = omega (arith, read c)
 
-with-requires : tie.Need-with-requires Inv-loop μ-loop
-with-requires c κs = omega arith
-
 loop-less : tie.Need-loop-less Inv-loop μ-loop
 loop-less c = omega (arith, read (c .before .before .before))
 
@@ -94,7 +91,7 @@ read-line-spec =
     sub-with
     part-with-start
     part-with-end
-    with-requires
+    (λ c κs. omega arith)
     loop-less
     loop-again
     returns)

@@ -22,9 +22,6 @@ loop-holds c =
     let start = c .before .before in
     noting-starts user-limit (start .args .s .now) (start .args .at) (c .none .result) (c .none .ensures) (start .pre .0)
 
-read-line-requires : tie.Need-read-line-requires Inv-loop μ-loop
-read-line-requires c κs = omega arith
-
 room : (c : tie.After-read-line Inv-loop μ-loop) → c .before .before .loop .n < user-limit
 room c =
     let start = c .before .before .before .before .before in
@@ -56,9 +53,6 @@ add-n : tie.Need-add-n Inv-loop μ-loop
 unfolding user-limit
 add-n c = omega (arith, room c)
 
-loop-less : tie.Need-loop-less Inv-loop μ-loop
-loop-less c = omega arith
-
 loop-again : tie.Need-loop-again Inv-loop μ-loop
 loop-again c =
     let start = c .before .before .before .before .before in
@@ -81,12 +75,12 @@ user-places-spec =
     μ-loop
     none-requires
     loop-holds
-    read-line-requires
+    (λ c κs. omega arith)
     mul-places
     element-write-places
     mul-places-2
     element-write-places-2
     add-n
-    loop-less
+    (λ c. omega arith)
     loop-again
     returns)

@@ -9,17 +9,8 @@ use Rattle.refusal.proofs.refusal.has_bad_bytes.Tie as tie
 returns : tie.Need-returns
 returns c = sym (no-bytes-bad (c .before .before .args .s .now) (c .if1 .taken))
 
-sub-last : tie.Need-sub-last
-sub-last c = search needs
-
-shared-slice-read-if2 : tie.Need-shared-slice-read-if2
-shared-slice-read-if2 c = search needs
-
 returns-2 : tie.Need-returns-2
 returns-2 c = rw (some-bytes-bad (c .before .before .before .before .args .s .now) (c .before .before .if1 .left), ne-eqb _ _ (c .if2 .taken))
-
-all-allowed-requires : tie.Need-all-allowed-requires
-all-allowed-requires c κs = search needs
 
 returns-3 : tie.Need-returns-3
 returns-3 c =
@@ -32,4 +23,4 @@ returns-3 c =
 pub has-bad-bytes-spec : {M : Type 1} → statement M
 has-bad-bytes-spec =
     tie.close
-    (tie.spec returns sub-last shared-slice-read-if2 returns-2 all-allowed-requires returns-3)
+    (tie.spec returns (λ c. search needs) (λ c. search needs) returns-2 (λ c κs. search needs) returns-3)

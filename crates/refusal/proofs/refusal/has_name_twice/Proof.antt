@@ -14,9 +14,6 @@ use Rattle.names.specs.Laws.NamesAt.{placed-names, placed-inside}
 use Rattle.refusal.proofs.refusal.has_name_twice.Statement.{statement}
 use Rattle.refusal.proofs.refusal.has_name_twice.Tie as tie
 
-user-places-requires : tie.Need-user-places-requires
-user-places-requires c κs = search needs
-
 abbrev users : (c : tie.Start) → List Bytes
 users c = map first-field (lines-of (drop (c .args .head .next) (c .args .s .now)))
 
@@ -85,7 +82,7 @@ pub has-name-twice-spec : {M : Type 1} → statement M
 has-name-twice-spec =
     tie.close
     (tie.spec
-    user-places-requires
+    (λ c κs. search needs)
     repeated-requires
     returns
     permission-places-requires

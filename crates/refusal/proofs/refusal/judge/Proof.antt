@@ -31,22 +31,13 @@ past-1 c = rw (refusal-in-turn (text c), le-ltb _ _ (c .if1 .left))
 
 -- ---- 2
 
-has-bad-bytes-requires : tie.Need-has-bad-bytes-requires
-has-bad-bytes-requires c κs = search needs
-
 returns-2 : tie.Need-returns-2
 returns-2 c = rw (past-1 (c .before .before), sym (c .before .has-bad-bytes .ensures) ∙ c .if2 .taken)
 
 past-2 : (c : tie.Else2) → refusal (text (c .before .before)) ≡ causes-from-3 (text (c .before .before))
 past-2 c = rw (past-1 (c .before .before), sym (c .before .has-bad-bytes .ensures) ∙ c .if2 .left)
 
-read-line-requires : tie.Need-read-line-requires
-read-line-requires c κs = search needs
-
 -- ---- 3
-
-good-first-line-requires : tie.Need-good-first-line-requires
-good-first-line-requires c κs = search needs
 
 head-read : (c : tie.After-read-line) → HeadRead (text (c .before .before .before)) (c .read-line .result)
 head-read c =
@@ -66,9 +57,6 @@ returns-3 c = rw (past-2 (c .before .before .before), is-3 (c .before) ∙ c .if
 past-3 : (c : tie.Else3) → refusal (text (c .before .before .before .before .before)) ≡ causes-from-4 (text (c .before .before .before .before .before))
 past-3 c = rw (past-2 (c .before .before .before), is-3 (c .before) ∙ c .if3 .left)
 
-read-body-requires : tie.Need-read-body-requires
-read-body-requires c κs = search needs
-
 -- ---- 4
 
 abbrev sheet-bytes : tie.After-read-body → Bytes
@@ -76,9 +64,6 @@ sheet-bytes c = text (c .before .before .before .before .before .before)
 
 abbrev head : (c : tie.After-read-body) → tie.After-read-line
 head c = c .before .before .before
-
-is-within-requires : tie.Need-is-within-requires
-is-within-requires c κs = search needs
 
 is-4 : (c : tie.After-is-within) → bad-line-count (lines-of (sheet-bytes (c .before))) ≡ not (c .is-within .result)
 unfolding user-limit
@@ -94,9 +79,6 @@ past-4 : (c : tie.Else4) → refusal (sheet-bytes (c .before .before)) ≡ cause
 past-4 c = rw (past-3 (c .before .before .before), is-4 (c .before) ∙ c .if4 .left)
 
 -- ---- 5
-
-both-requires : tie.Need-both-requires
-both-requires c κs = search needs
 
 is-5 : (c : tie.After-both) → bad-name (sheet-of (sheet-bytes (c .before .before .before))) ≡ not (c .both .result)
 is-5 c =
@@ -189,15 +171,15 @@ judge-spec =
     tie.close
     (tie.spec
     returns
-    has-bad-bytes-requires
+    (λ c κs. search needs)
     returns-2
-    read-line-requires
-    good-first-line-requires
+    (λ c κs. search needs)
+    (λ c κs. search needs)
     returns-3
-    read-body-requires
-    is-within-requires
+    (λ c κs. search needs)
+    (λ c κs. search needs)
     returns-4
-    both-requires
+    (λ c κs. search needs)
     returns-5
     returns-6
     returns-7

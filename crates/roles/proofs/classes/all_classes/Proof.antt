@@ -29,9 +29,6 @@ loop-holds c =
           (c .place-kernel .ensures) (c .before .before .pre .1 .0 .0),
     )
 
-sub-i : tie.Need-sub-i Inv-loop μ-loop
-sub-i c = omega arith
-
 mul-put-back : tie.Need-mul-put-back Inv-loop μ-loop
 unfolding grant-limit
 mul-put-back c = omega arith
@@ -56,9 +53,6 @@ put-back-requires c κs = (
   c .before .before .before .before .before .before .before .pre .1 .1 .2 .below (c .before .before .before .before .loop .i - 1) (omega arith),
 )
 
-loop-less : tie.Need-loop-less Inv-loop μ-loop
-loop-less c = omega arith
-
 loop-again : tie.Need-loop-again Inv-loop μ-loop
 loop-again c =
     let a = c .before .before .before .before .before .before .before .before .args in
@@ -80,12 +74,12 @@ all-classes-spec =
     μ-loop
     place-kernel-requires
     loop-holds
-    sub-i
+    (λ c. omega arith)
     mul-put-back
     element-copy-out-put-back
     mul-put-back-2
     element-copy-out-put-back-2
     put-back-requires
-    loop-less
+    (λ c. omega arith)
     loop-again
     returns)

@@ -57,9 +57,6 @@ add-i : tie.Need-add-i Inv-loop μ-loop
 unfolding grant-limit
 add-i c = omega arith
 
-loop-less : tie.Need-loop-less Inv-loop μ-loop
-loop-less c = omega arith
-
 loop-again : tie.Need-loop-again Inv-loop μ-loop
 loop-again c =
     let a = c .before .before .before .before .args in
@@ -87,6 +84,6 @@ place-kernel-spec =
     mul-class-2
     element-write-class
     add-i
-    loop-less
+    (λ c. omega arith)
     loop-again
     returns)

@@ -7,33 +7,18 @@ use Rattle.roles.specs.Laws.CellClass.{single-written, tied-written}
 use Rattle.roles.proofs.classes.put_back.Statement.{statement}
 use Rattle.roles.proofs.classes.put_back.Tie as tie
 
-cast-class : tie.Need-cast-class
-cast-class c = search needs
-
-mul-class : tie.Need-mul-class
-mul-class c = search needs
-
 element-write-class : tie.Need-element-write-class
 unfolding user-limit row-words
 element-write-class c = omega arith
-
-add-result : tie.Need-add-result
-add-result c = search needs
 
 returns : tie.Need-returns
 returns c classes at =
     let a = c .before .args in
     single-written (a .cell) (a .partner) (c .before .pre .1) at (c .if1 .taken)
 
-mul-joined : tie.Need-mul-joined
-mul-joined c = search needs
-
 element-copy-out-joined : tie.Need-element-copy-out-joined
 unfolding user-limit row-words
 element-copy-out-joined c = omega arith
-
-mul-class-2 : tie.Need-mul-class-2
-mul-class-2 c = search needs
 
 element-write-class-2 : tie.Need-element-write-class-2
 unfolding user-limit row-words
@@ -48,13 +33,13 @@ pub put-back-spec : {M : Type 1} → statement M
 put-back-spec =
     tie.close
     (tie.spec
-    cast-class
-    mul-class
+    (λ c. search needs)
+    (λ c. search needs)
     element-write-class
-    add-result
+    (λ c. search needs)
     returns
-    mul-joined
+    (λ c. search needs)
     element-copy-out-joined
-    mul-class-2
+    (λ c. search needs)
     element-write-class-2
     returns-2)

@@ -4,9 +4,6 @@ use Rattle.roles.specs.RolesShown.{roles-below, matrices-show, matrices-
 use Rattle.roles.proofs.matrices.roles_of_classes.Statement.{statement}
 use Rattle.roles.proofs.matrices.roles_of_classes.Tie as tie
 
-number-roles-requires : tie.Need-number-roles-requires
-number-roles-requires c κs = search needs
-
 role-rows-requires : tie.Need-role-rows-requires
 role-rows-requires c κs =
     let pre = c .before .before .before .pre in
@@ -23,4 +20,4 @@ returns c =
     )
 
 pub roles-of-classes-spec : {M : Type 1} → statement M
-roles-of-classes-spec = tie.close (tie.spec number-roles-requires role-rows-requires returns)
+roles-of-classes-spec = tie.close (tie.spec (λ c κs. search needs) role-rows-requires returns)

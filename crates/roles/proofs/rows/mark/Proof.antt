@@ -22,9 +22,6 @@ slice-read-with : tie.Need-slice-read-with
 unfolding row-words
 slice-read-with c = omega arith
 
-with-requires : tie.Need-with-requires
-with-requires c κs = search needs
-
 mul-words : tie.Need-mul-words
 unfolding row-words
 mul-words c = omega arith
@@ -32,9 +29,6 @@ mul-words c = omega arith
 slice-write-words : tie.Need-slice-write-words
 unfolding row-words
 slice-write-words c = omega arith
-
-same-length : tie.Need-same-length
-same-length c = search needs
 
 returns : tie.Need-returns
 unfolding row-words
@@ -51,8 +45,8 @@ mark-spec =
     add-i
     mul-with
     slice-read-with
-    with-requires
+    (λ c κs. search needs)
     mul-words
     slice-write-words
-    same-length
+    (λ c. search needs)
     returns)

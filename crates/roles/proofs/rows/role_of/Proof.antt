@@ -13,11 +13,8 @@ element-copy-out-role : tie.Need-element-copy-out-role
 unfolding grant-limit
 element-copy-out-role c = c .pre
 
-role-requires : tie.Need-role-requires
-role-requires c κs = search needs
-
 returns : tie.Need-returns
 returns c = c .role .ensures
 
 pub role-of-spec : {M : Type 1} → statement M
-role-of-spec = tie.close (tie.spec mul-role element-copy-out-role role-requires returns)
+role-of-spec = tie.close (tie.spec mul-role element-copy-out-role (λ c κs. search needs) returns)

@@ -13,12 +13,6 @@ returns c = let a = c .before .args in rw (le-ltb (a .depth) (a .size) (c .if1 .
 returns-2 : tie.Need-returns-2
 returns-2 c = let a = c .before .before .args in rw (le-ltb (a .used) (a .count) (c .if2 .taken), and-false)
 
-add-if3 : tie.Need-add-if3
-add-if3 c = search needs
-
-add-result : tie.Need-add-result
-add-result c = search needs
-
 returns-3 : tie.Need-returns-3
 returns-3 c =
     let a = c .before .before .before .args in
@@ -30,4 +24,4 @@ returns-4 c =
     rw (lt-ltb (a .depth) (a .size) (c .before .before .if1 .left), lt-ltb (a .used) (a .count) (c .before .if2 .left)) (omega arith)
 
 pub class-end-spec : {M : Type 1} → statement M
-class-end-spec = tie.close (tie.spec returns returns-2 add-if3 add-result returns-3 returns-4)
+class-end-spec = tie.close (tie.spec returns returns-2 (λ c. search needs) (λ c. search needs) returns-3 returns-4)

@@ -29,12 +29,6 @@ loop-holds c =
     let a = c .before .before .args in
     (omega arith, λ q l. none-open (a .fit .now) (a .members .now) (a .d) (a .next) l)
 
-row-requires-2 : tie.Need-row-requires-2 Inv-loop μ-loop
-row-requires-2 c κs = omega arith
-
-within-requires : tie.Need-within-requires Inv-loop μ-loop
-within-requires c κs = search needs
-
 -- the test tells whether all members of the class fit the grant
 told : (c : tie.After-within Inv-loop μ-loop)
     → c .within .result
@@ -52,12 +46,6 @@ returns-2 c =
     let loop = c .before .before .before .before .loop in
     opens-at (a .fit .now) (a .members .now) (a .d) (a .next) (a .end) (loop .inv .1) (loop .inv .0) (c .before .before .before .loop-test .taken)
     (sym (told (c .before)) ∙ c .if2 .taken)
-
-add-c : tie.Need-add-c Inv-loop μ-loop
-add-c c = omega arith
-
-loop-less : tie.Need-loop-less Inv-loop μ-loop
-loop-less c = omega arith
 
 loop-again : tie.Need-loop-again Inv-loop μ-loop
 loop-again c =
@@ -81,10 +69,10 @@ class-for-spec =
     returns
     row-requires
     loop-holds
-    row-requires-2
-    within-requires
+    (λ c κs. omega arith)
+    (λ c κs. search needs)
     returns-2
-    add-c
-    loop-less
+    (λ c. omega arith)
+    (λ c. omega arith)
     loop-again
     returns-3)

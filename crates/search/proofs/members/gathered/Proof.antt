@@ -18,9 +18,6 @@ abbrev μ-loop : tie.MeasureT-loop
 loop-holds : tie.Need-loop-holds Inv-loop μ-loop
 loop-holds c = (omega arith, gathered-none (c .args .classes .now))
 
-element-copy-out-put-in : tie.Need-element-copy-out-put-in Inv-loop μ-loop
-element-copy-out-put-in c = omega arith
-
 -- the class of the grant to put in
 class-within : (c : tie.After-put-in-arg Inv-loop μ-loop)
     → getD (c .before .before .before .before .args .classes .now) (c .before .before .before .loop .i) 0 < mark-limit
@@ -31,12 +28,6 @@ cast-put-in c = omega (arith, class-within c)
 
 put-in-requires : tie.Need-put-in-requires Inv-loop μ-loop
 put-in-requires c κs = (c .before .before .before .loop .inv .1 .sized, (class-within c, omega arith))
-
-add-i : tie.Need-add-i Inv-loop μ-loop
-add-i c = omega arith
-
-loop-less : tie.Need-loop-less Inv-loop μ-loop
-loop-less c = omega arith
 
 loop-again : tie.Need-loop-again Inv-loop μ-loop
 loop-again c =
@@ -53,4 +44,4 @@ returns c =
 pub gathered-spec : {M : Type 1} → statement M
 gathered-spec =
     tie.close
-    (tie.spec Inv-loop μ-loop loop-holds element-copy-out-put-in cast-put-in put-in-requires add-i loop-less loop-again returns)
+    (tie.spec Inv-loop μ-loop loop-holds (λ c. omega arith) cast-put-in put-in-requires (λ c. omega arith) (λ c. omega arith) loop-again returns)

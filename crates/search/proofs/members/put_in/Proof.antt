@@ -10,27 +10,6 @@ use Rattle.search.specs.Marks.{kernel-words}
 use Rattle.search.proofs.members.put_in.Statement.{statement}
 use Rattle.search.proofs.members.put_in.Tie as tie
 
-mul-at : tie.Need-mul-at
-mul-at c = search needs
-
-add-at : tie.Need-add-at
-add-at c = search needs
-
-mul-with : tie.Need-mul-with
-mul-with c = search needs
-
-element-copy-out-with : tie.Need-element-copy-out-with
-element-copy-out-with c = search needs
-
-with-requires : tie.Need-with-requires
-with-requires c κs = search needs
-
-mul-members : tie.Need-mul-members
-mul-members c = search needs
-
-element-write-members : tie.Need-element-write-members
-element-write-members c = search needs
-
 -- the table has a word for the grant in the class
 word-there : (c : tie.Start)
     → c .args .class * kernel-words + c .args .grant / word-bits < length (c .args .members .now)
@@ -45,4 +24,4 @@ returns c =
 pub put-in-spec : {M : Type 1} → statement M
 put-in-spec =
     tie.close
-    (tie.spec mul-at add-at mul-with element-copy-out-with with-requires mul-members element-write-members returns)
+    (tie.spec (λ c. search needs) (λ c. search needs) (λ c. search needs) (λ c. search needs) (λ c κs. search needs) (λ c. search needs) (λ c. search needs) returns)

@@ -10,27 +10,6 @@ use Rattle.search.specs.Marks.{kernel-words}
 use Rattle.search.proofs.members.take_out.Statement.{statement}
 use Rattle.search.proofs.members.take_out.Tie as tie
 
-mul-at : tie.Need-mul-at
-mul-at c = search needs
-
-add-at : tie.Need-add-at
-add-at c = search needs
-
-mul-without : tie.Need-mul-without
-mul-without c = search needs
-
-element-copy-out-without : tie.Need-element-copy-out-without
-element-copy-out-without c = search needs
-
-without-requires : tie.Need-without-requires
-without-requires c κs = search needs
-
-mul-members : tie.Need-mul-members
-mul-members c = search needs
-
-element-write-members : tie.Need-element-write-members
-element-write-members c = search needs
-
 -- the table has a word for the grant in the class
 word-there : (c : tie.Start)
     → c .args .class * kernel-words + c .args .grant / word-bits < length (c .args .members .now)
@@ -45,4 +24,4 @@ returns c =
 pub take-out-spec : {M : Type 1} → statement M
 take-out-spec =
     tie.close
-    (tie.spec mul-at add-at mul-without element-copy-out-without without-requires mul-members element-write-members returns)
+    (tie.spec (λ c. search needs) (λ c. search needs) (λ c. search needs) (λ c. search needs) (λ c κs. search needs) (λ c. search needs) (λ c. search needs) returns)

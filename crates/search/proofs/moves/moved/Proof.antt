@@ -13,9 +13,6 @@ use Rattle.search.specs.Laws.Trail.{trail-used-pos}
 use Rattle.search.proofs.moves.moved.Statement.{statement}
 use Rattle.search.proofs.moves.moved.Tie as tie
 
-class-end-requires : tie.Need-class-end-requires
-class-end-requires c κs = search needs
-
 class-for-requires : tie.Need-class-for-requires
 class-for-requires c κs =
     let s = c .before .before .pre .stands in
@@ -48,12 +45,6 @@ placed-requires c κs =
     let t = tried (then .before .before .before .before .pre .stands) (then .before .before .before .class-end .ensures) (then .if1 .taken) in
     (room then, (t .used-or-next, omega (arith, t .below-best)))
 
-add-if2 : tie.Need-add-if2
-add-if2 c = search needs
-
-reaches-requires : tie.Need-reaches-requires
-reaches-requires c κs = search needs
-
 returns : tie.Need-returns
 returns c =
     let start = c .before .before .before .before .before .before .before .before .before .before in
@@ -79,9 +70,6 @@ returns-3 c =
     closed (a .fit .now) (a .size) (a .singles) (a .witness) (start .pre) (c .before .before .before .before .class-end .ensures) (c .before .before .class-for .ensures)
     (c .before .if1 .left) (c .if3 .taken)
 
-sub-last : tie.Need-sub-last
-sub-last c = search needs
-
 -- the class of the latest grant
 last-small : (c : tie.Else3)
     → getD (c .before .before .before .before .before .args .classes .now) (c .before .before .before .before .before .args .at .depth - 1) 0 < mark-limit
@@ -92,9 +80,6 @@ element-copy-out-last c = omega (arith, depth-le-limit (c .before .before .befor
 
 cast-last : tie.Need-cast-last
 cast-last c = omega (arith, last-small (c .before))
-
-sub-take-out : tie.Need-sub-take-out
-sub-take-out c = search needs
 
 take-out-requires : tie.Need-take-out-requires
 take-out-requires c κs =
@@ -121,21 +106,21 @@ pub moved-spec : {M : Type 1} → statement M
 moved-spec =
     tie.close
     (tie.spec
-    class-end-requires
+    (λ c κs. search needs)
     class-for-requires
     cast-classes
     element-write-classes
     put-in-requires
     placed-requires
-    add-if2
-    reaches-requires
+    (λ c. search needs)
+    (λ c κs. search needs)
     returns
     returns-2
     returns-3
-    sub-last
+    (λ c. search needs)
     element-copy-out-last
     cast-last
-    sub-take-out
+    (λ c. search needs)
     take-out-requires
     taken-back-requires
     returns-4)

@@ -14,12 +14,6 @@ few : grants ≤ search-limit
 unfolding search-limit
 few = omega arith
 
-search-requires : tie.Need-search-requires
-search-requires c κs = search needs
-
-steps-from-requires : tie.Need-steps-from-requires
-steps-from-requires c κs = search needs
-
 same-requires : tie.Need-same-requires
 same-requires c κs = c .before .search .ensures .1 .0 few
 
@@ -33,4 +27,4 @@ returns c =
     (searched .search .ensures .0 ∙ search-within kernel (a .budget) (view (a .from) grants) few ∙ sym (stepped .steps-from .ensures))
 
 pub as-the-search-spec : {M : Type 1} → statement M
-as-the-search-spec = tie.close (tie.spec search-requires steps-from-requires same-requires returns)
+as-the-search-spec = tie.close (tie.spec (λ c κs. search needs) (λ c κs. search needs) same-requires returns)

@@ -49,9 +49,6 @@ returns-4 c =
     told-apart
     (λ e. truth-differs (a .t1 .position .cursor .finished) (a .t2 .position .cursor .finished) (c .if4 .taken) (same-finished (a .t1) (a .t2) grants e))
 
-same-classes-requires : tie.Need-same-classes-requires
-same-classes-requires c κs = search needs
-
 returns-5 : tie.Need-returns-5
 returns-5 c =
     let a = start-1 (first (second (third (c .before .before .before .before .before .before)))) .args in
@@ -81,7 +78,7 @@ same-spec =
     returns-2
     returns-3
     returns-4
-    same-classes-requires
+    (λ c κs. search needs)
     returns-5
     same-classes-requires-2
     returns-6)

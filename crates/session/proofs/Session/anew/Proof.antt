@@ -30,9 +30,6 @@ found c = let read = c .before .before .before .pre in c .prepare .ensures (c .b
 narrowed-requires : tie.Need-narrowed-requires
 narrowed-requires c κs = λ searched i l. omega (arith, first-class-below (found (c .before .before)) i l)
 
-start-requires : tie.Need-start-requires
-start-requires c κs = search needs
-
 returns : tie.Need-returns
 returns c =
     let at-prepared = c .before .before .before .before in
@@ -52,4 +49,4 @@ returns c =
 
 pub anew-spec : {M : Type 1} → statement M
 anew-spec =
-    tie.close (tie.spec copied-requires prepare-requires narrowed-requires start-requires returns)
+    tie.close (tie.spec copied-requires prepare-requires narrowed-requires (λ c κs. search needs) returns)

@@ -13,12 +13,6 @@ use Rattle.session.specs.Laws.Loading.{refused-loads, accepted-loads, te
 use Rattle.session.proofs.Session.load.Statement.{statement}
 use Rattle.session.proofs.Session.load.Tie as tie
 
-read-requires : tie.Need-read-requires
-read-requires c κs = search needs
-
-refused-requires : tie.Need-refused-requires
-refused-requires c κs = search needs
-
 returns : tie.Need-returns
 returns c =
     let at-read = c .before .before in
@@ -30,9 +24,6 @@ anew-requires c κs =
     let e : at-read .read .result .number ≡ 0 = omega arith in
     let read = at-read .read .ensures .1 .0 e in
     (sym (at-read .read .ensures .0) ∙ e, read .0, read .1)
-
-counts-requires : tie.Need-counts-requires
-counts-requires c κs = search needs
 
 -- the answer has the counts of the sheet
 said : (c : tie.After-counts) → load-said (c .counts .result) ≡ load-counts (sheet-of (c .before .before .before .before .before .before .before .before .args .s .now))
@@ -54,4 +45,4 @@ returns-2 c =
 pub load-spec : {M : Type 1} → statement M
 load-spec =
     tie.close
-    (tie.spec read-requires refused-requires returns anew-requires counts-requires returns-2)
+    (tie.spec (λ c κs. search needs) (λ c κs. search needs) returns anew-requires (λ c κs. search needs) returns-2)

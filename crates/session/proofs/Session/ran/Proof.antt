@@ -4,9 +4,6 @@ use Rattle.session.specs.Laws.MovedOn.{ran-in}
 use Rattle.session.proofs.Session.ran.Statement.{statement}
 use Rattle.session.proofs.Session.ran.Tie as tie
 
-search-requires : tie.Need-search-requires
-search-requires c κs = search needs
-
 returns : tie.Need-returns
 returns c =
     let e = c .search .ensures in
@@ -14,4 +11,4 @@ returns c =
     ran-in (start .pre) (start .args .budget) (c .search .result) (e .0) (e .1 .0) (e .1 .1)
 
 pub ran-spec : {M : Type 1} → statement M
-ran-spec = tie.close (tie.spec search-requires returns)
+ran-spec = tie.close (tie.spec (λ c κs. search needs) returns)

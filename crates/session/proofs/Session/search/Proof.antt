@@ -9,9 +9,6 @@ use Rattle.session.specs.Laws.SearchedHeld.{searches-nothing, searches-h
 use Rattle.session.proofs.Session.search.Statement.{statement}
 use Rattle.session.proofs.Session.search.Tie as tie
 
-refused-requires : tie.Need-refused-requires
-refused-requires c κs = search needs
-
 returns : tie.Need-returns
 returns c =
     let start = c .before .before .before in
@@ -24,12 +21,6 @@ ran-requires : tie.Need-ran-requires
 ran-requires c κs =
     let start = c .before .before in start .pre .held (not-false (start .args .self .loaded) (c .if1 .left))
 
-counts-of-requires : tie.Need-counts-of-requires
-counts-of-requires c κs = search needs
-
-found-requires : tie.Need-found-requires
-found-requires c κs = search needs
-
 returns-2 : tie.Need-returns-2
 returns-2 c =
     let after = c .before .before .before in
@@ -41,4 +32,4 @@ returns-2 c =
 
 pub search-spec : {M : Type 1} → statement M
 search-spec =
-    tie.close (tie.spec refused-requires returns ran-requires counts-of-requires found-requires returns-2)
+    tie.close (tie.spec (λ c κs. search needs) returns ran-requires (λ c κs. search needs) (λ c κs. search needs) returns-2)

@@ -43,17 +43,11 @@ counted n = counts-held (holds (sheet-at (best-at n))) (n .counts-at .result) (n
 abbrev counts-before : tie.After-book-into-arg6 → tie.After-counts-at
 counts-before c = c .before .before .before .before .before .before .before .before .before
 
-refused-requires : tie.Need-refused-requires
-refused-requires c κs = search needs
-
 returns : tie.Need-returns
 returns c =
     let a = c .before .before .before .args in
     let sheetless = not-true (a .t1 .loaded) (c .before .if1 .taken) in
     writes-nothing (a .t1) sheetless (a .out .now) (write-said (c .refused .result)) (c .refused .ensures)
-
-best-of-requires : tie.Need-best-of-requires
-best-of-requires c κs = search needs
 
 roles-of-requires : tie.Need-roles-of-requires
 roles-of-requires c κs =
@@ -70,12 +64,6 @@ book-into-requires c κs =
     let h = holds (sheet-at (best-at n)) in
     (h .whole, h .prepared .laid, room-for-roles h (counted n), witness-cells-granted h)
 
-of-requires : tie.Need-of-requires
-of-requires c κs = search needs
-
-same-length : tie.Need-same-length
-same-length c = search needs
-
 returns-2 : tie.Need-returns-2
 returns-2 c =
     let written = c .before .before .before in
@@ -89,12 +77,12 @@ pub write-spec : {M : Type 1} → statement M
 write-spec =
     tie.close
     (tie.spec
-    refused-requires
+    (λ c κs. search needs)
     returns
-    best-of-requires
+    (λ c κs. search needs)
     roles-of-requires
     counts-at-requires
     book-into-requires
-    of-requires
-    same-length
+    (λ c κs. search needs)
+    (λ c. search needs)
     returns-2)

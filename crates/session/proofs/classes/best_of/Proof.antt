@@ -10,12 +10,9 @@ returns : tie.Need-returns
 unfolding search-limit
 returns c = record { above = λ l. refl; within = λ l. absurd (omega arith) }
 
-widened-requires : tie.Need-widened-requires
-widened-requires c κs = search needs
-
 returns-2 : tie.Need-returns-2
 unfolding search-limit
 returns-2 c = record { above = λ l. absurd (omega arith); within = λ l. c .widened .ensures }
 
 pub best-of-spec : {M : Type 1} → statement M
-best-of-spec = tie.close (tie.spec returns widened-requires returns-2)
+best-of-spec = tie.close (tie.spec returns (λ c κs. search needs) returns-2)

@@ -25,12 +25,6 @@ loop-holds : tie.Need-loop-holds Inv-loop μ-loop
 unfolding search-limit
 loop-holds c = (omega arith, refl, none-copied _ _)
 
-mul-narrow : tie.Need-mul-narrow Inv-loop μ-loop
-mul-narrow c = omega arith
-
-element-copy-out-narrow : tie.Need-element-copy-out-narrow Inv-loop μ-loop
-element-copy-out-narrow c = omega arith
-
 cast-narrow : tie.Need-cast-narrow Inv-loop μ-loop
 unfolding search-limit
 cast-narrow c =
@@ -40,12 +34,6 @@ cast-narrow c =
 array-write-narrow : tie.Need-array-write-narrow Inv-loop μ-loop
 unfolding search-limit
 array-write-narrow c = omega arith
-
-add-i : tie.Need-add-i Inv-loop μ-loop
-add-i c = omega arith
-
-loop-less : tie.Need-loop-less Inv-loop μ-loop
-loop-less c = omega arith
 
 loop-again : tie.Need-loop-again Inv-loop μ-loop
 unfolding search-limit
@@ -69,11 +57,11 @@ narrowed-spec =
     μ-loop
     returns
     loop-holds
-    mul-narrow
-    element-copy-out-narrow
+    (λ c. omega arith)
+    (λ c. omega arith)
     cast-narrow
     array-write-narrow
-    add-i
-    loop-less
+    (λ c. omega arith)
+    (λ c. omega arith)
     loop-again
     returns-2)

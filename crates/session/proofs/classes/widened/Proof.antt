@@ -19,9 +19,6 @@ loop-holds : tie.Need-loop-holds Inv-loop μ-loop
 unfolding grant-limit
 loop-holds c = (omega arith, refl, none-copied _ _)
 
-element-copy-out-wider : tie.Need-element-copy-out-wider Inv-loop μ-loop
-element-copy-out-wider c = omega arith
-
 wider-requires : tie.Need-wider-requires Inv-loop μ-loop
 wider-requires c κs = tt
 
@@ -64,7 +61,7 @@ widened-spec =
     Inv-loop
     μ-loop
     loop-holds
-    element-copy-out-wider
+    (λ c. omega arith)
     wider-requires
     mul-wide
     array-write-wide

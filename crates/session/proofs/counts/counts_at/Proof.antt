@@ -10,14 +10,8 @@ add-roles : tie.Need-add-roles
 unfolding permission-limit
 add-roles c = omega arith
 
-standing-of-requires : tie.Need-standing-of-requires
-standing-of-requires c κs = search needs
-
-bound-of-requires : tie.Need-bound-of-requires
-bound-of-requires c κs = search needs
-
 returns : tie.Need-returns
 returns c = record { roles = refl; bound = c .bound-of .ensures; standing = c .before .standing-of .ensures }
 
 pub counts-at-spec : {M : Type 1} → statement M
-counts-at-spec = tie.close (tie.spec add-roles standing-of-requires bound-of-requires returns)
+counts-at-spec = tie.close (tie.spec add-roles (λ c κs. search needs) (λ c κs. search needs) returns)

@@ -4,9 +4,6 @@ use Rattle.session.specs.Laws.Preparing.{reduced-to, reduced-rows}
 use Rattle.session.proofs.prepared.witness_found.Statement.{statement}
 use Rattle.session.proofs.prepared.witness_found.Tie as tie
 
-single-cells-requires : tie.Need-single-cells-requires
-single-cells-requires c κs = search needs
-
 witness-of-requires : tie.Need-witness-of-requires
 witness-of-requires c κs =
     let at-singles = c .before .before .before in
@@ -20,4 +17,4 @@ returns c sheet shown few =
     c .witness-of .ensures sheet shown (reduced-to from shown few (at-singles .single-cells .ensures))
 
 pub witness-found-spec : {M : Type 1} → statement M
-witness-found-spec = tie.close (tie.spec single-cells-requires witness-of-requires returns)
+witness-found-spec = tie.close (tie.spec (λ c κs. search needs) witness-of-requires returns)

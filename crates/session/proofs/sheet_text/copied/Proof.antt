@@ -19,18 +19,9 @@ loop-holds : tie.Need-loop-holds Inv-loop μ-loop
 unfolding sheet-limit
 loop-holds c = (omega arith, refl, refl)
 
-shared-slice-read-text : tie.Need-shared-slice-read-text Inv-loop μ-loop
-shared-slice-read-text c = omega arith
-
 array-write-text : tie.Need-array-write-text Inv-loop μ-loop
 unfolding sheet-limit
 array-write-text c = omega arith
-
-add-i : tie.Need-add-i Inv-loop μ-loop
-add-i c = omega arith
-
-loop-less : tie.Need-loop-less Inv-loop μ-loop
-loop-less c = omega arith
 
 loop-again : tie.Need-loop-again Inv-loop μ-loop
 loop-again c =
@@ -57,9 +48,9 @@ copied-spec =
     Inv-loop
     μ-loop
     loop-holds
-    shared-slice-read-text
+    (λ c. omega arith)
     array-write-text
-    add-i
-    loop-less
+    (λ c. omega arith)
+    (λ c. omega arith)
     loop-again
     returns)

@@ -12,11 +12,8 @@ slice-aggregate-write-if-room c =
 write-if-room-requires : tie.Need-write-if-room-requires
 write-if-room-requires c κs = let s = c .before .before .before .before in (s .pre .1, s .pre .2, s .pre .3)
 
-same-length : tie.Need-same-length
-same-length c = search needs
-
 returns : tie.Need-returns
 returns c = c .before .before .write-if-room .ensures
 
 pub book-into-spec : {M : Type 1} → statement M
-book-into-spec = tie.close (tie.spec slice-aggregate-write-if-room write-if-room-requires same-length returns)
+book-into-spec = tie.close (tie.spec slice-aggregate-write-if-room write-if-room-requires (λ c. search needs) returns)

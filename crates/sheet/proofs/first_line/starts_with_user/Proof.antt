@@ -11,21 +11,6 @@ returns : tie.Need-returns
 unfolding says-user
 returns c = rw (lt-ltb (length (c .before .before .args .s .now)) 4 (omega arith))
 
-sub-same-bytes : tie.Need-sub-same-bytes
-sub-same-bytes c = search needs
-
-part-same-bytes-start : tie.Need-part-same-bytes-start
-part-same-bytes-start c = search needs
-
-part-same-bytes-end : tie.Need-part-same-bytes-end
-part-same-bytes-end c = search needs
-
-slice-aggregate-same-bytes : tie.Need-slice-aggregate-same-bytes
-slice-aggregate-same-bytes c = search needs
-
-same-bytes-requires : tie.Need-same-bytes-requires
-same-bytes-requires c κs = search needs
-
 returns-2 : tie.Need-returns-2
 unfolding says-user
 returns-2 c = rw (le-ltb (length (c .before .before .before .before .before .args .s .now)) 4 (omega arith)) (c .same-bytes .ensures)
@@ -35,9 +20,9 @@ starts-with-user-spec =
     tie.close
     (tie.spec
     returns
-    sub-same-bytes
-    part-same-bytes-start
-    part-same-bytes-end
-    slice-aggregate-same-bytes
-    same-bytes-requires
+    (λ c. search needs)
+    (λ c. search needs)
+    (λ c. search needs)
+    (λ c. search needs)
+    (λ c κs. search needs)
     returns-2)

@@ -63,9 +63,6 @@ stand c =
       lines = c .before .before .read-user-lines .ensures .good (not-false _ (c .if3 .left));
     }
 
-none-requires : tie.Need-none-requires
-none-requires c κs = search needs
-
 returns : tie.Need-returns
 unfolding sheet-limit
 returns c =
@@ -73,12 +70,6 @@ returns c =
       stands = λ p. absurd (not-both p (c .none .ensures));
       found = λ p. absurd (omega (arith, accepted-short (c .before .before .before .args .s .now) p));
     }
-
-read-first-line-requires : tie.Need-read-first-line-requires
-read-first-line-requires c κs = search needs
-
-none-requires-2 : tie.Need-none-requires-2
-none-requires-2 c κs = search needs
 
 returns-2 : tie.Need-returns-2
 returns-2 c =
@@ -91,9 +82,6 @@ read-user-lines-requires : tie.Need-read-user-lines-requires
 unfolding permission-limit
 read-user-lines-requires c κs = (first (c .before .before .before) .stands .within, first (c .before .before .before) .few, c .before .before .before .before .before .before .before .before .before .before .pre .users-room)
 
-none-requires-3 : tie.Need-none-requires-3
-none-requires-3 c κs = search needs
-
 returns-3 : tie.Need-returns-3
 returns-3 c =
     record {
@@ -101,18 +89,12 @@ returns-3 c =
       found = λ p. absurd (not-both (lines-found (c .before .before .before) p) (not-true _ (c .before .if3 .taken)));
     }
 
-none-requires-4 : tie.Need-none-requires-4
-none-requires-4 c κs = search needs
-
 returns-4 : tie.Need-returns-4
 returns-4 c =
     record {
       stands = λ p. absurd (not-both p (c .none4 .ensures));
       found = λ p. (let some = accepted-users (c .before .before .before .before .before .before .before .before .before .before .before .before .before .before .before .before .args .s .now) p (notes (c .before .before .before)) (stand (c .before .before .before)) in absurd (omega arith));
     }
-
-none-requires-5 : tie.Need-none-requires-5
-none-requires-5 c κs = search needs
 
 returns-5 : tie.Need-returns-5
 unfolding grant-limit
@@ -134,16 +116,16 @@ pub read-lines-spec : {M : Type 1} → statement M
 read-lines-spec =
     tie.close
     (tie.spec
-    none-requires
+    (λ c κs. search needs)
     returns
-    read-first-line-requires
-    none-requires-2
+    (λ c κs. search needs)
+    (λ c κs. search needs)
     returns-2
     read-user-lines-requires
-    none-requires-3
+    (λ c κs. search needs)
     returns-3
-    none-requires-4
+    (λ c κs. search needs)
     returns-4
-    none-requires-5
+    (λ c κs. search needs)
     returns-5
     returns-6)

@@ -37,21 +37,12 @@ noted-kept c =
     kept-as (text lines) (notes lines) (lines .read-lines .result .good) (lines .read-lines .ensures)
     (sym (c .before .is-kept .ensures) ∙ not-false _ (c .if1 .left))
 
-no-rows-requires : tie.Need-no-rows-requires
-no-rows-requires c κs = search needs
-
 read-lines-requires : tie.Need-read-lines-requires
 unfolding user-limit
 read-lines-requires c κs = rw (c .before .before .before .before .before .no-rows .ensures) new-sheet-room
 
 is-kept-requires : tie.Need-is-kept-requires
 is-kept-requires c κs = kept-inside (text c) (notes c) (c .read-lines .result .good) (c .read-lines .ensures)
-
-judge-requires : tie.Need-judge-requires
-judge-requires c κs = search needs
-
-refused-requires : tie.Need-refused-requires
-refused-requires c κs = search needs
 
 returns : tie.Need-returns
 returns c =
@@ -69,4 +60,4 @@ returns-2 c =
 pub read-spec : {M : Type 1} → statement M
 read-spec =
     tie.close
-    (tie.spec no-rows-requires read-lines-requires is-kept-requires judge-requires refused-requires returns returns-2)
+    (tie.spec (λ c κs. search needs) read-lines-requires is-kept-requires (λ c κs. search needs) (λ c κs. search needs) returns returns-2)

@@ -20,9 +20,6 @@ abbrev μ-loop : tie.MeasureT-loop
 loop-holds : tie.Need-loop-holds Inv-loop μ-loop
 loop-holds c = refl
 
-shared-slice-read-is-name-byte : tie.Need-shared-slice-read-is-name-byte Inv-loop μ-loop
-shared-slice-read-is-name-byte c = omega arith
-
 is-name-byte-requires : tie.Need-is-name-byte-requires Inv-loop μ-loop
 is-name-byte-requires c κs = tt
 
@@ -32,12 +29,6 @@ returns c =
     let refused = sym (c .before .is-name-byte .ensures) ∙ not-true _ (c .if1 .taken) in
     rw (all-left (turn .before .before .before .args .field .now) (turn .before .loop .i) 0 (turn .loop-test .taken) name-byte, refused) at
     (turn .before .loop .inv)
-
-add-i : tie.Need-add-i Inv-loop μ-loop
-add-i c = omega arith
-
-loop-less : tie.Need-loop-less Inv-loop μ-loop
-loop-less c = omega arith
 
 loop-again : tie.Need-loop-again Inv-loop μ-loop
 loop-again c =
@@ -59,10 +50,10 @@ has-name-bytes-spec =
     Inv-loop
     μ-loop
     loop-holds
-    shared-slice-read-is-name-byte
+    (λ c. omega arith)
     is-name-byte-requires
     returns
-    add-i
-    loop-less
+    (λ c. omega arith)
+    (λ c. omega arith)
     loop-again
     returns-2)

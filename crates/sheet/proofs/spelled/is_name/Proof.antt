@@ -4,12 +4,6 @@ use mathlib.Core.Path.{sym, _∙_}
 use Rattle.sheet.proofs.spelled.is_name.Statement.{statement}
 use Rattle.sheet.proofs.spelled.is_name.Tie as tie
 
-name-length-requires : tie.Need-name-length-requires
-name-length-requires c κs = search needs
-
-has-name-bytes-requires : tie.Need-has-name-bytes-requires
-has-name-bytes-requires c κs = search needs
-
 returns : tie.Need-returns
 returns c = rw (sym (c .before .before .name-length .ensures) ∙ c .before .if1 .taken) (c .has-name-bytes .ensures)
 
@@ -17,4 +11,4 @@ returns-2 : tie.Need-returns-2
 returns-2 c = rw (sym (c .before .name-length .ensures) ∙ c .if1 .left)
 
 pub is-name-spec : {M : Type 1} → statement M
-is-name-spec = tie.close (tie.spec name-length-requires has-name-bytes-requires returns returns-2)
+is-name-spec = tie.close (tie.spec (λ c κs. search needs) (λ c κs. search needs) returns returns-2)

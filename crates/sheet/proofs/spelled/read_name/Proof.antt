@@ -26,9 +26,6 @@ part-is-name-start c = omega (arith, read c)
 part-is-name-end : tie.Need-part-is-name-end
 part-is-name-end c = omega (arith, read c)
 
-is-name-requires : tie.Need-is-name-requires
-is-name-requires c κs = search needs
-
 returns : tie.Need-returns
 returns c =
     let start = c .before .before .before .before in
@@ -39,4 +36,4 @@ returns c =
 
 pub read-name-spec : {M : Type 1} → statement M
 read-name-spec =
-    tie.close (tie.spec field-requires sub-is-name part-is-name-start part-is-name-end is-name-requires returns)
+    tie.close (tie.spec field-requires sub-is-name part-is-name-start part-is-name-end (λ c κs. search needs) returns)

@@ -20,12 +20,6 @@ name c = name-read (c .before .before .before .before .args .s .now) (c .before 
 cells : (c : tie.Else2) → CellsIn (c .before .before .before .before .before .before .before .args .s .now) (c .before .before .before .before .before .read-name .result .to) (c .before .before .before .before .before .before .before .args .width) (c .before .before .cells-word .result .word)
 cells c = c .before .before .cells-word .ensures .good (not-false _ (c .if2 .left))
 
-read-name-requires : tie.Need-read-name-requires
-read-name-requires c κs = search needs
-
-none-requires : tie.Need-none-requires
-none-requires c κs = search needs
-
 returns : tie.Need-returns
 returns c =
     let start = c .before .before .before .before .before in
@@ -36,9 +30,6 @@ returns c =
 cells-word-requires : tie.Need-cells-word-requires
 cells-word-requires c κs = (name c .within, c .before .before .before .before .pre .1)
 
-none-requires-2 : tie.Need-none-requires-2
-none-requires-2 c κs = search needs
-
 returns-2 : tie.Need-returns-2
 returns-2 c =
     let start = c .before .before .before .before .before .before .before .before in
@@ -47,17 +38,8 @@ returns-2 c =
     c .before .before .before .cells-word .ensures .off (not-true _ (c .before .if2 .taken)) ones
     (rw ends (line-cells-stand (start .args .s .now) (start .args .at) (start .args .width) name ones rest line)))
 
-mul-end : tie.Need-mul-end
-mul-end c = search needs
-
 add-end : tie.Need-add-end
 add-end c = omega (arith, cells (c .before) .stand .within)
-
-stands-at-requires : tie.Need-stands-at-requires
-stands-at-requires c κs = search needs
-
-none-requires-3 : tie.Need-none-requires-3
-none-requires-3 c κs = search needs
 
 returns-3 : tie.Need-returns-3
 returns-3 c =
@@ -89,16 +71,16 @@ pub read-user-line-spec : {M : Type 1} → statement M
 read-user-line-spec =
     tie.close
     (tie.spec
-    read-name-requires
-    none-requires
+    (λ c κs. search needs)
+    (λ c κs. search needs)
     returns
     cells-word-requires
-    none-requires-2
+    (λ c κs. search needs)
     returns-2
-    mul-end
+    (λ c. search needs)
     add-end
-    stands-at-requires
-    none-requires-3
+    (λ c κs. search needs)
+    (λ c κs. search needs)
     returns-3
     add-t8
     returns-4)

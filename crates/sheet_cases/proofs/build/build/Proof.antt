@@ -15,29 +15,11 @@ abbrev μ-loop : tie.MeasureT-loop
 put-head-requires : tie.Need-put-head-requires Inv-loop μ-loop
 put-head-requires c κs = tt
 
-loop-holds : tie.Need-loop-holds Inv-loop μ-loop
-loop-holds c = omega arith
-
 least-requires : tie.Need-least-requires Inv-loop μ-loop
 least-requires c κs = tt
 
 put-user-requires : tie.Need-put-user-requires Inv-loop μ-loop
 put-user-requires c κs = tt
-
-sub-left : tie.Need-sub-left Inv-loop μ-loop
-sub-left c = omega arith
-
-add-u : tie.Need-add-u Inv-loop μ-loop
-add-u c = omega arith
-
-loop-less : tie.Need-loop-less Inv-loop μ-loop
-loop-less c = omega arith
-
-loop-again : tie.Need-loop-again Inv-loop μ-loop
-loop-again c = omega arith
-
-same-length : tie.Need-same-length Inv-loop μ-loop
-same-length c = omega arith
 
 returns : tie.Need-returns Inv-loop μ-loop
 returns c = tt
@@ -49,12 +31,12 @@ build-spec =
     Inv-loop
     μ-loop
     put-head-requires
-    loop-holds
+    (λ c. omega arith)
     least-requires
     put-user-requires
-    sub-left
-    add-u
-    loop-less
-    loop-again
-    same-length
+    (λ c. omega arith)
+    (λ c. omega arith)
+    (λ c. omega arith)
+    (λ c. omega arith)
+    (λ c. omega arith)
     returns)

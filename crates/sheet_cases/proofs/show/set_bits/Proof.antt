@@ -12,15 +12,6 @@ Inv-loop words total₀ i₀ total i = (i ≤ 256) × (total ≤ word-bits * i)
 abbrev μ-loop : tie.MeasureT-loop
 μ-loop words total₀ i₀ total i = 256 - i
 
-loop-holds : tie.Need-loop-holds Inv-loop μ-loop
-loop-holds c = omega arith
-
-mul-count : tie.Need-mul-count Inv-loop μ-loop
-mul-count c = omega arith
-
-element-copy-out-count : tie.Need-element-copy-out-count Inv-loop μ-loop
-element-copy-out-count c = omega arith
-
 count-requires : tie.Need-count-requires Inv-loop μ-loop
 count-requires c κs = tt
 
@@ -30,12 +21,6 @@ few c = rw (c .count .ensures) (count-below-le word-bits (bit _))
 
 add-total : tie.Need-add-total Inv-loop μ-loop
 add-total c = omega (arith, few c)
-
-add-i : tie.Need-add-i Inv-loop μ-loop
-add-i c = omega arith
-
-loop-less : tie.Need-loop-less Inv-loop μ-loop
-loop-less c = omega arith
 
 loop-again : tie.Need-loop-again Inv-loop μ-loop
 loop-again c = omega (arith, few c)
@@ -49,12 +34,12 @@ set-bits-spec =
     (tie.spec
     Inv-loop
     μ-loop
-    loop-holds
-    mul-count
-    element-copy-out-count
+    (λ c. omega arith)
+    (λ c. omega arith)
+    (λ c. omega arith)
     count-requires
     add-total
-    add-i
-    loop-less
+    (λ c. omega arith)
+    (λ c. omega arith)
     loop-again
     returns)

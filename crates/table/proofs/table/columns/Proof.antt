@@ -20,21 +20,9 @@ loop-holds : tie.Need-loop-holds Inv-loop μ-loop
 unfolding row-bits row-words
 loop-holds c = (omega arith, refl, record { column = λ p l m. absurd (omega arith) })
 
-has-requires : tie.Need-has-requires Inv-loop μ-loop
-has-requires c κs = omega arith
-
 holders-requires : tie.Need-holders-requires Inv-loop μ-loop
 unfolding row-bits row-words
 holders-requires c κs = (omega arith, omega arith)
-
-mul-words : tie.Need-mul-words Inv-loop μ-loop
-mul-words c = omega arith
-
-array-write-words : tie.Need-array-write-words Inv-loop μ-loop
-array-write-words c = omega arith
-
-add-p : tie.Need-add-p Inv-loop μ-loop
-add-p c = omega arith
 
 loop-less : tie.Need-loop-less Inv-loop μ-loop
 unfolding row-bits row-words
@@ -68,11 +56,11 @@ columns-spec =
     Inv-loop
     μ-loop
     loop-holds
-    has-requires
+    (λ c κs. omega arith)
     holders-requires
-    mul-words
-    array-write-words
-    add-p
+    (λ c. omega arith)
+    (λ c. omega arith)
+    (λ c. omega arith)
     loop-less
     loop-again
     returns)

@@ -13,12 +13,6 @@ held-word-requires-2 : tie.Need-held-word-requires-2
 unfolding table-row
 held-word-requires-2 c κs = omega arith
 
-user-of-requires : tie.Need-user-of-requires
-user-of-requires c κs = search needs
-
-returns : tie.Need-returns
-returns c = search needs
-
 pub held-by-spec : {M : Type 1} → statement M
 held-by-spec =
-    tie.close (tie.spec held-word-requires held-word-requires-2 user-of-requires returns)
+    tie.close (tie.spec held-word-requires held-word-requires-2 (λ c κs. search needs) (λ c. search needs))

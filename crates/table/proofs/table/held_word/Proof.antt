@@ -18,14 +18,8 @@ Inv-loop rows cells from it count word₀ q₀ word q = (q ≤ count) × FirstBi
 abbrev μ-loop : tie.MeasureT-loop
 μ-loop rows cells from it count word₀ q₀ word q = count - q
 
-cells-from-requires : tie.Need-cells-from-requires Inv-loop μ-loop
-cells-from-requires c κs = search needs
-
 loop-holds : tie.Need-loop-holds Inv-loop μ-loop
 loop-holds c = (omega arith, no-bits _)
-
-user-of-requires : tie.Need-user-of-requires Inv-loop μ-loop
-user-of-requires c κs = search needs
 
 add-permission-of : tie.Need-add-permission-of Inv-loop μ-loop
 unfolding table-row
@@ -39,21 +33,12 @@ shared-slice-read-permission-of : tie.Need-shared-slice-read-permission-of Inv-l
 shared-slice-read-permission-of c =
     c .before .before .before .before .cells-from .ensures .there (c .before .before .before .loop .q) (omega arith)
 
-permission-of-requires : tie.Need-permission-of-requires Inv-loop μ-loop
-permission-of-requires c κs = search needs
-
 holds-requires : tie.Need-holds-requires Inv-loop μ-loop
 unfolding row-bits row-words
 holds-requires c κs = omega (arith, c .before .before .user-of .ensures, c .permission-of .ensures)
 
 with-requires : tie.Need-with-requires Inv-loop μ-loop
 with-requires c κs = omega (arith, c .before .before .before .before .before .before .before .cells-from .ensures .not-past)
-
-add-q : tie.Need-add-q Inv-loop μ-loop
-add-q c = omega arith
-
-loop-less : tie.Need-loop-less Inv-loop μ-loop
-loop-less c = omega arith
 
 loop-again : tie.Need-loop-again Inv-loop μ-loop
 loop-again c =
@@ -77,16 +62,16 @@ held-word-spec =
     (tie.spec
     Inv-loop
     μ-loop
-    cells-from-requires
+    (λ c κs. search needs)
     loop-holds
-    user-of-requires
+    (λ c κs. search needs)
     add-permission-of
     mul-permission-of
     shared-slice-read-permission-of
-    permission-of-requires
+    (λ c κs. search needs)
     holds-requires
     with-requires
-    add-q
-    loop-less
+    (λ c. omega arith)
+    (λ c. omega arith)
     loop-again
     returns)

@@ -18,9 +18,6 @@ Inv-loop rows cells from p count word₀ q₀ word q = (q ≤ count) × FirstBit
 abbrev μ-loop : tie.MeasureT-loop
 μ-loop rows cells from p count word₀ q₀ word q = count - q
 
-cells-from-requires : tie.Need-cells-from-requires Inv-loop μ-loop
-cells-from-requires c κs = search needs
-
 loop-holds : tie.Need-loop-holds Inv-loop μ-loop
 loop-holds c = (omega arith, no-bits _)
 
@@ -35,21 +32,12 @@ mul-user-of c = omega (arith, c .before .before .cells-from .ensures .not-past)
 shared-slice-read-user-of : tie.Need-shared-slice-read-user-of Inv-loop μ-loop
 shared-slice-read-user-of c = c .before .before .before .cells-from .ensures .there (c .before .before .loop .q) (omega arith)
 
-user-of-requires : tie.Need-user-of-requires Inv-loop μ-loop
-user-of-requires c κs = search needs
-
 holds-requires : tie.Need-holds-requires Inv-loop μ-loop
 unfolding row-bits row-words
 holds-requires c κs = omega (arith, c .user-of .ensures)
 
 with-requires : tie.Need-with-requires Inv-loop μ-loop
 with-requires c κs = omega (arith, c .before .before .before .before .before .before .cells-from .ensures .not-past)
-
-add-q : tie.Need-add-q Inv-loop μ-loop
-add-q c = omega arith
-
-loop-less : tie.Need-loop-less Inv-loop μ-loop
-loop-less c = omega arith
 
 loop-again : tie.Need-loop-again Inv-loop μ-loop
 loop-again c =
@@ -73,15 +61,15 @@ holders-spec =
     (tie.spec
     Inv-loop
     μ-loop
-    cells-from-requires
+    (λ c κs. search needs)
     loop-holds
     add-user-of
     mul-user-of
     shared-slice-read-user-of
-    user-of-requires
+    (λ c κs. search needs)
     holds-requires
     with-requires
-    add-q
-    loop-less
+    (λ c. omega arith)
+    (λ c. omega arith)
     loop-again
     returns)

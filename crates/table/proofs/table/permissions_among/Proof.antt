@@ -20,24 +20,9 @@ abbrev μ-loop : tie.MeasureT-loop
 loop-holds : tie.Need-loop-holds Inv-loop μ-loop
 loop-holds c = (omega arith, λ j l. absurd (omega arith))
 
-mul-permission-of : tie.Need-mul-permission-of Inv-loop μ-loop
-mul-permission-of c = omega arith
-
-shared-slice-read-permission-of : tie.Need-shared-slice-read-permission-of Inv-loop μ-loop
-shared-slice-read-permission-of c = omega arith
-
-permission-of-requires : tie.Need-permission-of-requires Inv-loop μ-loop
-permission-of-requires c κs = search needs
-
 with-requires : tie.Need-with-requires Inv-loop μ-loop
 unfolding row-bits row-words
 with-requires c κs = omega (arith, c .permission-of .ensures)
-
-add-i : tie.Need-add-i Inv-loop μ-loop
-add-i c = omega arith
-
-loop-less : tie.Need-loop-less Inv-loop μ-loop
-loop-less c = omega arith
 
 loop-again : tie.Need-loop-again Inv-loop μ-loop
 loop-again c =
@@ -58,11 +43,11 @@ permissions-among-spec =
     Inv-loop
     μ-loop
     loop-holds
-    mul-permission-of
-    shared-slice-read-permission-of
-    permission-of-requires
+    (λ c. omega arith)
+    (λ c. omega arith)
+    (λ c κs. search needs)
     with-requires
-    add-i
-    loop-less
+    (λ c. omega arith)
+    (λ c. omega arith)
     loop-again
     returns)

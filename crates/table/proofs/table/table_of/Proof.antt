@@ -28,12 +28,6 @@ column : (c : tie.After-permission-of Inv-loop μ-loop) → c .permission-of .re
 unfolding row-bits row-words
 column c = omega (arith, c .permission-of .ensures)
 
-limited-requires : tie.Need-limited-requires Inv-loop μ-loop
-limited-requires c κs = search needs
-
-permissions-among-requires : tie.Need-permissions-among-requires Inv-loop μ-loop
-permissions-among-requires c κs = search needs
-
 columns-requires : tie.Need-columns-requires Inv-loop μ-loop
 unfolding table-row
 columns-requires c κs = omega arith
@@ -42,9 +36,6 @@ columns-requires-2 : tie.Need-columns-requires-2 Inv-loop μ-loop
 unfolding table-row
 columns-requires-2 c κs = omega arith
 
-held-by-requires : tie.Need-held-by-requires Inv-loop μ-loop
-held-by-requires c κs = search needs
-
 loop-holds : tie.Need-loop-holds Inv-loop μ-loop
 unfolding table-row
 loop-holds c = (omega arith, length-replicate {A = ℕ} (table-limit * table-row) 0, own-user (c .held-by .ensures), nothing-filled _ _)
@@ -52,15 +43,6 @@ loop-holds c = (omega arith, length-replicate {A = ℕ} (table-limit * table-row
 mul-it : tie.Need-mul-it Inv-loop μ-loop
 unfolding table-row
 mul-it c = omega (arith, within c)
-
-shared-slice-read-it : tie.Need-shared-slice-read-it Inv-loop μ-loop
-shared-slice-read-it c = omega arith
-
-held-again-requires : tie.Need-held-again-requires Inv-loop μ-loop
-held-again-requires c κs = search needs
-
-permission-of-requires : tie.Need-permission-of-requires Inv-loop μ-loop
-permission-of-requires c κs = search needs
 
 mul-words : tie.Need-mul-words Inv-loop μ-loop
 unfolding row-bits row-words
@@ -110,9 +92,6 @@ add-i : tie.Need-add-i Inv-loop μ-loop
 unfolding table-row
 add-i c = omega (arith, within (c .before .before .before .before .before))
 
-loop-less : tie.Need-loop-less Inv-loop μ-loop
-loop-less c = omega arith
-
 loop-again : tie.Need-loop-again Inv-loop μ-loop
 unfolding table-row
 loop-again c =
@@ -147,16 +126,16 @@ table-of-spec =
     (tie.spec
     Inv-loop
     μ-loop
-    limited-requires
-    permissions-among-requires
+    (λ c κs. search needs)
+    (λ c κs. search needs)
     columns-requires
     columns-requires-2
-    held-by-requires
+    (λ c κs. search needs)
     loop-holds
     mul-it
-    shared-slice-read-it
-    held-again-requires
-    permission-of-requires
+    (λ c. omega arith)
+    (λ c κs. search needs)
+    (λ c κs. search needs)
     mul-words
     array-read-words
     mul-words-2
@@ -169,6 +148,6 @@ table-of-spec =
     mul-words-6
     array-write-words-2
     add-i
-    loop-less
+    (λ c. omega arith)
     loop-again
     returns)

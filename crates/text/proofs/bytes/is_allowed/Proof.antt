@@ -5,19 +5,13 @@ use Rattle.spec.specs.Text.{allowed-byte}
 use Rattle.text.proofs.bytes.is_allowed.Statement.{statement}
 use Rattle.text.proofs.bytes.is_allowed.Tie as tie
 
-is-name-byte-requires : tie.Need-is-name-byte-requires
-is-name-byte-requires c κs = search needs
-
 returns : tie.Need-returns
 unfolding allowed-byte
 returns c = rw (sym (c .before .is-name-byte .ensures) ∙ c .if1 .taken)
-
-is-separator-requires : tie.Need-is-separator-requires
-is-separator-requires c κs = search needs
 
 returns-2 : tie.Need-returns-2
 unfolding allowed-byte
 returns-2 c = rw (sym (c .before .before .is-name-byte .ensures) ∙ c .before .if1 .left) (c .is-separator .ensures)
 
 pub is-allowed-spec : {M : Type 1} → statement M
-is-allowed-spec = tie.close (tie.spec is-name-byte-requires returns is-separator-requires returns-2)
+is-allowed-spec = tie.close (tie.spec (λ c κs. search needs) returns (λ c κs. search needs) returns-2)

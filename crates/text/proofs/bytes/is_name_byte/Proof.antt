@@ -13,15 +13,9 @@ use Rattle.text.proofs.bytes.is_name_byte.Tie as tie
 abbrev other-name-byte : ℕ → Bool
 other-name-byte b = eqb b (code "-") || eqb b (code ".") || eqb b (code "_")
 
-is-between-requires : tie.Need-is-between-requires
-is-between-requires c κs = search needs
-
 returns : tie.Need-returns
 unfolding name-byte
 returns c = rw (sym (c .before .is-between .ensures) ∙ c .if1 .taken)
-
-is-between-requires-2 : tie.Need-is-between-requires-2
-is-between-requires-2 c κs = search needs
 
 returns-2 : tie.Need-returns-2
 unfolding name-byte
@@ -30,9 +24,6 @@ returns-2 c =
       sym (c .before .before .before .is-between .ensures) ∙ c .before .before .if1 .left,
       sym (c .before .is-between2 .ensures) ∙ c .if2 .taken,
     )
-
-is-between-requires-3 : tie.Need-is-between-requires-3
-is-between-requires-3 c κs = search needs
 
 returns-3 : tie.Need-returns-3
 unfolding name-byte
@@ -67,11 +58,11 @@ pub is-name-byte-spec : {M : Type 1} → statement M
 is-name-byte-spec =
     tie.close
     (tie.spec
-    is-between-requires
+    (λ c κs. search needs)
     returns
-    is-between-requires-2
+    (λ c κs. search needs)
     returns-2
-    is-between-requires-3
+    (λ c κs. search needs)
     returns-3
     returns-4
     returns-5

@@ -6,9 +6,6 @@ use lib.ListN.{length}
 use Rattle.text.proofs.bytes.stands_at.Statement.{statement}
 use Rattle.text.proofs.bytes.stands_at.Tie as tie
 
-shared-slice-read-result : tie.Need-shared-slice-read-result
-shared-slice-read-result c = search needs
-
 returns : tie.Need-returns
 returns c = rw (lt-ltb (c .before .before .args .at) (length (c .before .before .args .s .now)) (omega arith))
 
@@ -16,4 +13,4 @@ returns-2 : tie.Need-returns-2
 returns-2 c = rw (le-ltb (c .before .args .at) (length (c .before .args .s .now)) (omega arith))
 
 pub stands-at-spec : {M : Type 1} → statement M
-stands-at-spec = tie.close (tie.spec shared-slice-read-result returns returns-2)
+stands-at-spec = tie.close (tie.spec (λ c. search needs) returns returns-2)

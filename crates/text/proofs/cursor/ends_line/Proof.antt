@@ -4,14 +4,8 @@ use lib.ListN.{List·getD-eq-default}
 use Rattle.text.proofs.cursor.ends_line.Statement.{statement}
 use Rattle.text.proofs.cursor.ends_line.Tie as tie
 
-shared-slice-read-result : tie.Need-shared-slice-read-result
-shared-slice-read-result c = search needs
-
-returns : tie.Need-returns
-returns c = search needs
-
 returns-2 : tie.Need-returns-2
 returns-2 c = rw (List·getD-eq-default (c .before .args .s .now) 0 (c .if1 .left))
 
 pub ends-line-spec : {M : Type 1} → statement M
-ends-line-spec = tie.close (tie.spec shared-slice-read-result returns returns-2)
+ends-line-spec = tie.close (tie.spec (λ c. search needs) (λ c. search needs) returns-2)

@@ -18,9 +18,6 @@ abbrev μ-loop : tie.MeasureT-loop
 loop-holds : tie.Need-loop-holds Inv-loop μ-loop
 loop-holds c = refl
 
-shared-slice-read-is-separator : tie.Need-shared-slice-read-is-separator Inv-loop μ-loop
-shared-slice-read-is-separator c = omega arith
-
 is-separator-requires : tie.Need-is-separator-requires Inv-loop μ-loop
 is-separator-requires c κs = tt
 
@@ -30,12 +27,6 @@ returns c =
     let s = c .before .before .before .before .before .before .args .s .now in
     let stops = sym (c .before .is-separator .ensures) ∙ c .if1 .taken in
     omega (arith, rw (span-drop separator s i 0 (omega arith), stops) at (c .before .before .before .before .loop .inv))
-
-add-i : tie.Need-add-i Inv-loop μ-loop
-add-i c = omega arith
-
-loop-less : tie.Need-loop-less Inv-loop μ-loop
-loop-less c = omega arith
 
 loop-again : tie.Need-loop-again Inv-loop μ-loop
 loop-again c =
@@ -59,10 +50,10 @@ field-end-spec =
     Inv-loop
     μ-loop
     loop-holds
-    shared-slice-read-is-separator
+    (λ c. omega arith)
     is-separator-requires
     returns
-    add-i
-    loop-less
+    (λ c. omega arith)
+    (λ c. omega arith)
     loop-again
     returns-2)

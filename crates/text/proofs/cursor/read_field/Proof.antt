@@ -10,12 +10,6 @@ use Rattle.text.specs.Fields.{separator, field-read}
 use Rattle.text.proofs.cursor.read_field.Statement.{statement}
 use Rattle.text.proofs.cursor.read_field.Tie as tie
 
-field-end-requires : tie.Need-field-end-requires
-field-end-requires c κs = search needs
-
-ends-line-requires : tie.Need-ends-line-requires
-ends-line-requires c κs = search needs
-
 starts : (c : tie.Joined1) → c .if1 .from ≡ min (c .before .before .args .at) (length (c .before .before .args .s .now))
 starts c = ⊎-elim (λ w. omega arith) (λ w. omega arith) (c .if1 .came)
 
@@ -30,4 +24,4 @@ unfolding field-read
 returns c = rw (c .ends-line .ensures, c .before .field-end .ensures, starts (c .before .before))
 
 pub read-field-spec : {M : Type 1} → statement M
-read-field-spec = tie.close (tie.spec field-end-requires ends-line-requires add-t5 returns)
+read-field-spec = tie.close (tie.spec (λ c κs. search needs) (λ c κs. search needs) add-t5 returns)

@@ -12,23 +12,14 @@ behind-the-comma : (c : tie.Start) → WrittenSoFar (comma ∷ []) (c .args .fie
 behind-the-comma c =
     record { written = byte-written [] comma (omega arith) (nothing-written (c .args .out .now)); fits = c .pre }
 
-slice-write-out : tie.Need-slice-write-out
-slice-write-out c = search needs
-
 sub-put-bytes : tie.Need-sub-put-bytes
 sub-put-bytes c = within-buffer (behind-the-comma (c .before .before))
 
 part-put-bytes-start : tie.Need-part-put-bytes-start
 part-put-bytes-start c = within-buffer (behind-the-comma (c .before .before))
 
-part-put-bytes-end : tie.Need-part-put-bytes-end
-part-put-bytes-end c = search needs
-
 put-bytes-requires : tie.Need-put-bytes-requires
 put-bytes-requires c κs = room-behind (behind-the-comma (c .before .before .before))
-
-add-result : tie.Need-add-result
-add-result c = search needs
 
 same-length : tie.Need-same-length
 same-length c = then-same-length (behind-the-comma (c .before .before .before .before .before .before)) (c .before .before .put-bytes .ensures)
@@ -40,11 +31,11 @@ pub put-field-spec : {M : Type 1} → statement M
 put-field-spec =
     tie.close
     (tie.spec
-    slice-write-out
+    (λ c. search needs)
     sub-put-bytes
     part-put-bytes-start
-    part-put-bytes-end
+    (λ c. search needs)
     put-bytes-requires
-    add-result
+    (λ c. search needs)
     same-length
     returns)

@@ -23,9 +23,6 @@ element-copy-out-word : tie.Need-element-copy-out-word
 unfolding user-limit row-words row-bits
 element-copy-out-word c = omega arith
 
-mul-count : tie.Need-mul-count
-mul-count c = search needs
-
 mul-count-2 : tie.Need-mul-count-2
 unfolding user-limit row-words
 mul-count-2 c = omega arith
@@ -39,9 +36,6 @@ unfolding user-limit row-words
 returns c = λ rows made.
     let s = c .before .before in
     whole-word-holds rows (s .args .columns .now) made (s .args .users) (s .args .p) (s .args .j) (s .pre .0) (s .pre .1) (s .pre .2) (omega arith)
-
-full-requires : tie.Need-full-requires
-full-requires c κs = search needs
 
 returns-2 : tie.Need-returns-2
 unfolding user-limit row-words
@@ -57,9 +51,9 @@ holders-spec =
     add-word
     mul-word-2
     element-copy-out-word
-    mul-count
+    (λ c. search needs)
     mul-count-2
     sub-count
     returns
-    full-requires
+    (λ c κs. search needs)
     returns-2)

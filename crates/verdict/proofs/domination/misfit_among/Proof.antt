@@ -28,9 +28,6 @@ abbrev μ-loop : tie.MeasureT-loop
 loop-holds : tie.Need-loop-holds Inv-loop μ-loop
 loop-holds c = walk-begun (λ q l e. rw e)
 
-lowest-requires : tie.Need-lowest-requires Inv-loop μ-loop
-lowest-requires c κs = omega arith
-
 add-row-fits : tie.Need-add-row-fits Inv-loop μ-loop
 unfolding user-limit row-words
 add-row-fits c = omega (arith, c .lowest .ensures .within)
@@ -53,9 +50,6 @@ returns c =
           (sym (c .before .row-fits .ensures) ∙ not-true (c .before .row-fits .result) (c .if1 .taken)));
       earlier = walk-before (at .inv) (low .ensures);
     }
-
-without-lowest-requires : tie.Need-without-lowest-requires Inv-loop μ-loop
-without-lowest-requires c κs = omega arith
 
 loop-less : tie.Need-loop-less Inv-loop μ-loop
 loop-less c = c .without-lowest .ensures .less
@@ -81,11 +75,11 @@ misfit-among-spec =
     Inv-loop
     μ-loop
     loop-holds
-    lowest-requires
+    (λ c κs. omega arith)
     add-row-fits
     row-fits-requires
     returns
-    without-lowest-requires
+    (λ c κs. omega arith)
     loop-less
     loop-again
     returns-2)

@@ -8,12 +8,6 @@ use Rattle.verdict.specs.Laws.Misfit.{row-fits-by-word}
 use Rattle.verdict.proofs.domination.row_fits.Statement.{statement}
 use Rattle.verdict.proofs.domination.row_fits.Tie as tie
 
-mul-row : tie.Need-mul-row
-mul-row c = search needs
-
-add-row : tie.Need-add-row
-add-row c = search needs
-
 mul-row-2 : tie.Need-mul-row-2
 unfolding user-limit row-words
 mul-row-2 c = omega arith
@@ -30,12 +24,6 @@ element-copy-out-within : tie.Need-element-copy-out-within
 unfolding user-limit row-words
 element-copy-out-within c = omega arith
 
-fitting-requires : tie.Need-fitting-requires
-fitting-requires c κs = search needs
-
-within-requires : tie.Need-within-requires
-within-requires c κs = search needs
-
 returns : tie.Need-returns
 unfolding row-words
 returns c = let a = c .before .before .before .before .args in
@@ -45,12 +33,12 @@ pub row-fits-spec : {M : Type 1} → statement M
 row-fits-spec =
     tie.close
     (tie.spec
-    mul-row
-    add-row
+    (λ c. search needs)
+    (λ c. search needs)
     mul-row-2
     element-copy-out-row
     mul-within
     element-copy-out-within
-    fitting-requires
-    within-requires
+    (λ c κs. search needs)
+    (λ c κs. search needs)
     returns)

@@ -21,9 +21,6 @@ holders-requires-2 : tie.Need-holders-requires-2
 unfolding user-limit row-words row-bits
 holders-requires-2 c κs = omega arith
 
-apart-requires : tie.Need-apart-requires
-apart-requires c κs = search needs
-
 returns-2 : tie.Need-returns-2
 unfolding user-limit row-words row-bits
 returns-2 c = λ rows left made.
@@ -33,4 +30,4 @@ returns-2 c = λ rows left made.
 
 pub suspects-spec : {M : Type 1} → statement M
 suspects-spec =
-    tie.close (tie.spec holders-requires returns holders-requires-2 apart-requires returns-2)
+    tie.close (tie.spec holders-requires returns holders-requires-2 (λ c κs. search needs) returns-2)

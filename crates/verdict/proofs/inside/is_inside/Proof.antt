@@ -14,13 +14,10 @@ returns c =
     let none = none-below-intro word-bits (bit 0) (λ q l. bit-of-zero q) in
     rw (c .if1 .taken) (rw none)
 
-within-requires : tie.Need-within-requires
-within-requires c κs = search needs
-
 returns-2 : tie.Need-returns-2
 returns-2 c =
     let s = c .before .before in
     c .within .ensures ∙ rw (some-bit word-bits (s .args .w) (omega arith) (s .fits .w .fits))
 
 pub is-inside-spec : {M : Type 1} → statement M
-is-inside-spec = tie.close (tie.spec returns within-requires returns-2)
+is-inside-spec = tie.close (tie.spec returns (λ c κs. search needs) returns-2)

@@ -11,18 +11,9 @@ use Rattle.fit.specs.WitnessWords.{cell-put-in}
 use Rattle.verdict.proofs.inside.put_word.Statement.{statement}
 use Rattle.verdict.proofs.inside.put_word.Tie as tie
 
-mul-with : tie.Need-mul-with
-mul-with c = search needs
-
 element-copy-out-with : tie.Need-element-copy-out-with
 unfolding user-limit row-words
 element-copy-out-with c = omega arith
-
-with-requires : tie.Need-with-requires
-with-requires c κs = search needs
-
-mul-words : tie.Need-mul-words
-mul-words c = search needs
 
 element-write-words : tie.Need-element-write-words
 unfolding user-limit row-words
@@ -38,4 +29,4 @@ returns c =
 pub put-word-spec : {M : Type 1} → statement M
 put-word-spec =
     tie.close
-    (tie.spec mul-with element-copy-out-with with-requires mul-words element-write-words returns)
+    (tie.spec (λ c. search needs) element-copy-out-with (λ c κs. search needs) (λ c. search needs) element-write-words returns)

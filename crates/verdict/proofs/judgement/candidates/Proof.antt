@@ -19,21 +19,9 @@ element-copy-out-w : tie.Need-element-copy-out-w
 unfolding user-limit row-words
 element-copy-out-w c = omega arith
 
-mul-within : tie.Need-mul-within
-mul-within c = search needs
-
-add-within : tie.Need-add-within
-add-within c = search needs
-
-mul-within-2 : tie.Need-mul-within-2
-mul-within-2 c = search needs
-
 element-copy-out-within : tie.Need-element-copy-out-within
 unfolding user-limit row-words
 element-copy-out-within c = omega arith
-
-within-requires : tie.Need-within-requires
-within-requires c κs = search needs
 
 returns : tie.Need-returns
 unfolding row-bits row-words
@@ -43,9 +31,6 @@ returns c = λ users inside.
     all-tried (a .rows .now) (a .left .now) users (a .it .0) (a .i)
     (unless-in-own-row (a .rows .now) (a .left .now) users (a .it .0) (a .i) (s .pre .2) inside
     (sym (c .before .within .ensures) ∙ not-true (c .before .within .result) (c .if1 .taken)))
-
-without-requires : tie.Need-without-requires
-without-requires c κs = search needs
 
 returns-2 : tie.Need-returns-2
 returns-2 c = λ users inside.
@@ -63,12 +48,12 @@ candidates-spec =
     (tie.spec
     mul-w
     element-copy-out-w
-    mul-within
-    add-within
-    mul-within-2
+    (λ c. search needs)
+    (λ c. search needs)
+    (λ c. search needs)
     element-copy-out-within
-    within-requires
+    (λ c κs. search needs)
     returns
-    without-requires
+    (λ c κs. search needs)
     returns-2
     returns-3)

@@ -11,9 +11,6 @@ use Rattle.verdict.specs.Laws.Single.{one-of-two, alone-in-word}
 use Rattle.verdict.proofs.judgement.is_single.Statement.{statement}
 use Rattle.verdict.proofs.judgement.is_single.Tie as tie
 
-mul-is-one : tie.Need-mul-is-one
-mul-is-one c = search needs
-
 element-copy-out-is-one : tie.Need-element-copy-out-is-one
 unfolding user-limit row-words
 element-copy-out-is-one c = omega arith
@@ -26,9 +23,6 @@ returns c = λ users sheet few inside shown part.
     let s = c .before .before .before in
     sym (ne-eqb _ 1 (λ one. not-both (eq-eqb _ 1 (alone-in-word shown part (s .args .it .0) inside (s .pre .1) one)) (sym (c .before .is-one .ensures) ∙ not-true (c .before .is-one .result) (c .if1 .taken))))
 
-partners-in-column-requires : tie.Need-partners-in-column-requires
-partners-in-column-requires c κs = search needs
-
 returns-2 : tie.Need-returns-2
 returns-2 c = λ users sheet few inside shown part. one-of-two (c .partners-in-column .ensures users sheet few shown part)
 
@@ -36,9 +30,9 @@ pub is-single-spec : {M : Type 1} → statement M
 is-single-spec =
     tie.close
     (tie.spec
-    mul-is-one
+    (λ c. search needs)
     element-copy-out-is-one
     is-one-requires
     returns
-    partners-in-column-requires
+    (λ c κs. search needs)
     returns-2)

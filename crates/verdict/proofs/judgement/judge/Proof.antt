@@ -41,12 +41,6 @@ tie-requires c κs =
     let s = c .before .before in
     (s .pre .0 .few-users, lt-of-lt-of-le (s .pre .0 .within) (cells-within (s .pre .0 .few-users)), s .pre .0 .part, s .pre .1, s .pre .2, s .pre .0 .set)
 
-enum-known-other : tie.Need-enum-known-other
-enum-known-other c = search needs
-
-enum-told : tie.Need-enum-told
-enum-told c = search needs
-
 returns-2 : tie.Need-returns-2
 returns-2 c =
     let judged = c .before .before .before .before in
@@ -79,7 +73,7 @@ judge-spec =
     is-single-requires
     returns
     tie-requires
-    enum-known-other
-    enum-told
+    (λ c. search needs)
+    (λ c. search needs)
     returns-2
     returns-3)

@@ -35,17 +35,11 @@ tie-among-requires : tie.Need-tie-among-requires Inv-loop μ-loop
 unfolding row-words
 tie-among-requires c κs = search needs
 
-enum-known-found : tie.Need-enum-known-found Inv-loop μ-loop
-enum-known-found c = search needs
-
 returns : tie.Need-returns Inv-loop μ-loop
 returns c =
     lowest-of-all (omega arith)
     (none-then-lowest (omega arith) (c .before .before .before .before .before .loop .inv .1)
     (rw (c .before .found .given .1) at (c .before .before .before .tie-among .ensures)))
-
-enum-told : tie.Need-enum-told Inv-loop μ-loop
-enum-told c = search needs
 
 add-j : tie.Need-add-j Inv-loop μ-loop
 unfolding user-limit row-words
@@ -77,9 +71,9 @@ tie-spec =
     mul-loop
     mul-loop-2
     tie-among-requires
-    enum-known-found
+    (λ c. search needs)
     returns
-    enum-told
+    (λ c. search needs)
     add-j
     loop-less
     loop-again

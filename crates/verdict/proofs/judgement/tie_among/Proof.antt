@@ -50,9 +50,6 @@ mul-i : tie.Need-mul-i Inv-loop μ-loop
 unfolding user-limit row-words
 mul-i c = omega arith
 
-lowest-requires : tie.Need-lowest-requires Inv-loop μ-loop
-lowest-requires c κs = omega arith
-
 add-i : tie.Need-add-i Inv-loop μ-loop
 unfolding user-limit row-words
 add-i c = omega (arith, c .lowest .ensures .within)
@@ -72,21 +69,12 @@ within c =
 tie-in-requires : tie.Need-tie-in-requires Inv-loop μ-loop
 tie-in-requires c κs = let s = c .before .before .before .before .before in (s .pre .0, s .pre .1, within c, s .pre .3, s .pre .4)
 
-enum-known-found : tie.Need-enum-known-found Inv-loop μ-loop
-enum-known-found c = search needs
-
 returns : tie.Need-returns Inv-loop μ-loop
 returns c =
     let s = c .before .before .before .before .before .before .before .before .before in
     lowest-in-column (tie-at (s .args .rows .now) (s .args .left .now) (s .args .users) (s .args .it .0)) (s .args .users) (s .args .j) (s .pre .2)
     (c .before .before .before .before .before .before .loop .inv) (c .before .before .before .before .lowest .ensures) (within (c .before .before .before .before))
     (rw (c .before .found .given .1) at (c .before .before .before .tie-in .ensures))
-
-enum-told : tie.Need-enum-told Inv-loop μ-loop
-enum-told c = search needs
-
-without-lowest-requires : tie.Need-without-lowest-requires Inv-loop μ-loop
-without-lowest-requires c κs = omega arith
 
 loop-less : tie.Need-loop-less Inv-loop μ-loop
 loop-less c = c .without-lowest .ensures .less
@@ -113,13 +101,13 @@ tie-among-spec =
     element-copy-out-w
     loop-holds
     mul-i
-    lowest-requires
+    (λ c κs. omega arith)
     add-i
     tie-in-requires
-    enum-known-found
+    (λ c. search needs)
     returns
-    enum-told
-    without-lowest-requires
+    (λ c. search needs)
+    (λ c κs. omega arith)
     loop-less
     loop-again
     returns-2)

@@ -31,9 +31,6 @@ mul-other : tie.Need-mul-other Inv-loop μ-loop
 unfolding user-limit row-words
 mul-other c = omega arith
 
-lowest-requires : tie.Need-lowest-requires Inv-loop μ-loop
-lowest-requires c κs = omega arith
-
 add-other : tie.Need-add-other Inv-loop μ-loop
 unfolding user-limit row-words
 add-other c = omega (arith, c .lowest .ensures .within)
@@ -113,7 +110,7 @@ tie-in-spec =
     candidates-requires
     loop-holds
     mul-other
-    lowest-requires
+    (λ c κs. omega arith)
     add-other
     misfit-requires
     mul-if1

@@ -34,9 +34,6 @@ element-copy-out-w c = omega arith
 loop-holds : tie.Need-loop-holds Inv-loop μ-loop
 loop-holds c rows users few inside counted walked = word-starts _ _ _ _ _ walked
 
-lowest-requires : tie.Need-lowest-requires Inv-loop μ-loop
-lowest-requires c κs = omega arith
-
 add-n : tie.Need-add-n Inv-loop μ-loop
 unfolding user-limit row-words
 add-n c = omega (arith, c .lowest .ensures .within)
@@ -48,12 +45,6 @@ mul-better c = omega (arith, c .lowest .ensures .within)
 element-copy-out-better : tie.Need-element-copy-out-better Inv-loop μ-loop
 unfolding user-limit row-words
 element-copy-out-better c = omega (arith, c .lowest .ensures .within)
-
-better-requires : tie.Need-better-requires Inv-loop μ-loop
-better-requires c κs = search needs
-
-without-lowest-requires : tie.Need-without-lowest-requires Inv-loop μ-loop
-without-lowest-requires c κs = omega arith
 
 loop-less : tie.Need-loop-less Inv-loop μ-loop
 loop-less c = c .without-lowest .ensures .less
@@ -78,12 +69,12 @@ better-in-word-spec =
     mul-w
     element-copy-out-w
     loop-holds
-    lowest-requires
+    (λ c κs. omega arith)
     add-n
     mul-better
     element-copy-out-better
-    better-requires
-    without-lowest-requires
+    (λ c κs. search needs)
+    (λ c κs. omega arith)
     loop-less
     loop-again
     returns)

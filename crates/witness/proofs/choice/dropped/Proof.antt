@@ -22,9 +22,6 @@ loop-holds : tie.Need-loop-holds Inv-loop μ-loop
 unfolding user-limit row-words
 loop-holds c = (omega arith, refl, none-made _ cell-words)
 
-mul-loop : tie.Need-mul-loop Inv-loop μ-loop
-mul-loop c = omega arith
-
 mul-less : tie.Need-mul-less Inv-loop μ-loop
 unfolding user-limit
 mul-less c = omega arith
@@ -47,9 +44,6 @@ mul-words c = omega arith
 array-write-words : tie.Need-array-write-words Inv-loop μ-loop
 unfolding user-limit
 array-write-words c = omega arith
-
-add-i : tie.Need-add-i Inv-loop μ-loop
-add-i c = omega arith
 
 loop-less : tie.Need-loop-less Inv-loop μ-loop
 unfolding row-words
@@ -81,14 +75,14 @@ dropped-spec =
     Inv-loop
     μ-loop
     loop-holds
-    mul-loop
+    (λ c. omega arith)
     mul-less
     element-copy-out-less
     fitting-requires
     less-requires
     mul-words
     array-write-words
-    add-i
+    (λ c. omega arith)
     loop-less
     loop-again
     returns)

@@ -43,9 +43,6 @@ add-to-users-requires c κs =
           rw (at .inv .1 .rest n (omega arith)) (start .pre .3 n (omega arith) p),
     )
 
-add-j : tie.Need-add-j Inv-loop μ-loop
-add-j c = omega arith
-
 loop-less : tie.Need-loop-less Inv-loop μ-loop
 unfolding user-limit row-words
 loop-less c = omega arith
@@ -77,7 +74,7 @@ add-spec =
     loop-holds
     union-of-requires
     add-to-users-requires
-    add-j
+    (λ c. omega arith)
     loop-less
     loop-again
     returns-2)

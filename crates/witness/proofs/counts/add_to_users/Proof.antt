@@ -24,9 +24,6 @@ mul-from c = omega arith
 loop-holds : tie.Need-loop-holds Inv-loop μ-loop
 loop-holds c = users-start _ _ _ _ _ _ _ _
 
-lowest-requires : tie.Need-lowest-requires Inv-loop μ-loop
-lowest-requires c κs = omega arith
-
 add-add-to-user : tie.Need-add-add-to-user Inv-loop μ-loop
 unfolding user-limit row-words
 add-add-to-user c = omega (arith, c .lowest .ensures .within)
@@ -43,9 +40,6 @@ add-to-user-requires c κs =
           let here : So (at-position (start .args .j) (at .w) (n / word-bits)) = rw e (lowest-at (start .args .j) (at .w) (c .lowest .ensures)) in
           rw (at .inv .still n here) (start .pre .3 n (at .inv .among (n / word-bits) here) p),
     )
-
-without-lowest-requires : tie.Need-without-lowest-requires Inv-loop μ-loop
-without-lowest-requires c κs = omega arith
 
 loop-less : tie.Need-loop-less Inv-loop μ-loop
 loop-less c = c .without-lowest .ensures .less
@@ -67,10 +61,10 @@ add-to-users-spec =
     μ-loop
     mul-from
     loop-holds
-    lowest-requires
+    (λ c κs. omega arith)
     add-add-to-user
     add-to-user-requires
-    without-lowest-requires
+    (λ c κs. omega arith)
     loop-less
     loop-again
     returns)

@@ -21,9 +21,6 @@ mul-from c = omega arith
 loop-holds : tie.Need-loop-holds Inv-loop μ-loop
 loop-holds c = change-starts _ _ _ _ _
 
-lowest-requires : tie.Need-lowest-requires Inv-loop μ-loop
-lowest-requires c κs = omega arith
-
 add-n : tie.Need-add-n Inv-loop μ-loop
 unfolding user-limit row-words
 add-n c = omega (arith, c .lowest .ensures .within)
@@ -53,9 +50,6 @@ element-write-counts : tie.Need-element-write-counts Inv-loop μ-loop
 unfolding user-limit row-words
 element-write-counts c = omega (arith, c .before .lowest .ensures .within)
 
-without-lowest-requires : tie.Need-without-lowest-requires Inv-loop μ-loop
-without-lowest-requires c κs = omega arith
-
 loop-less : tie.Need-loop-less Inv-loop μ-loop
 loop-less c = c .without-lowest .ensures .less
 
@@ -79,14 +73,14 @@ lower-spec =
     μ-loop
     mul-from
     loop-holds
-    lowest-requires
+    (λ c κs. omega arith)
     add-n
     mul-counts
     element-copy-out-counts
     sub-counts
     mul-counts-2
     element-write-counts
-    without-lowest-requires
+    (λ c κs. omega arith)
     loop-less
     loop-again
     returns)

@@ -37,9 +37,6 @@ element-copy-out-count : tie.Need-element-copy-out-count
 unfolding user-limit row-words
 element-copy-out-count c = omega arith
 
-count-requires : tie.Need-count-requires
-count-requires c κs = search needs
-
 cast-lower : tie.Need-cast-lower
 cast-lower c =
     let few : c .count .result ≤ word-bits = rw (c .count .ensures) (count-below-le word-bits _) in
@@ -75,7 +72,7 @@ take-from-user-spec =
     element-copy-out-some-2
     mul-count
     element-copy-out-count
-    count-requires
+    (λ c κs. search needs)
     cast-lower
     lower-requires
     returns

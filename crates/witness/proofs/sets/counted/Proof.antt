@@ -23,9 +23,6 @@ loop-holds : tie.Need-loop-holds Inv-loop μ-loop
 unfolding count-below
 loop-holds c = search needs
 
-mul-loop : tie.Need-mul-loop Inv-loop μ-loop
-mul-loop c = omega arith
-
 mul-count : tie.Need-mul-count Inv-loop μ-loop
 unfolding user-limit
 mul-count c = omega arith
@@ -34,18 +31,12 @@ element-copy-out-count : tie.Need-element-copy-out-count Inv-loop μ-loop
 unfolding user-limit
 element-copy-out-count c = omega arith
 
-count-requires : tie.Need-count-requires Inv-loop μ-loop
-count-requires c κs = search needs
-
 add-n : tie.Need-add-n Inv-loop μ-loop
 unfolding user-limit
 add-n c =
     let at = c .before .before .before .loop in
     let few : c .count .result ≤ word-bits = rw (c .count .ensures) (count-below-le word-bits _) in
     omega (arith, count-below-le (at .i * word-bits) (marked (c .before .before .before .before .args .words .now)))
-
-add-i : tie.Need-add-i Inv-loop μ-loop
-add-i c = omega arith
 
 loop-less : tie.Need-loop-less Inv-loop μ-loop
 unfolding row-words
@@ -75,12 +66,12 @@ counted-spec =
     Inv-loop
     μ-loop
     loop-holds
-    mul-loop
+    (λ c. omega arith)
     mul-count
     element-copy-out-count
-    count-requires
+    (λ c κs. search needs)
     add-n
-    add-i
+    (λ c. omega arith)
     loop-less
     loop-again
     returns)

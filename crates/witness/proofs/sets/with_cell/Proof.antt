@@ -10,18 +10,9 @@ use Rattle.fit.specs.WitnessWords.{cell-put-in}
 use Rattle.witness.proofs.sets.with_cell.Statement.{statement}
 use Rattle.witness.proofs.sets.with_cell.Tie as tie
 
-mul-with : tie.Need-mul-with
-mul-with c = search needs
-
 array-read-with : tie.Need-array-read-with
 unfolding user-limit row-words
 array-read-with c = omega arith
-
-with-requires : tie.Need-with-requires
-with-requires c κs = search needs
-
-mul-more : tie.Need-mul-more
-mul-more c = search needs
 
 array-write-more : tie.Need-array-write-more
 unfolding user-limit row-words
@@ -36,4 +27,4 @@ returns c =
 
 pub with-cell-spec : {M : Type 1} → statement M
 with-cell-spec =
-    tie.close (tie.spec mul-with array-read-with with-requires mul-more array-write-more returns)
+    tie.close (tie.spec (λ c. search needs) array-read-with (λ c κs. search needs) (λ c. search needs) array-write-more returns)

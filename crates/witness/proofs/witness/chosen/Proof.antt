@@ -14,18 +14,9 @@ use Rattle.witness.specs.WitnessGreedy.{greedy-starts, greedy-ends}
 use Rattle.witness.proofs.witness.chosen.Statement.{statement}
 use Rattle.witness.proofs.witness.chosen.Tie as tie
 
-next-cell-requires : tie.Need-next-cell-requires
-next-cell-requires c κs = search needs
-
 mul-if1 : tie.Need-mul-if1
 unfolding user-limit
 mul-if1 c = omega arith
-
-chosen-by-counts-requires : tie.Need-chosen-by-counts-requires
-chosen-by-counts-requires c κs = search needs
-
-returns : tie.Need-returns
-returns c = search needs
 
 returns-2 : tie.Need-returns-2
 unfolding user-limit row-words row-bits
@@ -39,4 +30,4 @@ returns-2 c sheet shown part =
 
 pub chosen-spec : {M : Type 1} → statement M
 chosen-spec =
-    tie.close (tie.spec next-cell-requires mul-if1 chosen-by-counts-requires returns returns-2)
+    tie.close (tie.spec (λ c κs. search needs) mul-if1 (λ c κs. search needs) (λ c. search needs) returns-2)

@@ -38,9 +38,6 @@ loop-holds : tie.Need-loop-holds Inv-loop μ-loop
 unfolding user-limit row-words
 loop-holds c = (omega arith, c .before .first-counts .ensures, λ sheet shown part. rw (sub-zero grant-limit) (greedy-starts sheet _ _ cell-words part))
 
-fewest-requires : tie.Need-fewest-requires Inv-loop μ-loop
-fewest-requires c κs = search needs
-
 returns : tie.Need-returns Inv-loop μ-loop
 returns c sheet shown part =
     let at = c .before .before .before .before .before .before .before .loop in
@@ -77,9 +74,6 @@ recount-requires c κs =
       at .inv .1,
       left-over-part (start .args .rows .now) (at .left) _ (cells-of (start .args .users)) (dropped .result) (dropped .ensures) .held,
     )
-
-add-count : tie.Need-add-count Inv-loop μ-loop
-add-count c = omega arith
 
 loop-less : tie.Need-loop-less Inv-loop μ-loop
 unfolding grant-limit
@@ -124,12 +118,12 @@ chosen-by-counts-spec =
     columns-of-requires
     first-counts-requires
     loop-holds
-    fewest-requires
+    (λ c κs. search needs)
     returns
     with-cell-requires
     dropped-requires
     recount-requires
-    add-count
+    (λ c. omega arith)
     loop-less
     loop-again
     returns-2)

@@ -7,16 +7,10 @@ use Rattle.witness.proofs.witness.witness_of.Tie as tie
 chosen-requires : tie.Need-chosen-requires
 chosen-requires c κs = c .pre .few-users
 
-joined-requires : tie.Need-joined-requires
-joined-requires c κs = search needs
-
-counted-requires : tie.Need-counted-requires
-counted-requires c κs = search needs
-
 returns : tie.Need-returns
 returns c sheet shown reduced =
     let chosen-cells = c .before .before .before .before .chosen .ensures sheet shown (reduced .kernel-part) in
     witnessed shown reduced chosen-cells (c .before .before .joined .ensures) (c .counted .result) (c .counted .ensures)
 
 pub witness-of-spec : {M : Type 1} → statement M
-witness-of-spec = tie.close (tie.spec chosen-requires joined-requires counted-requires returns)
+witness-of-spec = tie.close (tie.spec chosen-requires (λ c κs. search needs) (λ c κs. search needs) returns)

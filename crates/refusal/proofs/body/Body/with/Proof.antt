@@ -3,21 +3,6 @@ use borrow.Author.Needs.{needs}
 use Rattle.refusal.proofs.body.Body.with.Statement.{statement}
 use Rattle.refusal.proofs.body.Body.with.Tie as tie
 
-add-t5 : tie.Need-add-t5
-add-t5 c = search needs
-
-both-requires : tie.Need-both-requires
-both-requires c κs = search needs
-
-both-requires-2 : tie.Need-both-requires-2
-both-requires-2 c κs = search needs
-
-both-requires-3 : tie.Need-both-requires-3
-both-requires-3 c κs = search needs
-
-add-t10 : tie.Need-add-t10
-add-t10 c = search needs
-
 returns : tie.Need-returns
 returns c =
     rw (
@@ -28,4 +13,4 @@ returns c =
 
 pub with-spec : {M : Type 1} → statement M
 with-spec =
-    tie.close (tie.spec add-t5 both-requires both-requires-2 both-requires-3 add-t10 returns)
+    tie.close (tie.spec (λ c. search needs) (λ c κs. search needs) (λ c κs. search needs) (λ c κs. search needs) (λ c. search needs) returns)

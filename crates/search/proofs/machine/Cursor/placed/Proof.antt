@@ -11,15 +11,6 @@ use Rattle.search.specs.Marks.{marked}
 use Rattle.search.proofs.machine.Cursor.placed.Statement.{statement}
 use Rattle.search.proofs.machine.Cursor.placed.Tie as tie
 
-add-after : tie.Need-add-after
-add-after c = search needs
-
-add-after-2 : tie.Need-add-after-2
-add-after-2 c = search needs
-
-with-requires : tie.Need-with-requires
-with-requires c κs = search needs
-
 put-in : (before here : Bool) → (before || here) ≡ cond here true before
 put-in true true = refl
 put-in true false = refl
@@ -38,9 +29,6 @@ returns c =
       finished = refl;
       opened = λ i. c .with .ensures i ∙ rw opens (put-in (marked (a .self .opened) i) (eqb i (a .self .depth)));
     }
-
-without-requires : tie.Need-without-requires
-without-requires c κs = search needs
 
 taken-out : (before here : Bool) → (before && not here) ≡ cond here false before
 taken-out true true = refl
@@ -62,4 +50,4 @@ returns-2 c =
     }
 
 pub placed-spec : {M : Type 1} → statement M
-placed-spec = tie.close (tie.spec add-after add-after-2 with-requires returns without-requires returns-2)
+placed-spec = tie.close (tie.spec (λ c. search needs) (λ c. search needs) (λ c κs. search needs) returns (λ c κs. search needs) returns-2)

@@ -5,18 +5,6 @@ use borrow.Author.Needs.{needs}
 use Rattle.search.proofs.machine.Cursor.taken_back.Statement.{statement}
 use Rattle.search.proofs.machine.Cursor.taken_back.Tie as tie
 
-sub-d : tie.Need-sub-d
-sub-d c = search needs
-
-add-after : tie.Need-add-after
-add-after c = search needs
-
-has-requires : tie.Need-has-requires
-has-requires c κs = search needs
-
-sub-after : tie.Need-sub-after
-sub-after c = search needs
-
 returns : tie.Need-returns
 returns c = rw (sym (c .before .before .has .ensures) ∙ c .before .if1 .taken)
 
@@ -24,4 +12,4 @@ returns-2 : tie.Need-returns-2
 returns-2 c = rw (sym (c .before .has .ensures) ∙ c .if1 .left, sub-zero)
 
 pub taken-back-spec : {M : Type 1} → statement M
-taken-back-spec = tie.close (tie.spec sub-d add-after has-requires sub-after returns returns-2)
+taken-back-spec = tie.close (tie.spec (λ c. search needs) (λ c. search needs) (λ c κs. search needs) (λ c. search needs) returns returns-2)

@@ -41,12 +41,6 @@ loop-holds c =
 advanced-requires : tie.Need-advanced-requires Inv-loop μ-loop
 advanced-requires c κs = c .before .before .before .before .before .before .loop .inv .1
 
-add-steps : tie.Need-add-steps Inv-loop μ-loop
-add-steps c = omega arith
-
-loop-less : tie.Need-loop-less Inv-loop μ-loop
-loop-less c = omega arith
-
 loop-again : tie.Need-loop-again Inv-loop μ-loop
 loop-again c =
     let a = c .before .before .before .before .before .before .before .before .before .before .before .before .before .args in
@@ -57,9 +51,6 @@ loop-again c =
           (not-true (loop .at .finished) (c .before .before .before .before .if1 .taken)) (moved .stepped) (moved .ready .stands),
       moved .ready,
     )
-
-of-requires : tie.Need-of-requires Inv-loop μ-loop
-of-requires c κs = search needs
 
 returns : tie.Need-returns Inv-loop μ-loop
 returns c =
@@ -76,4 +67,4 @@ returns c =
 pub run-spec : {M : Type 1} → statement M
 run-spec =
     tie.close
-    (tie.spec Inv-loop μ-loop gathered-requires loop-holds advanced-requires add-steps loop-less loop-again of-requires returns)
+    (tie.spec Inv-loop μ-loop gathered-requires loop-holds advanced-requires (λ c. omega arith) (λ c. omega arith) loop-again (λ c κs. search needs) returns)

@@ -3,14 +3,8 @@ use borrow.Author.Needs.{needs}
 use Rattle.search.proofs.machine.Position.start.Statement.{statement}
 use Rattle.search.proofs.machine.Position.start.Tie as tie
 
-reaches-requires : tie.Need-reaches-requires
-reaches-requires c κs = search needs
-
-of-requires : tie.Need-of-requires
-of-requires c κs = search needs
-
 returns : tie.Need-returns
 returns c = rw (c .of .ensures, c .before .reaches .ensures)
 
 pub start-spec : {M : Type 1} → statement M
-start-spec = tie.close (tie.spec reaches-requires of-requires returns)
+start-spec = tie.close (tie.spec (λ c κs. search needs) (λ c κs. search needs) returns)

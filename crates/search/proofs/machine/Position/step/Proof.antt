@@ -18,13 +18,10 @@ moved-requires : tie.Need-moved-requires
 moved-requires c κs =
     record { stands = c .before .before .before .before .before .before .before .before .pre; classes-sized = whole-array (c .before .before .before .before .before .before .before .before); gathered = c .before .before .before .gathered .ensures }
 
-of-requires : tie.Need-of-requires
-of-requires c κs = search needs
-
 returns : tie.Need-returns
 returns c =
     let moved = c .before .moved .ensures in
     rw (c .of .ensures) (moved .stepped, moved .ready .stands)
 
 pub step-spec : {M : Type 1} → statement M
-step-spec = tie.close (tie.spec gathered-requires moved-requires of-requires returns)
+step-spec = tie.close (tie.spec gathered-requires moved-requires (λ c κs. search needs) returns)

@@ -5,12 +5,6 @@ use Rattle.search.specs.Laws.Mark.{marked-low, marked-high}
 use Rattle.search.proofs.marks.Marks.has.Statement.{statement}
 use Rattle.search.proofs.marks.Marks.has.Tie as tie
 
-has-requires : tie.Need-has-requires
-has-requires c κs = search needs
-
-has-requires-2 : tie.Need-has-requires-2
-has-requires-2 c κs = search needs
-
 returns : tie.Need-returns
 returns c = c .has .ensures ∙ sym (marked-low (c .before .before .args .self) (c .before .if1 .taken))
 
@@ -18,4 +12,4 @@ returns-2 : tie.Need-returns-2
 returns-2 c = c .has2 .ensures ∙ sym (marked-high (c .before .before .args .self) (c .before .if1 .left))
 
 pub has-spec : {M : Type 1} → statement M
-has-spec = tie.close (tie.spec has-requires has-requires-2 returns returns-2)
+has-spec = tie.close (tie.spec (λ c κs. search needs) (λ c κs. search needs) returns returns-2)

@@ -6,12 +6,6 @@ use Rattle.search.specs.Laws.Mark.{changed-low, changed-high}
 use Rattle.search.proofs.marks.Marks.with.Statement.{statement}
 use Rattle.search.proofs.marks.Marks.with.Tie as tie
 
-with-requires : tie.Need-with-requires
-with-requires c κs = search needs
-
-with-requires-2 : tie.Need-with-requires-2
-with-requires-2 c κs = search needs
-
 returns : tie.Need-returns
 returns c =
     let a = c .before .before .args in
@@ -23,4 +17,4 @@ returns-2 c =
     changed-high _||_ or-false (a .self) _ (a .p) (c .before .if1 .left) refl (c .with2 .ensures)
 
 pub with-spec : {M : Type 1} → statement M
-with-spec = tie.close (tie.spec with-requires with-requires-2 returns returns-2)
+with-spec = tie.close (tie.spec (λ c κs. search needs) (λ c κs. search needs) returns returns-2)

@@ -6,17 +6,11 @@ use Rattle.search.specs.Laws.Mark.{within-words}
 use Rattle.search.proofs.marks.Marks.within.Statement.{statement}
 use Rattle.search.proofs.marks.Marks.within.Tie as tie
 
-within-requires : tie.Need-within-requires
-within-requires c κs = search needs
-
 returns : tie.Need-returns
 returns c =
     let a = c .before .before .args in
     let fails = sym (c .before .within .ensures) ∙ not-true (c .before .within .result) (c .if1 .taken) in
     rw (within-words (a .self) (a .other), fails)
-
-within-requires-2 : tie.Need-within-requires-2
-within-requires-2 c κs = search needs
 
 returns-2 : tie.Need-returns-2
 returns-2 c =
@@ -25,4 +19,4 @@ returns-2 c =
     rw (within-words (a .self) (a .other), passes) (c .within2 .ensures)
 
 pub within-spec : {M : Type 1} → statement M
-within-spec = tie.close (tie.spec within-requires returns within-requires-2 returns-2)
+within-spec = tie.close (tie.spec (λ c κs. search needs) returns (λ c κs. search needs) returns-2)

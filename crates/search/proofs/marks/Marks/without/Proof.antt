@@ -6,12 +6,6 @@ use Rattle.search.specs.Laws.Mark.{changed-low, changed-high}
 use Rattle.search.proofs.marks.Marks.without.Statement.{statement}
 use Rattle.search.proofs.marks.Marks.without.Tie as tie
 
-without-requires : tie.Need-without-requires
-without-requires c κs = search needs
-
-without-requires-2 : tie.Need-without-requires-2
-without-requires-2 c κs = search needs
-
 returns : tie.Need-returns
 returns c =
     let a = c .before .before .args in
@@ -23,4 +17,4 @@ returns-2 c =
     changed-high (λ b t. b && not t) and-true (a .self) _ (a .p) (c .before .if1 .left) refl (c .without2 .ensures)
 
 pub without-spec : {M : Type 1} → statement M
-without-spec = tie.close (tie.spec without-requires without-requires-2 returns returns-2)
+without-spec = tie.close (tie.spec (λ c κs. search needs) (λ c κs. search needs) returns returns-2)

@@ -3,15 +3,6 @@ use borrow.Author.Needs.{needs}
 use Rattle.session.proofs.answers.WriteAnswer.of.Statement.{statement}
 use Rattle.session.proofs.answers.WriteAnswer.of.Tie as tie
 
-enum-known-writing : tie.Need-enum-known-writing
-enum-known-writing c = search needs
-
-enum-told : tie.Need-enum-told
-enum-told c = search needs
-
-refused-requires : tie.Need-refused-requires
-refused-requires c κs = search needs
-
 returns : tie.Need-returns
 returns c = rw (c .before .writing .given .1)
 
@@ -19,4 +10,4 @@ returns-2 : tie.Need-returns-2
 returns-2 c = rw (c .before .enum-told .given .1) (c .refused .ensures)
 
 pub of-spec : {M : Type 1} → statement M
-of-spec = tie.close (tie.spec enum-known-writing enum-told refused-requires returns returns-2)
+of-spec = tie.close (tie.spec (λ c. search needs) (λ c. search needs) (λ c κs. search needs) returns returns-2)
