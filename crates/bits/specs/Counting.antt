@@ -1,5 +1,6 @@
--- Counting below a bound, for any test on the numbers, and what a search below a bound comes to. Each count is a recursion on the bound that looks at
--- the last number below it, so a loop that counts up meets one clause a turn. Assumes nothing.
+-- Counting below a bound, for any test on the numbers, and what a search below a bound comes to. Each count is a
+-- recursion on the bound that looks at the last number below it, so a loop that counts up meets one clause a turn.
+-- Assumes nothing.
 use mathlib.Core.Path.{_≡_}
 use mathlib.Core.Bool.{Bool, true, false, So}
 use Prim.Native.Nat.{ℕ, zero, suc, _+_, _<_}

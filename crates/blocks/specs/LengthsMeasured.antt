@@ -31,11 +31,13 @@ use Rattle.decimal.specs.Measured.{piece-most, line-most, block-most, Measured}
 abbrev pub role-name-most : ℕ
 role-name-most = 1 + word-digits
 
-pub role-name-measured : (r n : ℕ) → Measured (decimal (r + 1)) word-digits n → Measured (role-name r) role-name-most (1 + n)
+pub role-name-measured : (r n : ℕ) → Measured (decimal (r + 1)) word-digits n → Measured (role-name r) role-name-most
+    (1 + n)
 role-name-measured r n m =
     record { counted = omega (arith, m .counted, ap length (role-name-parts r)); small = omega (arith, m .small) }
 
-pub field-measured : (field : Bytes) (n : ℕ) → n ≡ length field → n ≤ role-name-most → Measured (behind-comma field) piece-most (1 + n)
+pub field-measured : (field : Bytes) (n : ℕ) → n ≡ length field → n ≤ role-name-most → Measured (behind-comma field)
+    piece-most (1 + n)
 field-measured field n e h = record { counted = omega arith; small = omega arith }
 
 -- ---- lines
@@ -47,7 +49,8 @@ ended-length a b = length-append (a ++ b) line-end ∙ ap (λ n. n + 1) (length-
 pub cells-length : (words : List ℕ) (row count : ℕ) → length (cells-text words row count) ≡ count * 2
 cells-length words row count = listed-even count 2 _ (λ i h. cell-field-length (cell words row i))
 
-pub role-line-measured : (gives : List ℕ) (permissions r n : ℕ) → permissions ≤ row-bits → Measured (role-name r) role-name-most n
+pub role-line-measured : (gives : List ℕ) (permissions r n : ℕ) → permissions ≤ row-bits → Measured (role-name r)
+    role-name-most n
     → Measured (line-text (role-line gives permissions r)) line-most (n + 2 * permissions + 1)
 unfolding row-bits row-words
 role-line-measured gives permissions r n h m =
@@ -63,7 +66,8 @@ role-line-measured gives permissions r n h m =
       small = omega (arith, m .small);
     }
 
-pub user-line-measured : (sheet : Sheet) (has : List ℕ) (count u n : ℕ) → count ≤ row-bits → n ≡ length (user-name sheet u) → n ≤ name-limit
+pub user-line-measured : (sheet : Sheet) (has : List ℕ) (count u n : ℕ) → count ≤ row-bits
+    → n ≡ length (user-name sheet u) → n ≤ name-limit
     → Measured (line-text (user-line sheet has count u)) line-most (n + 2 * count + 1)
 unfolding row-bits row-words name-limit
 user-line-measured sheet has count u n h e k =
@@ -78,7 +82,8 @@ user-line-measured sheet has count u n h e k =
       small = omega arith;
     }
 
-pub cell-line-measured : (sheet : Sheet) (u p n m : ℕ) → n ≡ length (user-name sheet u) → n ≤ name-limit → m ≡ length (permission-name sheet p)
+pub cell-line-measured : (sheet : Sheet) (u p n m : ℕ) → n ≡ length (user-name sheet u) → n ≤ name-limit
+    → m ≡ length (permission-name sheet p)
     → m ≤ name-limit → Measured (cell-line sheet u p) piece-most (n + m + 2)
 unfolding name-limit
 cell-line-measured sheet u p n m e h f k =
@@ -90,7 +95,8 @@ cell-line-measured sheet u p n m e h f k =
 -- ---- blocks
 
 pub counts-measured : (counts : Counts) (roles bound state : ℕ) → Measured (decimal (counts .roles)) word-digits roles
-    → Measured (decimal (counts .bound)) word-digits bound → Measured (standing-text (standing-case (counts .standing))) piece-most state
+    → Measured (decimal (counts .bound)) word-digits bound
+    → Measured (standing-text (standing-case (counts .standing))) piece-most state
     → Measured (counts-text counts) line-most (18 + roles + (1 + bound) + state)
 counts-measured counts roles bound state m k l =
     let front : Bytes = ascii "roles,bound,state\n" ++ decimal (counts .roles) in
@@ -115,6 +121,12 @@ pub block-measured : (word fields lines : Bytes) (n m k : ℕ) → n ≡ length 
     → Measured (((word ++ fields) ++ line-end) ++ lines) (2 * block-most) (n + m + 1 + k)
 block-measured word fields lines n m k e f l h =
     record {
-      counted = omega (arith, f .counted, l .counted, length-append ((word ++ fields) ++ line-end) lines, ended-length word fields);
+      counted = omega (
+        arith,
+        f .counted,
+        l .counted,
+        length-append ((word ++ fields) ++ line-end) lines,
+        ended-length word fields,
+      );
       small = omega (arith, f .small, l .small);
     }

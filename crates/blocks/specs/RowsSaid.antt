@@ -33,14 +33,16 @@ abbrev pub role-line : List ℕ → ℕ → ℕ → Line
 role-line gives permissions r = role-name r ∷ list-of permissions (λ p. cell-text (cell gives r p))
 
 abbrev pub shown-roles : Sheet → List ℕ → ℕ → Block
-shown-roles sheet gives count = (ascii "role" ∷ sheet .permissions) ∷ list-of count (role-line gives (permission-count sheet))
+shown-roles sheet gives count =
+    (ascii "role" ∷ sheet .permissions) ∷ list-of count (role-line gives (permission-count sheet))
 
 -- a user's line, and block 3
 abbrev pub user-line : Sheet → List ℕ → ℕ → ℕ → Line
 user-line sheet has count u = user-name sheet u ∷ list-of count (λ r. cell-text (cell has u r))
 
 abbrev pub shown-users : Sheet → List ℕ → ℕ → Block
-shown-users sheet has count = (ascii "user" ∷ list-of count role-name) ∷ list-of (user-count sheet) (user-line sheet has count)
+shown-users sheet has count =
+    (ascii "user" ∷ list-of count role-name) ∷ list-of (user-count sheet) (user-line sheet has count)
 
 -- every cell of the sheet that is set is a grant
 pub record GrantCells (words : List ℕ) (sheet : Sheet) : Type 0 where
@@ -49,7 +51,8 @@ pub record GrantCells (words : List ℕ) (sheet : Sheet) : Type 0 where
 -- the same as a test
 abbrev pub grant-cells : List ℕ → Sheet → Bool
 grant-cells words sheet =
-    every-below (user-count sheet) (λ u. every-below (permission-count sheet) (λ p. implies (cell words u p) (holds sheet u p)))
+    every-below (user-count sheet) (λ u. every-below (permission-count sheet)
+    (λ p. implies (cell words u p) (holds sheet u p)))
 
 pub grant-cells-elim : (words : List ℕ) (sheet : Sheet) → So (grant-cells words sheet) → GrantCells words sheet
 grant-cells-elim words sheet e =

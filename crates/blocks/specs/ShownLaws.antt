@@ -22,7 +22,8 @@ user-line-parts sheet has count u = line-parts (user-name sheet u) count (λ r. 
 
 -- the line of names of block 2, for so many permissions, and of block 3, for so many roles
 abbrev pub roles-heading : Sheet → ℕ → Bytes
-roles-heading sheet permissions = (ascii "role" ++ listed permissions (λ p. behind-comma (permission-name sheet p))) ++ line-end
+roles-heading sheet permissions =
+    (ascii "role" ++ listed permissions (λ p. behind-comma (permission-name sheet p))) ++ line-end
 
 abbrev pub users-heading : ℕ → Bytes
 users-heading count = (ascii "user" ++ listed count (λ r. behind-comma (role-name r))) ++ line-end
@@ -39,8 +40,10 @@ roles-parts sheet gives count {permissions} e =
 
 -- block 3 of a sheet with so many users
 pub users-parts : (sheet : Sheet) (has : List ℕ) (count : ℕ) {users : ℕ} → users ≡ user-count sheet
-    → text-of (shown-users sheet has count) ≡ users-heading count ++ listed users (λ u. line-text (user-line sheet has count u))
+    → text-of (shown-users sheet has count) ≡ users-heading count ++ listed users
+    (λ u. line-text (user-line sheet has count u))
 users-parts sheet has count {users} e =
     block-parts (ascii "user" ∷ list-of count role-name) (user-count sheet) (user-line sheet has count)
-    ∙ ap (λ (l : Bytes). l ++ listed (user-count sheet) (λ u. line-text (user-line sheet has count u))) (line-parts (ascii "user") count role-name)
+    ∙ ap (λ (l : Bytes). l ++ listed (user-count sheet) (λ u. line-text (user-line sheet has count u)))
+    (line-parts (ascii "user") count role-name)
     ∙ ap (λ (n : ℕ). users-heading count ++ listed n (λ u. line-text (user-line sheet has count u))) (sym e)

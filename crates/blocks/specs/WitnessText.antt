@@ -1,5 +1,6 @@
--- Block 4 by rows of words: for each user, for each permission, a line where the cell is set. The grants stand by user, then permission, so the lines
--- of those whose cells are set are the lines by user, then permission, where every cell that is set is a grant. Assumes nothing.
+-- Block 4 by rows of words: for each user, for each permission, a line where the cell is set. The grants stand by
+-- user, then permission, so the lines of those whose cells are set are the lines by user, then permission, where
+-- every cell that is set is a grant. Assumes nothing.
 use Prim.Native.Nat.{ℕ, suc, _+_, _<_}
 use native.Mathlib.Nat.{add-zero, zero-add}
 use native.Mathlib.Omega.{arith}
@@ -47,13 +48,18 @@ module _ (sheet : Sheet) (words : List ℕ) where
   first-line false true g rest e = refl
   first-line false false g rest e = refl
 
-  row-lines : (u p : ℕ) (row : List Bool) (held : ℕ → Bool) → ((i : ℕ) → i < length row → getD row i false ≡ held (p + i))
+  row-lines : (u p : ℕ) (row : List Bool) (held : ℕ → Bool)
+      → ((i : ℕ) → i < length row → getD row i false ≡ held (p + i))
       → lines-of-grants (filter (in-cells words) (grants-of-row u p row))
       ≡ concat (list-from p (length row) (λ q. line-if (held q && cell words u q) (cell-line sheet u q)))
   row-lines u p [] held h = refl
   row-lines u p (b ∷ row) held h =
       first-line b (cell words u p) (record { user = u; permission = p }) (grants-of-row u (suc p) row) refl
-      ∙ rw (row-lines u (suc p) row held (λ i l. h (suc i) (omega arith) ∙ ap held (omega arith)), h 0 (omega arith), add-zero p)
+      ∙ rw (
+        row-lines u (suc p) row held (λ i l. h (suc i) (omega arith) ∙ ap held (omega arith)),
+        h 0 (omega arith),
+        add-zero p,
+      )
 
   lines-append : (l m : List Grant) → lines-of-grants (filter (in-cells words) (l ++ m))
       ≡ lines-of-grants (filter (in-cells words) l) ++ lines-of-grants (filter (in-cells words) m)
@@ -69,7 +75,8 @@ module _ (sheet : Sheet) (words : List ℕ) where
       → ((i q : ℕ) → i < length rows → getD (getD rows i []) q false ≡ held (u + i) q)
       → lines-of-grants (filter (in-cells words) (grants-of-rows u rows))
       ≡ concat
-      (list-from u (length rows) (λ v. listed permissions (λ q. line-if (held v q && cell words v q) (cell-line sheet v q))))
+      (list-from u (length rows) (λ v. listed permissions (λ q. line-if (held v q && cell words v q)
+      (cell-line sheet v q))))
   rows-lines u permissions [] held even shown = refl
   rows-lines u permissions (row ∷ rows) held even shown =
       lines-append (grants-of-row u 0 row) (grants-of-rows (suc u) rows)
@@ -84,10 +91,12 @@ module _ (sheet : Sheet) (words : List ℕ) where
   held-if-set : GrantCells words sheet → (u p : ℕ) → u < user-count sheet → p < permission-count sheet
       → (holds sheet u p && cell words u p) ≡ cell words u p
   held-if-set within u p h k =
-      ⊎-elim (λ e. rw (e, within .held u p h k e)) (λ e. rw e (and-false (holds sheet u p))) (passes-or-fails (cell words u p))
+      ⊎-elim (λ e. rw (e, within .held u p h k e)) (λ e. rw e (and-false (holds sheet u p)))
+      (passes-or-fails (cell words u p))
 
   -- block 4 of a sheet with so many users and permissions
-  pub witness-parts : {users permissions : ℕ} → users ≡ user-count sheet → permissions ≡ permission-count sheet → Lawful sheet
+  pub witness-parts : {users permissions : ℕ} → users ≡ user-count sheet → permissions ≡ permission-count sheet
+      → Lawful sheet
       → GrantCells words sheet
       → text-of (witness-block sheet (cell-grants sheet words))
       ≡ ascii "user,permission\n" ++ listed users (witness-row sheet words permissions)
@@ -95,7 +104,8 @@ module _ (sheet : Sheet) (words : List ℕ) where
       ap (λ (l : Bytes). ascii "user,permission\n" ++ l)
       (rows-lines 0 permissions (sheet .rows) (holds sheet)
       (λ i l. lawful .a-cell-each i (omega (arith, lawful .a-row-each)) ∙ sym f) (λ i q l. rw (zero-add i))
-      ∙ ap (λ (n : ℕ). listed n (λ u. listed permissions (λ p. line-if (holds sheet u p && cell words u p) (cell-line sheet u p))))
+      ∙ ap (λ (n : ℕ). listed n (λ u. listed permissions (λ p. line-if (holds sheet u p && cell words u p)
+      (cell-line sheet u p))))
       (lawful .a-row-each ∙ sym e)
       ∙ listed-same users _ _ (λ u h.
       listed-same permissions _ _ (λ p k.

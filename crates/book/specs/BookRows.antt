@@ -1,5 +1,6 @@
--- The book that rows of words and counts say: block after block in the order in which it is written; and the book of a role set that the rows
--- hold, since only cells of the sheet's users, the roles and the sheet's permissions are spelled. Assumes nothing.
+-- The book that rows of words and counts say: block after block in the order in which it is written; and the book of
+-- a role set that the rows hold, since only cells of the sheet's users, the roles and the sheet's permissions are
+-- spelled. Assumes nothing.
 use Prim.Native.Nat.{ℕ, _≤_}
 use native.Mathlib.Nat.{lt-of-lt-of-le}
 use mathlib.Core.Path.{_≡_, ap, _∙_}
@@ -11,7 +12,19 @@ use Rattle.spec.specs.Witness.{witness}
 use Rattle.spec.specs.Machine.{State}
 use Rattle.spec.specs.RoleSet.{RoleSet}
 use Rattle.spec.specs.Roles.{Standing, roles-of, role-count, standing, bound}
-use Rattle.spec.specs.Book.{role-name, Block, text-of-blocks, counts-block, roles-block, users-block, witness-block, blocks-saying, book-text, said-in, book}
+use Rattle.spec.specs.Book.{
+  role-name,
+  Block,
+  text-of-blocks,
+  counts-block,
+  roles-block,
+  users-block,
+  witness-block,
+  blocks-saying,
+  book-text,
+  said-in,
+  book,
+}
 use Rattle.lists.specs.ListOfLaws.{list-of-same}
 use Rattle.cells.specs.Rows.{row-bits}
 use Rattle.cells.specs.CellSets.{cell-grants}
@@ -64,7 +77,8 @@ users-shown sheet {roles} rows =
     (list-of-same (roles .count) _ _ (λ r k. ap cell-text (rows .has-shown u r h k)))))
 
 -- so the book is that of the role set, and of the grants that are the witness
-pub rows-book-says : (text : Bytes) {has gives : List ℕ} (words : List ℕ) (counts : Counts) {roles : RoleSet} {grants : List Grant}
+pub rows-book-says : (text : Bytes) {has gives : List ℕ} (words : List ℕ) (counts : Counts) {roles : RoleSet}
+    {grants : List Grant}
     → RolesAt has gives (counts .roles) (user-count (sheet-of text)) roles → permission-count (sheet-of text) ≤ row-bits
     → cell-grants (sheet-of text) words ≡ grants
     → rows-book text has gives words counts
@@ -80,19 +94,24 @@ unfolding book-text blocks-saying
 rows-book-says text {has} {gives} words counts {roles} {grants} at fit e =
     let sheet : Sheet = sheet-of text in
     let first : Block = counts-block (roles .count) (counts .bound) (standing-case (counts .standing)) in
-    ap (λ (n : ℕ). book-text sheet (said-by sheet has gives words n (counts .bound) (standing-case (counts .standing)))) (at .total)
+    ap (λ (n : ℕ). book-text sheet (said-by sheet has gives words n (counts .bound)
+    (standing-case (counts .standing)))) (at .total)
     ∙ ap (λ (l : List Grant).
-    text-of-blocks (first ∷ shown-roles sheet gives (roles .count) ∷ shown-users sheet has (roles .count) ∷ witness-block sheet l ∷ [])) e
-    ∙ ap (λ (b : Block). text-of-blocks (first ∷ b ∷ shown-users sheet has (roles .count) ∷ witness-block sheet grants ∷ []))
+    text-of-blocks (first ∷ shown-roles sheet gives (roles .count) ∷ shown-users sheet has (roles .count) ∷
+    witness-block sheet l ∷ [])) e
+    ∙ ap (λ (b : Block). text-of-blocks (first ∷ b ∷ shown-users sheet has (roles .count) ∷ witness-block sheet grants
+    ∷ []))
     (roles-shown sheet (at .rows) fit)
     ∙ ap (λ (b : Block). text-of-blocks (first ∷ roles-block sheet roles ∷ b ∷ witness-block sheet grants ∷ []))
     (users-shown sheet (at .rows))
 
--- and it is the book of the sheet in a state of its search, where the counts, the roles and the witness are those of that state
+-- and it is the book of the sheet in a state of its search, where the counts, the roles and the witness are those of
+-- that state
 pub rows-book-in : (text : Bytes) {has gives : List ℕ} (words : List ℕ) (counts : Counts) (st : State)
     → RolesAt has gives (counts .roles) (user-count (sheet-of text)) (roles-of (sheet-of text) (st .best))
     → permission-count (sheet-of text) ≤ row-bits → counts .bound ≡ bound (sheet-of text) st
-    → standing-case (counts .standing) ≡ standing (sheet-of text) st → cell-grants (sheet-of text) words ≡ witness (sheet-of text)
+    → standing-case (counts .standing) ≡ standing (sheet-of text) st → cell-grants (sheet-of text) words ≡ witness
+    (sheet-of text)
     → rows-book text has gives words counts ≡ book (sheet-of text) st
 unfolding book said-in role-count
 rows-book-in text words counts st at fit same-bound same-standing same-witness =

@@ -13,14 +13,16 @@ use Rattle.text.specs.Written.{Written}
 use Rattle.book.specs.declared.writing.Writing.{Writing as WritingValue}
 use Rattle.book.specs.declared.writing.Writing.the-variants as writing
 
--- what writing a book answers, as the paper has it: its byte count; or the number 11 and counts 0 for a buffer shorter than the book
+-- what writing a book answers, as the paper has it: its byte count; or the number 11 and counts 0 for a buffer
+-- shorter than the book
 abbrev pub writing-said : WritingValue → WriteAnswer
 writing-said (writing.Bytes count) = record { number = 0; count = count }
 writing-said writing.TooShort = write-refused 11
 
 -- the answer for a book and a buffer
 abbrev pub answer-for : Bytes → Bytes → WriteAnswer
-answer-for book buffer = cond (ltb (length buffer) (length book)) (write-refused 11) (record { number = 0; count = length book })
+answer-for book buffer =
+    cond (ltb (length buffer) (length book)) (write-refused 11) (record { number = 0; count = length book })
 
 -- the buffer after: the book and past it the buffer's own bytes, or as it was
 abbrev pub buffer-of : Bytes → Bytes → Bytes
@@ -33,16 +35,23 @@ pub record Writes (book before : Bytes) (answer : WriteAnswer) (after : Bytes) :
 
 -- ---- the two cases
 
-pub refused-short : (book before : Bytes) → length before < length book → Writes book before (writing-said writing.TooShort) before
+pub refused-short : (book before : Bytes) → length before < length book
+    → Writes book before (writing-said writing.TooShort) before
 refused-short book before h = record { answers = rw (lt-ltb _ _ h); leaves = rw (lt-ltb _ _ h) }
 
-pub written-whole : (book : Bytes) {before after : Bytes} {count : ℕ} → length book ≤ length before → Written book before after count
+pub written-whole : (book : Bytes) {before after : Bytes} {count : ℕ} → length book ≤ length before
+    → Written book before after count
     → Writes book before (writing-said (writing.Bytes count)) after
 written-whole book h w =
-    record { answers = rw (le-ltb _ _ h) (ap (λ (n : ℕ). writing-said (writing.Bytes n)) (w .counted)); leaves = rw (le-ltb _ _ h) (w .buffer) }
+    record {
+      answers = rw (le-ltb _ _ h) (ap (λ (n : ℕ). writing-said (writing.Bytes n)) (w .counted));
+      leaves =
+          rw (le-ltb _ _ h) (w .buffer);
+    }
 
 -- a byte count that is answered is within the buffer
-pub bytes-within : (book before : Bytes) {answer : WritingValue} {after : Bytes} {count : ℕ} → Writes book before (writing-said answer) after
+pub bytes-within : (book before : Bytes) {answer : WritingValue} {after : Bytes} {count : ℕ}
+    → Writes book before (writing-said answer) after
     → answer ≡ writing.Bytes count → count ≤ length after
 bytes-within book before {answer} {after} {count} w told = choose (ltb (length before) (length book)) refl
   where

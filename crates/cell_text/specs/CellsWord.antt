@@ -1,4 +1,5 @@
--- Cells that stand in a text, each a comma and `0` or `1`, and the word that says which of them are `1`. Assumes nothing.
+-- Cells that stand in a text, each a comma and `0` or `1`, and the word that says which of them are `1`. Assumes
+-- nothing.
 use Prim.Native.Nat.{ℕ, _+_, _*_, _≤_, _<_}
 use Prim.Native.Char.{code}
 use mathlib.Core.Path.{_≡_}

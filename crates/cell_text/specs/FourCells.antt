@@ -1,5 +1,5 @@
--- Four cells, each behind a comma, as the eight bytes of one number, the lowest byte first: a number so made is written as four cells, and a row of cells is
--- written four by four. Assumes nothing.
+-- Four cells, each behind a comma, as the eight bytes of one number, the lowest byte first: a number so made is
+-- written as four cells, and a row of cells is written four by four. Assumes nothing.
 use Prim.Native.Nat.{ℕ, zero, suc, _+_, _*_, _/_, _%_, _^_, _≤_}
 use native.Mathlib.Nat.{add-zero}
 use native.Mathlib.Omega.{arith}
@@ -30,7 +30,8 @@ no-cells = 3471202379140706348
 abbrev pub four-cells : Bool → Bool → Bool → Bool → ℕ
 four-cells a b c d = no-cells + one-if a * 2 ^ 8 + one-if b * 2 ^ 24 + one-if c * 2 ^ 40 + one-if d * 2 ^ 56
 
-pub four-said : (a b c d : Bool) → eight-bytes (four-cells a b c d) ≡ cell-field a ++ (cell-field b ++ (cell-field c ++ cell-field d))
+pub four-said : (a b c d : Bool) → eight-bytes (four-cells a b c d) ≡ cell-field a ++
+    (cell-field b ++ (cell-field c ++ cell-field d))
 four-said true true true true = refl
 four-said true true true false = refl
 four-said true true false true = refl
@@ -86,11 +87,24 @@ module _ (test : ℕ → Bool) where
       let second : 4 * q + 2 ≡ 4 * q + 1 + 1 = omega arith in
       let third : 4 * q + 3 ≡ 4 * q + 1 + 1 + 1 = omega arith in
       listed-suc q four-at
-      ∙ rw (fours-said q, four-said (test (4 * q)) (test (4 * q + 1)) (test (4 * q + 2)) (test (4 * q + 3)), e, second, third)
+      ∙ rw (
+        fours-said q,
+        four-said (test (4 * q)) (test (4 * q + 1)) (test (4 * q + 2)) (test (4 * q + 3)),
+        e,
+        second,
+        third,
+      )
       (sym (four-more (4 * q)))
 
 -- what is said of a word shifted to the first of four cells
 pub four-shifted : (word j : ℕ)
-    → let rest = word / 2 ^ (4 * j) in eight-bytes (four-cells (bit rest 0) (bit rest 1) (bit rest 2) (bit rest 3)) ≡ four-at (bit word) j
+    → let rest = word / 2 ^ (4 * j) in eight-bytes (four-cells (bit rest 0) (bit rest 1) (bit rest 2) (bit rest 3)) ≡
+    four-at (bit word) j
 four-shifted word j =
-    rw (bit-shift word (4 * j) 0, bit-shift word (4 * j) 1, bit-shift word (4 * j) 2, bit-shift word (4 * j) 3, add-zero (4 * j)) refl
+    rw (
+      bit-shift word (4 * j) 0,
+      bit-shift word (4 * j) 1,
+      bit-shift word (4 * j) 2,
+      bit-shift word (4 * j) 3,
+      add-zero (4 * j),
+    ) refl

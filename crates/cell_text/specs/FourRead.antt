@@ -38,7 +38,8 @@ pub record FourBytes (a b c d n : ℕ) : Type 0 where
 -- what reading a number gives: the word of four cells, or that it says no four cells, and then no position
 pub record FourOf (n : ℕ) (r : CellsWord) : Type 0 where
   pub small : r .word < 2 ^ 4
-  pub good : So (r .good) → n ≡ no-cells + four-set (bit (r .word) 0) (bit (r .word) 1) (bit (r .word) 2) (bit (r .word) 3)
+  pub good : So (r .good) → n ≡ no-cells + four-set (bit (r .word) 0) (bit (r .word) 1) (bit (r .word) 2)
+      (bit (r .word) 3)
   pub off : r .good ≡ false → (a b c d : Bool) → n ≡ no-cells + four-set a b c d → ⊥
   pub blank : r .good ≡ false → r .word ≡ 0
 
@@ -67,7 +68,8 @@ set-digits false false false true = refl
 set-digits false false false false = refl
 
 -- so do the positions of their word
-pub word-digits : (a b c d : Bool) → let w = four-word a b c d in four-set (bit w 0) (bit w 1) (bit w 2) (bit w 3) ≡ four-set a b c d
+pub word-digits : (a b c d : Bool) → let w = four-word a b c d in four-set (bit w 0) (bit w 1) (bit w 2) (bit w 3) ≡
+    four-set a b c d
 unfolding bit
 word-digits true true true true = refl
 word-digits true true true false = refl
@@ -111,13 +113,17 @@ same-position n p q =
 pub kept-digit : (n p : ℕ) → n < 2 ^ 64 → p < 64 → bitAnd n (1 * 2 ^ p % 2 ^ 64) ≡ one-if (bit n p) * 2 ^ p
 kept-digit n p f h =
     rw (one-shifted 64 h)
-    (bit-ext 64 (bitAnd n (2 ^ p)) (one-if (bit n p) * 2 ^ p) (and-lt 64 n (2 ^ p) f (pow-lt h)) (placed-fits (bit n p) p h)
-    (λ q l. bit-and n (2 ^ p) q ∙ ap (λ (b : Bool). bit n q && b) (bit-one-shifted p q) ∙ same-position n p q ∙ sym (bit-placed (bit n p) p q)))
+    (bit-ext 64 (bitAnd n (2 ^ p)) (one-if (bit n p) * 2 ^ p) (and-lt 64 n (2 ^ p) f (pow-lt h))
+    (placed-fits (bit n p) p h)
+    (λ q l. bit-and n (2 ^ p) q ∙ ap (λ (b : Bool). bit n q && b) (bit-one-shifted p q) ∙ same-position n p q
+    ∙ sym (bit-placed (bit n p) p q)))
 
 -- a number that has other positions says no four cells
-pub four-unset : (s : ℕ) → eqb s (four-set (bit s 8) (bit s 24) (bit s 40) (bit s 56)) ≡ false → (a b c d : Bool) → s ≡ four-set a b c d → ⊥
+pub four-unset : (s : ℕ) → eqb s (four-set (bit s 8) (bit s 24) (bit s 40) (bit s 56)) ≡ false → (a b c d : Bool)
+    → s ≡ four-set a b c d → ⊥
 four-unset s f a b c d e =
-    not-both (eq-eqb s (four-set (bit s 8) (bit s 24) (bit s 40) (bit s 56)) (e ∙ sym (set-digits a b c d) ∙ ap (λ (m : ℕ). four-set (bit m 8) (bit m 24) (bit m 40) (bit m 56)) (sym e))) f
+    not-both (eq-eqb s (four-set (bit s 8) (bit s 24) (bit s 40) (bit s 56)) (e ∙ sym (set-digits a b c d)
+    ∙ ap (λ (m : ℕ). four-set (bit m 8) (bit m 24) (bit m 40) (bit m 56)) (sym e))) f
 
 -- one that has none says those of its word
 pub four-good : (n s word : ℕ) → n ≡ no-cells + s → So (eqb s (four-set (bit s 8) (bit s 24) (bit s 40) (bit s 56)))
@@ -125,5 +131,6 @@ pub four-good : (n s word : ℕ) → n ≡ no-cells + s → So (eqb s (four-set 
     → n ≡ no-cells + four-set (bit word 0) (bit word 1) (bit word 2) (bit word 3)
 four-good n s word e p w =
     e ∙ ap (λ (m : ℕ). no-cells + m)
-    (eqb-true s (four-set (bit s 8) (bit s 24) (bit s 40) (bit s 56)) p ∙ sym (word-digits (bit s 8) (bit s 24) (bit s 40) (bit s 56))
+    (eqb-true s (four-set (bit s 8) (bit s 24) (bit s 40) (bit s 56)) p
+    ∙ sym (word-digits (bit s 8) (bit s 24) (bit s 40) (bit s 56))
     ∙ ap (λ (m : ℕ). four-set (bit m 0) (bit m 1) (bit m 2) (bit m 3)) (sym w))

@@ -1,5 +1,5 @@
--- Cells of rows of words, for any number of words in a row: two cells share a word and a bit only where user and permission are the same, so setting
--- one bit of one word sets one cell. Assumes nothing.
+-- Cells of rows of words, for any number of words in a row: two cells share a word and a bit only where user and
+-- permission are the same, so setting one bit of one word sets one cell. Assumes nothing.
 use Prim.Native.Nat.{ℕ, suc, _+_, _*_, _/_, _%_, _≤_, _<_}
 use native.Mathlib.Nat.{mul-le-mul-right}
 use native.Mathlib.Omega.{arith}
@@ -40,7 +40,8 @@ one-user u v p q h k e = ⊎-elim under (λ l. ⊎-elim over (λ m. omega arith)
     over l = absurd (omega (arith, word-below v u p l h))
 
 -- and, of one word, permissions are the same where their bits are
-pub one-bit : (u v p q : ℕ) → p < row-bits → q < row-bits → word-of v q ≡ word-of u p → eqb (q % word-bits) (p % word-bits) ≡ eqb q p
+pub one-bit : (u v p q : ℕ) → p < row-bits → q < row-bits → word-of v q ≡ word-of u p
+    → eqb (q % word-bits) (p % word-bits) ≡ eqb q p
 one-bit u v p q h k e =
     let user : v ≡ u = one-user u v p q h k e in
     let word : q / word-bits ≡ p / word-bits = omega (arith, rw user at e) in
@@ -75,16 +76,23 @@ cell-set words u p w h l with-bit = record { size = length-set words (word-of u 
 
     elsewhere : (v q : ℕ) → (word-of v q ≡ word-of u p → ⊥)
         → cell (set words (word-of u p) w) v q ≡ (cell words v q || (eqb v u && (eqb q p && true)))
-    elsewhere v q d = rw (getD-set-other words (word-of u p) (word-of v q) w 0 d, apart v q d, or-false (cell words v q))
+    elsewhere v q d = rw (
+      getD-set-other words (word-of u p) (word-of v q) w 0 d,
+      apart v q d,
+      or-false (cell words v q),
+    )
 
-    shows : (v q : ℕ) → q < row-bits → cell (set words (word-of u p) w) v q ≡ (cell words v q || (eqb v u && (eqb q p && true)))
+    shows : (v q : ℕ) → q < row-bits → cell (set words (word-of u p) w) v q ≡ (cell words v q
+        || (eqb v u && (eqb q p && true)))
     shows v q k =
         ⊎-elim (λ t. here v q k (eqb-true (word-of v q) (word-of u p) t))
-        (λ f. elsewhere v q (eqb-false (word-of v q) (word-of u p) f)) (passes-or-fails (eqb (word-of v q) (word-of u p)))
+        (λ f. elsewhere v q (eqb-false (word-of v q) (word-of u p) f))
+        (passes-or-fails (eqb (word-of v q) (word-of u p)))
 
     later : (i : ℕ) → suc u * row-words ≤ i → getD (set words (word-of u p) w) i 0 ≡ getD words i 0
     later i k =
-        getD-set-other words (word-of u p) i w 0 (λ e. let below = word-below (suc u) u p (omega arith) h in omega arith)
+        getD-set-other words (word-of u p) i w 0 (λ e. let below = word-below (suc u) u p (omega arith) h
+        in omega arith)
 
 -- a cell that says no changes nothing
 pub cell-kept : (words : List ℕ) (u p : ℕ) → CellAdded words words u p false

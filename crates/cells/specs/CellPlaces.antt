@@ -1,5 +1,6 @@
--- Cells by number, row after row: the cell of user u and permission p has the number u * row-bits + p. Its bit is the bit n % word-bits of the word
--- n / word-bits, whatever the words in a row, so a set of cells is searched and counted word by word. Of two grants the lower has the lower cell.
+-- Cells by number, row after row: the cell of user u and permission p has the number u * row-bits + p. Its bit is the
+-- bit n % word-bits of the word n / word-bits, whatever the words in a row, so a set of cells is searched and counted
+-- word by word. Of two grants the lower has the lower cell.
 use Prim.Native.Nat.{ℕ, _+_, _*_, _/_, _%_, _≤_, _<_}
 use mathlib.Core.Path.{_≡_}
 use mathlib.Core.Bool.{Bool, So, _&&_}

@@ -1,5 +1,5 @@
--- A list of grants as an array of their cells' numbers: the grant of a number is that at the cell. The cells of a set in rising number give its grants in
--- order, and there are no more of them than of the sheet's grants.
+-- A list of grants as an array of their cells' numbers: the grant of a number is that at the cell. The cells of a set
+-- in rising number give its grants in order, and there are no more of them than of the sheet's grants.
 use Prim.Native.Nat.{ℕ, zero, suc, _*_, _≤_, _<_, suc-le-suc}
 use native.Mathlib.Nat.{le-refl, le-trans, le-step, not-suc-le-zero, le-of-suc-le-suc}
 use mathlib.Core.Path.{_≡_, refl, sym, ap, _∙_}
@@ -18,7 +18,8 @@ use Rattle.cells.specs.CellSets.{in-cells, cell-grants}
 use Rattle.cells.specs.CellPlaces.{grant-of, marked, Shown, Part}
 use Rattle.cells.specs.Laws.CellList.{cell-grants-by-cell}
 
-pub grant-at-cell : (cells : List ℕ) (i : ℕ) → i < length cells → grant-at (map grant-of cells) i ≡ grant-of (getD cells i 0)
+pub grant-at-cell : (cells : List ℕ) (i : ℕ) → i < length cells → grant-at (map grant-of cells) i ≡ grant-of
+    (getD cells i 0)
 grant-at-cell [] i l = absurd (not-suc-le-zero l)
 grant-at-cell (n ∷ cells) zero l = refl
 grant-at-cell (n ∷ cells) (suc i) l = grant-at-cell cells i (le-of-suc-le-suc l)
@@ -55,7 +56,8 @@ filter-length test (a ∷ l) = pick (test a) (filter-length test l)
 module _ {rows left : List ℕ} {users : ℕ} {sheet : Sheet} (shown : Shown rows users sheet) (part : Part left rows) where
   few-cells : length (passing-below (users * row-bits) (marked left)) ≤ length (grants sheet)
   few-cells =
-      rw (sym (length-map (passing-below (users * row-bits) (marked left)) grant-of) ∙ ap length (sym (cell-grants-by-cell shown part)))
+      rw (sym (length-map (passing-below (users * row-bits) (marked left)) grant-of)
+      ∙ ap length (sym (cell-grants-by-cell shown part)))
       (filter-length (in-cells left) (grants sheet))
 
   -- there is room for the cells of some grants of a sheet
@@ -63,5 +65,6 @@ module _ {rows left : List ℕ} {users : ℕ} {sheet : Sheet} (shown : Shown row
   shown-roomy few = le-trans few-cells few
 
   -- and the grants at the listed cells are these grants
-  pub listed-grants : {cells : List ℕ} {size : ℕ} → Listed left users cells size → map grant-of (take size cells) ≡ cell-grants sheet left
+  pub listed-grants : {cells : List ℕ} {size : ℕ} → Listed left users cells size → map grant-of (take size cells) ≡
+      cell-grants sheet left
   listed-grants listed = ap (map grant-of) (listed .in-order) ∙ sym (cell-grants-by-cell shown part)

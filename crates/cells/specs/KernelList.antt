@@ -1,4 +1,5 @@
--- The cells of a set in an array, word by word and within a word from its lowest position on. Where the array has room for all of them it has them in order.
+-- The cells of a set in an array, word by word and within a word from its lowest position on. Where the array has
+-- room for all of them it has them in order.
 use Prim.Native.Nat.{ℕ, suc, _+_, _*_, _/_, _%_, _^_, _≤_, _<_, zero-le}
 use native.Mathlib.Nat.{le-refl}
 use native.Mathlib.Numerals.{add-one}
@@ -57,11 +58,19 @@ pub word-starts : (left : List ℕ) (i word : ℕ) (cells : List ℕ) (size : �
     → ListedTo left (i * word-bits) cells size → WordRest left i word cells size
 word-starts left i word cells size fits e h =
     let same : i * word-bits + 0 ≡ i * word-bits = omega arith in
-    record { place = 0; fits = fits; inside = zero-le; passed = λ q l. absurd (omega arith); ahead = λ q l. rw e; listed = rw same h }
+    record {
+      place = 0;
+      fits = fits;
+      inside = zero-le;
+      passed = λ q l. absurd (omega arith);
+      ahead = λ q l. rw e;
+      listed = rw same h;
+    }
 
 module _ {left : List ℕ} {i w : ℕ} {cells : List ℕ} {size : ℕ} (rest : WordRest left i w cells size) where
   -- where no position of w is below j, no cell from the place on up to that of j is set
-  none-between : (j : ℕ) → j ≤ word-bits → ((q : ℕ) → q < j → bit w q ≡ false) → (n : ℕ) → i * word-bits + rest .place ≤ n → n < i * word-bits + j
+  none-between : (j : ℕ) → j ≤ word-bits → ((q : ℕ) → q < j → bit w q ≡ false) → (n : ℕ) → i * word-bits + rest .place
+      ≤ n → n < i * word-bits + j
       → marked left n ≡ false
   none-between j inside none n k l =
       let word : n / word-bits ≡ i = omega arith in
@@ -69,7 +78,8 @@ module _ {left : List ℕ} {i w : ℕ} {cells : List ℕ} {size : ℕ} (rest : W
 
   module _ {j : ℕ} (low : Lowest word-bits (bit w) j) where
     not-passed : rest .place ≤ j
-    not-passed = ⊎-elim (λ k. absurd (false≢true (sym (rest .passed j k) ∙ low .holds))) (λ k. k) (below-or-from j (rest .place))
+    not-passed = ⊎-elim (λ k. absurd (false≢true (sym (rest .passed j k) ∙ low .holds))) (λ k. k)
+        (below-or-from j (rest .place))
 
     cell-set : So (marked left (i * word-bits + j))
     cell-set =
@@ -79,7 +89,8 @@ module _ {left : List ℕ} {i w : ℕ} {cells : List ℕ} {size : ℕ} (rest : W
         rw (word, position) (sym (rest .ahead j not-passed) ∙ low .holds)
 
     -- one cell more
-    one-cell : passing-below (i * word-bits + (j + 1)) (marked left) ≡ passing-below (i * word-bits + rest .place) (marked left) ++ (i * word-bits + j) ∷ []
+    one-cell : passing-below (i * word-bits + (j + 1)) (marked left) ≡ passing-below (i * word-bits + rest .place)
+        (marked left) ++ (i * word-bits + j) ∷ []
     one-cell =
         let inside = low .within in
         let next : i * word-bits + (j + 1) ≡ suc (i * word-bits + j) = omega arith in
@@ -96,9 +107,11 @@ module _ {left : List ℕ} {i w : ℕ} {cells : List ℕ} {size : ℕ} (rest : W
           place = j + 1;
           fits = omega (arith, dropped .less, rest .fits);
           inside = omega (arith, low .within);
-          passed = λ q l. dropped .others low q ∙ ⊎-elim (λ k. rw (low .first q k)) (λ k. here q l k) (below-or-from q j);
+          passed = λ q l. dropped .others low q ∙ ⊎-elim (λ k. rw (low .first q k)) (λ k. here q l k)
+              (below-or-from q j);
           ahead = λ q l.
-              dropped .others low q ∙ rw (ne-eqb q j (omega arith)) (and-true (bit w q)) ∙ rest .ahead q (omega (arith, not-passed));
+              dropped .others low q ∙ rw (ne-eqb q j (omega arith)) (and-true (bit w q))
+              ∙ rest .ahead q (omega (arith, not-passed));
           listed = record {
             room = simp length-set (rest .listed .room);
             few = omega arith;
@@ -111,7 +124,8 @@ module _ {left : List ℕ} {i w : ℕ} {cells : List ℕ} {size : ℕ} (rest : W
         here q l k = rw (eq-eqb q j (omega arith)) (and-false (bit w q))
 
         listed-so-far : Roomy left (i * word-bits + (j + 1))
-            → take (size + 1) (set cells size (i * word-bits + j)) ≡ passing-below (i * word-bits + (j + 1)) (marked left)
+            → take (size + 1) (set cells size (i * word-bits + j)) ≡ passing-below (i * word-bits + (j + 1))
+            (marked left)
         listed-so-far h =
             rw (add-one size, take-suc-set cells size (i * word-bits + j) (rw (rest .listed .room) fewer), one-cell)
             (ap (λ (l : List ℕ). l ++ (i * word-bits + j) ∷ [])
@@ -125,15 +139,22 @@ module _ {left : List ℕ} {i w : ℕ} {cells : List ℕ} {size : ℕ} (rest : W
         room = rest .listed .room;
         few = rest .listed .few;
         so-far = λ h.
-            rest .listed .so-far (fewer-roomy left (i * word-bits + rest .place) ((i + 1) * word-bits) (omega (arith, rest .inside)) h)
-            ∙ sym (passing-until (i * word-bits + rest .place) ((i + 1) * word-bits) (marked left) (omega (arith, rest .inside))
+            rest .listed .so-far (fewer-roomy left (i * word-bits + rest .place) ((i + 1) * word-bits)
+            (omega (arith, rest .inside)) h)
+            ∙ sym (passing-until (i * word-bits + rest .place) ((i + 1) * word-bits) (marked left)
+            (omega (arith, rest .inside))
             (λ n k l. none-between word-bits (le-refl word-bits) (λ q m. rw e (bit-of-zero q)) n k (omega arith)));
         past = rest .listed .past;
       }
 
   -- a full array and a cell more
   pub word-cut : grant-limit ≤ size → 0 < w → ListedTo left ((i + 1) * word-bits) cells size
-  word-cut full more = record { room = rest .listed .room; few = rest .listed .few; so-far = λ h. absurd (too-many h); past = rest .listed .past }
+  word-cut full more = record {
+    room = rest .listed .room;
+    few = rest .listed .few;
+    so-far = λ h. absurd (too-many h);
+    past = rest .listed .past;
+  }
     where
       too-many : Roomy left ((i + 1) * word-bits) → ⊥
       too-many h =
@@ -142,7 +163,8 @@ module _ {left : List ℕ} {i w : ℕ} {cells : List ℕ} {size : ℕ} (rest : W
           let last = fewer-roomy left (i * word-bits + (j + 1)) ((i + 1) * word-bits) (omega (arith, low .within)) h in
           let earlier =
           rest .listed .so-far
-          (fewer-roomy left (i * word-bits + rest .place) (i * word-bits + (j + 1)) (omega (arith, not-passed low)) last) in
+          (fewer-roomy left (i * word-bits + rest .place) (i * word-bits + (j + 1)) (omega (arith, not-passed low))
+          last) in
           omega (
             arith,
             last,
@@ -153,6 +175,7 @@ module _ {left : List ℕ} {i w : ℕ} {cells : List ℕ} {size : ℕ} (rest : W
           )
 
 -- the set in the array
-pub all-listed : {left : List ℕ} {users : ℕ} {cells : List ℕ} {size : ℕ} → Roomy left (users * row-bits) → ListedTo left (users * row-bits) cells size
+pub all-listed : {left : List ℕ} {users : ℕ} {cells : List ℕ} {size : ℕ} → Roomy left (users * row-bits)
+    → ListedTo left (users * row-bits) cells size
     → Listed left users cells size
 all-listed roomy h = record { few = h .few; in-order = h .so-far roomy; past = h .past }

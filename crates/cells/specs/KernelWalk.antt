@@ -1,5 +1,5 @@
--- Walking over a set of cells in rising number, word by word: the next cell is at the lowest position of a word from where the walk stands, or in a later
--- word. None is set between there and the next one.
+-- Walking over a set of cells in rising number, word by word: the next cell is at the lowest position of a word from
+-- where the walk stands, or in a later word. None is set between there and the next one.
 use Prim.Native.Nat.{ℕ, _+_, _-_, _*_, _/_, _%_, _^_, _≤_, _<_}
 use native.Mathlib.Nat.{le-refl}
 use native.Mathlib.Omega.{arith}
@@ -52,7 +52,8 @@ module _ (word b : ℕ) (fits : word < 2 ^ word-bits) where
 
 -- ---- in the words
 
-module _ (words : List ℕ) (from n p : ℕ) (next : NextFrom (bit (getD words (n / word-bits) 0)) (n % word-bits) word-bits p) where
+module _ (words : List ℕ) (from n p : ℕ) (next : NextFrom (bit (getD words (n / word-bits) 0)) (n % word-bits)
+    word-bits p) where
   -- a cell of the word
   in-word : (m : ℕ) → n ≤ m → m < n / word-bits * word-bits + p → marked words m ≡ false
   in-word m k l =
@@ -62,7 +63,8 @@ module _ (words : List ℕ) (from n p : ℕ) (next : NextFrom (bit (getD words (
   pub passed-word : Skipped (marked words) from n → Skipped (marked words) from (n / word-bits * word-bits + p)
   passed-word earlier m k l = ⊎-elim (λ o. earlier m k o) (λ o. in-word m o l) (below-or-from m n)
 
-  pub found-in-word : (end : ℕ) → from ≤ n → n / word-bits * word-bits + p < end → p < word-bits → Skipped (marked words) from n
+  pub found-in-word : (end : ℕ) → from ≤ n → n / word-bits * word-bits + p < end → p < word-bits
+      → Skipped (marked words) from n
       → NextFrom (marked words) from end (n / word-bits * word-bits + p)
   found-in-word end k l m earlier = record {
     not-before = omega (arith, next .not-before);

@@ -1,5 +1,6 @@
--- The four readings of a book, one after the other. What follows a block is known, so where one of the blocks is missing, nothing that can be said is
--- written as this book; and where all four are there, what was read is said, and is written as this book.
+-- The four readings of a book, one after the other. What follows a block is known, so where one of the blocks is
+-- missing, nothing that can be said is written as this book; and where all four are there, what was read is said, and
+-- is written as this book.
 use Prim.Native.Nat.{ℕ, _≤_, _<_}
 use native.Mathlib.Omega.{arith}
 use mathlib.Core.Path.{_≡_, refl, sym, ap, _∙_}
@@ -40,7 +41,8 @@ module _ (sheet : Sheet) {book : Bytes} where
   no-counts-written m =
       record {
         none = λ says s e.
-            m (decimal (says .count)) (decimal (says .bound)) (says .standing) (decimal-is-count (says .count)) (decimal-is-count (says .bound))
+            m (decimal (says .count)) (decimal (says .bound)) (says .standing) (decimal-is-count (says .count))
+            (decimal-is-count (says .bound))
             .misses _ (e ∙ book-in-parts sheet says);
       }
 
@@ -52,23 +54,28 @@ module _ (sheet : Sheet) {book : Bytes} where
         ≡ roles-part sheet (says .roles .count) (says .roles .gives)
         ++ (users-part sheet (says .roles .count) (says .roles .has) ++ witness-part sheet (says .witness))
     behind-counts says s e =
-        counts-parts-aligned (first .role-digits) (first .bound-digits) (standing-case (counts .standing)) (decimal (says .count))
-        (decimal (says .bound)) (says .standing) (first .roles .count) (first .bound .count) (decimal-is-count (says .count))
+        counts-parts-aligned (first .role-digits) (first .bound-digits) (standing-case (counts .standing))
+        (decimal (says .count))
+        (decimal (says .bound)) (says .standing) (first .roles .count) (first .bound .count)
+        (decimal-is-count (says .count))
         (decimal-is-count (says .bound)) .rest (drop second book) _
         (sym (first .reads .reads) ∙ e ∙ book-in-parts sheet says)
 
     pub no-roles-written : NoRolesPart sheet book second → Unwritten sheet book
     no-roles-written m =
         record {
-          none = λ says s e. m (says .roles .count) (says .roles .gives) (s .few-roles) .misses _ (behind-counts says s e);
+          none = λ says s e. m (says .roles .count) (says .roles .gives) (s .few-roles) .misses _
+              (behind-counts says s e);
         }
 
   -- ---- block 3
 
-  module _ {counts : Counts} {gives : List ℕ} {roles third : ℕ} (front : FrontRead sheet book counts gives roles third) where
+  module _ {counts : Counts} {gives : List ℕ} {roles third : ℕ} (front : FrontRead sheet book counts gives roles
+      third) where
     behind-roles : (says : Said) → Sayable sheet says → book ≡ book-text sheet says
         → (roles ≡ says .roles .count)
-        × (drop third book ≡ users-part sheet (says .roles .count) (says .roles .has) ++ witness-part sheet (says .witness))
+        × (drop third book ≡ users-part sheet (says .roles .count) (says .roles .has) ++ witness-part sheet
+        (says .witness))
     behind-roles says s e =
         roles-part-once sheet (cell gives) (says .roles .gives) roles (says .roles .count) (drop third book) _
         (sym (front .roles-at .reads .reads) ∙ behind-counts (front .counts-at) says s e)
@@ -88,7 +95,8 @@ module _ (sheet : Sheet) {book : Bytes} where
           → drop fourth book ≡ witness-part sheet (says .witness)
       behind-users says s e =
           let b = behind-roles says s e in
-          users-parts-aligned sheet roles (cell has) (says .roles .has) .rest (drop fourth book) (witness-part sheet (says .witness))
+          users-parts-aligned sheet roles (cell has) (says .roles .has) .rest (drop fourth book)
+          (witness-part sheet (says .witness))
           (sym (users .reads) ∙ rw (b .0) (b .1))
 
       pub no-witness-written : NoWitnessPart sheet book fourth → Unwritten sheet book
@@ -117,7 +125,8 @@ module _ (sheet : Sheet) {book : Bytes} where
         in-parts : book ≡ book-text sheet said-read
         in-parts =
             front .counts-at .reads .reads
-            ∙ ap (λ (l : Bytes). counts-part (front .counts-at .role-digits) (front .counts-at .bound-digits) (standing-case (counts .standing)) ++ l)
+            ∙ ap (λ (l : Bytes). counts-part (front .counts-at .role-digits) (front .counts-at .bound-digits)
+            (standing-case (counts .standing)) ++ l)
             (front .roles-at .reads .reads
             ∙ ap (λ (l : Bytes). roles-part sheet roles (cell gives) ++ l)
             (users .reads ∙ ap (λ (l : Bytes). users-part sheet roles (cell has) ++ l) (last .there)))

@@ -1,5 +1,6 @@
--- What the code has read of a book and what the book says. The counts are read up to a bound, the matrices are rows of words and the witness has
--- the grants of its first lines; where the counts agree, that is all of them. So each of the three judgements by what was read is that by what is said.
+-- What the code has read of a book and what the book says. The counts are read up to a bound, the matrices are rows
+-- of words and the witness has the grants of its first lines; where the counts agree, that is all of them. So each of
+-- the three judgements by what was read is that by what is said.
 use Prim.Native.Nat.{ℕ, _*_, _≤_, _<_}
 use native.Mathlib.Omega.{arith}
 use mathlib.Core.Path.{_≡_, ap}
@@ -37,7 +38,8 @@ abbrev pub answer-of : Checked → CheckAnswer
 answer-of c = record { number = c .number; roles = c .roles; witness-lines = c .«witness_lines» }
 
 -- this is said
-pub record Says (sheet : Sheet) (counts : Counts) (roles : ℕ) (has gives : List ℕ) (w : Witness) (says : Said) : Type 0 where
+pub record Says (sheet : Sheet) (counts : Counts) (roles : ℕ) (has gives : List ℕ) (w : Witness) (says : Said) : Type
+    0 where
   pub role-number : counts .roles ≡ capped (says .count)
   pub bound-number : counts .bound ≡ capped (says .bound)
   pub standing : standing-case (counts .standing) ≡ says .standing
@@ -54,8 +56,10 @@ pub record BookSays (sheet : Sheet) (counts : Counts) (roles : ℕ) (has gives :
   pub said : Says sheet counts roles has gives w says
 
 -- the answer is the judgement of whatever is said
-pub record JudgedAs (sheet : Sheet) (counts : Counts) (roles : ℕ) (has gives : List ℕ) (w : Witness) (answer : CheckAnswer) : Type 0 where
-  pub judged : (says : Said) → Says sheet counts roles has gives w says → answer ≡ answered (judged-number sheet says) says
+pub record JudgedAs (sheet : Sheet) (counts : Counts) (roles : ℕ) (has gives : List ℕ) (w : Witness)
+    (answer : CheckAnswer) : Type 0 where
+  pub judged : (says : Said) → Says sheet counts roles has gives w says → answer ≡ answered (judged-number sheet says)
+      says
 
 -- ---- the counts
 
@@ -79,7 +83,8 @@ module _ {sheet : Sheet} {counts : Counts} {roles : ℕ} {has gives : List ℕ} 
   role-count : says .roles .count ≡ roles
   role-count = ap (λ (set : RoleSet). set .count) (s .matrices)
 
-  pub counts-as-said : (eqb (counts .roles) roles && bound-agrees (standing-case (counts .standing)) (counts .bound) roles (w .lines))
+  pub counts-as-said : (eqb (counts .roles) roles && bound-agrees (standing-case (counts .standing)) (counts .bound)
+      roles (w .lines))
       ≡ counts-agree says
   unfolding counts-agree
   counts-as-said =
@@ -90,7 +95,8 @@ module _ {sheet : Sheet} {counts : Counts} {roles : ℕ} {has gives : List ℕ} 
         s .collects .counted,
         role-count,
         capped-test (says .count) roles (roles-below-cap roles (s .few)),
-        bound-capped (says .standing) (says .bound) roles (length (says .witness)) (roles-below-cap roles (s .few)) (s .few-lines),
+        bound-capped (says .standing) (says .bound) roles (length (says .witness)) (roles-below-cap roles (s .few))
+            (s .few-lines),
       )
 
   -- where the counts agree, every witness line is kept
@@ -112,7 +118,8 @@ module _ {sheet : Sheet} {counts : Counts} {roles : ℕ} {has gives : List ℕ} 
 
   module _ (rows : List ℕ) (shown : RowsOf rows sheet) (wide : permission-count sheet ≤ row-bits) where
     pub product-as-said : Lawful sheet
-        → every-below (user-count sheet) (row-agrees rows (roles-in has gives roles)) ≡ product-agrees sheet (says .roles)
+        → every-below (user-count sheet) (row-agrees rows (roles-in has gives roles)) ≡ product-agrees sheet
+        (says .roles)
     product-as-said lawful = rw (s .matrices) (rows-are-sheet sheet lawful rows has gives roles shown (s .beyond) wide)
 
     pub lines-as-said : So (counts-agree says) → user-count sheet * row-words ≤ length rows → LinesWithin rows w
@@ -120,7 +127,8 @@ module _ {sheet : Sheet} {counts : Counts} {roles : ℕ} {has gives : List ℕ} 
         lines-within sheet rows w (says .witness) shown wide (s .known) (s .collects) (lines-kept agree) room
 
     pub witness-as-said : So (counts-agree says) → lines-stand rows w ≡ witness-agrees sheet (says .witness)
-    witness-as-said agree = stands-by-words sheet rows w (says .witness) shown wide (s .known) (s .collects) (lines-kept agree)
+    witness-as-said agree = stands-by-words sheet rows w (says .witness) shown wide (s .known) (s .collects)
+        (lines-kept agree)
 
 -- ---- the answer
 
@@ -132,10 +140,12 @@ module _ (sheet : Sheet) (says : Said) where
       → check-refused 14 ≡ answered (judged-number sheet says) says
   judged-14 e f = rw (e, f)
 
-  pub judged-15 : So (counts-agree says) → So (product-agrees sheet (says .roles)) → witness-agrees sheet (says .witness) ≡ false
+  pub judged-15 : So (counts-agree says) → So (product-agrees sheet (says .roles))
+      → witness-agrees sheet (says .witness) ≡ false
       → check-refused 15 ≡ answered (judged-number sheet says) says
   judged-15 e f g = rw (e, f, g)
 
-  pub judged-right : So (counts-agree says) → So (product-agrees sheet (says .roles)) → So (witness-agrees sheet (says .witness))
+  pub judged-right : So (counts-agree says) → So (product-agrees sheet (says .roles))
+      → So (witness-agrees sheet (says .witness))
       → check-counts says ≡ answered (judged-number sheet says) says
   judged-right e f g = rw (e, f, g)

@@ -1,5 +1,6 @@
--- What the roles of a user give together, found word by word of the user's row and role after role in rising order. Only roles of the book count, so each
--- has a row; the roles of a word are those at its positions, and a role that was counted is dropped from the word.
+-- What the roles of a user give together, found word by word of the user's row and role after role in rising order.
+-- Only roles of the book count, so each has a row; the roles of a word are those at its positions, and a role that
+-- was counted is dropped from the word.
 use Prim.Native.Nat.{ℕ, _+_, _*_, _≤_, _<_}
 use native.Mathlib.Omega.{arith}
 use mathlib.Core.Path.{_≡_, sym, ap, _∙_}
@@ -25,7 +26,8 @@ use Rattle.checker.specs.ProductWords.{gives-bit, GivenWord}
 
 -- the roles of a user at the positions of word j, of which only those below a number count
 pub record RolesWord (has : List ℕ) (roles u j some : ℕ) : Type 0 where
-  pub bits : (b : ℕ) → b < word-bits → bit some b ≡ (bit (getD has (u * row-words + j) 0) b && ltb (j * word-bits + b) roles)
+  pub bits : (b : ℕ) → b < word-bits → bit some b ≡ (bit (getD has (u * row-words + j) 0) b && ltb (j * word-bits + b)
+      roles)
 
 -- the roles at the positions of a word, counted from a role on, have rows
 pub record GivenWithin (gives : List ℕ) (first some : ℕ) : Type 0 where
@@ -39,10 +41,12 @@ some-given gives first k q some = some-below word-bits (λ b. bit some b && give
 
 pub none-given : (gives : List ℕ) (first k q : ℕ) → some-given gives first k q 0 ≡ false
 unfolding some-given
-none-given gives first k q = none-below-intro word-bits (λ b. bit 0 b && gives-bit gives k q (first + b)) (λ b l. rw (bit-of-zero b))
+none-given gives first k q =
+    none-below-intro word-bits (λ b. bit 0 b && gives-bit gives k q (first + b)) (λ b l. rw (bit-of-zero b))
 
 -- the lowest of them, and the others
-pub given-first : (gives : List ℕ) (first k q : ℕ) {left after low : ℕ} → Lowest word-bits (bit left) low → LowestDropped left after
+pub given-first : (gives : List ℕ) (first k q : ℕ) {left after low : ℕ} → Lowest word-bits (bit left) low
+    → LowestDropped left after
     → some-given gives first k q left ≡ (gives-bit gives k q (first + low) || some-given gives first k q after)
 unfolding some-given
 given-first gives first k q {left} {after} {low} w d =
@@ -51,14 +55,17 @@ given-first gives first k q {left} {after} {low} w d =
     (some-below-ext word-bits _ (λ b. bit after b && gives-bit gives k q (first + b)) (λ b l. rw (d .others w b)))
 
 -- what the lowest gives is put in, and the others are left
-pub given-next : (gives : List ℕ) (first k q : ℕ) {left after low : ℕ} (word more : ℕ) → Lowest word-bits (bit left) low → LowestDropped left after
+pub given-next : (gives : List ℕ) (first k q : ℕ) {left after low : ℕ} (word more : ℕ) → Lowest word-bits (bit left)
+    low → LowestDropped left after
     → bit more q ≡ (bit word q || gives-bit gives k q (first + low))
     → (bit more q || some-given gives first k q after) ≡ (bit word q || some-given gives first k q left)
 given-next gives first k q {left} {after} {low} word more w d e =
-    rw (e, given-first gives first k q w d) (or-assoc (bit word q) (gives-bit gives k q (first + low)) (some-given gives first k q after))
+    rw (e, given-first gives first k q w d) (or-assoc (bit word q) (gives-bit gives k q (first + low))
+    (some-given gives first k q after))
 
 -- those that are left have rows too
-pub within-dropped : {gives : List ℕ} {first left after low : ℕ} → Lowest word-bits (bit left) low → LowestDropped left after → GivenWithin gives first left
+pub within-dropped : {gives : List ℕ} {first left after low : ℕ} → Lowest word-bits (bit left) low
+    → LowestDropped left after → GivenWithin gives first left
     → GivenWithin gives first after
 within-dropped {gives} {first} {left} {after} {low} w d g =
     record { rows = λ b l e. g .rows b l (and-left (bit left b) (not (eqb b low)) (sym (d .others w b) ∙ e)) }
@@ -67,7 +74,8 @@ within-dropped {gives} {first} {left} {after} {low} w d g =
 
 -- the word has what the roles of the words below j give
 pub record GivenBelow (has gives : List ℕ) (roles u k j word : ℕ) : Type 0 where
-  pub bits : (q : ℕ) → bit word q ≡ some-below (j * word-bits) (λ r. (cell has u r && ltb r roles) && gives-bit gives k q r)
+  pub bits : (q : ℕ) → bit word q ≡ some-below (j * word-bits) (λ r. (cell has u r && ltb r roles)
+      && gives-bit gives k q r)
 
 pub given-start : (has gives : List ℕ) (roles u k : ℕ) → GivenBelow has gives roles u k 0 0
 unfolding some-below
@@ -78,23 +86,33 @@ role-in-word : (has : List ℕ) (roles u j some b : ℕ) → RolesWord has roles
     → (cell has u (j * word-bits + b) && ltb (j * word-bits + b) roles) ≡ bit some b
 role-in-word has roles u j some b w l = rw (digits-div j l, digits-mod j l) (sym (w .bits b l))
 
-pub given-more : {has gives : List ℕ} {roles u k j word some after : ℕ} → GivenBelow has gives roles u k j word → RolesWord has roles u j some
-    → ((q : ℕ) → bit after q ≡ (bit word q || some-given gives (j * word-bits) k q some)) → GivenBelow has gives roles u k (j + 1) after
+pub given-more : {has gives : List ℕ} {roles u k j word some after : ℕ} → GivenBelow has gives roles u k j word
+    → RolesWord has roles u j some
+    → ((q : ℕ) → bit after q ≡ (bit word q || some-given gives (j * word-bits) k q some)) → GivenBelow has gives roles
+    u k (j + 1) after
 unfolding some-given
 given-more {has} {gives} {roles} {u} {k} {j} {word} {some} {after} g w e =
     let longer : (j + 1) * word-bits ≡ j * word-bits + word-bits = omega arith in
     record {
       bits = λ q.
           e q
-          ∙ rw (longer, some-below-add (j * word-bits) word-bits (λ r. (cell has u r && ltb r roles) && gives-bit gives k q r), g .bits q)
-          (ap (λ (t : Bool). some-below (j * word-bits) (λ r. (cell has u r && ltb r roles) && gives-bit gives k q r) || t)
+          ∙ rw (
+            longer,
+            some-below-add (j * word-bits) word-bits (λ r. (cell has u r && ltb r roles)
+                && gives-bit gives k q r),
+            g .bits q,
+          )
+          (ap (λ (t : Bool). some-below (j * word-bits) (λ r. (cell has u r && ltb r roles) && gives-bit gives k q r)
+          || t)
           (some-below-ext word-bits (λ b. bit some b && gives-bit gives k q (j * word-bits + b))
-          (λ b. (cell has u (j * word-bits + b) && ltb (j * word-bits + b) roles) && gives-bit gives k q (j * word-bits + b))
+          (λ b. (cell has u (j * word-bits + b) && ltb (j * word-bits + b) roles) && gives-bit gives k q
+          (j * word-bits + b))
           (λ b l. rw (role-in-word has roles u j some b w l))));
     }
 
 -- after the last word all roles of the user have been counted
-pub given-end : {has gives : List ℕ} {roles u k j word : ℕ} → GivenBelow has gives roles u k j word → j ≡ row-words → roles ≤ row-bits
+pub given-end : {has gives : List ℕ} {roles u k j word : ℕ} → GivenBelow has gives roles u k j word → j ≡ row-words
+    → roles ≤ row-bits
     → GivenWord has gives roles u k word
 unfolding row-bits
 given-end {has} {gives} {roles} {u} {k} {j} {word} g e h =
@@ -114,21 +132,25 @@ given-end {has} {gives} {roles} {u} {k} {j} {word} g e h =
           (λ t.
           let f = some-below-elim roles (λ r. cell has u r && gives-bit gives k q r) t in
           let r = f .place in
-          some-below-intro (j * word-bits) (λ r. (cell has u r && ltb r roles) && gives-bit gives k q r) {i = r} (rw e (omega (arith, f .within)))
+          some-below-intro (j * word-bits) (λ r. (cell has u r && ltb r roles) && gives-bit gives k q r) {i = r}
+          (rw e (omega (arith, f .within)))
           (and-intro (cell has u r && ltb r roles) (gives-bit gives k q r)
-          (and-intro (cell has u r) (ltb r roles) (and-left (cell has u r) (gives-bit gives k q r) (f .holds)) (lt-ltb r roles (f .within)))
+          (and-intro (cell has u r) (ltb r roles) (and-left (cell has u r) (gives-bit gives k q r) (f .holds))
+          (lt-ltb r roles (f .within)))
           (and-right (cell has u r) (gives-bit gives k q r) (f .holds))));
     }
 
 -- the roles of word j have rows, where the first roles have
-pub roles-have-rows : {has gives : List ℕ} {roles u j some : ℕ} → RolesWord has roles u j some → roles * row-words ≤ length gives
+pub roles-have-rows : {has gives : List ℕ} {roles u j some : ℕ} → RolesWord has roles u j some
+    → roles * row-words ≤ length gives
     → GivenWithin gives (j * word-bits) some
 roles-have-rows {has} {gives} {roles} {u} {j} {some} w h =
     record {
       rows = λ b l e.
           row-within (j * word-bits + b) roles (length gives)
           (ltb-true (j * word-bits + b) roles
-          (and-right (bit (getD has (u * row-words + j) 0) b) (ltb (j * word-bits + b) roles) (sym (w .bits b l) ∙ e))) h;
+          (and-right (bit (getD has (u * row-words + j) 0) b) (ltb (j * word-bits + b) roles) (sym (w .bits b l)
+          ∙ e))) h;
     }
 
 -- ---- the roles of a word

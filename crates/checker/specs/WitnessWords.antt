@@ -1,5 +1,5 @@
--- The judgement of the witness by rows of words: line after line, each held and fitting none before it. Where the rows are the sheet's and the lines
--- all have a place, this is the judgement of the grants that the lines name.
+-- The judgement of the witness by rows of words: line after line, each held and fitting none before it. Where the
+-- rows are the sheet's and the lines all have a place, this is the judgement of the grants that the lines name.
 use Prim.Native.Nat.{ℕ, _+_, _*_, _≤_, _<_}
 use native.Mathlib.Omega.{arith}
 use mathlib.Core.Path.{_≡_, sym, ap, _∙_}
@@ -59,7 +59,8 @@ pub record LinesWithin (rows : List ℕ) (w : Witness) : Type 0 where
   pub few : w .lines ≤ role-limit
   pub each : (i : ℕ) → i < w .lines → LineWithin rows (line-of w i)
 
-module _ (sheet : Sheet) (rows : List ℕ) (w : Witness) (grants : List Grant) (shown : RowsOf rows sheet) (wide : permission-count sheet ≤ row-bits)
+module _ (sheet : Sheet) (rows : List ℕ) (w : Witness) (grants : List Grant) (shown : RowsOf rows sheet)
+    (wide : permission-count sheet ≤ row-bits)
     (known : Each (Known sheet) grants) (collects : Collects w grants) (few : length grants ≤ role-limit) where
   known-at : (i : ℕ) → i < length grants → Known sheet (grant-at grants i)
   known-at i h = known (grant-at grants i) (member-at grants i (record { user = 0; permission = 0 }) h)
@@ -83,16 +84,20 @@ module _ (sheet : Sheet) (rows : List ℕ) (w : Witness) (grants : List Grant) (
 
   -- a cell of two grants of the lines
   cell-of : (i j : ℕ) → i < length grants → j < length grants
-      → cell rows (line-of w i .user .0) (line-of w j .permission .0) ≡ holds sheet (grant-at grants i .user) (grant-at grants j .permission)
+      → cell rows (line-of w i .user .0) (line-of w j .permission .0) ≡ holds sheet (grant-at grants i .user)
+      (grant-at grants j .permission)
   cell-of i j h k =
       let user : line-of w i .user .0 ≡ grant-at grants i .user = ap (λ (g : Grant). g .user) (named-at i h) in
-      let permission : line-of w j .permission .0 ≡ grant-at grants j .permission = ap (λ (g : Grant). g .permission) (named-at j k) in
-      rw (user, permission) (shown .shows (grant-at grants i .user) (grant-at grants j .permission) (omega (arith, known-at j k .permission)))
+      let permission : line-of w j .permission .0 ≡ grant-at grants j .permission = ap (λ (g : Grant). g .permission)
+      (named-at j k) in
+      rw (user, permission) (shown .shows (grant-at grants i .user) (grant-at grants j .permission)
+      (omega (arith, known-at j k .permission)))
 
   held-at : (i : ℕ) → i < length grants → line-held rows (line-of w i) ≡ held sheet (grant-at grants i)
   held-at i h = cell-of i i h h
 
-  fit-at : (i j : ℕ) → i < length grants → j < length grants → lines-fit rows (line-of w i) (line-of w j) ≡ fits sheet (grant-at grants i) (grant-at grants j)
+  fit-at : (i j : ℕ) → i < length grants → j < length grants → lines-fit rows (line-of w i) (line-of w j) ≡ fits sheet
+      (grant-at grants i) (grant-at grants j)
   fit-at i j h k = rw (cell-of i j h k, cell-of j i k h)
 
   -- the witness by words is judged as its grants are
@@ -104,20 +109,23 @@ module _ (sheet : Sheet) (rows : List ℕ) (w : Witness) (grants : List Grant) (
       forth all = witness-stands-intro sheet grants (record { all-held = all-held; none-fit = none-fit })
         where
           line : (j : ℕ) → j < length grants → So (line-stands rows w j)
-          line j h = every-below-elim (w .lines) (line-stands rows w) all (let counted = collects .counted in omega arith)
+          line j h = every-below-elim (w .lines) (line-stands rows w) all (let counted = collects .counted
+              in omega arith)
 
           all-held : (g : Grant) → List·Memᴰ g grants → So (held sheet g)
           all-held g m =
               let r = place-of grants (record { user = 0; permission = 0 }) m in
               rw (r .there) at
               (sym (held-at (r .place) (r .within))
-              ∙ and-left (line-held rows (line-of w (r .place))) (not (fits-earlier rows w (r .place))) (line (r .place) (r .within)))
+              ∙ and-left (line-held rows (line-of w (r .place))) (not (fits-earlier rows w (r .place)))
+              (line (r .place) (r .within)))
 
           none-fit : (i j : ℕ) → i < j → j < length grants → fits sheet (grant-at grants i) (grant-at grants j) ≡ false
           none-fit i j h k =
               sym (fit-at i j (omega arith) k)
               ∙ none-below-elim j (λ i. lines-fit rows (line-of w i) (line-of w j))
-              (not-fails (fits-earlier rows w j) (and-right (line-held rows (line-of w j)) (not (fits-earlier rows w j)) (line j k))) h
+              (not-fails (fits-earlier rows w j) (and-right (line-held rows (line-of w j))
+              (not (fits-earlier rows w j)) (line j k))) h
 
       back : So (witness-agrees sheet grants) → So (every-below (w .lines) (line-stands rows w))
       back stands =
@@ -125,6 +133,8 @@ module _ (sheet : Sheet) (rows : List ℕ) (w : Witness) (grants : List Grant) (
           every-below-intro (w .lines) (line-stands rows w) (λ j h.
           (let here : j < length grants = (let counted = collects .counted in omega arith) in
           and-intro (line-held rows (line-of w j)) (not (fits-earlier rows w j))
-          (held-at j here ∙ s .all-held (grant-at grants j) (member-at grants j (record { user = 0; permission = 0 }) here))
+          (held-at j here ∙ s .all-held (grant-at grants j) (member-at grants j (record { user = 0; permission = 0 })
+          here))
           (not-passes (fits-earlier rows w j)
-          (none-below-intro j (λ i. lines-fit rows (line-of w i) (line-of w j)) (λ i k. fit-at i j (omega arith) here ∙ s .none-fit i j k here)))))
+          (none-below-intro j (λ i. lines-fit rows (line-of w i) (line-of w j)) (λ i k. fit-at i j (omega arith) here
+          ∙ s .none-fit i j k here)))))

@@ -1,5 +1,5 @@
--- The classes that are allowed to a user: those whose members ask only what the user holds, as a set of classes. A grant that the user holds asks nothing else, so the
--- set stays the same while the user's own grants are placed.
+-- The classes that are allowed to a user: those whose members ask only what the user holds, as a set of classes. A
+-- grant that the user holds asks nothing else, so the set stays the same while the user's own grants are placed.
 use Prim.Native.Nat.{ℕ, _+_, _-_, _/_, _%_, _^_, _≤_, _<_}
 use native.Mathlib.Nat.{lt-of-lt-of-le, mod-lt}
 use native.Mathlib.Omega.{arith}
@@ -42,7 +42,8 @@ pub record AllowedTo (rows asked : List ℕ) (u most : ℕ) (allowed : List ℕ)
 pub record AllowedSoFar (rows asked : List ℕ) (u n : ℕ) (allowed : List ℕ) : Type 0 where
   pub shows : (c : ℕ) → c < row-bits → cell allowed 0 c ≡ (ltb c n && allowed-at rows asked u c)
 
-pub allowed-all : {rows asked : List ℕ} {u n : ℕ} {allowed : List ℕ} → AllowedSoFar rows asked u n allowed → n ≤ row-bits
+pub allowed-all : {rows asked : List ℕ} {u n : ℕ} {allowed : List ℕ} → AllowedSoFar rows asked u n allowed
+    → n ≤ row-bits
     → AllowedTo rows asked u n allowed
 allowed-all {n = n} so-far few = record { says = λ c l. rw (lt-ltb c n l) at (so-far .shows c (lt-of-lt-of-le l few)) }
 
@@ -51,31 +52,40 @@ module _ (rows : List ℕ) (u : ℕ) where
   pub none-allowed : (asked : List ℕ) (m : ℕ) → m ≡ row-words → AllowedSoFar rows asked u 0 (replicate m 0)
   none-allowed asked m e = record {
     shows = λ c l.
-        rw (getD-replicate {A = ℕ} m (word-of 0 c) 0 0 (rw e (word-in-one c l)), bit-of-zero (c % word-bits), le-ltb c 0 (omega arith));
+        rw (
+          getD-replicate {A = ℕ} m (word-of 0 c) 0 0 (rw e (word-in-one c l)),
+          bit-of-zero (c % word-bits),
+          le-ltb c 0 (omega arith),
+        );
   }
     where
       word-in-one : (c : ℕ) → c < row-bits → word-of 0 c < row-words
       word-in-one c l = omega (arith, word-below 1 0 c (lit< tt) l)
 
   -- one class more
-  pub one-allowed : (asked allowed after : List ℕ) (n : ℕ) → AllowedSoFar rows asked u n allowed → CellAdded allowed after 0 n (allowed-at rows asked u n)
+  pub one-allowed : (asked allowed after : List ℕ) (n : ℕ) → AllowedSoFar rows asked u n allowed
+      → CellAdded allowed after 0 n (allowed-at rows asked u n)
       → AllowedSoFar rows asked u (n + 1) after
   one-allowed asked allowed after n so-far added = record { shows = λ c l. added .shows 0 c l ∙ step c l }
     where
       step : (c : ℕ) → c < row-bits
-          → (cell allowed 0 c || (eqb 0 0 && (eqb c n && allowed-at rows asked u n))) ≡ (ltb c (n + 1) && allowed-at rows asked u c)
+          → (cell allowed 0 c || (eqb 0 0 && (eqb c n && allowed-at rows asked u n))) ≡ (ltb c (n + 1)
+          && allowed-at rows asked u c)
       step c l = ⊎-elim same other (passes-or-fails (eqb c n))
         where
-          same : So (eqb c n) → (cell allowed 0 c || (eqb 0 0 && (eqb c n && allowed-at rows asked u n))) ≡ (ltb c (n + 1) && allowed-at rows asked u c)
+          same : So (eqb c n) → (cell allowed 0 c || (eqb 0 0 && (eqb c n && allowed-at rows asked u n))) ≡
+              (ltb c (n + 1) && allowed-at rows asked u c)
           same t =
               let e : c ≡ n = eqb-true c n t in
               rw (so-far .shows c l, e, le-ltb n n (omega arith), eq-eqb n n refl, lt-ltb n (n + 1) (omega arith))
 
-          other : eqb c n ≡ false → (cell allowed 0 c || (eqb 0 0 && (eqb c n && allowed-at rows asked u n))) ≡ (ltb c (n + 1) && allowed-at rows asked u c)
+          other : eqb c n ≡ false → (cell allowed 0 c || (eqb 0 0 && (eqb c n && allowed-at rows asked u n))) ≡
+              (ltb c (n + 1) && allowed-at rows asked u c)
           other f =
               let passed : ltb c n ≡ ltb c (n + 1) =
               ⊎-elim (λ (k : c < n). rw (lt-ltb c n k, lt-ltb c (n + 1) (omega arith)))
-              (λ (k : n ≤ c). rw (le-ltb c n k, le-ltb c (n + 1) (omega (arith, eqb-false c n f)))) (below-or-from c n) in
+              (λ (k : n ≤ c). rw (le-ltb c n k, le-ltb c (n + 1) (omega (arith, eqb-false c n f))))
+              (below-or-from c n) in
               rw (f, or-false (cell allowed 0 c), so-far .shows c l, passed)
 
   -- at first nothing is asked, so all classes are allowed
@@ -97,28 +107,41 @@ module _ (rows : List ℕ) (u : ℕ) where
 
       unasked : (c q : ℕ) → c < row-bits → q < row-bits → So (held-at rows (replicate n 0) u c q)
       unasked c q l k =
-          rw (getD-replicate {A = ℕ} n (word-of c q) 0 0 (rw e (word-below row-bits c q l k)), bit-of-zero (q % word-bits))
+          rw (
+            getD-replicate {A = ℕ} n (word-of c q) 0 0 (rw e (word-below row-bits c q l k)),
+            bit-of-zero (q % word-bits),
+          )
 
   -- a permission that the user holds is asked
-  pub allowed-kept : {asked after allowed : List ℕ} {c p most : ℕ} → AllowedTo rows asked u most allowed → CellAdded asked after c p true → So (cell rows u p)
+  pub allowed-kept : {asked after allowed : List ℕ} {c p most : ℕ} → AllowedTo rows asked u most allowed
+      → CellAdded asked after c p true → So (cell rows u p)
       → AllowedTo rows after u most allowed
   allowed-kept {asked} {after} {allowed} {c} {p} allowing added held = record {
-    says = λ x l. allowing .says x l ∙ every-below-ext row-bits (held-at rows asked u x) (held-at rows after u x) (λ q k. same x q k);
+    says = λ x l. allowing .says x l ∙ every-below-ext row-bits (held-at rows asked u x) (held-at rows after u x)
+        (λ q k. same x q k);
   }
     where
       same : (x q : ℕ) → q < row-bits → held-at rows asked u x q ≡ held-at rows after u x q
       same x q k = rw (added .shows x q k) (⊎-elim own other (passes-or-fails (eqb q p)))
         where
-          own : So (eqb q p) → held-at rows asked u x q ≡ implies (cell asked x q || (eqb x c && (eqb q p && true))) (cell rows u q)
+          own : So (eqb q p) → held-at rows asked u x q ≡ implies (cell asked x q || (eqb x c && (eqb q p && true)))
+              (cell rows u q)
           own t =
               let e : q ≡ p = eqb-true q p t in
-              rw (e, held, or-true (not (cell asked x p)), or-true (not (cell asked x p || (eqb x c && (eqb p p && true)))))
+              rw (
+                e,
+                held,
+                or-true (not (cell asked x p)),
+                or-true (not (cell asked x p || (eqb x c && (eqb p p && true)))),
+              )
 
-          other : eqb q p ≡ false → held-at rows asked u x q ≡ implies (cell asked x q || (eqb x c && (eqb q p && true))) (cell rows u q)
+          other : eqb q p ≡ false → held-at rows asked u x q ≡ implies (cell asked x q
+              || (eqb x c && (eqb q p && true))) (cell rows u q)
           other f = rw (f, and-false (eqb x c), or-false (cell asked x q))
 
 -- the free classes are those that can be joined
-pub free-is-joinable : {rows asked allowed : List ℕ} (lacked : List ℕ) (it most : ℕ) → AllowedTo rows asked (it / row-bits) most allowed
+pub free-is-joinable : {rows asked allowed : List ℕ} (lacked : List ℕ) (it most : ℕ)
+    → AllowedTo rows asked (it / row-bits) most allowed
     → (c : ℕ) → c < most → free allowed lacked (it % row-bits) c ≡ joinable rows asked lacked it c
 free-is-joinable {rows} {asked} lacked it most allowing c l =
     rw (allowing .says c l) (and-comm (allowed-at rows asked (it / row-bits) c) (not (cell lacked c (it % row-bits))))

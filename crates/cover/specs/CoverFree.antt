@@ -1,6 +1,7 @@
--- The lowest free class, word by word. A class is free for a permission if it is one of a set of allowed classes and none of its members lacks the permission. The
--- positions of a word not yet tried are those of a lesser word: every other position of the word is known to fail. So its lowest position, where it passes, is
--- the lowest of all, and where it fails it is dropped.
+-- The lowest free class, word by word. A class is free for a permission if it is one of a set of allowed classes and
+-- none of its members lacks the permission. The positions of a word not yet tried are those of a lesser word: every
+-- other position of the word is known to fail. So its lowest position, where it passes, is the lowest of all, and
+-- where it fails it is dropped.
 use Prim.Native.Nat.{ℕ, _+_, _-_, _*_, _≤_, _<_}
 use native.Mathlib.Nat.{le-refl, zero-mul, zero-add, add-sub-of-le}
 use native.Mathlib.Omega.{arith}
@@ -53,7 +54,8 @@ module _ (word : ℕ) (test : ℕ → Bool) where
     passes = λ l. and-intro (bit word x) (test x) (left .inside x (low .holds)) p;
   }
 
-  pub one-tried : {rest x next : ℕ} → Left word test rest → Lowest word-bits (bit rest) x → test x ≡ false → LowestDropped rest next
+  pub one-tried : {rest x next : ℕ} → Left word test rest → Lowest word-bits (bit rest) x → test x ≡ false
+      → LowestDropped rest next
       → Left word test next
   one-tried {rest} {x} {next} left low fails dropped = record {
     inside = λ y p. left .inside y (and-left (bit rest y) (not (eqb y x)) (sym (dropped .others low y) ∙ p));
@@ -74,10 +76,12 @@ module _ (word : ℕ) (test : ℕ → Bool) where
 -- ---- from word to word
 
 -- the class at position x of word j of a set
-pub in-word : (allowed : List ℕ) (j x : ℕ) → x < word-bits → cell allowed 0 (j * word-bits + x) ≡ bit (getD allowed j 0) x
+pub in-word : (allowed : List ℕ) (j x : ℕ) → x < word-bits → cell allowed 0 (j * word-bits + x) ≡ bit
+    (getD allowed j 0) x
 in-word allowed j x l = rw (zero-mul row-words, digits-div j l, digits-mod j l, zero-add j)
 
-module _ (allowed lacked : List ℕ) (p j x : ℕ) (first : FirstBelow word-bits (free-in-word (getD allowed j 0) lacked p j) x)
+module _ (allowed lacked : List ℕ) (p j x : ℕ) (first : FirstBelow word-bits (free-in-word (getD allowed j 0) lacked p
+    j) x)
     (earlier : (i : ℕ) → i < j * word-bits → free allowed lacked p i ≡ false) where
   -- none is free up to the position found
   pub none-before : (i : ℕ) → i < j * word-bits + x → free allowed lacked p i ≡ false
@@ -88,7 +92,8 @@ module _ (allowed lacked : List ℕ) (p j x : ℕ) (first : FirstBelow word-bits
           let y = i - j * word-bits in
           let e : j * word-bits + y ≡ i = add-sub-of-le k in
           let inside : y < word-bits = omega (arith, first .not-past) in
-          let there : free allowed lacked p (j * word-bits + y) ≡ false = rw (in-word allowed j y inside) (first .skipped y (omega arith)) in
+          let there : free allowed lacked p (j * word-bits + y) ≡ false = rw (in-word allowed j y inside)
+          (first .skipped y (omega arith)) in
           rw e at there
 
   pub found-free : j < row-words → x < word-bits → FirstBelow row-bits (free allowed lacked p) (j * word-bits + x)
@@ -102,4 +107,5 @@ module _ (allowed lacked : List ℕ) (p j x : ℕ) (first : FirstBelow word-bits
 -- none is free in all words
 pub none-free : (allowed lacked : List ℕ) (p : ℕ) → ((i : ℕ) → i < row-bits → free allowed lacked p i ≡ false)
     → FirstBelow row-bits (free allowed lacked p) row-bits
-none-free allowed lacked p none = record { not-past = le-refl row-bits; skipped = none; passes = λ l. absurd (omega arith) }
+none-free allowed lacked p none =
+    record { not-past = le-refl row-bits; skipped = none; passes = λ l. absurd (omega arith) }

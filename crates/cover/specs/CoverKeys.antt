@@ -1,5 +1,6 @@
--- A grouping by key, as by permission, through a table: the table has the class of every key that an earlier number has, and of no other. So a number takes the
--- class of its key where an earlier number has that key, and else the next one, as the grouping by key does.
+-- A grouping by key, as by permission, through a table: the table has the class of every key that an earlier number
+-- has, and of no other. So a number takes the class of its key where an earlier number has that key, and else the
+-- next one, as the grouping by key does.
 use Prim.Native.Nat.{ℕ, suc, _+_, _≤_, _<_, max}
 use native.Mathlib.Nat.{le-refl, le-step, lt-suc-self, not-suc-le-zero}
 use native.Mathlib.Numerals.{add-one}
@@ -43,7 +44,8 @@ pub record Keyed (key : ℕ → ℕ) (i : ℕ) (table classes : List ℕ) (count
   pub unnamed : (k : ℕ) → k < row-bits → has-key key i k ≡ false → getD table k 0 ≡ no-class
   pub past : BlankFrom i classes
 
-pub none-keyed : (key : ℕ → ℕ) (n m : ℕ) → n ≡ grant-limit → m ≡ row-bits → Keyed key 0 (replicate m no-class) (replicate n 0) 0
+pub none-keyed : (key : ℕ → ℕ) (n m : ℕ) → n ≡ grant-limit → m ≡ row-bits → Keyed key 0 (replicate m no-class)
+    (replicate n 0) 0
 none-keyed key n m room wide =
     record {
       room = length-replicate n 0 ∙ room;
@@ -56,9 +58,11 @@ none-keyed key n m room wide =
 
 -- there are no more classes than numbers
 keyed-used-le : (key : ℕ → ℕ) (i : ℕ) → used (by-key key i) ≤ i
-keyed-used-le key i = rw (grouping-length (same-key key) i) at (grown-used-le (by-key key i) (grouping-grown (same-key key) i))
+keyed-used-le key i =
+    rw (grouping-length (same-key key) i) at (grown-used-le (by-key key i) (grouping-grown (same-key key) i))
 
-pub keyed-count-le : {key : ℕ → ℕ} {i : ℕ} {table classes : List ℕ} {count : ℕ} → Keyed key i table classes count → count ≤ i
+pub keyed-count-le : {key : ℕ → ℕ} {i : ℕ} {table classes : List ℕ} {count : ℕ} → Keyed key i table classes count
+    → count ≤ i
 keyed-count-le {key} {i} {classes} {count} so-far = few-classes (same-key key) classes i count (so-far .placed)
 
 -- and no more than there can be keys
@@ -66,10 +70,12 @@ pub keyed-count-below : {key : ℕ → ℕ} {i : ℕ} {table classes : List ℕ}
     → ((j : ℕ) → j < i → key j < row-bits) → count ≤ row-bits
 keyed-count-below {key} {i} so-far within = rw (so-far .placed .in-use) (grouping-used-le key i row-bits within)
 
-module _ {key : ℕ → ℕ} {i : ℕ} {table classes : List ℕ} {count : ℕ} (so-far : Keyed key i table classes count) (room : i < grant-limit)
+module _ {key : ℕ → ℕ} {i : ℕ} {table classes : List ℕ} {count : ℕ} (so-far : Keyed key i table classes count)
+    (room : i < grant-limit)
     (fits : key i < row-bits) where
   -- a key that has a class
-  known-class : (j : ℕ) → j < i → key i ≡ key j → (getD table (key i) 0 ≡ next-class key i) × (next-class key i < no-class)
+  known-class : (j : ℕ) → j < i → key i ≡ key j → (getD table (key i) 0 ≡ next-class key i)
+      × (next-class key i < no-class)
   known-class j l e =
       let known = next-class-known key i j l e in
       let below = class-below-used (by-key key i) {i = j} (rw (grouping-length (same-key key) i) l) in
@@ -87,10 +93,12 @@ module _ {key : ℕ → ℕ} {i : ℕ} {table classes : List ℕ} {count : ℕ} 
 
       new : has-key key i (key i) ≡ false → class-from table count (key i) ≡ next-class key i
       new f =
-          rw (eq-eqb (getD table (key i) 0) no-class (so-far .unnamed (key i) fits f)) (so-far .placed .in-use ∙ sym (next-class-new key i f))
+          rw (eq-eqb (getD table (key i) 0) no-class (so-far .unnamed (key i) fits f)) (so-far .placed .in-use
+          ∙ sym (next-class-new key i f))
 
   -- and the next number follows
-  pub one-keyed : (c : ℕ) → c ≡ next-class key i → Keyed key (i + 1) (set table (key i) c) (set classes i c) (max (suc c) count)
+  pub one-keyed : (c : ℕ) → c ≡ next-class key i → Keyed key (i + 1) (set table (key i) c) (set classes i c)
+      (max (suc c) count)
   one-keyed c e = rw (add-one i)
       (record {
         room = length-set classes i c ∙ so-far .room;
@@ -101,14 +109,16 @@ module _ {key : ℕ → ℕ} {i : ℕ} {table classes : List ℕ} {count : ℕ} 
         past = rw (add-one i) at (set-blank c (so-far .past));
       })
     where
-      same : (j : ℕ) → j < suc i → So (eqb (key j) (key i)) → getD (set table (key i) c) (key j) 0 ≡ class-in (by-key key (suc i)) j
+      same : (j : ℕ) → j < suc i → So (eqb (key j) (key i)) → getD (set table (key i) c) (key j) 0 ≡ class-in
+          (by-key key (suc i)) j
       same j l p =
           let k : key j ≡ key i = eqb-true (key j) (key i) p in
           rw k (getD-set-same table (key i) c 0 (rw (so-far .wide) fits)) ∙ e
           ∙ ⊎-elim (λ (q : j ≡ i). rw q (sym (keyed-next key i)))
           (λ (q : j < i). next-class-known key i j q (sym k) ∙ sym (keyed-before key i j q)) (last-or-below l)
 
-      other : (j : ℕ) → j < suc i → eqb (key j) (key i) ≡ false → getD (set table (key i) c) (key j) 0 ≡ class-in (by-key key (suc i)) j
+      other : (j : ℕ) → j < suc i → eqb (key j) (key i) ≡ false → getD (set table (key i) c) (key j) 0 ≡ class-in
+          (by-key key (suc i)) j
       other j l p =
           let apart : key j ≢ key i = eqb-false (key j) (key i) p in
           getD-set-other table (key i) (key j) c 0 apart
@@ -116,8 +126,10 @@ module _ {key : ℕ → ℕ} {i : ℕ} {table classes : List ℕ} {count : ℕ} 
           (λ (q : j < i). so-far .named j q ∙ sym (keyed-before key i j q)) (last-or-below l)
 
       unlike : (k : ℕ) → has-key key (suc i) k ≡ false → k ≢ key i
-      unlike k f q = not-both (some-below-intro (suc i) (λ j. eqb (key j) k) (lt-suc-self i) (eq-eqb (key i) k (sym q))) f
+      unlike k f q = not-both (some-below-intro (suc i) (λ j. eqb (key j) k) (lt-suc-self i)
+          (eq-eqb (key i) k (sym q))) f
 
       earlier-none : (k : ℕ) → has-key key (suc i) k ≡ false → has-key key i k ≡ false
       earlier-none k f =
-          fails-unless (has-key key i k) (λ p. not-both (some-below-more i (suc i) (λ j. eqb (key j) k) (le-step (le-refl i)) p) f)
+          fails-unless (has-key key i k) (λ p. not-both (some-below-more i (suc i) (λ j. eqb (key j) k)
+          (le-step (le-refl i)) p) f)

@@ -1,4 +1,5 @@
--- What puts two grants of the kernel together, by their cells: that they fit, as the rows say, or that they have one permission or one user.
+-- What puts two grants of the kernel together, by their cells: that they fit, as the rows say, or that they have one
+-- permission or one user.
 use Prim.Native.Nat.{ℕ, _/_, _%_, _^_, _<_}
 use native.Mathlib.Omega.{arith}
 use mathlib.Core.Bool.{Bool, So}

@@ -1,5 +1,5 @@
--- The rows of the classes word by word: what a class asks is held where each of its words is within the user's, and what a user lacks is added to a class by
--- the complement of each word of the user's row.
+-- The rows of the classes word by word: what a class asks is held where each of its words is within the user's, and
+-- what a user lacks is added to a class by the complement of each word of the user's row.
 use Prim.Native.Nat.{ℕ, _+_, _-_, _*_, _/_, _%_, _^_, _<_}
 use native.Mathlib.Nat.{mod-lt}
 use native.Mathlib.Omega.{arith}
@@ -29,10 +29,12 @@ abbrev pub held-at : List ℕ → List ℕ → ℕ → ℕ → ℕ → Bool
 held-at rows asked u c q = implies (cell asked c q) (cell rows u q)
 
 pub held-word : (rows asked : List ℕ) (u c j : ℕ)
-    → every-below word-bits (λ q. implies (bit (getD asked (c * row-words + j) 0) q) (bit (getD rows (u * row-words + j) 0) q))
+    → every-below word-bits (λ q. implies (bit (getD asked (c * row-words + j) 0) q)
+    (bit (getD rows (u * row-words + j) 0) q))
     ≡ every-in-word (held-at rows asked u c) j
 held-word rows asked u c j =
-    every-below-ext word-bits (λ q. implies (bit (getD asked (c * row-words + j) 0) q) (bit (getD rows (u * row-words + j) 0) q))
+    every-below-ext word-bits (λ q. implies (bit (getD asked (c * row-words + j) 0) q)
+    (bit (getD rows (u * row-words + j) 0) q))
     (λ q. held-at rows asked u c (j * word-bits + q)) (λ q l. rw (digits-div j l, digits-mod j l))
 
 -- ---- a word of what is lacked
@@ -40,7 +42,8 @@ held-word rows asked u c j =
 -- what user u lacks of the permissions below n is added to class c
 pub record LacksAdded (rows words after : List ℕ) (c u n : ℕ) : Type 0 where
   pub size : length after ≡ length words
-  pub shows : (v q : ℕ) → q < row-bits → cell after v q ≡ (cell words v q || (eqb v c && (ltb q n && not (cell rows u q))))
+  pub shows : (v q : ℕ) → q < row-bits → cell after v q ≡ (cell words v q
+      || (eqb v c && (ltb q n && not (cell rows u q))))
 
 -- at first nothing is added
 pub no-lacks-added : (rows words : List ℕ) (c u : ℕ) → LacksAdded rows words words c u 0
@@ -54,7 +57,8 @@ pub all-lacks-added : {rows words after : List ℕ} {c u : ℕ} → LacksAdded r
     → (v q : ℕ) → q < row-bits → cell after v q ≡ (cell words v q || (eqb v c && not (cell rows u q)))
 all-lacks-added added v q k = rw (lt-ltb q row-bits k) at (added .shows v q k)
 
-module _ {rows words after : List ℕ} {c u j : ℕ} (added : LacksAdded rows words after c u (j * word-bits)) (inside : j < row-words)
+module _ {rows words after : List ℕ} {c u j : ℕ} (added : LacksAdded rows words after c u (j * word-bits))
+    (inside : j < row-words)
     (room : c * row-words + j < length after) (fits : getD rows (u * row-words + j) 0 < 2 ^ word-bits) where
   -- the next word, with the complement of the user's
   abbrev next-word : ℕ
@@ -74,7 +78,8 @@ module _ {rows words after : List ℕ} {c u j : ℕ} (added : LacksAdded rows wo
     size = length-set after (c * row-words + j) next-word ∙ added .size;
     shows = λ v q k.
         ⊎-elim (λ t. here v q k (eqb-true (word-of v q) (c * row-words + j) t))
-        (λ f. elsewhere v q k (eqb-false (word-of v q) (c * row-words + j) f)) (passes-or-fails (eqb (word-of v q) (c * row-words + j)));
+        (λ f. elsewhere v q k (eqb-false (word-of v q) (c * row-words + j) f))
+        (passes-or-fails (eqb (word-of v q) (c * row-words + j)));
   }
     where
       Shown : ℕ → ℕ → Type 0
@@ -89,7 +94,11 @@ module _ {rows words after : List ℕ} {c u j : ℕ} (added : LacksAdded rows wo
           let class : v ≡ c = one-user c v (j * word-bits) q (omega arith) k (rw first e) in
           let word : q / word-bits ≡ j = omega (arith, rw class at e) in
           let before : cell after v q ≡ cell words v q =
-          added .shows v q k ∙ rw (le-ltb q (j * word-bits) (omega arith), and-false (eqb v c), or-false (cell words v q)) in
+          added .shows v q k ∙ rw (
+            le-ltb q (j * word-bits) (omega arith),
+            and-false (eqb v c),
+            or-false (cell words v q),
+          ) in
           rw (
             class,
             word,
@@ -102,11 +111,13 @@ module _ {rows words after : List ℕ} {c u j : ℕ} (added : LacksAdded rows wo
 
       -- below the end of the word is below its beginning, for a bit of another word of the class
       passed : (v q : ℕ) → word-of v q ≢ c * row-words + j
-          → (eqb v c && (ltb q (j * word-bits) && not (cell rows u q))) ≡ (eqb v c && (ltb q ((j + 1) * word-bits) && not (cell rows u q)))
+          → (eqb v c && (ltb q (j * word-bits) && not (cell rows u q))) ≡ (eqb v c && (ltb q ((j + 1) * word-bits)
+          && not (cell rows u q)))
       passed v q apart = ⊎-elim same (λ f. rw f) (passes-or-fails (eqb v c))
         where
           same : So (eqb v c)
-              → (eqb v c && (ltb q (j * word-bits) && not (cell rows u q))) ≡ (eqb v c && (ltb q ((j + 1) * word-bits) && not (cell rows u q)))
+              → (eqb v c && (ltb q (j * word-bits) && not (cell rows u q))) ≡ (eqb v c && (ltb q ((j + 1) * word-bits)
+              && not (cell rows u q)))
           same t =
               let class : v ≡ c = eqb-true v c t in
               let other : q / word-bits ≢ j = λ s. apart (rw (class, s)) in

@@ -1,6 +1,6 @@
--- A count read into a number of the machine, which stops at a bound that no number of lines of a book reaches. A count that says a lesser number
--- is read as that number, and any other as the bound, so a comparison with a number of lines comes out as it should whatever the length of the
--- count is.
+-- A count read into a number of the machine, which stops at a bound that no number of lines of a book reaches. A
+-- count that says a lesser number is read as that number, and any other as the bound, so a comparison with a number
+-- of lines comes out as it should whatever the length of the count is.
 use Prim.Native.Nat.{ℕ, suc, _+_, _-_, _*_, _<_, min}
 use Prim.Native.Char.{code}
 use native.Mathlib.Numerals.{add-one}
@@ -40,9 +40,11 @@ count-read digits = cond (is-count digits) (Count (capped (number-of digits))) O
 -- ---- digit by digit
 
 -- numbers that are read alike are read alike with digits behind them
-capped-after : (m n : ℕ) (digits : Bytes) → capped m ≡ capped n → capped (number-after m digits) ≡ capped (number-after n digits)
+capped-after : (m n : ℕ) (digits : Bytes) → capped m ≡ capped n → capped (number-after m digits) ≡ capped
+    (number-after n digits)
 capped-after m n [] e = e
-capped-after m n (b ∷ digits) e = capped-after (10 * m + (b - code "0")) (10 * n + (b - code "0")) digits (more (b - code "0"))
+capped-after m n (b ∷ digits) e = capped-after (10 * m + (b - code "0")) (10 * n + (b - code "0")) digits
+    (more (b - code "0"))
   where
     more : (d : ℕ) → capped (10 * m + d) ≡ capped (10 * n + d)
     more d = omega arith
@@ -53,12 +55,17 @@ capped-twice n = omega arith
 digits-next : (n b : ℕ) (digits : Bytes) → So (is-digit b)
     → digits-read n (b ∷ digits) ≡ digits-read (capped (10 * n + (b - code "0"))) digits
 digits-next n b digits e =
-    rw (e, capped-after (10 * n + (b - code "0")) (capped (10 * n + (b - code "0"))) digits (sym (capped-twice (10 * n + (b - code "0")))))
+    rw (
+      e,
+      capped-after (10 * n + (b - code "0")) (capped (10 * n + (b - code "0"))) digits
+          (sym (capped-twice (10 * n + (b - code "0")))),
+    )
 
 -- the digits from a place on, where there is one
 pub digits-next-at : (n : ℕ) (field : Bytes) (i : ℕ) → i < length field → So (is-digit (getD field i 0))
     → digits-read n (drop i field) ≡ digits-read (capped (10 * n + (getD field i 0 - code "0"))) (drop (i + 1) field)
-digits-next-at n field i h e = rw (add-one i, drop-cons field i 0 h) (digits-next n (getD field i 0) (drop (suc i) field) e)
+digits-next-at n field i h e =
+    rw (add-one i, drop-cons field i 0 h) (digits-next n (getD field i 0) (drop (suc i) field) e)
 
 -- and where there is none
 pub digits-off-at : (n : ℕ) (field : Bytes) (i : ℕ) → i < length field → (So (is-digit (getD field i 0)) → ⊥)
@@ -79,12 +86,14 @@ count-zero (b ∷ []) h e = rw e (ap Count capped-none)
     capped-none = omega arith
 count-zero (b ∷ next ∷ digits) h e = absurd (omega arith)
 
-pub leading-zero : (digits : Bytes) → (length digits ≡ 1 → ⊥) → getD digits 0 0 ≡ code "0" → (length digits ≡ 0 → ⊥) → count-read digits ≡ Off
+pub leading-zero : (digits : Bytes) → (length digits ≡ 1 → ⊥) → getD digits 0 0 ≡ code "0" → (length digits ≡ 0 → ⊥)
+    → count-read digits ≡ Off
 leading-zero [] h e some = absurd (some refl)
 leading-zero (b ∷ []) h e some = absurd (h refl)
 leading-zero (b ∷ next ∷ digits) h e some = rw e
 
-pub no-leading-zero : (digits : Bytes) → (length digits ≡ 0 → ⊥) → (getD digits 0 0 ≡ code "0" → ⊥) → count-read digits ≡ digits-read 0 digits
+pub no-leading-zero : (digits : Bytes) → (length digits ≡ 0 → ⊥) → (getD digits 0 0 ≡ code "0" → ⊥)
+    → count-read digits ≡ digits-read 0 digits
 no-leading-zero [] some other = absurd (some refl)
 no-leading-zero (b ∷ digits) some other = rw (ne-eqb b (code "0") other)
 
@@ -98,12 +107,16 @@ pub record CountSaid (digits : Bytes) (n : ℕ) : Type 0 where
 pub count-said : (digits : Bytes) (n : ℕ) → Count n ≡ count-read digits → CountSaid digits n
 count-said digits n e = choose (is-count digits) refl e
   where
-    choose : (t : Bool) → is-count digits ≡ t → Count n ≡ cond t (Count (capped (number-of digits))) Off → CountSaid digits n
+    choose : (t : Bool) → is-count digits ≡ t → Count n ≡ cond t (Count (capped (number-of digits))) Off
+        → CountSaid digits n
     choose true p q = record { count = p; number = cc }
     choose false p q = absurd (let z : _≡_ {A = ℕ} 0 1 = cc in omega arith)
 
 pub count-refused : (digits : Bytes) → Off ≡ count-read digits → So (is-count digits) → ⊥
-count-refused digits e p = let q : Off ≡ Count (capped (number-of digits)) = rw p at e in let z : _≡_ {A = ℕ} 0 1 = cc in omega arith
+count-refused digits e p =
+    let q : Off ≡ Count (capped (number-of digits)) = rw p at e in
+    let z : _≡_ {A = ℕ} 0 1 = cc in
+    omega arith
 
 -- a number below the bound is compared as it is
 pub capped-test : (m n : ℕ) → n < count-cap → eqb (capped m) n ≡ eqb m n

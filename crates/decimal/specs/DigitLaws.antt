@@ -1,4 +1,5 @@
--- How many digits a count has. A number below ten has one, any other one more than its tenth, and a number of the machine at most twenty.
+-- How many digits a count has. A number below ten has one, any other one more than its tenth, and a number of the
+-- machine at most twenty.
 use Prim.Native.Nat.{ℕ, _+_, _/_, _%_, _^_, _≤_, _<_}
 use native.Mathlib.Omega.{arith}
 use mathlib.Core.Path.{_≡_, ap, _∙_}

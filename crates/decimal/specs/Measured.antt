@@ -1,5 +1,5 @@
--- How long a text is, beside a bound on it that keeps sums of lengths from wrapping: a piece of a line, a line, a block. A loop that adds the lengths
--- of parts has added those of the parts below i. Assumes nothing.
+-- How long a text is, beside a bound on it that keeps sums of lengths from wrapping: a piece of a line, a line, a
+-- block. A loop that adds the lengths of parts has added those of the parts below i. Assumes nothing.
 use Prim.Native.Nat.{ℕ, _+_, _*_, _^_, _≤_, _<_}
 use native.Mathlib.Nat.{le-antisymm, suc-mul}
 use native.Mathlib.Numerals.{add-one}
@@ -25,11 +25,13 @@ pub record Measured (text : Bytes) (most count : ℕ) : Type 0 where
   pub small : count ≤ most
 
 -- a higher bound holds too
-pub measured-within : {text : Bytes} {most more count : ℕ} → Measured text most count → most ≤ more → Measured text more count
+pub measured-within : {text : Bytes} {most more count : ℕ} → Measured text most count → most ≤ more
+    → Measured text more count
 measured-within m h = record { counted = m .counted; small = omega (arith, m .small) }
 
 -- the same text under another name
-pub measured-as : {text same : Bytes} {most count : ℕ} → text ≡ same → Measured text most count → Measured same most count
+pub measured-as : {text same : Bytes} {most count : ℕ} → text ≡ same → Measured text most count
+    → Measured same most count
 measured-as e m = rw e at m
 
 -- of n parts of at most so much each, the lengths of those below i are added
@@ -46,7 +48,14 @@ module _ {n : ℕ} {part : ℕ → Bytes} {most i total : ℕ} (a : Adding n par
   part-added {count} more m =
       record {
         below = omega arith;
-        counted = omega (arith, a .counted, m .counted, ap length (listed-more i part), length-append (listed i part) (part i));
+        counted = omega (
+          arith,
+          a .counted,
+          m .counted,
+          ap length (listed-more i part),
+          length-append (listed i part)
+              (part i),
+        );
         small = rw (add-one i) (omega (arith, suc-mul i most, a .small, m .small));
       }
 

@@ -1,5 +1,5 @@
--- What the calls answer with and without a sheet, and what an accepted writing brings out. Each follows from the calls' definitions by
--- cases: is there a sheet, is it accepted, does the buffer take the book.
+-- What the calls answer with and without a sheet, and what an accepted writing brings out. Each follows from the
+-- calls' definitions by cases: is there a sheet, is it accepted, does the buffer take the book.
 use Prim.Native.Nat.{ℕ, _≤_}
 use mathlib.Core.Path.{_≡_, refl, sym, ap, _∙_}
 use mathlib.Core.Bool.{Bool, true, false, So, cond}
@@ -15,7 +15,18 @@ use Rattle.spec.specs.Machine.{State}
 use Rattle.spec.specs.Book.{book}
 use Rattle.spec.specs.Session.{Session, no-sheet, loaded, session-book}
 use Rattle.spec.specs.Refusal.{first-number, refusal, accepted, write-causes}
-use Rattle.spec.specs.Calls.{LoadAnswer, load-answer, search-answer, search-refused, WriteAnswer, write-refused, write-answer, buffer-after, Loads, Writes}
+use Rattle.spec.specs.Calls.{
+  LoadAnswer,
+  load-answer,
+  search-answer,
+  search-refused,
+  WriteAnswer,
+  write-refused,
+  write-answer,
+  buffer-after,
+  Loads,
+  Writes,
+}
 use Rattle.spec.specs.Sequence.{WriteOutcome, brought-out}
 use Rattle.spec.specs.Demands.{LoadOwed}
 use Rattle.bits.specs.Truth.{not-both, passes-or-fails}
@@ -28,7 +39,8 @@ load-number text = (λ z. ⊎-elim (λ p. p) (refused z) (passes-or-fails (accep
     refused : load-answer text .number ≡ 0 → accepted text ≡ false → So (accepted text)
     refused z f = eq-eqb (refusal text) 0 (rw f at z)
 
-pub load-owed : (before : Session) (text : Bytes) (answer : LoadAnswer) (after : Session) → Loads before text answer after
+pub load-owed : (before : Session) (text : Bytes) (answer : LoadAnswer) (after : Session) → Loads before text answer
+    after
     → LoadOwed text answer
 load-owed before text answer after h =
     let number : answer .number ≡ load-answer text .number = ap (λ (a : LoadAnswer). a .number) (h .answers) in
@@ -66,14 +78,16 @@ abbrev lent-if : Bool → Bytes → Bytes → Bytes
 lent-if fits text buffer = cond fits (text ++ drop (length text) buffer) buffer
 
 -- the front of the buffer, as many bytes as were answered, is the book
-front-is-the-book : (fits : Bool) (number : ℕ) (text buffer : Bytes) → fits ≡ eqb number 0 → answer-if fits number text .number ≡ 0
+front-is-the-book : (fits : Bool) (number : ℕ) (text buffer : Bytes) → fits ≡ eqb number 0 → answer-if fits number
+    text .number ≡ 0
     → take (answer-if fits number text .count) (lent-if fits text buffer) ≡ text
 front-is-the-book true number text buffer e z = take-append-seam text (drop (length text) buffer)
 front-is-the-book false number text buffer e z = absurd (not-both (eq-eqb number 0 z) (sym e))
 
 -- an accepted writing brings out the session's book, whole
 pub brings-the-book : (before : Session) (buffer : Bytes) (written : WriteOutcome) (after : Session)
-    → Writes before buffer (written .answer) (written .lent) after → written .answer .number ≡ 0 → brought-out written ≡ session-book before
+    → Writes before buffer (written .answer) (written .lent) after → written .answer .number ≡ 0
+    → brought-out written ≡ session-book before
 unfolding write-answer buffer-after
 brings-the-book before buffer written after h accepts =
     let number : ℕ = first-number (write-causes before buffer) in

@@ -1,6 +1,7 @@
--- Every book of an accepted sheet can be believed, wherever its search stands. Searches keep what minimality asks of a state; such a state's
--- roles multiply to the sheet, are few enough and at least as many as the witness has grants; so the book is right and the checker accepts it, its
--- bound is a bound for every role set, and unless it is open no role set has fewer roles.
+-- Every book of an accepted sheet can be believed, wherever its search stands. Searches keep what minimality asks of
+-- a state; such a state's roles multiply to the sheet, are few enough and at least as many as the witness has grants;
+-- so the book is right and the checker accepts it, its bound is a bound for every role set, and unless it is open no
+-- role set has fewer roles.
 use Prim.Native.Nat.{ℕ, _≤_}
 use native.Mathlib.Omega.{arith}
 use mathlib.Core.Path.{_≡_, refl}
@@ -22,7 +23,16 @@ use Rattle.right.specs.Exact.{answers-counts}
 use Rattle.right.specs.OwnBook.{OwnFacts, own-book-right}
 use Rattle.minimality.specs.GrantClassing.{Even}
 use Rattle.minimality.specs.WitnessLaws.{witness-granted, witness-independent}
-use Rattle.minimality.specs.StateBound.{Searching, searching-start, searching-on, state-multiplies, state-le-permissions, witness-le-state, settled-is-smallest, bound-bounds}
+use Rattle.minimality.specs.StateBound.{
+  Searching,
+  searching-start,
+  searching-on,
+  state-multiplies,
+  state-le-permissions,
+  witness-le-state,
+  settled-is-smallest,
+  bound-bounds,
+}
 use Rattle.demands.specs.Reached.{reached}
 
 -- whatever was given, the state is one that searches come to
@@ -40,12 +50,14 @@ witness-holds sheet =
     record { all-held = λ g m. grant-held sheet (witness-granted sheet m); none-fit = witness-independent sheet .apart }
 
 -- never more roles than the checker takes
-pub few-roles : (text : Bytes) → So (accepted text) → (given : ℕ) → role-count (sheet-of text) (reached text given) ≤ role-limit
+pub few-roles : (text : Bytes) → So (accepted text) → (given : ℕ) → role-count (sheet-of text) (reached text given) ≤
+    role-limit
 unfolding role-limit permission-limit
 few-roles text takes given =
     omega (
       arith,
-      state-le-permissions (sheet-of text) (reached text given) (reached-searching text given) (accepted-even text takes),
+      state-le-permissions (sheet-of text) (reached text given) (reached-searching text given)
+          (accepted-even text takes),
       accepted-keeps text takes .few-permissions,
     )
 
@@ -65,7 +77,8 @@ not-open s (inl e) o = let z : _≡_ {A = ℕ} 0 1 = cc in omega arith
 not-open s (inr e) o = let z : _≡_ {A = ℕ} 0 1 = cc in omega arith
 
 module _ (text : Bytes) (takes : So (accepted text)) (given : ℕ) where
-  book-right : Right (sheet-of text) (book (sheet-of text) (reached text given)) (said-in (sheet-of text) (reached text given))
+  book-right : Right (sheet-of text) (book (sheet-of text) (reached text given))
+      (said-in (sheet-of text) (reached text given))
   book-right = own-book-right text takes (reached text given) (own-facts text takes given)
 
   pub book-believed : Believed text (book (sheet-of text) (reached text given))
@@ -78,9 +91,11 @@ module _ (text : Bytes) (takes : So (accepted text)) (given : ℕ) where
         right = book-right;
         bounded = bound-bounds (sheet-of text) (reached text given) searching even;
         smallest = λ settled roles multiplies.
-            settled-is-smallest (sheet-of text) (reached text given) searching even roles multiplies (not-open _ settled);
+            settled-is-smallest (sheet-of text) (reached text given) searching even roles multiplies
+            (not-open _ settled);
         confirmed-by-check =
-            answers-counts text (book (sheet-of text) (reached text given)) (sheet-of text) (said-in (sheet-of text) (reached text given))
+            answers-counts text (book (sheet-of text) (reached text given)) (sheet-of text)
+            (said-in (sheet-of text) (reached text given))
             (accepted-keeps text takes) book-right;
       }
 

@@ -1,6 +1,7 @@
--- What the checker alone guarantees, with neither the program nor a session: for any sheet and any book that it accepts, whoever wrote it,
--- the product is the sheet, every role set has at least as many roles as there are witness lines, and a `witnessed` book is smallest.
--- The witness lines are grants of which no two fit, so each needs a role of its own in every role set.
+-- What the checker alone guarantees, with neither the program nor a session: for any sheet and any book that it
+-- accepts, whoever wrote it, the product is the sheet, every role set has at least as many roles as there are witness
+-- lines, and a `witnessed` book is smallest. The witness lines are grants of which no two fit, so each needs a role
+-- of its own in every role set.
 use Prim.Native.Nat.{ℕ, _≤_}
 use native.Mathlib.Omega.{arith}
 use mathlib.Core.Path.{_≡_, sym}
@@ -30,10 +31,12 @@ pub record Guaranteed (sheet : Bytes) (book : Bytes) : Type 0 where
   -- every role set has at least as many roles as there are witness lines
   pub bounded : (roles : RoleSet) → Multiplies roles (sheet-of sheet) → length (says .witness) ≤ roles .count
   -- a `witnessed` book is smallest
-  pub smallest : says .standing ≡ witnessed → (roles : RoleSet) → Multiplies roles (sheet-of sheet) → says .count ≤ roles .count
+  pub smallest : says .standing ≡ witnessed → (roles : RoleSet) → Multiplies roles (sheet-of sheet)
+      → says .count ≤ roles .count
 
 -- a `witnessed` book has as many witness lines as roles
-witnessed-lines : (s : Standing) (bound roles lines : ℕ) → BoundAgrees s bound roles lines → s ≡ witnessed → lines ≡ roles
+witnessed-lines : (s : Standing) (bound roles lines : ℕ) → BoundAgrees s bound roles lines → s ≡ witnessed
+    → lines ≡ roles
 witnessed-lines witnessed bound roles lines b w = sym (b .1)
 witnessed-lines searched bound roles lines b w = cc
 witnessed-lines unsettled bound roles lines b w = cc
@@ -44,10 +47,12 @@ module _ (sheet book : Bytes) (accepts : check sheet book .number ≡ 0) where
       let kept = accepted-keeps sheet (sheet-accepted sheet book accepts) in
       record { a-row-each = kept .a-row-each; even-rows = kept .even-rows }
 
-  lines-bound : (roles : RoleSet) → Multiplies roles (sheet-of sheet) → length (said (sheet-of sheet) book .witness) ≤ roles .count
+  lines-bound : (roles : RoleSet) → Multiplies roles (sheet-of sheet) → length (said (sheet-of sheet) book .witness) ≤
+      roles .count
   lines-bound roles multiplies =
       let right = reads-books sheet book accepts in
-      independent-bounds-role-sets accepted-even (said (sheet-of sheet) book .witness) (record { apart = right .witness .none-fit })
+      independent-bounds-role-sets accepted-even (said (sheet-of sheet) book .witness)
+      (record { apart = right .witness .none-fit })
       (λ g m. held-grant (sheet-of sheet) g (right .witness .all-held g m)) multiplies
 
   pub checker-guarantees : Guaranteed sheet book
@@ -59,5 +64,10 @@ module _ (sheet book : Bytes) (accepts : check sheet book .number ≡ 0) where
         counted = check-confirms sheet book accepts;
         bounded = lines-bound;
         smallest = λ witnesses roles multiplies.
-            omega (arith, right .counts .roles, witnessed-lines _ _ _ _ (right .counts .bound) witnesses, lines-bound roles multiplies);
+            omega (
+              arith,
+              right .counts .roles,
+              witnessed-lines _ _ _ _ (right .counts .bound) witnesses,
+              lines-bound roles multiplies,
+            );
       }

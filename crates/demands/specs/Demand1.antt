@@ -1,5 +1,6 @@
--- Demand 1. Each call has an answer on every session. Its number is the first of its causes that applies, whose numbers rise, so it is the lowest; and where it is not 0,
--- the call's definition takes the branch that returns the number alone and changes nothing.
+-- Demand 1. Each call has an answer on every session. Its number is the first of its causes that applies, whose
+-- numbers rise, so it is the lowest; and where it is not 0, the call's definition takes the branch that returns the
+-- number alone and changes nothing.
 use Prim.Native.Nat.{ℕ}
 use mathlib.Core.Path.{_≡_, refl, sym, ap, _∙_}
 use mathlib.Core.Bool.{Bool, true, false, So}
@@ -9,7 +10,24 @@ use lib.Dec.{eqb}
 use Rattle.spec.specs.Text.{Bytes}
 use Rattle.spec.specs.Session.{Session, no-sheet, loaded}
 use Rattle.spec.specs.Refusal.{first-number, sheet-causes, refusal, accepted, search-causes, write-causes}
-use Rattle.spec.specs.Calls.{LoadAnswer, load-answer, load-refused, after-load, SearchAnswer, search-answer, search-refused, after-search, WriteAnswer, write-answer, write-refused, buffer-after, check, Loads, Searches, Writes}
+use Rattle.spec.specs.Calls.{
+  LoadAnswer,
+  load-answer,
+  load-refused,
+  after-load,
+  SearchAnswer,
+  search-answer,
+  search-refused,
+  after-search,
+  WriteAnswer,
+  write-answer,
+  write-refused,
+  buffer-after,
+  check,
+  Loads,
+  Searches,
+  Writes,
+}
 use Rattle.spec.specs.Demands.{Judged, Demand1}
 use Rattle.bits.specs.Truth.{passes-or-fails}
 use Rattle.rules.specs.CauseLaws.{rising, sheet-causes-rise}
@@ -41,8 +59,10 @@ refusal-is-first text = refl
 loads-judged : (before after : Session) (text : Bytes) (answer : LoadAnswer) → Loads before text answer after
     → Judged (sheet-causes text) (answer .number) ((answer ≡ load-refused (answer .number)) × (after ≡ before))
 loads-judged before after text answer h =
-    let number : answer .number ≡ refusal text = ap (λ (a : LoadAnswer). a .number) (h .answers) ∙ load-number-is-refusal text in
-    judged (sheet-causes text) (answer .number) ((answer ≡ load-refused (answer .number)) × (after ≡ before)) (sheet-causes-rise text)
+    let number : answer .number ≡ refusal text = ap (λ (a : LoadAnswer). a .number) (h .answers)
+    ∙ load-number-is-refusal text in
+    judged (sheet-causes text) (answer .number) ((answer ≡ load-refused (answer .number)) × (after ≡ before))
+    (sheet-causes-rise text)
     (number ∙ refusal-is-first text) (λ n.
     let m : refusal text ≢ 0 = λ z. n (sym (refusal-is-first text) ∙ z) in
     (h .answers ∙ (refused-load text m ∙ ap load-refused (sym number)), h .leaves ∙ refused-load-leaves before text m))
@@ -52,11 +72,13 @@ searches-judged : (before after : Session) (budget : ℕ) (answer : SearchAnswer
     → Judged (search-causes before) (answer .number) ((answer ≡ search-refused (answer .number)) × (after ≡ before))
 unfolding search-answer after-search
 searches-judged no-sheet after budget answer h =
-    judged (search-causes no-sheet) (answer .number) ((answer ≡ search-refused (answer .number)) × (after ≡ no-sheet)) refl
+    judged (search-causes no-sheet) (answer .number) ((answer ≡ search-refused (answer .number)) × (after ≡ no-sheet))
+    refl
     (ap (λ (a : SearchAnswer). a .number) (h .answers)) (λ n.
     (h .answers ∙ ap search-refused (sym (ap (λ (a : SearchAnswer). a .number) (h .answers))), h .leaves))
 searches-judged (loaded text st) after budget answer h =
-    judged (search-causes (loaded text st)) (answer .number) ((answer ≡ search-refused (answer .number)) × (after ≡ loaded text st)) refl
+    judged (search-causes (loaded text st)) (answer .number) ((answer ≡ search-refused (answer .number))
+    × (after ≡ loaded text st)) refl
     (ap (λ (a : SearchAnswer). a .number) (h .answers)) (λ n. absurd (n refl))
 
 write-causes-rise : (before : Session) (buffer : Bytes) → So (rising 0 (write-causes before buffer))
@@ -64,7 +86,8 @@ unfolding write-causes
 write-causes-rise before buffer = refl
 
 -- a writing's number is the first of its causes, and where it is not 0 the buffer stays
-write-number : (before : Session) (buffer : Bytes) → write-answer before buffer .number ≡ first-number (write-causes before buffer)
+write-number : (before : Session) (buffer : Bytes) → write-answer before buffer .number ≡ first-number
+    (write-causes before buffer)
 unfolding write-answer
 write-number before buffer = choose (eqb (first-number (write-causes before buffer)) 0) refl
   where
@@ -74,19 +97,22 @@ write-number before buffer = choose (eqb (first-number (write-causes before buff
     choose false e = rw e
 
 refused-write : (before : Session) (buffer : Bytes) → first-number (write-causes before buffer) ≢ 0
-    → (write-answer before buffer ≡ write-refused (first-number (write-causes before buffer))) × (buffer-after before buffer ≡ buffer)
+    → (write-answer before buffer ≡ write-refused (first-number (write-causes before buffer)))
+    × (buffer-after before buffer ≡ buffer)
 unfolding write-answer buffer-after
 refused-write before buffer n =
     let e = ne-eqb (first-number (write-causes before buffer)) 0 n in
     (rw e, rw e)
 
-writes-judged : (before after : Session) (buffer lent : Bytes) (answer : WriteAnswer) → Writes before buffer answer lent after
+writes-judged : (before after : Session) (buffer lent : Bytes) (answer : WriteAnswer) → Writes before buffer answer
+    lent after
     → Judged (write-causes before buffer) (answer .number)
     ((answer ≡ write-refused (answer .number)) × (lent ≡ buffer) × (after ≡ before))
 writes-judged before after buffer lent answer h =
     let number : answer .number ≡ first-number (write-causes before buffer) =
     ap (λ (a : WriteAnswer). a .number) (h .answers) ∙ write-number before buffer in
-    judged (write-causes before buffer) (answer .number) ((answer ≡ write-refused (answer .number)) × (lent ≡ buffer) × (after ≡ before))
+    judged (write-causes before buffer) (answer .number) ((answer ≡ write-refused (answer .number)) × (lent ≡ buffer)
+    × (after ≡ before))
     (write-causes-rise before buffer) number (λ n.
     let r = refused-write before buffer n in
     (h .answers ∙ (r .0 ∙ ap write-refused (sym number)), h .fills ∙ r .1, h .leaves))

@@ -1,5 +1,6 @@
--- Demand 2. A load answers 0 exactly where its sheet keeps the rules, and the checker answers 0 exactly where its sheet keeps the rules and its
--- book is right for that sheet; the checker answers its counts. What a writing brings out is owed by demand 3.
+-- Demand 2. A load answers 0 exactly where its sheet keeps the rules, and the checker answers 0 exactly where its
+-- sheet keeps the rules and its book is right for that sheet; the checker answers its counts. What a writing brings
+-- out is owed by demand 3.
 use mathlib.Core.Path.{sym, _∙_}
 use mathlib.Core.List.{_∷_}
 use borrow.Author.Tests.{eqb-true, eq-eqb}
@@ -22,6 +23,7 @@ demand-2 =
       accepts-books = accepts-books;
       answers-counts = answers-counts;
       own-books = λ buffer written earlier session led e.
-          let owed = demand-3 .owed (record { call = write buffer; outcome = written } ∷ earlier) session led .0 .book e in
+          let owed = demand-3 .owed (record { call = write buffer; outcome = written } ∷ earlier) session led .0 .book
+          e in
           (owed .text, owed .believed .says, owed .last, owed .believed .right);
     }

@@ -1,4 +1,5 @@
--- Every list of calls happens: each call has an answer and leads on from any session, so the events are made one after the other.
+-- Every list of calls happens: each call has an answer and leads on from any session, so the events are made one
+-- after the other.
 use mathlib.Core.Path.{_≡_, refl, ap}
 use mathlib.Core.List.{List, [], _∷_}
 use Rattle.spec.specs.Session.{Session, fresh}
@@ -16,7 +17,8 @@ session-next before (load text) = after-load before text
 session-next before (search budget) = after-search before budget
 session-next before (write buffer) = before
 
-pub happens-on : (before : Session) (call : Call) → Happens call (outcome-on before call) before (session-next before call)
+pub happens-on : (before : Session) (call : Call) → Happens call (outcome-on before call) before
+    (session-next before call)
 happens-on before (load text) = record { answers = refl; leaves = refl }
 happens-on before (search budget) = record { answers = refl; leaves = refl }
 happens-on before (write buffer) = record { answers = refl; fills = refl; leaves = refl }
@@ -41,5 +43,6 @@ happened (call ∷ earlier) = further (happened earlier)
           same = ap (λ (l : List Call). call ∷ l) (before .same);
         }
 
-pub every-sequence-happens : (made : List Call) → (events : List Event) × (session : Session) × Led events session × (calls events ≡ made)
+pub every-sequence-happens : (made : List Call) → (events : List Event) × (session : Session) × Led events session
+    × (calls events ≡ made)
 every-sequence-happens made = let h = happened made in (h .events, h .session, h .led, h .same)

@@ -1,5 +1,5 @@
--- No list of classes is placed twice within one load, however its searches share out the steps. Step by step the session's position is the
--- one that a single run from the start comes to, and along a run the placed lists rise.
+-- No list of classes is placed twice within one load, however its searches share out the steps. Step by step the
+-- session's position is the one that a single run from the start comes to, and along a run the placed lists rise.
 use Prim.Native.Nat.{ℕ, suc, _≤_, _<_}
 use native.Mathlib.Omega.{arith}
 use mathlib.Core.Path.{_≡_, ap}
@@ -23,14 +23,18 @@ PlacesAfter text given = depth (reached text (suc given)) ≡ suc (depth (reache
 module _ (text : Bytes) where
   -- on a kernel that is searched, the position is that of one run
   reached-by-run : kernel-of (sheet-of text) .size ≤ search-limit → (given : ℕ)
-      → reached text given ≡ run (kernel-of (sheet-of text)) given (start (kernel-of (sheet-of text)) (first-best (sheet-of text))) .state
+      → reached text given ≡ run (kernel-of (sheet-of text)) given (start (kernel-of (sheet-of text))
+      (first-best (sheet-of text))) .state
   unfolding reached searched-on start-of
-  reached-by-run small given = ap (λ (ran : Ran). ran .state) (search-within (kernel-of (sheet-of text)) given (start-of (sheet-of text)) small)
+  reached-by-run small given = ap (λ (ran : Ran). ran .state) (search-within (kernel-of (sheet-of text)) given
+      (start-of (sheet-of text)) small)
 
   -- on any other it never moves
-  never-moved : search-limit < kernel-of (sheet-of text) .size → (given : ℕ) → reached text given ≡ start-of (sheet-of text)
+  never-moved : search-limit < kernel-of (sheet-of text) .size → (given : ℕ) → reached text given ≡ start-of
+      (sheet-of text)
   unfolding reached searched-on
-  never-moved large given = ap (λ (ran : Ran). ran .state) (search-above (kernel-of (sheet-of text)) given (start-of (sheet-of text)) large)
+  never-moved large given = ap (λ (ran : Ran). ran .state) (search-above (kernel-of (sheet-of text)) given
+      (start-of (sheet-of text)) large)
 
   pub placed-once-a-load : (m n : ℕ) → m < n → PlacesAfter text m → PlacesAfter text n
       → reached text (suc m) .placed ≢ reached text (suc n) .placed

@@ -19,17 +19,20 @@ use Rattle.search.specs.Laws.Progress.{enough-ends-search}
 use Rattle.demands.specs.Reached.{reached}
 
 -- enough budget finishes the machine
-pub ended-finishes : (text : Bytes) (given : ℕ) → BudgetsSuffice (kernel-size (sheet-of text)) given → So (reached text given .finished)
+pub ended-finishes : (text : Bytes) (given : ℕ) → BudgetsSuffice (kernel-size (sheet-of text)) given
+    → So (reached text given .finished)
 unfolding reached searched-on start-of kernel-of search-limit
 ended-finishes text given ended =
-    enough-ends-search (kernel-of (sheet-of text)) (first-best (sheet-of text)) given (ended .searchable) (ended .sufficient)
+    enough-ends-search (kernel-of (sheet-of text)) (first-best (sheet-of text)) given (ended .searchable)
+    (ended .sufficient)
 
 -- a finished machine is not open
 finished-not-open : (is-witness : Bool) (roles w : ℕ) → eqb roles w ≡ is-witness → standing-of roles w true ≢ unsettled
 finished-not-open true roles w e says = let z : _≡_ {A = ℕ} 0 1 = (let here = rw e at says in cc) in omega arith
 finished-not-open false roles w e says = let z : _≡_ {A = ℕ} 0 1 = (let here = rw e at says in cc) in omega arith
 
-pub ended-settles : (text : Bytes) (given : ℕ) → BudgetsSuffice (kernel-size (sheet-of text)) given → standing (sheet-of text) (reached text given) ≢ unsettled
+pub ended-settles : (text : Bytes) (given : ℕ) → BudgetsSuffice (kernel-size (sheet-of text)) given
+    → standing (sheet-of text) (reached text given) ≢ unsettled
 unfolding standing
 ended-settles text given ended =
     let roles : ℕ = role-count (sheet-of text) (reached text given) in

@@ -19,17 +19,20 @@ use Rattle.fit.specs.Laws.Column.{column-position}
 
 -- who holds a permission at a position of a word is at the positions of some, as far as word j of the columns goes
 pub record Reaches (rows : List ℕ) (word j some : ℕ) : Type 0 where
-  pub reached : (t q : ℕ) → t < word-bits → q < word-bits → So (bit word q) → So (held-in rows q (j * word-bits + t)) → So (bit some t)
+  pub reached : (t q : ℕ) → t < word-bits → q < word-bits → So (bit word q) → So (held-in rows q (j * word-bits + t))
+      → So (bit some t)
 
 -- but for the permissions at the positions of w
 pub record Reaching (rows : List ℕ) (word j w some : ℕ) : Type 0 where
   pub so-far :
-      (t q : ℕ) → t < word-bits → q < word-bits → So (bit word q) → bit w q ≡ false → So (held-in rows q (j * word-bits + t)) → So (bit some t)
+      (t q : ℕ) → t < word-bits → q < word-bits → So (bit word q) → bit w q ≡ false
+      → So (held-in rows q (j * word-bits + t)) → So (bit some t)
 
 pub reach-starts : (rows : List ℕ) (word j : ℕ) → Reaching rows word j word 0
 reach-starts rows word j = record { so-far = λ t q l k p f h. absurd (not-both p f) }
 
-pub reach-goes-on : (rows columns : List ℕ) → Columns rows columns → (word j : ℕ) {w low rest : ℕ} (some : ℕ) → j < column-words
+pub reach-goes-on : (rows columns : List ℕ) → Columns rows columns → (word j : ℕ) {w low rest : ℕ} (some : ℕ)
+    → j < column-words
     → Lowest word-bits (bit w) low → LowestDropped w rest → Reaching rows word j w some
     → Reaching rows word j rest (bitOr some (getD columns (low * column-words + j) 0))
 unfolding row-words row-bits

@@ -1,5 +1,6 @@
--- The columns of the rows, a position for each word of the rows: place n says that the user of word n % cell-words holds the permission n / cell-words.
--- So a permission's places are the words in which grants can fit one with that permission.
+-- The columns of the rows, a position for each word of the rows: place n says that the user of word n % cell-words
+-- holds the permission n / cell-words. So a permission's places are the words in which grants can fit one with that
+-- permission.
 use Prim.Native.Nat.{ℕ, _+_, _*_, _/_, _%_}
 use mathlib.Core.Bool.{Bool, cond}
 use mathlib.Core.List.{List}

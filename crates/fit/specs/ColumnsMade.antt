@@ -1,4 +1,5 @@
--- Columns made word by word of the rows: a word goes into the columns of the permissions at its positions. A row is one word, so a position is a permission.
+-- Columns made word by word of the rows: a word goes into the columns of the permissions at its positions. A row is
+-- one word, so a position is a permission.
 use Prim.Native.Nat.{ℕ, _+_, _*_, _/_, _%_, _≤_, _<_}
 use native.Mathlib.Omega.{arith}
 use mathlib.Core.Path.{_≡_, refl, sym, ap, _∙_}
@@ -42,7 +43,8 @@ unfolding user-limit row-words
 lowest-place i {w} {low} {rest} inside is-low dropped n =
     ⊎-elim here
     (λ f. ap (λ b. b && bit w (n / cell-words)) f
-    ∙ sym (ap (λ b. b || put-at i rest n) (ne-eqb n (low * cell-words + i) (λ e. eqb-false (n % cell-words) i f (omega arith)))
+    ∙ sym (ap (λ b. b || put-at i rest n) (ne-eqb n (low * cell-words + i) (λ e. eqb-false (n % cell-words) i f
+    (omega arith)))
     ∙ ap (λ b. b && bit rest (n / cell-words)) f))
     (passes-or-fails (eqb (n % cell-words) i))
   where
@@ -57,7 +59,8 @@ lowest-place i {w} {low} {rest} inside is-low dropped n =
         (sym (ap (λ b. bit w (n / cell-words) && not b) f ∙ and-true (bit w (n / cell-words)))))
         (passes-or-fails (eqb (n / cell-words) low)))
 
-pub one-put-in : (i some : ℕ) {w low rest : ℕ} (before now after : List ℕ) → i < cell-words → PuttingIn i some w before now
+pub one-put-in : (i some : ℕ) {w low rest : ℕ} (before now after : List ℕ) → i < cell-words
+    → PuttingIn i some w before now
     → Lowest word-bits (bit w) low → LowestDropped w rest
     → length after ≡ length now → ((n : ℕ) → marked after n ≡ (marked now n || eqb n (low * cell-words + i)))
     → PuttingIn i some rest before after
@@ -69,7 +72,11 @@ one-put-in i some {w} {low} {rest} before now after inside so-far is-low dropped
 }
 
 pub all-put-in : (i some : ℕ) (before now : List ℕ) → PuttingIn i some 0 before now → PutIn i some before now
-all-put-in i some before now so-far = record { sized = so-far .sized; says = λ n. sym (or-false (marked now n)) ∙ ap (λ b. marked now n || b) (sym (none n)) ∙ so-far .lacks n }
+all-put-in i some before now so-far = record {
+  sized = so-far .sized;
+  says = λ n. sym (or-false (marked now n))
+      ∙ ap (λ b. marked now n || b) (sym (none n)) ∙ so-far .lacks n;
+}
   where
     none : (n : ℕ) → put-at i 0 n ≡ false
     none n = rw (bit-of-zero (n / cell-words)) (and-false (eqb (n % cell-words) i))
@@ -88,24 +95,36 @@ one-more m i held =
     ⊎-elim
     (λ l. rw (lt-ltb m i l, lt-ltb m (i + 1) (omega arith), ne-eqb m i (omega arith)) (or-false (held m)))
     (λ l. ⊎-elim
-    (λ k. let same : m ≡ i = omega arith in rw (same, le-ltb i i (omega arith), lt-ltb i (i + 1) (omega arith), eq-eqb i i refl))
+    (λ k. let same : m ≡ i = omega arith in rw (
+      same,
+      le-ltb i i (omega arith),
+      lt-ltb i (i + 1) (omega arith),
+      eq-eqb i i refl,
+    ))
     (λ k. rw (le-ltb m i l, le-ltb m (i + 1) k, ne-eqb m i (omega arith)))
     (below-or-from m (i + 1)))
     (below-or-from m i)
 
-pub next-put-in : (rows : List ℕ) (i : ℕ) (before after : List ℕ) → PutInBelow rows i before → PutIn i (getD rows i 0) before after
+pub next-put-in : (rows : List ℕ) (i : ℕ) (before after : List ℕ) → PutInBelow rows i before → PutIn i (getD rows i 0)
+    before after
     → PutInBelow rows (i + 1) after
 unfolding user-limit row-words row-bits
-next-put-in rows i before after earlier here = record { says = λ n l. here .says n ∙ rw (earlier .says n l) (joined n l) }
+next-put-in rows i before after earlier here = record {
+  says = λ n l. here .says n ∙ rw (earlier .says n l)
+      (joined n l);
+}
   where
     joined : (n : ℕ) → n < place-limit
-        → ((ltb (n % cell-words) i && place-held rows n) || put-at i (getD rows i 0) n) ≡ (ltb (n % cell-words) (i + 1) && place-held rows n)
+        → ((ltb (n % cell-words) i && place-held rows n) || put-at i (getD rows i 0) n) ≡
+        (ltb (n % cell-words) (i + 1) && place-held rows n)
     joined n l =
-        let one-word : n % cell-words / row-words * row-words + n / cell-words / word-bits ≡ n % cell-words = omega arith in
+        let one-word : n % cell-words / row-words * row-words + n / cell-words / word-bits ≡ n % cell-words = omega
+        arith in
         let position : n / cell-words % word-bits ≡ n / cell-words = omega arith in
         rw (one-word, position) (one-more (n % cell-words) i (λ m. bit (getD rows m 0) (n / cell-words)))
 
-pub columns-made : (rows columns : List ℕ) → length columns ≡ row-bits * column-words → PutInBelow rows cell-words columns → Columns rows columns
+pub columns-made : (rows columns : List ℕ) → length columns ≡ row-bits * column-words → PutInBelow rows cell-words
+    columns → Columns rows columns
 unfolding user-limit row-words row-bits
 columns-made rows columns sized all = record {
   inside = λ n l. all .says n l ∙ rw (lt-ltb (n % cell-words) cell-words (omega arith));

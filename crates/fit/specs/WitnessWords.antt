@@ -1,5 +1,5 @@
--- Sets of cells made word by word: the first words say what a test says of their cells, and the others are 0. When all are made, the set has exactly the
--- cells that pass.
+-- Sets of cells made word by word: the first words say what a test says of their cells, and the others are 0. When
+-- all are made, the set has exactly the cells that pass.
 use Prim.Native.Nat.{ℕ, _+_, _*_, _/_, _%_, _≤_, _<_}
 use native.Mathlib.Nat.{mod-lt, div-add-mod', div-lt-iff-lt-mul, le-div-iff-mul-le}
 use native.Mathlib.Omega.{arith}
@@ -29,7 +29,8 @@ pub record MadeCells (test : ℕ → Bool) (end : ℕ) (words : List ℕ) : Type
 
 pub getD-zeros : (count s : ℕ) → getD {A = ℕ} (replicate count 0) s 0 ≡ 0
 getD-zeros count s =
-    ⊎-elim (λ l. getD-replicate count s 0 0 l) (λ l. List·getD-eq-default (replicate count 0) 0 (rw (length-replicate {A = ℕ} count 0) l)) (below-or-from s count)
+    ⊎-elim (λ l. getD-replicate count s 0 0 l) (λ l. List·getD-eq-default (replicate count 0) 0
+    (rw (length-replicate {A = ℕ} count 0) l)) (below-or-from s count)
 
 -- words of 0 have no cell
 pub no-cells : (count n : ℕ) → marked (replicate count 0) n ≡ false
@@ -42,17 +43,20 @@ none-made test count = record { made = λ s q l k. absurd (omega arith); rest = 
 pub one-made : (test : ℕ → Bool) (i : ℕ) (words : List ℕ) (w : ℕ) → MadeWords test i words → i < length words
     → ((q : ℕ) → q < word-bits → bit w q ≡ test (i * word-bits + q)) → MadeWords test (i + 1) (set words i w)
 one-made test i words w m inside says = record {
-  made = λ s q l k. ⊎-elim (λ o. rw (getD-set-other words i s w 0 (omega arith)) (m .made s q o k)) (latest s q l k) (below-or-from s i);
+  made = λ s q l k. ⊎-elim (λ o. rw (getD-set-other words i s w 0 (omega arith)) (m .made s q o k)) (latest s q l k)
+      (below-or-from s i);
   rest = λ s l. getD-set-other words i s w 0 (omega arith) ∙ m .rest s (omega arith);
 }
   where
     latest : (s q : ℕ) → s < i + 1 → q < word-bits → i ≤ s → bit (getD (set words i w) s 0) q ≡ test (s * word-bits + q)
     latest s q l k o = let same : s ≡ i = omega arith in rw (same, getD-set-same words i w 0 inside) (says q k)
 
-pub all-made : (test : ℕ → Bool) (i : ℕ) (words : List ℕ) → MadeWords test i words → MadeCells test (i * word-bits) words
+pub all-made : (test : ℕ → Bool) (i : ℕ) (words : List ℕ) → MadeWords test i words → MadeCells test (i * word-bits)
+    words
 all-made test i words m = record {
   inside = λ n l.
-      m .made (n / word-bits) (n % word-bits) (div-lt-iff-lt-mul (lit< tt) .1 l) (mod-lt n (lit< tt)) ∙ ap test (div-add-mod' n word-bits);
+      m .made (n / word-bits) (n % word-bits) (div-lt-iff-lt-mul (lit< tt) .1 l) (mod-lt n (lit< tt))
+      ∙ ap test (div-add-mod' n word-bits);
   outside = λ n l. rw (m .rest (n / word-bits) (le-div-iff-mul-le (lit< tt) .1 l)) (bit-of-zero (n % word-bits));
 }
 
@@ -60,7 +64,8 @@ all-made test i words m = record {
 pub made-part : (test : ℕ → Bool) (end : ℕ) (words rows : List ℕ) → MadeCells test end words
     → ((n : ℕ) → So (test n) → So (marked rows n)) → Part words rows
 made-part test end words rows m h = record {
-  held = λ n p. ⊎-elim (λ l. h n (sym (m .inside n l) ∙ p)) (λ l. absurd (not-both p (m .outside n l))) (below-or-from n end);
+  held = λ n p. ⊎-elim (λ l. h n (sym (m .inside n l) ∙ p)) (λ l. absurd (not-both p (m .outside n l)))
+      (below-or-from n end);
 }
 
 -- ---- one cell more
@@ -70,7 +75,8 @@ pub cell-put-in : (words : List ℕ) (n w : ℕ) → n / word-bits < length word
     → (m : ℕ) → marked (set words (n / word-bits) w) m ≡ (marked words m || eqb m n)
 cell-put-in words n w inside says m = ⊎-elim here elsewhere (passes-or-fails (eqb (m / word-bits) (n / word-bits)))
   where
-    here : So (eqb (m / word-bits) (n / word-bits)) → marked (set words (n / word-bits) w) m ≡ (marked words m || eqb m n)
+    here : So (eqb (m / word-bits) (n / word-bits)) → marked (set words (n / word-bits) w) m ≡ (marked words m
+        || eqb m n)
     here e =
         let word : m / word-bits ≡ n / word-bits = eqb-true (m / word-bits) (n / word-bits) e in
         rw (word, getD-set-same words (n / word-bits) w 0 inside)
@@ -82,8 +88,12 @@ cell-put-in words n w inside says m = ⊎-elim here elsewhere (passes-or-fails (
             (λ p. eq-eqb m n (omega (arith, eqb-true (m % word-bits) (n % word-bits) p)))
             (λ p. eq-eqb (m % word-bits) (n % word-bits) (ap (λ k. k % word-bits) (eqb-true m n p)))
 
-    elsewhere : eqb (m / word-bits) (n / word-bits) ≡ false → marked (set words (n / word-bits) w) m ≡ (marked words m || eqb m n)
+    elsewhere : eqb (m / word-bits) (n / word-bits) ≡ false → marked (set words (n / word-bits) w) m ≡ (marked words m
+        || eqb m n)
     elsewhere f =
         let other = eqb-false (m / word-bits) (n / word-bits) f in
-        rw (getD-set-other words (n / word-bits) (m / word-bits) w 0 other, ne-eqb m n (λ e. other (ap (λ k. k / word-bits) e)))
+        rw (
+          getD-set-other words (n / word-bits) (m / word-bits) w 0 other,
+          ne-eqb m n (λ e. other (ap (λ k. k / word-bits) e)),
+        )
         (sym (or-false (marked words m)))

@@ -1,5 +1,5 @@
--- Reading the cells of a line into a row, a word of them at a time: the cells read stand in the book one after the other, and where some of them do not
--- stand, no such cells do.
+-- Reading the cells of a line into a row, a word of them at a time: the cells read stand in the book one after the
+-- other, and where some of them do not stand, no such cells do.
 use Prim.Native.Nat.{ℕ, _+_, _-_, _*_, _≤_, _<_}
 use native.Mathlib.Omega.{arith}
 use mathlib.Core.Path.{_≡_, sym, ap, _∙_}
@@ -56,13 +56,15 @@ stand-from {text} {at} {count} {ones} i n h c =
     place j = omega arith
 
 -- those before cell i, and those from it on
-stand-more : {text : Bytes} {at i n : ℕ} {f g : ℕ → Bool} (all : ℕ → Bool) → CellsStand text at i f → CellsStand text (at + 2 * i) n g
+stand-more : {text : Bytes} {at i n : ℕ} {f g : ℕ → Bool} (all : ℕ → Bool) → CellsStand text at i f
+    → CellsStand text (at + 2 * i) n g
     → ((j : ℕ) → j < i → all j ≡ f j) → ((j : ℕ) → j < n → all (i + j) ≡ g j) → CellsStand text at (i + n) all
 stand-more {text} {at} {i} {n} {f} {g} all c d kept more =
     record {
       within = omega (arith, d .within);
       commas = λ j l. ⊎-elim (λ (h : j < i). c .commas j h) (λ (h : i ≤ j). later-comma j h l) (below-or-from j i);
-      cells = λ j l. ⊎-elim (λ (h : j < i). c .cells j h ∙ ap cell-byte (sym (kept j h))) (λ (h : i ≤ j). later-cell j h l) (below-or-from j i);
+      cells = λ j l. ⊎-elim (λ (h : j < i). c .cells j h ∙ ap cell-byte (sym (kept j h)))
+          (λ (h : i ≤ j). later-cell j h l) (below-or-from j i);
     }
   where
     later-comma : (j : ℕ) → i ≤ j → j < i + n → getD text (at + 2 * j) 0 ≡ comma
@@ -83,14 +85,21 @@ pub record Reading (text : Bytes) (at row i : ℕ) (words mid : List ℕ) : Type
   pub stand : CellsStand text at i (cell mid row)
   pub grown : Grown words mid row i
 
-pub reading-starts : {text : Bytes} {at row : ℕ} {words : List ℕ} → at ≤ length text → Blank words row → Reading text at row 0 words words
+pub reading-starts : {text : Bytes} {at row : ℕ} {words : List ℕ} → at ≤ length text → Blank words row
+    → Reading text at row 0 words words
 reading-starts {text} {at} h b =
     record {
-      stand = record { within = omega arith; commas = λ i l. absurd (omega arith); cells = λ i l. absurd (omega arith) };
+      stand = record {
+        within = omega arith;
+        commas = λ i l. absurd (omega arith);
+        cells = λ i l. absurd
+            (omega arith);
+      };
       grown = grown-none b;
     }
 
-pub reading-more : {text : Bytes} {at row i n k w : ℕ} {words mid after : List ℕ} → Reading text at row i words mid → WordStored mid after row k w
+pub reading-more : {text : Bytes} {at row i n k w : ℕ} {words mid after : List ℕ} → Reading text at row i words mid
+    → WordStored mid after row k w
     → k < row-words → i ≤ k * word-bits → (0 < n → i ≡ k * word-bits) → n ≤ word-bits → CellsIn text (at + 2 * i) n w
     → Reading text at row (i + n) words after
 reading-more {text} {at} {row} {i} {n} {k} {w} {words} {mid} {after} r put inside start same few c =
@@ -107,6 +116,10 @@ reading-ends {text} {at} {row} {count} {words} {mid} r =
     record { reads = record { forward = s .forward; within = s .within; reads = s .reads }; grown = r .grown }
 
 pub reading-off : {text : Bytes} {at : ℕ} (i n count : ℕ) → at ≤ length text → i + n ≤ count
-    → ((ones : ℕ → Bool) → CellsStand text (at + 2 * i) n ones → ⊥) → (cells : ℕ → Bool) → Misses text at (cell-fields count cells)
+    → ((ones : ℕ → Bool) → CellsStand text (at + 2 * i) n ones → ⊥) → (cells : ℕ → Bool)
+    → Misses text at (cell-fields count cells)
 reading-off {text} {at} i n count h few none cells =
-    record { misses = λ rest e. none (λ j. cells (i + j)) (stand-from i n few (cells-stand text at count cells rest h e)) }
+    record {
+      misses = λ rest e. none (λ j. cells (i + j))
+          (stand-from i n few (cells-stand text at count cells rest h e));
+    }

@@ -1,5 +1,5 @@
--- Reading block 1: two counts, each up to its comma, and a state up to the line feed. A count and a state hold neither, so each stands in a text in
--- one way at most, and what follows them is known.
+-- Reading block 1: two counts, each up to its comma, and a state up to the line feed. A count and a state hold
+-- neither, so each stands in a text in one way at most, and what follows them is known.
 use Prim.Native.Nat.{ℕ, _+_}
 use native.Mathlib.Numerals.{add-one}
 use mathlib.Core.Path.{_≡_, refl, _∙_}
@@ -49,11 +49,17 @@ CountReads text at count.Off = (digits : Bytes) → So (is-count digits) → Mis
 pub count-at : {text : Bytes} {at to n : ℕ} → Ended text at comma to → digits.Count n ≡ count-read (part at to text)
     → CountAt text at n (to + 1)
 count-at {text} {at} {to} {n} p e =
-    record { digits = part at to text; said = count-said (part at to text) n e; reads = rw (add-one to) (ended-reads p) }
+    record {
+      digits = part at to text;
+      said = count-said (part at to text) n e;
+      reads = rw (add-one to)
+          (ended-reads p);
+    }
 
 pub no-comma-behind : {text : Bytes} {at : ℕ} → Unended text at comma → (digits : Bytes) → So (is-count digits)
     → Misses text at (count-text digits)
-no-comma-behind u digits e = record { misses = λ rest there. u .none digits rest (there ∙ append-assoc digits (comma ∷ []) rest) }
+no-comma-behind u digits e =
+    record { misses = λ rest there. u .none digits rest (there ∙ append-assoc digits (comma ∷ []) rest) }
 
 pub no-count : {text : Bytes} {at to : ℕ} → Ended text at comma to → digits.Off ≡ count-read (part at to text)
     → (digits : Bytes) → So (is-count digits) → Misses text at (count-text digits)
@@ -61,11 +67,13 @@ no-count {text} {at} {to} p e digits said =
     record {
       misses = λ rest there.
           count-refused (part at to text) e
-          (rw (ended-once p digits rest (count-field digits said .no-comma) (there ∙ append-assoc digits (comma ∷ []) rest) .before) at said);
+          (rw (ended-once p digits rest (count-field digits said .no-comma) (there ∙ append-assoc digits (comma ∷ [])
+          rest) .before) at said);
     }
 
 pub counts-aligned : (a b : Bytes) → So (is-count a) → So (is-count b) → Aligned (count-text a) (count-text b)
-counts-aligned a b p q = ended-aligned (eqb comma) comma refl a b (count-field a p .no-comma) (count-field b q .no-comma)
+counts-aligned a b p q =
+    ended-aligned (eqb comma) comma refl a b (count-field a p .no-comma) (count-field b q .no-comma)
 
 -- ---- a state
 
@@ -86,7 +94,8 @@ no-standing a b c unsettled = c
 
 standings-aligned : (s t : Standing) → Aligned (standing-text s) (standing-text t)
 standings-aligned s t =
-    ended-aligned (eqb line-feed) line-feed refl (standing-word s) (standing-word t) (standing-word-field s .no-line-feed)
+    ended-aligned (eqb line-feed) line-feed refl (standing-word s) (standing-word t)
+    (standing-word-field s .no-line-feed)
     (standing-word-field t .no-line-feed)
 
 -- ---- block 1
@@ -101,7 +110,8 @@ pub record CountsAt (text : Bytes) (at : ℕ) (said : Counts) (next : ℕ) : Typ
 
 -- no block 1 stands at a place
 abbrev pub NoCounts : Bytes → ℕ → Type 0
-NoCounts text at = (role-digits bound-digits : Bytes) (s : Standing) → So (is-count role-digits) → So (is-count bound-digits)
+NoCounts text at = (role-digits bound-digits : Bytes) (s : Standing) → So (is-count role-digits)
+    → So (is-count bound-digits)
     → Misses text at (counts-part role-digits bound-digits s)
 
 -- a step over block 1 and the empty line behind it
@@ -111,7 +121,8 @@ CountsReads text at counts.Off = NoCounts text at
 
 -- the bytes behind the line of names, behind the count of roles, behind the bound
 abbrev pub after-heading : Bytes → Bytes → Standing → Bytes
-after-heading role-digits bound-digits s = count-text role-digits ++ (count-text bound-digits ++ (standing-text s ++ line-end))
+after-heading role-digits bound-digits s =
+    count-text role-digits ++ (count-text bound-digits ++ (standing-text s ++ line-end))
 
 abbrev after-roles : Bytes → Standing → Bytes
 after-roles bound-digits s = count-text bound-digits ++ (standing-text s ++ line-end)
@@ -120,19 +131,24 @@ abbrev after-bound : Standing → Bytes
 after-bound s = standing-text s ++ line-end
 
 module _ {text : Bytes} {at first : ℕ} (heading : Reads text at (ascii "roles,bound,state\n") first) where
-  behind-heading : ((role-digits bound-digits : Bytes) (s : Standing) → So (is-count role-digits) → So (is-count bound-digits)
+  behind-heading : ((role-digits bound-digits : Bytes) (s : Standing) → So (is-count role-digits)
+      → So (is-count bound-digits)
       → Misses text first (after-heading role-digits bound-digits s)) → NoCounts text at
-  behind-heading m role-digits bound-digits s p q = misses-second (after-heading role-digits bound-digits s) heading (m role-digits bound-digits s p q)
+  behind-heading m role-digits bound-digits s p q = misses-second (after-heading role-digits bound-digits s) heading
+      (m role-digits bound-digits s p q)
 
   pub no-roles : ((digits : Bytes) → So (is-count digits) → Misses text first (count-text digits)) → NoCounts text at
-  no-roles m = behind-heading (λ role-digits bound-digits s p q. misses-first (after-roles bound-digits s) (m role-digits p))
+  no-roles m = behind-heading (λ role-digits bound-digits s p q. misses-first (after-roles bound-digits s)
+      (m role-digits p))
 
   module _ {n second : ℕ} (roles : CountAt text first n second) where
-    behind-roles : ((bound-digits : Bytes) (s : Standing) → So (is-count bound-digits) → Misses text second (after-roles bound-digits s))
+    behind-roles : ((bound-digits : Bytes) (s : Standing) → So (is-count bound-digits)
+        → Misses text second (after-roles bound-digits s))
         → NoCounts text at
     behind-roles m =
         behind-heading (λ role-digits bound-digits s p q.
-        misses-after (after-roles bound-digits s) (roles .reads) (counts-aligned (roles .digits) role-digits (roles .said .count) p)
+        misses-after (after-roles bound-digits s) (roles .reads) (counts-aligned (roles .digits) role-digits
+        (roles .said .count) p)
         (m bound-digits s q))
 
     pub no-bound : ((digits : Bytes) → So (is-count digits) → Misses text second (count-text digits)) → NoCounts text at
@@ -142,7 +158,8 @@ module _ {text : Bytes} {at first : ℕ} (heading : Reads text at (ascii "roles,
       behind-bound : ((s : Standing) → Misses text third (after-bound s)) → NoCounts text at
       behind-bound m =
           behind-roles (λ bound-digits s q.
-          misses-after (after-bound s) (bound .reads) (counts-aligned (bound .digits) bound-digits (bound .said .count) q) (m s))
+          misses-after (after-bound s) (bound .reads) (counts-aligned (bound .digits) bound-digits
+          (bound .said .count) q) (m s))
 
       pub no-state : ((s : Standing) → Misses text third (standing-text s)) → NoCounts text at
       no-state m = behind-bound (λ s. misses-first line-end (m s))
@@ -153,10 +170,12 @@ module _ {text : Bytes} {at first : ℕ} (heading : Reads text at (ascii "roles,
 
         pub counts-reads : {next : ℕ} → Reads text end line-end next
             → Reads text at (counts-part (roles .digits) (bound .digits) s) next
-        counts-reads r = reads-then heading (reads-then (roles .reads) (reads-then (bound .reads) (reads-then standing r)))
+        counts-reads r = reads-then heading
+            (reads-then (roles .reads) (reads-then (bound .reads) (reads-then standing r)))
 
 -- whatever block 1 says, the same follows
-pub counts-parts-aligned : (a b : Bytes) (s : Standing) (c d : Bytes) (t : Standing) → So (is-count a) → So (is-count b) → So (is-count c)
+pub counts-parts-aligned : (a b : Bytes) (s : Standing) (c d : Bytes) (t : Standing) → So (is-count a)
+    → So (is-count b) → So (is-count c)
     → So (is-count d) → Aligned (counts-part a b s) (counts-part c d t)
 counts-parts-aligned a b s c d t p q r v =
     aligned-then (aligned-same (ascii "roles,bound,state\n"))

@@ -1,10 +1,24 @@
--- A part of a text that a byte ends: what stands before the first such byte. A text has one such part at most at a place, so what follows it is
--- known too. Assumes nothing.
+-- A part of a text that a byte ends: what stands before the first such byte. A text has one such part at most at a
+-- place, so what follows it is known too. Assumes nothing.
 use Prim.Native.Nat.{ℕ, suc, _+_, _-_, _≤_, _<_}
 use native.Mathlib.Omega.{arith}
 use mathlib.Core.Path.{_≡_, refl, sym, ap, _∙_}
 use mathlib.Core.Logic.{⊎-elim}
-use mathlib.Core.List.{[], _∷_, _++_, append-assoc, append-cancel-left, append-nil, tail-eq-of-cons-eq, List·Memᴰ, List·Memᴰ·head, Memᴰ·append-right, List·Memᴰ·append-cases, List·Memᴰ·eq-of-singleton, List·Memᴰ·not-nil}
+use mathlib.Core.List.{
+  [],
+  _∷_,
+  _++_,
+  append-assoc,
+  append-cancel-left,
+  append-nil,
+  tail-eq-of-cons-eq,
+  List·Memᴰ,
+  List·Memᴰ·head,
+  Memᴰ·append-right,
+  List·Memᴰ·append-cases,
+  List·Memᴰ·eq-of-singleton,
+  List·Memᴰ·not-nil,
+}
 use borrow.Author.Tests.{eq-eqb, ne-eqb}
 use lib.Dec.{eqb}
 use lib.ListN.{length, getD, drop, length-drop, take-append-drop, drop-of-length-le}
@@ -40,14 +54,22 @@ PartEnd text at end Off = Unended text at end
 pub part-and-rest : (text : Bytes) (at i : ℕ) → at ≤ i → drop at text ≡ part at i text ++ drop i text
 part-and-rest text at i h =
     let there : at + (i - at) ≡ i = omega arith in
-    sym (take-append-drop (i - at) (drop at text)) ∙ ap (λ l. part at i text ++ l) (drop-drop (i - at) at text ∙ rw there)
+    sym (take-append-drop (i - at) (drop at text)) ∙ ap (λ l. part at i text ++ l) (drop-drop (i - at) at text
+    ∙ rw there)
 
 -- one byte more of a part
-part-more : (text : Bytes) (at i : ℕ) → at ≤ i → i < length text → part at (i + 1) text ≡ part at i text ++ getD text i 0 ∷ []
+part-more : (text : Bytes) (at i : ℕ) → at ≤ i → i < length text → part at (i + 1) text ≡ part at i text ++ getD text
+    i 0 ∷ []
 part-more text at i h k =
     let there : at + (i - at) ≡ i = omega arith in
     let more : i + 1 - at ≡ suc (i - at) = omega arith in
-    rw (more, take-suc (drop at text) (i - at) 0 (rw (length-drop at text) (omega arith)), getD-drop at text (i - at) 0, there)
+    rw (
+      more,
+      take-suc (drop at text) (i - at) 0 (rw (length-drop at text) (omega arith)),
+      getD-drop at text (i - at)
+          0,
+      there,
+    )
 
 -- no byte that would end the part stands up to a place
 pub record Passed (text : Bytes) (at : ℕ) (end : ℕ) (i : ℕ) : Type 0 where
@@ -69,7 +91,8 @@ byte-passed {text} {at} {end} {i} p h other =
         ⊎-elim (p .free b) (λ n. ne-eqb end b (λ e. other (sym (List·Memᴰ·eq-of-singleton n) ∙ sym e)))
         (List·Memᴰ·append-cases (part at i text) m)
 
-pub end-found : {text : Bytes} {at end i : ℕ} → Passed text at end i → i < length text → getD text i 0 ≡ end → Ended text at end i
+pub end-found : {text : Bytes} {at end i : ℕ} → Passed text at end i → i < length text → getD text i 0 ≡ end
+    → Ended text at end i
 end-found {text} {at} {end} {i} p h same =
     record {
       forward = p .forward;
@@ -104,14 +127,17 @@ pub ended-once : {text : Bytes} {at end to : ℕ} → Ended text at end to → (
 ended-once {text} {at} {end} {to} p bytes rest free e =
     let there : bytes ++ end ∷ rest ≡ part at to text ++ end ∷ drop (suc to) text = sym e ∙ p .reads in
     let same : bytes ≡ part at to text =
-    ended-same (eqb end) end (eq-eqb end end refl) bytes (part at to text) rest (drop (suc to) text) free (p .free) there in
+    ended-same (eqb end) end (eq-eqb end end refl) bytes (part at to text) rest (drop (suc to) text) free (p .free)
+    there in
     record {
       before = same;
-      behind = tail-eq-of-cons-eq (append-cancel-left (part at to text) (end ∷ rest) (end ∷ drop (suc to) text) (rw same at there));
+      behind = tail-eq-of-cons-eq (append-cancel-left (part at to text) (end ∷ rest) (end ∷ drop (suc to) text)
+          (rw same at there));
     }
 
 -- a part and the byte that ends it stand there
-pub ended-reads : {text : Bytes} {at end to : ℕ} → Ended text at end to → Reads text at (part at to text ++ end ∷ []) (suc to)
+pub ended-reads : {text : Bytes} {at end to : ℕ} → Ended text at end to → Reads text at (part at to text ++ end ∷ [])
+    (suc to)
 ended-reads {text} {at} {end} {to} p =
     record {
       forward = omega (arith, p .forward);

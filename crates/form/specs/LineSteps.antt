@@ -28,9 +28,10 @@ EndReads text at row count words after (On next) = EndRead text at row count wor
 EndReads text at row count words after Off = (cells : ℕ → Bool) → Misses text at (ended-cells count cells)
 
 -- a line was read into a row
-pub record LineRead (text : Bytes) (at : ℕ) (name : Bytes) (row count : ℕ) (words after : List ℕ) (next : ℕ) : Type 0 where
-  pub reads : Reads text at (named-text name count (cell after row)) next
-  pub grown : Grown words after row count
+pub record LineRead (text : Bytes) (at : ℕ) (name : Bytes) (row count : ℕ) (words after : List ℕ) (next : ℕ) : Type 0
+  where
+    pub reads : Reads text at (named-text name count (cell after row)) next
+    pub grown : Grown words after row count
 
 abbrev pub LineReads : Bytes → ℕ → Bytes → ℕ → ℕ → List ℕ → List ℕ → Step → Type 0
 LineReads text at name row count words after (On next) = LineRead text at name row count words after next
@@ -42,7 +43,8 @@ pub no-cells : {text : Bytes} {at : ℕ} (count : ℕ) → ((cells : ℕ → Boo
     → (cells : ℕ → Bool) → Misses text at (ended-cells count cells)
 no-cells count m cells = misses-first line-end (m cells)
 
-pub cells-then-end : {text : Bytes} {at row count : ℕ} {words after : List ℕ} {mid : ℕ} → RowRead text at row count words after mid
+pub cells-then-end : {text : Bytes} {at row count : ℕ} {words after : List ℕ} {mid : ℕ} → RowRead text at row count
+    words after mid
     → (r : Step) → Expects text mid line-end r → EndReads text at row count words after r
 cells-then-end p (On next) q = record { reads = reads-then (p .reads) q; grown = p .grown }
 cells-then-end {row = row} {count = count} {after = after} p Off m =
@@ -50,7 +52,8 @@ cells-then-end {row = row} {count = count} {after = after} p Off m =
 
 -- ---- the name, then the cells
 
-pub no-name : {text name : Bytes} {at : ℕ} (count : ℕ) → Misses text at name → (cells : ℕ → Bool) → Misses text at (named-text name count cells)
+pub no-name : {text name : Bytes} {at : ℕ} (count : ℕ) → Misses text at name → (cells : ℕ → Bool)
+    → Misses text at (named-text name count cells)
 no-name count m cells = misses-first (ended-cells count cells) m
 
 pub name-then-cells : {text name : Bytes} {at mid : ℕ} (row count : ℕ) (words after : List ℕ) → Reads text at name mid
@@ -60,6 +63,7 @@ name-then-cells row count words after p Off m = λ cells. misses-second (ended-c
 
 -- ---- two lines of one name
 
-pub named-aligned : (name : Bytes) (count : ℕ) (a b : ℕ → Bool) → Aligned (named-text name count a) (named-text name count b)
+pub named-aligned : (name : Bytes) (count : ℕ) (a b : ℕ → Bool) → Aligned (named-text name count a)
+    (named-text name count b)
 named-aligned name count a b =
     aligned-then (aligned-same name) (aligned-then (cell-fields-aligned count a b) (aligned-same line-end))

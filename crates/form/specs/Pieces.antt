@@ -1,4 +1,5 @@
--- A book as the bytes that follow one another: the parts that a reader meets, each with the empty line that ends its block. Assumes nothing.
+-- A book as the bytes that follow one another: the parts that a reader meets, each with the empty line that ends its
+-- block. Assumes nothing.
 use Prim.Native.Nat.{ℕ}
 use mathlib.Core.Path.{_≡_, ap, _∙_}
 use mathlib.Core.Bool.{Bool}
@@ -10,7 +11,19 @@ use Rattle.spec.specs.Sheet.{Sheet, Grant, cell-text, user-count, permission-co
 use Rattle.spec.specs.RoleSet.{RoleSet}
 use Rattle.spec.specs.Roles.{Standing}
 use Rattle.spec.specs.Decimal.{decimal}
-use Rattle.spec.specs.Book.{standing-word, role-name, Block, Said, counts-block, roles-block, users-block, witness-line, witness-block, blocks-saying, book-text}
+use Rattle.spec.specs.Book.{
+  standing-word,
+  role-name,
+  Block,
+  Said,
+  counts-block,
+  roles-block,
+  users-block,
+  witness-line,
+  witness-block,
+  blocks-saying,
+  book-text,
+}
 use Rattle.lists.specs.Listed.{listed, listed-same}
 use Rattle.cell_text.specs.CellsText.{cell-field}
 use Rattle.text.specs.LineLaws.{behind-comma, line-end, line-parts, line-parts-of, block-parts, four-blocks}
@@ -50,14 +63,16 @@ abbrev pub roles-heading : Sheet → Bytes
 roles-heading sheet = (ascii "role" ++ name-fields (sheet .permissions)) ++ line-end
 
 abbrev pub roles-part : Sheet → ℕ → (ℕ → ℕ → Bool) → Bytes
-roles-part sheet count gives = roles-heading sheet ++ (named-texts role-name (permission-count sheet) gives count ++ line-end)
+roles-part sheet count gives =
+    roles-heading sheet ++ (named-texts role-name (permission-count sheet) gives count ++ line-end)
 
 -- block 3: its line of names, and a line for each user
 abbrev pub users-heading : ℕ → Bytes
 users-heading count = (ascii "user" ++ role-fields count) ++ line-end
 
 abbrev pub users-part : Sheet → ℕ → (ℕ → ℕ → Bool) → Bytes
-users-part sheet count has = users-heading count ++ (named-texts (user-name sheet) count has (user-count sheet) ++ line-end)
+users-part sheet count has =
+    users-heading count ++ (named-texts (user-name sheet) count has (user-count sheet) ++ line-end)
 
 -- block 4: its line of names, and the witness
 abbrev pub witness-text : Sheet → Grant → Bytes
@@ -87,7 +102,8 @@ block-in-parts : (heading : Line) (name : ℕ → Bytes) (width : ℕ) (cells : 
 block-in-parts heading name width cells count =
     rw (
       block-parts heading count (λ i. name i ∷ list-of width (λ j. cell-text (cells i j))),
-      listed-same count (λ i. line-text (name i ∷ list-of width (λ j. cell-text (cells i j)))) (λ i. named-text (name i) width (cells i))
+      listed-same count (λ i. line-text (name i ∷ list-of width (λ j. cell-text (cells i j))))
+          (λ i. named-text (name i) width (cells i))
           (λ i h. named-in-parts (name i) width (cells i)),
     )
     (append-assoc (line-text heading) (named-texts name width cells count) line-end)
@@ -101,16 +117,20 @@ roles-in-parts sheet roles =
 users-in-parts : (sheet : Sheet) (roles : RoleSet)
     → text-of (users-block sheet roles) ++ line-end ≡ users-part sheet (roles .count) (roles .has)
 users-in-parts sheet roles =
-    block-in-parts (ascii "user" ∷ list-of (roles .count) role-name) (user-name sheet) (roles .count) (roles .has) (user-count sheet)
+    block-in-parts (ascii "user" ∷ list-of (roles .count) role-name) (user-name sheet) (roles .count) (roles .has)
+    (user-count sheet)
     ∙ rw (line-parts (ascii "user") (roles .count) role-name)
 
-witness-in-parts : (sheet : Sheet) (grants : List Grant) → text-of (witness-block sheet grants) ≡ witness-part sheet grants
-witness-in-parts sheet grants = ap (λ l. ascii "user,permission\n" ++ concat l) (map-map line-text (witness-line sheet) grants)
+witness-in-parts : (sheet : Sheet) (grants : List Grant) → text-of (witness-block sheet grants) ≡ witness-part sheet
+    grants
+witness-in-parts sheet grants =
+    ap (λ l. ascii "user,permission\n" ++ concat l) (map-map line-text (witness-line sheet) grants)
 
 grouped : (a b c d e : Bytes) → (((((a ++ e) ++ b) ++ e) ++ c) ++ e) ++ d ≡ (a ++ e) ++ ((b ++ e) ++ ((c ++ e) ++ d))
 grouped a b c d e = simp append-assoc
 
-same-parts : {a b c d a′ b′ c′ d′ : Bytes} → a ≡ a′ → b ≡ b′ → c ≡ c′ → d ≡ d′ → a ++ (b ++ (c ++ d)) ≡ a′ ++ (b′ ++ (c′ ++ d′))
+same-parts : {a b c d a′ b′ c′ d′ : Bytes} → a ≡ a′ → b ≡ b′ → c ≡ c′ → d ≡ d′ → a ++ (b ++ (c ++ d)) ≡ a′ ++
+    (b′ ++ (c′ ++ d′))
 same-parts p q r s = cc
 
 -- a book is its four parts

@@ -1,5 +1,5 @@
--- Reading the lines of the roles, in order and up to the empty line. A line begins with `R`, so an empty line ends the roles, and the number of
--- roles and what follows them are known.
+-- Reading the lines of the roles, in order and up to the empty line. A line begins with `R`, so an empty line ends
+-- the roles, and the number of roles and what follows them are known.
 use Prim.Native.Nat.{ℕ, _≤_, _<_}
 use Prim.Native.Char.{code}
 use native.Mathlib.Omega.{arith}
@@ -36,7 +36,9 @@ pub record RolesAt (text : Bytes) (at permissions : ℕ) (words : List ℕ) (cou
 
 -- no lines of roles stand at a place
 abbrev pub NoRoles : Bytes → ℕ → ℕ → Type 0
-NoRoles text at permissions = (count : ℕ) (gives : ℕ → ℕ → Bool) → count ≤ role-limit → Misses text at (role-texts permissions gives count ++ line-end)
+NoRoles text at permissions =
+    (count : ℕ) (gives : ℕ → ℕ → Bool) → count ≤ role-limit → Misses text at (role-texts permissions gives count ++
+    line-end)
 
 abbrev pub RoleLinesRead : Bytes → ℕ → ℕ → List ℕ → RolesRead → Type 0
 RoleLinesRead text at permissions words (found.Roles count next) = RolesAt text at permissions words count next
@@ -50,7 +52,8 @@ pub record RolesPart (sheet : Sheet) (text : Bytes) (at : ℕ) (words : List ℕ
 
 -- no block 2 stands at a place
 abbrev pub NoRolesPart : Sheet → Bytes → ℕ → Type 0
-NoRolesPart sheet text at = (count : ℕ) (gives : ℕ → ℕ → Bool) → count ≤ role-limit → Misses text at (roles-part sheet count gives)
+NoRolesPart sheet text at =
+    (count : ℕ) (gives : ℕ → ℕ → Bool) → count ≤ role-limit → Misses text at (roles-part sheet count gives)
 
 -- a step over block 2 and the empty line behind it
 abbrev pub RolesReads : Sheet → Bytes → ℕ → List ℕ → RolesRead → Type 0
@@ -69,19 +72,25 @@ role-begins permissions gives r l m e = clash (head-eq-of-cons-eq (rw (role-name
 
 -- behind the lines of the roles below r the next line follows, or the empty line
 pub roles-follow : {text : Bytes} {at : ℕ} (permissions : ℕ) (f g : ℕ → ℕ → Bool) (r count next : ℕ) (rest : Bytes)
-    → Reads text at (role-texts permissions f r) next → drop at text ≡ (role-texts permissions g count ++ line-end) ++ rest
-    → ((r < count) × Begins (named-text (role-name r) permissions (g r)) (drop next text)) ⊎ ((r ≡ count) × (drop next text ≡ line-feed ∷ rest))
+    → Reads text at (role-texts permissions f r) next → drop at text ≡ (role-texts permissions g count ++ line-end) ++
+    rest
+    → ((r < count) × Begins (named-text (role-name r) permissions (g r)) (drop next text)) ⊎ ((r ≡ count)
+    × (drop next text ≡ line-feed ∷ rest))
 roles-follow {text} {at} permissions f g r count next rest p e =
-    listed-ended line-feed r count (λ i. named-text (role-name i) permissions (f i)) (λ i. named-text (role-name i) permissions (g i))
-    (λ i h. named-aligned (role-name i) permissions (f i) (g i)) (λ i h. role-begins permissions f i) (drop next text) rest
+    listed-ended line-feed r count (λ i. named-text (role-name i) permissions (f i))
+    (λ i. named-text (role-name i) permissions (g i))
+    (λ i h. named-aligned (role-name i) permissions (f i) (g i)) (λ i h. role-begins permissions f i) (drop next text)
+    rest
     (sym (p .reads) ∙ e ∙ append-assoc (role-texts permissions g count) line-end rest)
 
-pub roles-end : {text : Bytes} {at permissions r next last : ℕ} {words : List ℕ} → r ≤ role-limit → LinesBelow text at role-name permissions words r next
+pub roles-end : {text : Bytes} {at permissions r next last : ℕ} {words : List ℕ} → r ≤ role-limit
+    → LinesBelow text at role-name permissions words r next
     → Reads text next line-end last → RolesAt text at permissions words r last
 roles-end h b p = record { few = h; reads = reads-then (b .reads) p; beyond = b .beyond }
 
 -- no role more is allowed, and none ends here
-pub roles-full : {text : Bytes} {at permissions r next : ℕ} {words : List ℕ} → LinesBelow text at role-name permissions words r next
+pub roles-full : {text : Bytes} {at permissions r next : ℕ} {words : List ℕ} → LinesBelow text at role-name
+    permissions words r next
     → role-limit ≤ r → Misses text next line-end → NoRoles text at permissions
 roles-full {text} {at} {permissions} {r} {next} {words} b h m count gives few =
     record {
@@ -90,7 +99,8 @@ roles-full {text} {at} {permissions} {r} {next} {words} b h m count gives few =
     }
 
 -- the line of no role stands here, and none ends here
-pub roles-off : {text : Bytes} {at permissions r next : ℕ} {words : List ℕ} → LinesBelow text at role-name permissions words r next
+pub roles-off : {text : Bytes} {at permissions r next : ℕ} {words : List ℕ} → LinesBelow text at role-name permissions
+    words r next
     → Misses text next line-end → ((cells : ℕ → Bool) → Misses text next (named-text (role-name r) permissions cells))
     → NoRoles text at permissions
 roles-off {text} {at} {permissions} {r} {next} {words} b m off count gives few =
@@ -101,19 +111,25 @@ roles-off {text} {at} {permissions} {r} {next} {words} b m off count gives few =
 
 -- two readings of the roles have as many, and the same follows
 pub roles-once : (permissions : ℕ) (f g : ℕ → ℕ → Bool) (r count : ℕ) (l m : Bytes)
-    → (role-texts permissions f r ++ line-end) ++ l ≡ (role-texts permissions g count ++ line-end) ++ m → (r ≡ count) × (l ≡ m)
+    → (role-texts permissions f r ++ line-end) ++ l ≡ (role-texts permissions g count ++ line-end) ++ m → (r ≡ count)
+    × (l ≡ m)
 roles-once permissions f g r count l m e =
-    ⊎-elim (λ n. absurd (role-begins permissions g r (n .1 .more) l (sym (n .1 .there)))) (λ n. (n .0, tail-eq-of-cons-eq (n .1)))
-    (listed-ended line-feed r count (λ i. named-text (role-name i) permissions (f i)) (λ i. named-text (role-name i) permissions (g i))
+    ⊎-elim (λ n. absurd (role-begins permissions g r (n .1 .more) l (sym (n .1 .there))))
+    (λ n. (n .0, tail-eq-of-cons-eq (n .1)))
+    (listed-ended line-feed r count (λ i. named-text (role-name i) permissions (f i))
+    (λ i. named-text (role-name i) permissions (g i))
     (λ i h. named-aligned (role-name i) permissions (f i) (g i)) (λ i h. role-begins permissions f i) (line-feed ∷ l) m
-    (sym (append-assoc (role-texts permissions f r) line-end l) ∙ e ∙ append-assoc (role-texts permissions g count) line-end m))
+    (sym (append-assoc (role-texts permissions f r) line-end l) ∙ e ∙ append-assoc (role-texts permissions g count)
+    line-end m))
 
 -- ---- block 2
 
-pub no-roles-heading : (sheet : Sheet) {text : Bytes} {at : ℕ} → Misses text at (roles-heading sheet) → NoRolesPart sheet text at
+pub no-roles-heading : (sheet : Sheet) {text : Bytes} {at : ℕ} → Misses text at (roles-heading sheet)
+    → NoRolesPart sheet text at
 no-roles-heading sheet m count gives few = misses-first (role-texts (permission-count sheet) gives count ++ line-end) m
 
-pub heading-then-roles : (sheet : Sheet) {text : Bytes} {at mid : ℕ} (words : List ℕ) → Reads text at (roles-heading sheet) mid
+pub heading-then-roles : (sheet : Sheet) {text : Bytes} {at mid : ℕ} (words : List ℕ)
+    → Reads text at (roles-heading sheet) mid
     → (r : RolesRead) → RoleLinesRead text mid (permission-count sheet) words r → RolesReads sheet text at words r
 heading-then-roles sheet words h (found.Roles count next) p =
     record { few = p .few; reads = reads-then h (p .reads); beyond = p .beyond }

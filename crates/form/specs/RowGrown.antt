@@ -1,5 +1,5 @@
--- A row of words that has no cell set is read word by word. A word that is stored changes no cell of another, so the row has the cells that were read and
--- no further ones, and every other row is as it was.
+-- A row of words that has no cell set is read word by word. A word that is stored changes no cell of another, so the
+-- row has the cells that were read and no further ones, and every other row is as it was.
 use Prim.Native.Nat.{ℕ, _+_, _-_, _*_, _/_, _%_, _≤_, _<_, min}
 use native.Mathlib.Omega.{arith}
 use mathlib.Core.Path.{_≡_, refl, ap, _∙_}
@@ -50,17 +50,20 @@ word-stored words row k w h l =
     record {
       here = λ q m. rw (digits-div k m, digits-mod k m, getD-set-same words (row * row-words + k) w 0 l);
       others = λ u p d m.
-          ap (λ (n : ℕ). bit n (p % word-bits)) (getD-set-other words (row * row-words + k) (u * row-words + p / word-bits) w 0 (λ e. apart u p d m e));
+          ap (λ (n : ℕ). bit n (p % word-bits)) (getD-set-other words (row * row-words + k)
+          (u * row-words + p / word-bits) w 0 (λ e. apart u p d m e));
     }
   where
-    apart : (u p : ℕ) → u ≢ row ⊎ p / word-bits ≢ k → p < row-bits → u * row-words + p / word-bits ≡ row * row-words + k → ⊥
+    apart : (u p : ℕ) → u ≢ row ⊎ p / word-bits ≢ k → p < row-bits → u * row-words + p / word-bits ≡ row * row-words +
+        k → ⊥
     apart u p d m e =
         let first : k * word-bits / word-bits ≡ k = omega arith in
         let user : u ≡ row = one-user row u (k * word-bits) p (omega arith) m (rw first e) in
         ⊎-elim (λ (other : u ≢ row). other user) (λ (other : p / word-bits ≢ k). other (omega (arith, rw user at e))) d
 
 -- cells from i on are read as a word of n positions
-module _ {words mid after : List ℕ} {row i n k w : ℕ} (g : Grown words mid row i) (put : WordStored mid after row k w) (inside : k < row-words)
+module _ {words mid after : List ℕ} {row i n k w : ℕ} (g : Grown words mid row i) (put : WordStored mid after row k w)
+    (inside : k < row-words)
     (start : i ≤ k * word-bits) (same : 0 < n → i ≡ k * word-bits) (few : n ≤ word-bits) where
   pub cells-kept : (p : ℕ) → p < i → cell after row p ≡ cell mid row p
   unfolding row-bits
@@ -74,7 +77,8 @@ module _ {words mid after : List ℕ} {row i n k w : ℕ} (g : Grown words mid r
       record {
         others = λ u p h l. put .others u p (inl h) l ∙ g .others u p h l;
         beyond = λ p h l.
-            ⊎-elim (λ (t : p / word-bits ≡ k). in-it p h t) (λ (other : p / word-bits ≢ k). put .others row p (inr other) l ∙ g .beyond p (omega arith) l)
+            ⊎-elim (λ (t : p / word-bits ≡ k). in-it p h t) (λ (other : p / word-bits ≢ k). put .others row p
+            (inr other) l ∙ g .beyond p (omega arith) l)
             (same-or-other (p / word-bits) k);
       }
     where
@@ -82,7 +86,8 @@ module _ {words mid after : List ℕ} {row i n k w : ℕ} (g : Grown words mid r
       same-or-other a b = ⊎-elim (λ t. inl (eqb-true a b t)) (λ f. inr (eqb-false a b f)) (passes-or-fails (eqb a b))
 
       past : (p : ℕ) → i + n ≤ p → p / word-bits ≡ k → n ≤ p % word-bits
-      past p h t = ⊎-elim (λ (l : 0 < n). let s = same l in omega arith) (λ (l : n ≤ 0). omega arith) (below-or-from 0 n)
+      past p h t = ⊎-elim (λ (l : 0 < n). let s = same l in omega arith) (λ (l : n ≤ 0). omega arith)
+          (below-or-from 0 n)
 
       in-it : (p : ℕ) → i + n ≤ p → p / word-bits ≡ k → cell after row p ≡ false
       in-it p h t =

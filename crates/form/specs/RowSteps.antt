@@ -23,17 +23,20 @@ pub record AllBlank (words : List ℕ) : Type 0 where
   pub rows : (row : ℕ) → Blank words row
 
 -- the lines below i have been read: their rows have no cell beyond, and no other row has any
-pub record LinesBelow (text : Bytes) (at : ℕ) (name : ℕ → Bytes) (width : ℕ) (words : List ℕ) (i next : ℕ) : Type 0 where
-  pub reads : Reads text at (named-texts name width (cell words) i) next
-  pub blank : (row : ℕ) → i ≤ row → Blank words row
-  pub beyond : (row p : ℕ) → row < i → width ≤ p → p < row-bits → cell words row p ≡ false
+pub record LinesBelow (text : Bytes) (at : ℕ) (name : ℕ → Bytes) (width : ℕ) (words : List ℕ) (i next : ℕ) : Type 0
+  where
+    pub reads : Reads text at (named-texts name width (cell words) i) next
+    pub blank : (row : ℕ) → i ≤ row → Blank words row
+    pub beyond : (row p : ℕ) → row < i → width ≤ p → p < row-bits → cell words row p ≡ false
 
-pub lines-start : {text : Bytes} {at : ℕ} (name : ℕ → Bytes) (width : ℕ) {words : List ℕ} → at ≤ length text → AllBlank words
+pub lines-start : {text : Bytes} {at : ℕ} (name : ℕ → Bytes) (width : ℕ) {words : List ℕ} → at ≤ length text
+    → AllBlank words
     → LinesBelow text at name width words 0 at
 lines-start {text} {at} name width h b =
     record { reads = reads-nothing text at h; blank = λ row l. b .rows row; beyond = λ row p l. absurd (omega arith) }
 
-pub lines-more : {text : Bytes} {at : ℕ} {name : ℕ → Bytes} {width i next last : ℕ} {words after : List ℕ} → width ≤ row-bits
+pub lines-more : {text : Bytes} {at : ℕ} {name : ℕ → Bytes} {width i next last : ℕ} {words after : List ℕ}
+    → width ≤ row-bits
     → LinesBelow text at name width words i next → LineRead text next (name i) i width words after last
     → LinesBelow text at name width after (i + 1) last
 lines-more {text} {at} {name} {width} {i} {next} {last} {words} {after} h b l =
@@ -51,7 +54,8 @@ lines-more {text} {at} {name} {width} {i} {next} {last} {words} {after} h b l =
 
     same : named-texts name width (cell words) i ≡ named-texts name width (cell after) i
     same =
-        listed-same i (λ row. named-text (name row) width (cell words row)) (λ row. named-text (name row) width (cell after row)) (λ row k.
+        listed-same i (λ row. named-text (name row) width (cell words row)) (λ row. named-text (name row) width
+        (cell after row)) (λ row k.
         ap (λ (cells : Bytes). name row ++ (cells ++ line-end))
         (listed-same width (λ p. cell-field (cell words row p)) (λ p. cell-field (cell after row p))
         (λ p m. ap cell-field (sym (kept row p (omega arith) (omega arith))))))

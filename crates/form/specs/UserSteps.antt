@@ -1,4 +1,5 @@
--- Reading block 3: the roles are known from block 2 and the users from the sheet, so only the cells are open, and what follows the block is known.
+-- Reading block 3: the roles are known from block 2 and the users from the sheet, so only the cells are open, and
+-- what follows the block is known.
 use Prim.Native.Nat.{ℕ, _<_}
 use mathlib.Core.Bool.{Bool}
 use mathlib.Core.List.{List, _++_}
@@ -34,25 +35,32 @@ UsersReads sheet text at roles words (On next) = Reads text at (users-part sheet
 UsersReads sheet text at roles words Off = NoUsersPart sheet text at roles
 
 -- the line of the next user is missing
-pub users-off : (sheet : Sheet) {text : Bytes} {at roles u next : ℕ} {words : List ℕ} → LinesBelow text at (user-name sheet) roles words u next
+pub users-off : (sheet : Sheet) {text : Bytes} {at roles u next : ℕ} {words : List ℕ}
+    → LinesBelow text at (user-name sheet) roles words u next
     → u < user-count sheet → ((cells : ℕ → Bool) → Misses text next (named-text (user-name sheet u) roles cells))
     → (has : ℕ → ℕ → Bool) → Misses text at (user-texts sheet roles has)
 users-off sheet {text} {at} {roles} {u} {next} {words} b h m has =
-    misses-next u (user-count sheet) (λ i. named-text (user-name sheet i) roles (cell words i)) (λ i. named-text (user-name sheet i) roles (has i)) h
+    misses-next u (user-count sheet) (λ i. named-text (user-name sheet i) roles (cell words i))
+    (λ i. named-text (user-name sheet i) roles (has i)) h
     (λ i l. named-aligned (user-name sheet i) roles (cell words i) (has i)) (b .reads) (m (has u))
 
-user-texts-aligned : (sheet : Sheet) (roles : ℕ) (f g : ℕ → ℕ → Bool) → Aligned (user-texts sheet roles f) (user-texts sheet roles g)
+user-texts-aligned : (sheet : Sheet) (roles : ℕ) (f g : ℕ → ℕ → Bool) → Aligned (user-texts sheet roles f)
+    (user-texts sheet roles g)
 user-texts-aligned sheet roles f g =
-    aligned-listed (user-count sheet) (λ i. named-text (user-name sheet i) roles (f i)) (λ i. named-text (user-name sheet i) roles (g i))
+    aligned-listed (user-count sheet) (λ i. named-text (user-name sheet i) roles (f i))
+    (λ i. named-text (user-name sheet i) roles (g i))
     (λ i h. named-aligned (user-name sheet i) roles (f i) (g i))
 
 -- ---- block 3
 
-pub no-users-heading : (sheet : Sheet) (roles : ℕ) {text : Bytes} {at : ℕ} → Misses text at (users-heading roles) → NoUsersPart sheet text at roles
+pub no-users-heading : (sheet : Sheet) (roles : ℕ) {text : Bytes} {at : ℕ} → Misses text at (users-heading roles)
+    → NoUsersPart sheet text at roles
 no-users-heading sheet roles m has = misses-first (user-texts sheet roles has ++ line-end) m
 
-module _ (sheet : Sheet) (roles : ℕ) {text : Bytes} {at lines : ℕ} (heading : Reads text at (users-heading roles) lines) where
-  pub no-user-lines : ((has : ℕ → ℕ → Bool) → Misses text lines (user-texts sheet roles has)) → NoUsersPart sheet text at roles
+module _ (sheet : Sheet) (roles : ℕ) {text : Bytes} {at lines : ℕ} (heading : Reads text at (users-heading roles)
+    lines) where
+  pub no-user-lines : ((has : ℕ → ℕ → Bool) → Misses text lines (user-texts sheet roles has))
+      → NoUsersPart sheet text at roles
   no-user-lines m has = misses-second (user-texts sheet roles has ++ line-end) heading (misses-first line-end (m has))
 
   pub users-then-end : {end : ℕ} (words : List ℕ) → Reads text lines (user-texts sheet roles (cell words)) end
@@ -63,6 +71,8 @@ module _ (sheet : Sheet) (roles : ℕ) {text : Bytes} {at lines : ℕ} (heading 
       (misses-after line-end p (user-texts-aligned sheet roles (cell words) has) m)
 
 -- whatever block 3 says, the same follows
-pub users-parts-aligned : (sheet : Sheet) (roles : ℕ) (f g : ℕ → ℕ → Bool) → Aligned (users-part sheet roles f) (users-part sheet roles g)
+pub users-parts-aligned : (sheet : Sheet) (roles : ℕ) (f g : ℕ → ℕ → Bool) → Aligned (users-part sheet roles f)
+    (users-part sheet roles g)
 users-parts-aligned sheet roles f g =
-    aligned-then (aligned-same (users-heading roles)) (aligned-then (user-texts-aligned sheet roles f g) (aligned-same line-end))
+    aligned-then (aligned-same (users-heading roles)) (aligned-then (user-texts-aligned sheet roles f g)
+    (aligned-same line-end))

@@ -1,5 +1,5 @@
--- Reading a witness line: a user's name up to the comma, then a permission's name up to the line feed. Neither byte stands in a name, so a line
--- stands in a text in one way at most.
+-- Reading a witness line: a user's name up to the comma, then a permission's name up to the line feed. Neither byte
+-- stands in a name, so a line stands in a text in one way at most.
 use Prim.Native.Nat.{ℕ, _+_, _<_}
 use native.Mathlib.Numerals.{add-one}
 use mathlib.Core.Path.{_≡_, refl, sym, _∙_}
@@ -58,17 +58,22 @@ module _ (sheet : Sheet) (lawful : Lawful sheet) where
   user-free : (g : Grant) → Known sheet g → (b : ℕ) → List·Memᴰ b (user-name sheet (g .user)) → eqb comma b ≡ false
   user-free g k = name-field (user-name sheet (g .user)) (lawful .user-name (g .user) (k .user)) .no-comma
 
-  permission-free : (g : Grant) → Known sheet g → (b : ℕ) → List·Memᴰ b (permission-name sheet (g .permission)) → eqb line-feed b ≡ false
+  permission-free : (g : Grant) → Known sheet g → (b : ℕ) → List·Memᴰ b (permission-name sheet (g .permission))
+      → eqb line-feed b ≡ false
   permission-free g k =
-      name-field (permission-name sheet (g .permission)) (lawful .permission-name (g .permission) (k .permission)) .no-line-feed
+      name-field (permission-name sheet (g .permission)) (lawful .permission-name (g .permission)
+      (k .permission)) .no-line-feed
 
   -- two lines that stand in a text in one place are followed by the same
-  pub lines-aligned : (g h : Grant) → Known sheet g → Known sheet h → Aligned (witness-text sheet g) (witness-text sheet h)
+  pub lines-aligned : (g h : Grant) → Known sheet g → Known sheet h → Aligned (witness-text sheet g)
+      (witness-text sheet h)
   lines-aligned g h p q =
       rw (line-in-fields sheet g, line-in-fields sheet h)
       (aligned-then
-      (ended-aligned (eqb comma) comma refl (user-name sheet (g .user)) (user-name sheet (h .user)) (user-free g p) (user-free h q))
-      (ended-aligned (eqb line-feed) line-feed refl (permission-name sheet (g .permission)) (permission-name sheet (h .permission))
+      (ended-aligned (eqb comma) comma refl (user-name sheet (g .user)) (user-name sheet (h .user)) (user-free g p)
+      (user-free h q))
+      (ended-aligned (eqb line-feed) line-feed refl (permission-name sheet (g .permission))
+      (permission-name sheet (h .permission))
       (permission-free g p) (permission-free h q)))
 
   -- the two fields of a line that stands there
@@ -86,34 +91,41 @@ module _ (sheet : Sheet) (lawful : Lawful sheet) where
       no-user off g k =
           record {
             misses = λ rest e.
-                off (g .user) (k .user) (sym (ended-once first (user-name sheet (g .user)) _ (user-free g k) (in-fields g (drop at text) rest e) .before));
+                off (g .user) (k .user) (sym (ended-once first (user-name sheet (g .user)) _ (user-free g k)
+                (in-fields g (drop at text) rest e) .before));
           }
 
       -- what follows the comma of a line that stands there
       behind-comma : (g : Grant) → Known sheet g → (rest : Bytes) → drop at text ≡ witness-text sheet g ++ rest
           → drop (to + 1) text ≡ permission-name sheet (g .permission) ++ line-feed ∷ rest
       behind-comma g k rest e =
-          rw (add-one to) (sym (ended-once first (user-name sheet (g .user)) _ (user-free g k) (in-fields g (drop at text) rest e) .behind))
+          rw (add-one to) (sym (ended-once first (user-name sheet (g .user)) _ (user-free g k)
+          (in-fields g (drop at text) rest e) .behind))
 
       pub no-line-feed-in-line : Unended text (to + 1) line-feed → NoWitness sheet text at
       no-line-feed-in-line u g k =
           record { misses = λ rest e. u .none (permission-name sheet (g .permission)) rest (behind-comma g k rest e) }
 
       module _ {end : ℕ} (second : Ended text (to + 1) line-feed end) where
-        pub no-permission : ((i : ℕ) → i < permission-count sheet → part (to + 1) end text ≡ permission-name sheet i → ⊥) → NoWitness sheet text at
+        pub no-permission : ((i : ℕ) → i < permission-count sheet → part (to + 1) end text ≡ permission-name sheet i
+            → ⊥) → NoWitness sheet text at
         no-permission off g k =
             record {
               misses = λ rest e.
                   off (g .permission) (k .permission)
-                  (sym (ended-once second (permission-name sheet (g .permission)) rest (permission-free g k) (behind-comma g k rest e) .before));
+                  (sym (ended-once second (permission-name sheet (g .permission)) rest (permission-free g k)
+                  (behind-comma g k rest e) .before));
             }
 
         pub witness-at : (line : WitnessLine) → Named (sheet .users) (part at to text) (line .user .0)
-            → Named (sheet .permissions) (part (to + 1) end text) (line .permission .0) → WitnessAt sheet text at line (end + 1)
+            → Named (sheet .permissions) (part (to + 1) end text) (line .permission .0) → WitnessAt sheet text at line
+            (end + 1)
         witness-at line u p =
             record {
               known = record { user = u .within; permission = p .within };
               reads =
-                  (let name : Reads text at (part at to text ++ comma ∷ []) (to + 1) = rw (add-one to) (ended-reads first) in
-                  rw (line-in-fields sheet (named-grant line), u .there, p .there, add-one end) (reads-then name (ended-reads second)));
+                  (let name : Reads text at (part at to text ++ comma ∷ []) (to + 1) = rw (add-one to)
+                  (ended-reads first) in
+                  rw (line-in-fields sheet (named-grant line), u .there, p .there, add-one end)
+                  (reads-then name (ended-reads second)));
             }

@@ -1,4 +1,5 @@
--- The witness as the code keeps it: the number of its lines, and the grants of the first of them, as many as there can be roles.
+-- The witness as the code keeps it: the number of its lines, and the grants of the first of them, as many as there
+-- can be roles.
 use Prim.Native.Nat.{ℕ, _+_, _≤_, _<_}
 use native.Mathlib.Omega.{arith}
 use mathlib.Core.Path.{_≡_, refl, sym, _∙_}
@@ -30,7 +31,11 @@ no-witness = record { lines = 0; first = replicate role-limit no-line }
 -- one line more, which is kept where there is room
 abbrev pub with-line : Witness → WitnessLine → Witness
 with-line w line =
-    record { lines = w .lines + 1; first = cond (ltb (w .lines) role-limit) (set (w .first) (w .lines) line) (w .first) }
+    record {
+      lines = w .lines + 1;
+      first = cond (ltb (w .lines) role-limit) (set (w .first) (w .lines) line)
+          (w .first);
+    }
 
 -- these are the grants of the lines
 pub record Collects (w : Witness) (grants : List Grant) : Type 0 where
@@ -39,7 +44,8 @@ pub record Collects (w : Witness) (grants : List Grant) : Type 0 where
   pub named : (i : ℕ) → i < length grants → i < role-limit → named-grant (getD (w .first) i no-line) ≡ grant-at grants i
 
 pub collects-none : Collects no-witness []
-collects-none = record { counted = refl; room = length-replicate role-limit no-line; named = λ i h. absurd (omega arith) }
+collects-none =
+    record { counted = refl; room = length-replicate role-limit no-line; named = λ i h. absurd (omega arith) }
 
 pub collects-more : {w : Witness} {grants : List Grant} (line : WitnessLine) → Collects w grants
     → Collects (with-line w line) (grants ++ named-grant line ∷ [])
@@ -63,10 +69,17 @@ collects-more {w} {grants} line c = ⊎-elim kept dropped (below-or-from (w .lin
           room = length-set (w .first) (w .lines) line ∙ c .room;
           named = λ i l k. ⊎-elim
               (λ (earlier : i < length grants).
-              rw (getD-set-other (w .first) (w .lines) i line no-line (λ (e : i ≡ w .lines). omega arith), before i earlier) (c .named i earlier k))
+              rw (
+                getD-set-other (w .first) (w .lines) i line no-line (λ (e : i ≡ w .lines). omega arith),
+                before i earlier,
+              ) (c .named i earlier k))
               (λ (late : length grants ≤ i).
               (let here : i ≡ w .lines = omega (arith, longer) in
-              rw (here, getD-set-same (w .first) (w .lines) line no-line (let r = c .room in omega arith), last (w .lines) (sym at))))
+              rw (
+                here,
+                getD-set-same (w .first) (w .lines) line no-line (let r = c .room in omega arith),
+                last (w .lines) (sym at),
+              )))
               (below-or-from i (length grants));
         })
 
@@ -77,5 +90,6 @@ collects-more {w} {grants} line c = ⊎-elim kept dropped (below-or-from (w .lin
         (record {
           counted = rw longer (omega arith);
           room = c .room;
-          named = λ i l k. (let earlier : i < length grants = omega arith in rw (before i earlier) (c .named i earlier k));
+          named = λ i l k. (let earlier : i < length grants = omega arith in rw (before i earlier)
+              (c .named i earlier k));
         })

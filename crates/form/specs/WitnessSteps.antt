@@ -1,10 +1,21 @@
--- Reading the witness lines up to the end of the book. A line is not empty and is followed by the same however it is read, so the lines of a text are
--- known, and there are no more of them than bytes.
+-- Reading the witness lines up to the end of the book. A line is not empty and is followed by the same however it is
+-- read, so the lines of a text are known, and there are no more of them than bytes.
 use Prim.Native.Nat.{ℕ, _≤_, _<_}
 use native.Mathlib.Omega.{arith}
 use mathlib.Core.Path.{_≡_, refl, sym, ap, _∙_}
 use mathlib.Core.Bool.{Bool, true, false}
-use mathlib.Core.List.{List, [], _∷_, _++_, append-assoc, append-nil, List·Memᴰ·head, List·Memᴰ·tail, List·Memᴰ·append-cases, List·Memᴰ·eq-of-singleton}
+use mathlib.Core.List.{
+  List,
+  [],
+  _∷_,
+  _++_,
+  append-assoc,
+  append-nil,
+  List·Memᴰ·head,
+  List·Memᴰ·tail,
+  List·Memᴰ·append-cases,
+  List·Memᴰ·eq-of-singleton,
+}
 use mathlib.Core.Logic.{⊎-elim}
 use lib.ListN.{length, drop, length-append, length-drop, drop-of-length-le}
 use Rattle.spec.specs.Text.{ascii, Bytes, comma, line-feed}
@@ -63,13 +74,23 @@ WitnessPartReads sheet text at r = PartIn sheet text at (r .«of_form») (r .wit
 -- a line is not empty
 pub line-some : (sheet : Sheet) (g : Grant) → 1 ≤ length (witness-text sheet g)
 line-some sheet g =
-    omega (arith, length-append (user-name sheet (g .user) ++ comma ∷ permission-name sheet (g .permission)) (line-feed ∷ []))
+    omega (
+      arith,
+      length-append (user-name sheet (g .user) ++ comma ∷ permission-name sheet (g .permission))
+          (line-feed ∷ []),
+    )
 
 -- there are no more lines than bytes
 pub lines-few : (sheet : Sheet) (grants : List Grant) → length grants ≤ length (witness-texts sheet grants)
 lines-few sheet [] = omega arith
 lines-few sheet (g ∷ grants) =
-    omega (arith, line-some sheet g, lines-few sheet grants, length-append (witness-text sheet g) (witness-texts sheet grants))
+    omega (
+      arith,
+      line-some sheet g,
+      lines-few sheet grants,
+      length-append (witness-text sheet g)
+          (witness-texts sheet grants),
+    )
 
 -- one line more
 pub lines-more : (sheet : Sheet) (grants : List Grant) (g : Grant)
@@ -90,22 +111,27 @@ pub lines-start : (sheet : Sheet) (text : Bytes) (at : ℕ) → at ≤ length te
 lines-start sheet text at h =
     record { grants = []; known = each-none (Known sheet); collects = collects-none; reads = reads-nothing text at h }
 
-pub lines-bound : {sheet : Sheet} {text : Bytes} {at next : ℕ} {w : Witness} → LinesRead sheet text at w next → w .lines ≤ length text
-lines-bound {sheet} r = omega (arith, r .collects .counted, lines-few sheet (r .grants), reads-place (r .reads), r .reads .within)
+pub lines-bound : {sheet : Sheet} {text : Bytes} {at next : ℕ} {w : Witness} → LinesRead sheet text at w next
+    → w .lines ≤ length text
+lines-bound {sheet} r =
+    omega (arith, r .collects .counted, lines-few sheet (r .grants), reads-place (r .reads), r .reads .within)
 
-pub line-read : {sheet : Sheet} {text : Bytes} {at next last : ℕ} {w : Witness} {line : WitnessLine} → LinesRead sheet text at w next
+pub line-read : {sheet : Sheet} {text : Bytes} {at next last : ℕ} {w : Witness} {line : WitnessLine}
+    → LinesRead sheet text at w next
     → WitnessAt sheet text next line last → LinesRead sheet text at (with-line w line) last
 line-read {sheet} {text} {at} {next} {last} {w} {line} r l =
     record {
       grants = r .grants ++ named-grant line ∷ [];
       known = λ g m.
-          ⊎-elim (r .known g) (λ n. (let same : g ≡ named-grant line = List·Memᴰ·eq-of-singleton n in rw same (l .known)))
+          ⊎-elim (r .known g) (λ n. (let same : g ≡ named-grant line = List·Memᴰ·eq-of-singleton n
+          in rw same (l .known)))
           (List·Memᴰ·append-cases (r .grants) m);
       collects = collects-more line (r .collects);
       reads = rw (lines-more sheet (r .grants) (named-grant line)) (reads-then (r .reads) (l .reads));
     }
 
-pub lines-end : {sheet : Sheet} {text : Bytes} {at next : ℕ} {w : Witness} → LinesRead sheet text at w next → length text ≤ next
+pub lines-end : {sheet : Sheet} {text : Bytes} {at next : ℕ} {w : Witness} → LinesRead sheet text at w next
+    → length text ≤ next
     → WitnessesAt sheet (drop at text) w
 lines-end {sheet} {text} r h =
     record {
@@ -138,10 +164,12 @@ module _ (sheet : Sheet) (lawful : Lawful sheet) where
       ))
   lines-follow (g ∷ grants) (h ∷ others) l p q e =
       lines-follow grants others l (λ f m. p f (List·Memᴰ·tail m)) (λ f m. q f (List·Memᴰ·tail m))
-      (lines-aligned sheet lawful g h (p g (List·Memᴰ·head refl)) (q h (List·Memᴰ·head refl)) .rest (witness-texts sheet grants ++ l)
+      (lines-aligned sheet lawful g h (p g (List·Memᴰ·head refl)) (q h (List·Memᴰ·head refl)) .rest
+      (witness-texts sheet grants ++ l)
       (witness-texts sheet others) (sym (append-assoc (witness-text sheet g) (witness-texts sheet grants) l) ∙ e))
 
-  pub lines-off : {text : Bytes} {at next : ℕ} {w : Witness} → LinesRead sheet text at w next → next < length text → NoWitness sheet text next
+  pub lines-off : {text : Bytes} {at next : ℕ} {w : Witness} → LinesRead sheet text at w next → next < length text
+      → NoWitness sheet text next
       → NoWitnesses sheet (drop at text)
   lines-off {text} {at} {next} r h m = record { none = contradiction }
     where
@@ -156,10 +184,12 @@ module _ (sheet : Sheet) (lawful : Lawful sheet) where
 
 -- ---- block 4
 
-pub no-witness-heading : (sheet : Sheet) {text : Bytes} {at : ℕ} → Misses text at (ascii "user,permission\n") → NoWitnessPart sheet text at
+pub no-witness-heading : (sheet : Sheet) {text : Bytes} {at : ℕ} → Misses text at (ascii "user,permission\n")
+    → NoWitnessPart sheet text at
 no-witness-heading sheet m = record { none = λ grants k e. m .misses (witness-texts sheet grants) e }
 
-pub heading-then-lines : (sheet : Sheet) {text : Bytes} {at mid : ℕ} → Reads text at (ascii "user,permission\n") mid → (ok : Bool) (w : Witness)
+pub heading-then-lines : (sheet : Sheet) {text : Bytes} {at mid : ℕ} → Reads text at (ascii "user,permission\n") mid
+    → (ok : Bool) (w : Witness)
     → WitnessesIn sheet (drop mid text) ok w → PartIn sheet text at ok w
 heading-then-lines sheet h true w p =
     record {

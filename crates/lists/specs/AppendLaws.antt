@@ -12,11 +12,13 @@ module _ {A : Type 0} where
 
   pub filter-append : (test : A → Bool) (s t : List A) → filter test (s ++ t) ≡ filter test s ++ filter test t
   filter-append test [] t = refl
-  filter-append test (a ∷ s) t = rw (filter-append test s t) (sym (keep-append (test a) a (filter test s) (filter test t)))
+  filter-append test (a ∷ s) t = rw (filter-append test s t)
+      (sym (keep-append (test a) a (filter test s) (filter test t)))
 
   pub all-append : (test : A → Bool) (l m : List A) → all test (l ++ m) ≡ (all test l && all test m)
   all-append test [] m = refl
-  all-append test (a ∷ l) m = ap (λ b. test a && b) (all-append test l m) ∙ sym (and-assoc (test a) (all test l) (all test m))
+  all-append test (a ∷ l) m = ap (λ b. test a && b) (all-append test l m)
+      ∙ sym (and-assoc (test a) (all test l) (all test m))
 
   -- what the first list has, else what the second has
   abbrev pub or-else : Option A → Option A → Option A
@@ -27,7 +29,8 @@ module _ {A : Type 0} where
   first-append test [] t = refl
   first-append test (a ∷ s) t = rw (first-append test s t) (pick (test a))
     where
-      pick : (b : Bool) → or-later b a (or-else (first test s) (first test t)) ≡ or-else (or-later b a (first test s)) (first test t)
+      pick : (b : Bool) → or-later b a (or-else (first test s) (first test t)) ≡ or-else (or-later b a (first test s))
+          (first test t)
       pick true = refl
       pick false = refl
 
@@ -36,11 +39,13 @@ module _ {A B : Type 0} where
   map-append f [] m = refl
   map-append f (a ∷ l) m = ap (λ k. f a ∷ k) (map-append f l m)
 
-  pub filter-map : (test : B → Bool) (f : A → B) (l : List A) → filter test (map f l) ≡ map f (filter (λ a. test (f a)) l)
+  pub filter-map : (test : B → Bool) (f : A → B) (l : List A) → filter test (map f l) ≡ map f
+      (filter (λ a. test (f a)) l)
   filter-map test f [] = refl
   filter-map test f (a ∷ l) = rw (filter-map test f l) (pick (test (f a)))
     where
-      pick : (b : Bool) → keep b (f a) (map f (filter (λ a. test (f a)) l)) ≡ map f (keep b a (filter (λ a. test (f a)) l))
+      pick : (b : Bool) → keep b (f a) (map f (filter (λ a. test (f a)) l)) ≡ map f
+          (keep b a (filter (λ a. test (f a)) l))
       pick true = refl
       pick false = refl
 
@@ -53,10 +58,12 @@ module _ {A B : Type 0} where
   found-map f none = none
   found-map f (some a) = some (f a)
 
-  pub first-map : (test : B → Bool) (f : A → B) (l : List A) → first test (map f l) ≡ found-map f (first (λ a. test (f a)) l)
+  pub first-map : (test : B → Bool) (f : A → B) (l : List A) → first test (map f l) ≡ found-map f
+      (first (λ a. test (f a)) l)
   first-map test f [] = refl
   first-map test f (a ∷ l) = rw (first-map test f l) (pick (test (f a)))
     where
-      pick : (b : Bool) → or-later b (f a) (found-map f (first (λ a. test (f a)) l)) ≡ found-map f (or-later b a (first (λ a. test (f a)) l))
+      pick : (b : Bool) → or-later b (f a) (found-map f (first (λ a. test (f a)) l)) ≡ found-map f
+          (or-later b a (first (λ a. test (f a)) l))
       pick true = refl
       pick false = refl

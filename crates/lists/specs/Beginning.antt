@@ -1,7 +1,7 @@
--- One placement begins another: it holds the classes of the first numbers of it. As the latest stands first, what begins a placement is the
--- placement itself or begins its earlier part. What holds of a placement by its earlier parts holds of all that begins it; and what begins a
--- placement and is not the whole of it goes on there with some class.
--- Assumes nothing.
+-- One placement begins another: it holds the classes of the first numbers of it. As the latest stands first, what
+-- begins a placement is the placement itself or begins its earlier part. What holds of a placement by its earlier
+-- parts holds of all that begins it; and what begins a placement and is not the whole of it goes on there with some
+-- class. Assumes nothing.
 use Prim.Native.Nat.{ℕ, _≤_}
 use mathlib.Core.Path.{_≡_, refl}
 use mathlib.Core.Logic.{_⊎_, inl, inr}
@@ -27,7 +27,8 @@ nothing-begins [] = refl
 nothing-begins (a ∷ earlier) = inr (nothing-begins earlier)
 
 -- the whole, or there is a next class
-pub begins-and-goes-on : (part placed : List ℕ) → Begins part placed → (part ≡ placed) ⊎ ((c : ℕ) × Begins (c ∷ part) placed)
+pub begins-and-goes-on : (part placed : List ℕ) → Begins part placed
+    → (part ≡ placed) ⊎ ((c : ℕ) × Begins (c ∷ part) placed)
 begins-and-goes-on part [] e = inl e
 begins-and-goes-on part (a ∷ earlier) (inl e) = inl e
 begins-and-goes-on part (a ∷ earlier) (inr b) = next (begins-and-goes-on part earlier b)
@@ -47,7 +48,8 @@ begins-used-le part [] e = le-of-eq (rw e)
 begins-used-le part (a ∷ earlier) (inl e) = le-of-eq (rw e)
 begins-used-le part (a ∷ earlier) (inr b) = le-trans (begins-used-le part earlier b) (earlier-uses-fewer a earlier)
 
-pub begins-valid : (together : ℕ → ℕ → Bool) (part placed : List ℕ) → Begins part placed → Valid together placed → Valid together part
+pub begins-valid : (together : ℕ → ℕ → Bool) (part placed : List ℕ) → Begins part placed → Valid together placed
+    → Valid together part
 begins-valid together part [] e v = rw e v
 begins-valid together part (a ∷ earlier) (inl e) v = rw e v
 begins-valid together part (a ∷ earlier) (inr b) v = begins-valid together part earlier b (v .1)

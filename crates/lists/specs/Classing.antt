@@ -1,5 +1,6 @@
--- What a placement is worth: its members go together class by class, and its classes are numbered by first appearance.
--- A classing says the same of any function to class numbers (biclique cover, when what goes together are fitting grants).
+-- What a placement is worth: its members go together class by class, and its classes are numbered by first
+-- appearance. A classing says the same of any function to class numbers (biclique cover, when what goes together are
+-- fitting grants).
 use Prim.Native.Nat.{ℕ, _≤_, _<_}
 use mathlib.Core.Path.{_≡_}
 use mathlib.Core.Bool.{Bool, So, cond}

@@ -1,13 +1,26 @@
--- Cutting a list at separators and joining the parts are inverse to each other. A part that holds no separator is read off whole before
--- the next separator stands, and `cut` puts one element before the parts of the rest just as joining the parts puts it before the rest.
--- Assumes nothing.
+-- Cutting a list at separators and joining the parts are inverse to each other. A part that holds no separator is
+-- read off whole before the next separator stands, and `cut` puts one element before the parts of the rest just as
+-- joining the parts puts it before the rest. Assumes nothing.
 use Prim.Native.Nat.{_≤_}
 use native.Mathlib.Nat.{not-suc-le-zero}
 use native.Mathlib.Omega.{arith}
 use mathlib.Core.Path.{_≡_, refl, _∙_}
 use mathlib.Core.Logic.{_⊎_, inl, inr, ⊎-elim}
 use mathlib.Core.Bool.{Bool, true, false, So}
-use mathlib.Core.List.{List, [], _∷_, _++_, map, append-assoc, List·Memᴰ, List·Memᴰ·head, List·Memᴰ·tail, List·Memᴰ·not-nil, List·Memᴰ·cases-cons, List·Memᴰ·eq-of-singleton}
+use mathlib.Core.List.{
+  List,
+  [],
+  _∷_,
+  _++_,
+  map,
+  append-assoc,
+  List·Memᴰ,
+  List·Memᴰ·head,
+  List·Memᴰ·tail,
+  List·Memᴰ·not-nil,
+  List·Memᴰ·cases-cons,
+  List·Memᴰ·eq-of-singleton,
+}
 use lib.ListN.{length}
 use Rattle.spec.specs.Vocabulary.{cut, ended-by, parted-by, joined, concat}
 use Rattle.bits.specs.Truth.{not-both}
@@ -36,7 +49,8 @@ module _ {A : Type 0} where
   free-rest : {separator : A → Bool} {a : A} {part : List A} → Free separator (a ∷ part) → Free separator part
   free-rest h b m = h b (List·Memᴰ·tail m)
 
-  later-parts : {separator : A → Bool} {part : List A} {later : List (List A)} → Parts separator (part ∷ later) → Parts separator later
+  later-parts : {separator : A → Bool} {part : List A} {later : List (List A)} → Parts separator (part ∷ later)
+      → Parts separator later
   later-parts h q m = h q (List·Memᴰ·tail m)
 
   -- a list without separators is one part
@@ -48,13 +62,19 @@ module _ {A : Type 0} where
   pub parted-front : (separator : A → Bool) (s : A) → So (separator s) → (part rest : List A) → Free separator part
       → parted-by separator (part ++ s ∷ rest) ≡ part ∷ parted-by separator rest
   parted-front separator s p [] rest h = rw p
-  parted-front separator s p (a ∷ part) rest h = rw (parted-front separator s p part rest (free-rest h), h a (List·Memᴰ·head refl))
+  parted-front separator s p (a ∷ part) rest h = rw (
+    parted-front separator s p part rest (free-rest h),
+    h a (List·Memᴰ·head refl),
+  )
 
   -- and so it is where separators end the parts
   pub ended-front : (separator : A → Bool) (s : A) → So (separator s) → (part rest : List A) → Free separator part
       → ended-by separator (part ++ s ∷ rest) ≡ part ∷ ended-by separator rest
   ended-front separator s p [] rest h = rw p
-  ended-front separator s p (a ∷ part) rest h = rw (ended-front separator s p part rest (free-rest h), h a (List·Memᴰ·head refl))
+  ended-front separator s p (a ∷ part) rest h = rw (
+    ended-front separator s p part rest (free-rest h),
+    h a (List·Memᴰ·head refl),
+  )
 
   -- parts that hold no separator are the parts of their joining
   pub parted-joined : (separator : A → Bool) (s : A) → So (separator s) → (parts : List (List A)) → 1 ≤ length parts
@@ -118,7 +138,8 @@ module _ {A : Type 0} where
   concat-cut s false a [] some h = absurd (not-suc-le-zero (some refl))
   concat-cut s false a (part ∷ later) some h = refl
 
-  closed-rest : (separator : A → Bool) (a : A) (rest : List A) → So (closed separator (a ∷ rest)) → So (closed separator rest)
+  closed-rest : (separator : A → Bool) (a : A) (rest : List A) → So (closed separator (a ∷ rest))
+      → So (closed separator rest)
   closed-rest separator a [] e = refl
   closed-rest separator a (next ∷ rest) e = e
 
@@ -128,7 +149,8 @@ module _ {A : Type 0} where
   closed-some separator a (next ∷ rest) e f = ended-some separator next rest
 
   -- the parts that separators end, each with its separator, are the list, where nothing follows the last separator
-  pub concat-ended : (separator : A → Bool) (s : A) → ((a : A) → So (separator a) → a ≡ s) → (l : List A) → So (closed separator l)
+  pub concat-ended : (separator : A → Bool) (s : A) → ((a : A) → So (separator a) → a ≡ s) → (l : List A)
+      → So (closed separator l)
       → concat (map (ending s) (ended-by separator l)) ≡ l
   concat-ended separator s only [] e = refl
   concat-ended separator s only (a ∷ rest) e =
@@ -142,7 +164,8 @@ module _ {A : Type 0} where
     pub member : List·Memᴰ c l
     pub free : separator c ≡ false
 
-  in-rest : {separator : A → Bool} {a : A} {rest : List A} {c : A} → InList separator rest c → InList separator (a ∷ rest) c
+  in-rest : {separator : A → Bool} {a : A} {rest : List A} {c : A} → InList separator rest c
+      → InList separator (a ∷ rest) c
   in-rest r = record { member = List·Memᴰ·tail (r .member); free = r .free }
 
   -- every element of every part is such an element
@@ -169,14 +192,16 @@ module _ {A : Type 0} where
       → (c : A) → List·Memᴰ c part → InList separator l c
   parted-element separator [] part m c n = absurd (List·Memᴰ·not-nil (rw (List·Memᴰ·eq-of-singleton m) at n))
   parted-element separator (a ∷ rest) part m c n =
-      cut-element separator (separator a) a rest (parted-by separator rest) refl (parted-element separator rest) part m c n
+      cut-element separator (separator a) a rest (parted-by separator rest) refl (parted-element separator rest) part
+      m c n
 
   -- and so it is where separators end the parts
   pub ended-element : (separator : A → Bool) (l : List A) (part : List A) → List·Memᴰ part (ended-by separator l)
       → (c : A) → List·Memᴰ c part → InList separator l c
   ended-element separator [] part m c n = absurd (List·Memᴰ·not-nil m)
   ended-element separator (a ∷ rest) part m c n =
-      cut-element separator (separator a) a rest (ended-by separator rest) refl (ended-element separator rest) part m c n
+      cut-element separator (separator a) a rest (ended-by separator rest) refl (ended-element separator rest) part m
+      c n
 
   -- no part holds a separator
   pub parted-parts : (separator : A → Bool) (l : List A) → Parts separator (parted-by separator l)

@@ -1,11 +1,31 @@
--- Lists in which nothing stands twice. One after another with nothing in common, read backwards, or mapped one to one they are such lists again. A
--- list of distinct elements that all stand in another is no longer than that one: each of its elements takes an own place there.
+-- Lists in which nothing stands twice. One after another with nothing in common, read backwards, or mapped one to one
+-- they are such lists again. A list of distinct elements that all stand in another is no longer than that one: each
+-- of its elements takes an own place there.
 use Prim.Native.Nat.{ℕ, suc, _+_, _≤_, _<_}
 use native.Mathlib.Omega.{arith}
 use mathlib.Core.Path.{_≡_, refl, sym, ap, _∙_}
 use mathlib.Core.Logic.{_⊎_, inl, inr, ⊎-elim, _≢_}
 use mathlib.Core.Bool.{Bool, false, _||_}
-use mathlib.Core.List.{List, [], _∷_, _++_, map, reverse, reverse-cons, reverse-reverse, List·Memᴰ·eq-of-singleton, Memᴰ·append-left, Memᴰ·append-right, List·Memᴰ, List·Memᴰ·head, List·Memᴰ·tail, List·Memᴰ·not-nil, List·Memᴰ·cases-cons, Memᴰ·cast, Memᴰ·of-map}
+use mathlib.Core.List.{
+  List,
+  [],
+  _∷_,
+  _++_,
+  map,
+  reverse,
+  reverse-cons,
+  reverse-reverse,
+  List·Memᴰ·eq-of-singleton,
+  Memᴰ·append-left,
+  Memᴰ·append-right,
+  List·Memᴰ,
+  List·Memᴰ·head,
+  List·Memᴰ·tail,
+  List·Memᴰ·not-nil,
+  List·Memᴰ·cases-cons,
+  Memᴰ·cast,
+  Memᴰ·of-map,
+}
 use borrow.Author.Tests.{ne-eqb}
 use lib.Dec.{eqb}
 use lib.ListN.{length}
@@ -20,12 +40,14 @@ module _ {A : Type 0} where
   abbrev pub Distinct : List A → Type 0
   Distinct l = Ordered _≢_ l
 
-  pub append-distinct : (l more : List A) → Distinct l → Distinct more → ((a : A) → List·Memᴰ a l → List·Memᴰ a more → ⊥)
+  pub append-distinct : (l more : List A) → Distinct l → Distinct more → ((a : A) → List·Memᴰ a l → List·Memᴰ a more
+      → ⊥)
       → Distinct (l ++ more)
   append-distinct l more h k apart = ordered-append _≢_ l more h k (λ a b m n e. apart a m (Memᴰ·cast e n))
 
   -- where the order holds between no element and itself, no element stands twice
-  pub ordered-distinct : (before : A → A → Type 0) (l : List A) → ((a : A) → List·Memᴰ a l → before a a → ⊥) → Ordered before l → Distinct l
+  pub ordered-distinct : (before : A → A → Type 0) (l : List A) → ((a : A) → List·Memᴰ a l → before a a → ⊥)
+      → Ordered before l → Distinct l
   ordered-distinct before [] strict o = tt
   ordered-distinct before (a ∷ rest) strict o = (
     λ b m e. strict b (List·Memᴰ·tail m) (rw e at (o .0 b m)),
@@ -39,7 +61,8 @@ module _ {A : Type 0} where
   ordered-either before (c ∷ rest) turn o {a} {b} m n =
       choose (ordered-either before rest turn (o .1)) (List·Memᴰ·cases-cons m) (List·Memᴰ·cases-cons n)
     where
-      choose : (List·Memᴰ a rest → List·Memᴰ b rest → (a ≡ b) ⊎ before a b) → (a ≡ c) ⊎ List·Memᴰ a rest → (b ≡ c) ⊎ List·Memᴰ b rest
+      choose : (List·Memᴰ a rest → List·Memᴰ b rest → (a ≡ b) ⊎ before a b) → (a ≡ c) ⊎ List·Memᴰ a rest
+          → (b ≡ c) ⊎ List·Memᴰ b rest
           → (a ≡ b) ⊎ before a b
       choose later (inl p) (inl q) = inl (p ∙ sym q)
       choose later (inl p) (inr k) = inr (rw p (o .0 b k))
@@ -52,7 +75,8 @@ module _ {A : Type 0} where
   reverse-member [] m = m
   reverse-member (b ∷ rest) m =
       rw (reverse-cons b rest)
-      (⊎-elim (λ e. Memᴰ·append-right (reverse rest) (List·Memᴰ·head e)) (λ n. Memᴰ·append-left (b ∷ []) (reverse-member rest n))
+      (⊎-elim (λ e. Memᴰ·append-right (reverse rest) (List·Memᴰ·head e)) (λ n. Memᴰ·append-left (b ∷ [])
+      (reverse-member rest n))
       (List·Memᴰ·cases-cons m))
 
   pub reverse-only : (l : List A) {a : A} → List·Memᴰ a (reverse l) → List·Memᴰ a l
@@ -79,19 +103,26 @@ module _ {A : Type 0} where
     where
       choose : (List·Memᴰ a later → Taken-out a later) → (a ≡ b) ⊎ List·Memᴰ a later → Taken-out a (b ∷ later)
       choose find (inl e) =
-          record { rest = later; shorter = refl; others = λ c n. ⊎-elim (λ p. inl (p ∙ sym e)) (λ p. inr p) (List·Memᴰ·cases-cons n) }
+          record {
+            rest = later;
+            shorter = refl;
+            others = λ c n. ⊎-elim (λ p. inl (p ∙ sym e)) (λ p. inr p)
+                (List·Memᴰ·cases-cons n);
+          }
       choose find (inr n) =
           let r = find n in
           record {
             rest = b ∷ r .rest;
             shorter = ap suc (r .shorter);
             others = λ c k.
-                ⊎-elim (λ p. inr (List·Memᴰ·head p)) (λ p. ⊎-elim (λ q. inl q) (λ q. inr (List·Memᴰ·tail q)) (r .others c p))
+                ⊎-elim (λ p. inr (List·Memᴰ·head p)) (λ p. ⊎-elim (λ q. inl q) (λ q. inr (List·Memᴰ·tail q))
+                (r .others c p))
                 (List·Memᴰ·cases-cons k);
           }
 
   -- distinct elements that all stand in another list
-  pub distinct-within : (l other : List A) → Distinct l → ((a : A) → List·Memᴰ a l → List·Memᴰ a other) → length l ≤ length other
+  pub distinct-within : (l other : List A) → Distinct l → ((a : A) → List·Memᴰ a l → List·Memᴰ a other)
+      → length l ≤ length other
   distinct-within [] other h inside = omega arith
   distinct-within (a ∷ rest) other h inside =
       let r : Taken-out a other = take-out other (inside a (List·Memᴰ·head refl)) in
@@ -116,7 +147,8 @@ module _ {A B : Type 0} where
 -- ---- numbers below a bound
 
 -- distinct numbers of which none passes a test, and the numbers that pass it
-pub distinct-outside : (n : ℕ) (test : ℕ → Bool) (l : List ℕ) → Distinct l → ((k : ℕ) → List·Memᴰ k l → (k < n) × (test k ≡ false))
+pub distinct-outside : (n : ℕ) (test : ℕ → Bool) (l : List ℕ) → Distinct l → ((k : ℕ) → List·Memᴰ k l → (k < n)
+    × (test k ≡ false))
     → length l + count-below n test ≤ n
 distinct-outside n test [] h outside = omega (arith, count-below-le n test)
 distinct-outside n test (a ∷ rest) h outside =

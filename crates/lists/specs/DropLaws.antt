@@ -1,5 +1,5 @@
--- What is left of a list after its first n elements: where something is left, its first element is the n-th of the list, and whether all pass
--- a test goes by that and the rest. Assumes nothing.
+-- What is left of a list after its first n elements: where something is left, its first element is the n-th of the
+-- list, and whether all pass a test goes by that and the rest. Assumes nothing.
 use Prim.Native.Nat.{ℕ, suc, _≤_, _<_}
 use native.Mathlib.Nat.{add-zero}
 use native.Mathlib.Numerals.{add-one}

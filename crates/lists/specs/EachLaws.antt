@@ -16,7 +16,8 @@ module _ {A : Type 0} where
   pub each-first : (Holds : A → Type 0) {a : A} {rest : List A} → Holds a → Each Holds rest → Each Holds (a ∷ rest)
   each-first Holds p later b m = ⊎-elim (λ e. rw e p) (later b) (List·Memᴰ·cases-cons m)
 
-  pub each-listed : (Holds : A → Type 0) (count : ℕ) (f : ℕ → A) → ((i : ℕ) → i < count → Holds (f i)) → Each Holds (list-of count f)
+  pub each-listed : (Holds : A → Type 0) (count : ℕ) (f : ℕ → A) → ((i : ℕ) → i < count → Holds (f i))
+      → Each Holds (list-of count f)
   each-listed Holds count f h a m =
       let r = list-of-element count f m in rw (← r .there) (h (r .place) (r .within))
 

@@ -1,5 +1,5 @@
--- How long the part of a list that passes a test is: never longer than the list, and shorter where a member fails the test.
--- Each law is an induction on the list.
+-- How long the part of a list that passes a test is: never longer than the list, and shorter where a member fails the
+-- test. Each law is an induction on the list.
 use Prim.Native.Nat.{suc, _≤_, _<_}
 use native.Mathlib.Omega.{arith}
 use mathlib.Core.Path.{_≡_}
@@ -18,7 +18,8 @@ module _ {A : Type 0} where
   filter-length test [] = omega arith
   filter-length test (a ∷ rest) = omega (arith, keep-length (test a) a (filter test rest), filter-length test rest)
 
-  pub filter-shorter : (test : A → Bool) (l : List A) {a : A} → List·Memᴰ a l → test a ≡ false → length (filter test l) < length l
+  pub filter-shorter : (test : A → Bool) (l : List A) {a : A} → List·Memᴰ a l → test a ≡ false
+      → length (filter test l) < length l
   filter-shorter test [] m f = absurd (List·Memᴰ·not-nil m)
   filter-shorter test (b ∷ rest) {a} m f = choose (λ n. filter-shorter test rest n f) (List·Memᴰ·cases-cons m)
     where

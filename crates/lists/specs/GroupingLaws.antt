@@ -1,6 +1,5 @@
--- What a grouping by any test is: as long as asked, grown and valid. The class that a number takes is one in use or the next one, and either its
--- members all go together with the number or there are none.
--- Assumes nothing.
+-- What a grouping by any test is: as long as asked, grown and valid. The class that a number takes is one in use or
+-- the next one, and either its members all go together with the number or there are none. Assumes nothing.
 use Prim.Native.Nat.{ℕ, zero, suc, _≤_}
 use mathlib.Core.Path.{_≡_, refl, ap}
 use mathlib.Core.Logic.{⊎-elim}
@@ -23,7 +22,8 @@ abbrev pub class-taken : (ℕ → ℕ → Bool) → ℕ → List ℕ → ℕ
 class-taken together d earlier = Option·getD (lowest-below (used earlier) (joins together d earlier)) (used earlier)
 
 -- a new class takes any number
-pub new-class-joins : (together : ℕ → ℕ → Bool) (d : ℕ) (earlier : List ℕ) → So (joins together d earlier (used earlier))
+pub new-class-joins : (together : ℕ → ℕ → Bool) (d : ℕ) (earlier : List ℕ)
+    → So (joins together d earlier (used earlier))
 new-class-joins together d earlier =
     joins-intro together d earlier (used earlier) (λ i l e. absurd (omega (arith, class-below-used earlier l, e)))
 

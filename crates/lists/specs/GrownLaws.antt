@@ -1,5 +1,5 @@
--- A placement whose classes are numbered by first appearance has at most as many classes as members: each member adds at most one.
--- Assumes nothing.
+-- A placement whose classes are numbered by first appearance has at most as many classes as members: each member adds
+-- at most one. Assumes nothing.
 use Prim.Native.Nat.{ℕ, _≤_}
 use mathlib.Core.List.{List, [], _∷_}
 use lib.ListN.{length}

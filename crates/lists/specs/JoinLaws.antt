@@ -1,9 +1,24 @@
--- What stands in parts that were joined, and what maps make of equal elements. An element of a joining is the separator or stands in a part.
--- Each law is an induction on the list. Assumes nothing.
+-- What stands in parts that were joined, and what maps make of equal elements. An element of a joining is the
+-- separator or stands in a part. Each law is an induction on the list. Assumes nothing.
 use Prim.Native.Nat.{_+_}
 use mathlib.Core.Path.{_≡_, refl, sym}
 use mathlib.Core.Logic.{_⊎_, inl, inr, ⊎-elim}
-use mathlib.Core.List.{List, [], _∷_, _++_, map, append-assoc, List·Memᴰ, List·Memᴰ·head, List·Memᴰ·tail, List·Memᴰ·not-nil, List·Memᴰ·cases-cons, List·Memᴰ·append-cases, Memᴰ·append-left, Memᴰ·append-right}
+use mathlib.Core.List.{
+  List,
+  [],
+  _∷_,
+  _++_,
+  map,
+  append-assoc,
+  List·Memᴰ,
+  List·Memᴰ·head,
+  List·Memᴰ·tail,
+  List·Memᴰ·not-nil,
+  List·Memᴰ·cases-cons,
+  List·Memᴰ·append-cases,
+  Memᴰ·append-left,
+  Memᴰ·append-right,
+}
 use lib.ListN.{length, length-append}
 use Rattle.spec.specs.Vocabulary.{joined, concat}
 
@@ -28,12 +43,14 @@ module _ {A : Type 0} where
   concat-element (part ∷ later) m =
       ⊎-elim (λ n. in-first n) (λ n. in-later (concat-element later n)) (List·Memᴰ·append-cases part m)
 
-  pub concat-member : {parts : List (List A)} {part : List A} {a : A} → List·Memᴰ part parts → List·Memᴰ a part → List·Memᴰ a (concat parts)
+  pub concat-member : {parts : List (List A)} {part : List A} {a : A} → List·Memᴰ part parts → List·Memᴰ a part
+      → List·Memᴰ a (concat parts)
   concat-member {parts = []} m n = absurd (List·Memᴰ·not-nil m)
   concat-member {parts = first ∷ later} {part} {a} m n =
       choose (concat-member {parts = later}) (List·Memᴰ·cases-cons m)
     where
-      choose : (List·Memᴰ part later → List·Memᴰ a part → List·Memᴰ a (concat later)) → (part ≡ first) ⊎ List·Memᴰ part later
+      choose : (List·Memᴰ part later → List·Memᴰ a part → List·Memᴰ a (concat later)) → (part ≡ first) ⊎ List·Memᴰ
+          part later
           → List·Memᴰ a (concat (first ∷ later))
       choose deeper (inl e) = Memᴰ·append-left (concat later) (rw e at n)
       choose deeper (inr k) = Memᴰ·append-right first (deeper k n)
@@ -43,7 +60,8 @@ module _ {A : Type 0} where
   concat-append (part ∷ later) others =
       rw (concat-append later others) (sym (append-assoc part (concat later) (concat others)))
 
-  pub length-concat : (part : List A) (later : List (List A)) → length (concat (part ∷ later)) ≡ length part + length (concat later)
+  pub length-concat : (part : List A) (later : List (List A)) → length (concat (part ∷ later)) ≡ length part + length
+      (concat later)
   length-concat part later = length-append part (concat later)
 
   -- ---- parts with a separator between each two
@@ -52,7 +70,8 @@ module _ {A : Type 0} where
   pub joined-element : (s : A) (parts : List (List A)) {a : A} → List·Memᴰ a (joined s parts) → (a ≡ s) ⊎ InPart parts a
   joined-element s [] m = absurd (List·Memᴰ·not-nil m)
   joined-element s (part ∷ []) m = inr (in-first m)
-  joined-element s (part ∷ next ∷ later) {a} m = choose (joined-element s (next ∷ later)) (List·Memᴰ·append-cases part m)
+  joined-element s (part ∷ next ∷ later) {a} m = choose (joined-element s (next ∷ later))
+      (List·Memᴰ·append-cases part m)
     where
       deepen : (a ≡ s) ⊎ InPart (next ∷ later) a → (a ≡ s) ⊎ InPart (part ∷ next ∷ later) a
       deepen (inl e) = inl e
@@ -68,8 +87,10 @@ module _ {A : Type 0} where
       → List·Memᴰ a (joined s parts)
   joined-member s [] m n = absurd (List·Memᴰ·not-nil m)
   joined-member s (first ∷ []) {part} {a} m n =
-      ⊎-elim (λ e. let k : List·Memᴰ a first = rw e at n in k) (λ k. absurd (List·Memᴰ·not-nil k)) (List·Memᴰ·cases-cons m)
-  joined-member s (first ∷ next ∷ later) {part} {a} m n = choose (joined-member s (next ∷ later)) (List·Memᴰ·cases-cons m)
+      ⊎-elim (λ e. let k : List·Memᴰ a first = rw e at n in k) (λ k. absurd (List·Memᴰ·not-nil k))
+      (List·Memᴰ·cases-cons m)
+  joined-member s (first ∷ next ∷ later) {part} {a} m n = choose (joined-member s (next ∷ later))
+      (List·Memᴰ·cases-cons m)
     where
       choose : (List·Memᴰ part (next ∷ later) → List·Memᴰ a part → List·Memᴰ a (joined s (next ∷ later)))
           → (part ≡ first) ⊎ List·Memᴰ part (next ∷ later) → List·Memᴰ a (joined s (first ∷ next ∷ later))

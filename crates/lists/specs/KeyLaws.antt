@@ -1,6 +1,6 @@
--- What a grouping is where going together means having one key: its classes are exactly the keys, so there are as many classes as keys. A number
--- joins the lowest class that takes it; by its members' keys that is the class of its own key, if there is one yet, and else a new class opens.
--- Assumes nothing.
+-- What a grouping is where going together means having one key: its classes are exactly the keys, so there are as
+-- many classes as keys. A number joins the lowest class that takes it; by its members' keys that is the class of its
+-- own key, if there is one yet, and else a new class opens. Assumes nothing.
 use Prim.Native.Nat.{ℕ, zero, suc, _+_, _≤_, _<_}
 use mathlib.Core.Path.{_≡_, refl, sym, ap, _∙_}
 use mathlib.Core.Logic.{_⊎_, inl, inr, ⊎-elim}
@@ -20,7 +20,15 @@ use Rattle.bits.specs.Laws.Lowest.{lowest-below-intro}
 use Rattle.bits.specs.Laws.Count.{count-below-le, count-below-ext, count-below-none-intro, count-below-all-intro}
 use Rattle.bits.specs.Laws.CountJoin.{count-below-with}
 use Rattle.lists.specs.Classing.{class-in, Valid, Grown}
-use Rattle.lists.specs.PlacementLaws.{class-in-latest, class-in-earlier, class-below-used, joins-intro, joins-elim, valid-elim, grown-member}
+use Rattle.lists.specs.PlacementLaws.{
+  class-in-latest,
+  class-in-earlier,
+  class-below-used,
+  joins-intro,
+  joins-elim,
+  valid-elim,
+  grown-member,
+}
 use Rattle.lists.specs.GroupingLaws.{class-taken, grouping-length, grouping-grown, grouping-valid}
 
 -- two numbers have one key
@@ -49,7 +57,8 @@ module _ (key : ℕ → ℕ) where
   class-has-one-key placed v i j k l e =
       ⊎-elim (λ (h : i < j). sym (eqb-true (key j) (key i) (valid-elim (same-key key) placed v j i h l (sym e))))
       (λ (h : j ≤ i).
-      ⊎-elim (λ s. ap key (sym s)) (λ m. eqb-true (key i) (key j) (valid-elim (same-key key) placed v i j m k e)) (eq-or-lt-of-le h))
+      ⊎-elim (λ s. ap key (sym s)) (λ m. eqb-true (key i) (key j) (valid-elim (same-key key) placed v i j m k e))
+      (eq-or-lt-of-le h))
       (below-or-from i j)
 
   -- the next number takes the class of its key
@@ -85,18 +94,23 @@ module _ (key : ℕ → ℕ) where
       split : (i ≡ length placed) ⊎ (i < length placed) → (j ≡ length placed) ⊎ (j < length placed)
           → class-in (a ∷ placed) i ≡ class-in (a ∷ placed) j
       split (inl p) (inl q) = class-in-latest a placed p ∙ sym (class-in-latest a placed q)
-      split (inl p) (inr q) = class-in-latest a placed p ∙ latest j q (ap key (sym p) ∙ e) ∙ sym (class-in-earlier a placed q)
-      split (inr p) (inl q) = class-in-earlier a placed p ∙ sym (latest i p (ap key (sym q) ∙ sym e)) ∙ sym (class-in-latest a placed q)
-      split (inr p) (inr q) = class-in-earlier a placed p ∙ keyed .one-class i j p q e ∙ sym (class-in-earlier a placed q)
+      split (inl p) (inr q) = class-in-latest a placed p ∙ latest j q (ap key (sym p) ∙ e)
+          ∙ sym (class-in-earlier a placed q)
+      split (inr p) (inl q) = class-in-earlier a placed p ∙ sym (latest i p (ap key (sym q) ∙ sym e))
+          ∙ sym (class-in-latest a placed q)
+      split (inr p) (inr q) = class-in-earlier a placed p ∙ keyed .one-class i j p q e
+          ∙ sym (class-in-earlier a placed q)
 
   -- one number fewer
   keyed-earlier : (a : ℕ) (earlier : List ℕ) → KeyedBy key (suc (length earlier)) (class-in (a ∷ earlier))
       → KeyedBy key (length earlier) (class-in earlier)
   keyed-earlier a earlier keyed = record {
     one-key = λ i j k l e.
-        keyed .one-key i j (le-step k) (le-step l) (class-in-earlier a earlier k ∙ e ∙ sym (class-in-earlier a earlier l));
+        keyed .one-key i j (le-step k) (le-step l) (class-in-earlier a earlier k ∙ e
+        ∙ sym (class-in-earlier a earlier l));
     one-class = λ i j k l e.
-        sym (class-in-earlier a earlier k) ∙ keyed .one-class i j (le-step k) (le-step l) e ∙ class-in-earlier a earlier l;
+        sym (class-in-earlier a earlier k) ∙ keyed .one-class i j (le-step k) (le-step l) e
+        ∙ class-in-earlier a earlier l;
   }
 
   -- ---- the classes of a grouping by key
@@ -123,7 +137,8 @@ module _ (key : ℕ → ℕ) where
   -- ---- how many classes there are
 
   -- a key that an earlier number has counts no more
-  known-key : (n m : ℕ) → So (has-key key n (key n)) → count-below m (has-key key (suc n)) ≡ count-below m (has-key key n)
+  known-key : (n m : ℕ) → So (has-key key n (key n)) → count-below m (has-key key (suc n)) ≡ count-below m
+      (has-key key n)
   unfolding some-below
   known-key n m p = count-below-ext m (has-key key (suc n)) (has-key key n) same
     where
@@ -135,7 +150,8 @@ module _ (key : ℕ → ℕ) where
       → count-below m (has-key key (suc n)) ≡ count-below m (has-key key n) + 1
   unfolding some-below
   new-key n m l f =
-      count-below-ext m (has-key key (suc n)) (λ k. has-key key n k || eqb k (key n)) same ∙ count-below-with m (has-key key n) l f
+      count-below-ext m (has-key key (suc n)) (λ k. has-key key n k || eqb k (key n)) same
+      ∙ count-below-with m (has-key key n) l f
     where
       same : (k : ℕ) → k < m → has-key key (suc n) k ≡ (has-key key n k || eqb k (key n))
       same k o =
@@ -145,7 +161,8 @@ module _ (key : ℕ → ℕ) where
           (passes-or-fails (eqb (key n) k))
 
   -- the latest number shares its class with an earlier one exactly if it shares its key
-  shared-class : (a : ℕ) (earlier : List ℕ) → Grown earlier → KeyedBy key (suc (length earlier)) (class-in (a ∷ earlier))
+  shared-class : (a : ℕ) (earlier : List ℕ) → Grown earlier → KeyedBy key (suc (length earlier))
+      (class-in (a ∷ earlier))
       → a < used earlier → So (has-key key (length earlier) (key (length earlier)))
   shared-class a earlier g keyed l =
       let m = grown-member earlier g l in
@@ -159,23 +176,32 @@ module _ (key : ℕ → ℕ) where
   shared-key a earlier keyed p =
       let r = some-below-elim (length earlier) (λ i. eqb (key i) (key (length earlier))) p in
       let same = eqb-true (key (r .place)) (key (length earlier)) (r .holds) in
-      let one = keyed .one-class (r .place) (length earlier) (le-step (r .within)) (lt-suc-self (length earlier)) same in
-      rw (sym (class-in-earlier a earlier (r .within)) ∙ one ∙ class-in-latest a earlier refl) at (class-below-used earlier (r .within))
+      let one = keyed .one-class (r .place) (length earlier) (le-step (r .within)) (lt-suc-self (length earlier))
+      same in
+      rw (sym (class-in-earlier a earlier (r .within)) ∙ one ∙ class-in-latest a earlier refl) at
+      (class-below-used earlier (r .within))
 
   -- a class opens with each new key, so there are as many classes as keys
   pub used-counts-keys : (m : ℕ) (placed : List ℕ) → Grown placed → KeyedBy key (length placed) (class-in placed)
       → ((i : ℕ) → i < length placed → key i < m) → used placed ≡ count-below m (has-key key (length placed))
   used-counts-keys m [] g keyed within =
-      sym (count-below-none-intro m (has-key key 0) (λ k l. none-below-intro 0 (λ i. eqb (key i) k) (λ i o. absurd (not-suc-le-zero o))))
+      sym (count-below-none-intro m (has-key key 0) (λ k l. none-below-intro 0 (λ i. eqb (key i) k)
+      (λ i o. absurd (not-suc-le-zero o))))
   used-counts-keys m (a ∷ earlier) g keyed within =
       let so-far = used-counts-keys m earlier (g .1) (keyed-earlier a earlier keyed) (λ i l. within i (le-step l)) in
       ⊎-elim
       (λ p. omega (arith, known-key (length earlier) m p, shared-key a earlier keyed p))
-      (λ f. omega (arith, g .0, new-key (length earlier) m (within (length earlier) (lt-suc-self (length earlier))) f, opens f))
+      (λ f. omega (
+        arith,
+        g .0,
+        new-key (length earlier) m (within (length earlier) (lt-suc-self (length earlier))) f,
+        opens f,
+      ))
       (passes-or-fails (has-key key (length earlier) (key (length earlier))))
     where
       opens : has-key key (length earlier) (key (length earlier)) ≡ false → used earlier ≤ a
-      opens f = ⊎-elim (λ l. absurd (not-both (shared-class a earlier (g .1) keyed l) f)) (λ h. h) (below-or-from a (used earlier))
+      opens f = ⊎-elim (λ l. absurd (not-both (shared-class a earlier (g .1) keyed l) f)) (λ h. h)
+          (below-or-from a (used earlier))
 
   module _ (n m : ℕ) (within : (i : ℕ) → i < n → key i < m) where
     pub grouping-counts-keys : used (by-key key n) ≡ count-below m (has-key key n)

@@ -1,5 +1,6 @@
--- What the next number takes in a grouping by key: the class of an earlier number of its key, and where there is none, the next class. The first is read off
--- the longer grouping, whose classes are exactly its keys. For the second, every class in use has a member, and none has the number's key.
+-- What the next number takes in a grouping by key: the class of an earlier number of its key, and where there is
+-- none, the next class. The first is read off the longer grouping, whose classes are exactly its keys. For the
+-- second, every class in use has a member, and none has the number's key.
 use Prim.Native.Nat.{ℕ, suc, _<_}
 use mathlib.Core.Path.{_≡_, sym, _∙_}
 use mathlib.Core.Bool.{false, So}

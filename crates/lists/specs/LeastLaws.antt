@@ -8,7 +8,8 @@ use Rattle.spec.specs.Vocabulary.{lesser, least}
 
 module _ {A : Type 0} where
   -- of a list that is not empty
-  pub least-member : (measure : A → ℕ) (a : A) (rest : List A) → List·Memᴰ (lesser measure a (least measure rest)) (a ∷ rest)
+  pub least-member : (measure : A → ℕ) (a : A) (rest : List A) → List·Memᴰ (lesser measure a (least measure rest))
+      (a ∷ rest)
   least-member measure a [] = List·Memᴰ·head refl
   least-member measure a (b ∷ rest) = choose (leb (measure a) (measure later)) (least-member measure b rest)
     where

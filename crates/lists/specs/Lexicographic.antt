@@ -1,6 +1,5 @@
--- The lexicographic order of lists of numbers: no list stands before itself, and what stands before a list stands before all that follow it.
--- Each law is an induction along the lists, place by place.
--- Assumes nothing.
+-- The lexicographic order of lists of numbers: no list stands before itself, and what stands before a list stands
+-- before all that follow it. Each law is an induction along the lists, place by place. Assumes nothing.
 use Prim.Native.Nat.{ℕ, _<_}
 use mathlib.Core.Path.{_≡_, refl, _∙_}
 use mathlib.Core.Logic.{_⊎_, inl, inr}

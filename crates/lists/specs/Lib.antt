@@ -1,4 +1,5 @@
--- Laws of what the definitions are written with: lists under a Boolean test, lists in order, lists cut and joined, placements in classes.
+-- Laws of what the definitions are written with: lists under a Boolean test, lists in order, lists cut and joined,
+-- placements in classes.
 pub mod TestLaws
 pub mod Ordered
 pub mod ReverseLaws

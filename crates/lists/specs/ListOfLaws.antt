@@ -1,5 +1,5 @@
--- The list f 0, f 1, .. f (count - 1): its length, its elements, and when two such lists are one. Each law is an induction on the
--- count, over the numbers from i on. Assumes nothing.
+-- The list f 0, f 1, .. f (count - 1): its length, its elements, and when two such lists are one. Each law is an
+-- induction on the count, over the numbers from i on. Assumes nothing.
 use Prim.Native.Nat.{ℕ, zero, suc, _+_, _≤_, _<_}
 use native.Mathlib.Nat.{not-suc-le-zero, le-of-suc-le-suc, add-zero, zero-add}
 use native.Mathlib.Omega.{arith}
@@ -15,7 +15,8 @@ module _ {A : Type 0} where
   length-list-from i zero f = refl
   length-list-from i (suc count) f = ap suc (length-list-from (suc i) count f)
 
-  pub getD-list-from : (i count : ℕ) (f : ℕ → A) (j : ℕ) (d : A) → j < count → getD (list-from i count f) j d ≡ f (i + j)
+  pub getD-list-from : (i count : ℕ) (f : ℕ → A) (j : ℕ) (d : A) → j < count → getD (list-from i count f) j d ≡ f
+      (i + j)
   getD-list-from i zero f j d h = absurd (not-suc-le-zero h)
   getD-list-from i (suc count) f zero d h = rw add-zero
   getD-list-from i (suc count) f (suc j) d h =
@@ -25,7 +26,11 @@ module _ {A : Type 0} where
       → list-from i count f ≡ list-from i count g
   list-from-same i zero f g h = refl
   list-from-same i (suc count) f g h =
-      rw (h i (omega arith) (omega arith), list-from-same (suc i) count f g (λ j low high. h j (omega arith) (omega arith)))
+      rw (
+        h i (omega arith) (omega arith),
+        list-from-same (suc i) count f g (λ j low high. h j (omega arith)
+            (omega arith)),
+      )
 
   pub list-from-shift : (i count : ℕ) (f : ℕ → A) → list-from (suc i) count f ≡ list-from i count (λ j. f (suc j))
   list-from-shift i zero f = refl
@@ -84,7 +89,8 @@ module _ {A : Type 0} where
       record { place = r .place; within = within; there = sym (getD-list-of count f (r .place) a within) ∙ r .there }
 
 module _ {A B : Type 0} where
-  pub map-list-from : (g : A → B) (i count : ℕ) (f : ℕ → A) → map g (list-from i count f) ≡ list-from i count (λ j. g (f j))
+  pub map-list-from : (g : A → B) (i count : ℕ) (f : ℕ → A) → map g (list-from i count f) ≡ list-from i count
+      (λ j. g (f j))
   map-list-from g i zero f = refl
   map-list-from g i (suc count) f = ap {B = List B} (λ rest. g (f i) ∷ rest) (map-list-from g (suc i) count f)
 

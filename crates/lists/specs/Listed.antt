@@ -1,5 +1,6 @@
--- Parts f 0, f 1, .. f (count - 1), one after the other: each part stands behind those before it, a front of them is no longer than all, and
--- all together have at most as many elements as parts of the greatest length would. Assumes nothing.
+-- Parts f 0, f 1, .. f (count - 1), one after the other: each part stands behind those before it, a front of them is
+-- no longer than all, and all together have at most as many elements as parts of the greatest length would. Assumes
+-- nothing.
 use Prim.Native.Nat.{ℕ, zero, suc, _+_, _*_, _≤_, _<_}
 use native.Mathlib.Nat.{suc-mul, le-of-suc-le-suc, not-suc-le-zero, eq-or-lt-of-le}
 use native.Mathlib.Numerals.{add-one}
@@ -35,10 +36,12 @@ module _ {A : Type 0} where
   listed-front i (suc count) f h =
       let whole : length (listed (suc count) f) ≡ length (listed count f ++ f count) = ap length (listed-suc count f) in
       ⊎-elim (λ (e : i ≡ count). rw e (omega arith))
-      (λ (l : i < count). omega (arith, listed-front i count f l, length-append (listed count f) (f count))) (eq-or-lt-of-le (le-of-suc-le-suc h))
+      (λ (l : i < count). omega (arith, listed-front i count f l, length-append (listed count f) (f count)))
+      (eq-or-lt-of-le (le-of-suc-le-suc h))
 
   -- parts of no more than a length each
-  pub listed-length : (count most : ℕ) (f : ℕ → List A) → ((i : ℕ) → i < count → length (f i) ≤ most) → length (listed count f) ≤ count * most
+  pub listed-length : (count most : ℕ) (f : ℕ → List A) → ((i : ℕ) → i < count → length (f i) ≤ most)
+      → length (listed count f) ≤ count * most
   listed-length zero most f h = omega arith
   listed-length (suc count) most f h =
       omega (
@@ -51,7 +54,8 @@ module _ {A : Type 0} where
       )
 
   -- parts of one length
-  pub listed-even : (count each : ℕ) (f : ℕ → List A) → ((i : ℕ) → i < count → length (f i) ≡ each) → length (listed count f) ≡ count * each
+  pub listed-even : (count each : ℕ) (f : ℕ → List A) → ((i : ℕ) → i < count → length (f i) ≡ each)
+      → length (listed count f) ≡ count * each
   listed-even zero each f h = omega arith
   listed-even (suc count) each f h =
       omega (

@@ -1,6 +1,6 @@
--- Lists in order by some relation: each element stands before every later one. The order of two lists one after the other, and of what a test
--- leaves, follows by induction on the first list; two places of an ordered list are in that relation, so they never hold one element where
--- the relation is strict.
+-- Lists in order by some relation: each element stands before every later one. The order of two lists one after the
+-- other, and of what a test leaves, follows by induction on the first list; two places of an ordered list are in that
+-- relation, so they never hold one element where the relation is strict.
 use Prim.Native.Nat.{ℕ, zero, suc, _<_}
 use native.Mathlib.Nat.{le-of-suc-le-suc, not-suc-le-zero}
 use mathlib.Core.Path.{refl}
@@ -36,13 +36,15 @@ module _ {A : Type 0} where
   )
 
   -- an element in front where a test passed, if it stands before all that follow
-  pub ordered-keep : (before : A → A → Type 0) (kept : Bool) (a : A) (rest : List A) → ((b : A) → List·Memᴰ b rest → before a b)
+  pub ordered-keep : (before : A → A → Type 0) (kept : Bool) (a : A) (rest : List A)
+      → ((b : A) → List·Memᴰ b rest → before a b)
       → Ordered before rest → Ordered before (keep kept a rest)
   ordered-keep before true a rest h o = (h, o)
   ordered-keep before false a rest h o = o
 
   -- what passes a test keeps the order
-  pub ordered-filter : (before : A → A → Type 0) (test : A → Bool) (l : List A) → Ordered before l → Ordered before (filter test l)
+  pub ordered-filter : (before : A → A → Type 0) (test : A → Bool) (l : List A) → Ordered before l
+      → Ordered before (filter test l)
   ordered-filter before test [] o = o
   ordered-filter before test (a ∷ rest) o =
       ordered-keep before (test a) a (filter test rest) (λ b m. o .0 b (filter-kept test rest m .member))

@@ -3,7 +3,8 @@ use mathlib.Core.List.{List, [], _∷_, map, Memᴰ·of-map}
 use Rattle.lists.specs.Ordered.{Ordered}
 
 module _ {A B : Type 0} where
-  pub ordered-map : (before : A → A → Type 0) (after : B → B → Type 0) (f : A → B) → ((a b : A) → before a b → after (f a) (f b))
+  pub ordered-map : (before : A → A → Type 0) (after : B → B → Type 0) (f : A → B)
+      → ((a b : A) → before a b → after (f a) (f b))
       → (l : List A) → Ordered before l → Ordered after (map f l)
   ordered-map before after f keeps [] o = tt
   ordered-map before after f keeps (a ∷ l) o = (

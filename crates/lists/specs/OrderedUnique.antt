@@ -1,15 +1,26 @@
--- A list in order is known by its elements: two lists with the same elements, in one order that never holds both ways, are one list. The first of each
--- stands before all others of its list, so the two first ones are one; and then the rests have the same elements.
+-- A list in order is known by its elements: two lists with the same elements, in one order that never holds both
+-- ways, are one list. The first of each stands before all others of its list, so the two first ones are one; and then
+-- the rests have the same elements.
 use mathlib.Core.Path.{_≡_, refl, sym, _∙_}
 use mathlib.Core.Logic.{_⊎_, inl, inr, ⊎-elim}
-use mathlib.Core.List.{List, [], _∷_, List·Memᴰ, List·Memᴰ·head, List·Memᴰ·tail, List·Memᴰ·not-nil, List·Memᴰ·cases-cons}
+use mathlib.Core.List.{
+  List,
+  [],
+  _∷_,
+  List·Memᴰ,
+  List·Memᴰ·head,
+  List·Memᴰ·tail,
+  List·Memᴰ·not-nil,
+  List·Memᴰ·cases-cons,
+}
 use Rattle.lists.specs.Ordered.{Ordered}
 
 module _ {A : Type 0} (before : A → A → Type 0) (one-way : (a b : A) → before a b → before b a → ⊥) where
   -- an element of the rest of one list stands in the rest of the other
   in-the-rest : {a b : A} (rest other : List A) → a ≡ b → Ordered before (a ∷ rest)
       → {c : A} → List·Memᴰ c rest → List·Memᴰ c (b ∷ other) → List·Memᴰ c other
-  in-the-rest {a} {b} rest other same o {c} m n = ⊎-elim (λ e. absurd (itself (e ∙ sym same))) (λ k. k) (List·Memᴰ·cases-cons n)
+  in-the-rest {a} {b} rest other same o {c} m n = ⊎-elim (λ e. absurd (itself (e ∙ sym same))) (λ k. k)
+      (List·Memᴰ·cases-cons n)
     where
       itself : c ≡ a → ⊥
       itself e = let p = rw e at (o .0 c m) in one-way a a p p
@@ -20,7 +31,8 @@ module _ {A : Type 0} (before : A → A → Type 0) (one-way : (a b : A) → bef
   ordered-unique [] (b ∷ k) o p into back = absurd (List·Memᴰ·not-nil (back b (List·Memᴰ·head refl)))
   ordered-unique (a ∷ l) [] o p into back = absurd (List·Memᴰ·not-nil (into a (List·Memᴰ·head refl)))
   ordered-unique (a ∷ l) (b ∷ k) o p into back =
-      let first : a ≡ b = same (List·Memᴰ·cases-cons (into a (List·Memᴰ·head refl))) (List·Memᴰ·cases-cons (back b (List·Memᴰ·head refl))) in
+      let first : a ≡ b = same (List·Memᴰ·cases-cons (into a (List·Memᴰ·head refl)))
+      (List·Memᴰ·cases-cons (back b (List·Memᴰ·head refl))) in
       let later : l ≡ k =
       ordered-unique l k (o .1) (p .1) (λ c m. in-the-rest l k first o m (into c (List·Memᴰ·tail m)))
       (λ c m. in-the-rest k l (sym first) p m (back c (List·Memᴰ·tail m))) in

@@ -1,12 +1,28 @@
--- The numbers below a bound that pass a test, as a list in rising order. It grows at its end, as the loop does that counts up, so each law is an induction
--- on the bound: what a test says of the list is what the definitions of crate bits say of the numbers.
+-- The numbers below a bound that pass a test, as a list in rising order. It grows at its end, as the loop does that
+-- counts up, so each law is an induction on the bound: what a test says of the list is what the definitions of crate
+-- bits say of the numbers.
 use Prim.Native.Nat.{ℕ, zero, suc, _+_, _≤_, _<_}
 use native.Mathlib.Nat.{add-zero, add-suc, le-refl, le-step, not-suc-le-zero, eq-or-lt-of-le}
 use native.Mathlib.Omega.{arith}
 use mathlib.Core.Path.{_≡_, refl, sym, ap, _∙_}
 use mathlib.Core.Logic.{_⊎_, inl, inr, ⊎-elim}
 use mathlib.Core.Bool.{Bool, true, false, So, _&&_, not, false≢true, and-true, and-comm}
-use mathlib.Core.List.{List, [], _∷_, _++_, map, append-nil, append-assoc, List·Memᴰ, List·Memᴰ·head, List·Memᴰ·not-nil, List·Memᴰ·append-cases, List·Memᴰ·cases-cons, Memᴰ·append-left, Memᴰ·append-right}
+use mathlib.Core.List.{
+  List,
+  [],
+  _∷_,
+  _++_,
+  map,
+  append-nil,
+  append-assoc,
+  List·Memᴰ,
+  List·Memᴰ·head,
+  List·Memᴰ·not-nil,
+  List·Memᴰ·append-cases,
+  List·Memᴰ·cases-cons,
+  Memᴰ·append-left,
+  Memᴰ·append-right,
+}
 use mathlib.Core.Option.{none, some}
 use borrow.Author.Tests.{eq-eqb, ne-eqb}
 use lib.Dec.{eqb}
@@ -73,7 +89,8 @@ passing-rises (suc n) f =
 
 -- ---- tests over it
 
-pub passing-filter : (n : ℕ) (f test : ℕ → Bool) → filter test (passing-below n f) ≡ passing-below n (λ i. f i && test i)
+pub passing-filter : (n : ℕ) (f test : ℕ → Bool) → filter test (passing-below n f) ≡ passing-below n (λ i. f i
+    && test i)
 unfolding passing-below
 passing-filter zero f test = refl
 passing-filter (suc n) f test =
@@ -94,7 +111,8 @@ passing-length (suc n) f =
     last true = refl
     last false = refl
 
-pub passing-all : (n : ℕ) (f test : ℕ → Bool) → all test (passing-below n f) ≡ every-below n (λ i. implies (f i) (test i))
+pub passing-all : (n : ℕ) (f test : ℕ → Bool) → all test (passing-below n f) ≡ every-below n
+    (λ i. implies (f i) (test i))
 unfolding passing-below every-below
 passing-all zero f test = refl
 passing-all (suc n) f test =
@@ -107,7 +125,8 @@ passing-all (suc n) f test =
 
 -- ---- the first that passes another test
 
-pub passing-first-none : (n : ℕ) (f test : ℕ → Bool) → ((i : ℕ) → i < n → (f i && test i) ≡ false) → first test (passing-below n f) ≡ none
+pub passing-first-none : (n : ℕ) (f test : ℕ → Bool) → ((i : ℕ) → i < n → (f i && test i) ≡ false)
+    → first test (passing-below n f) ≡ none
 unfolding passing-below
 passing-first-none zero f test h = refl
 passing-first-none (suc n) f test h =
@@ -118,13 +137,16 @@ passing-first-none (suc n) f test h =
     last true e = rw e
     last false e = refl
 
-pub passing-first : (n : ℕ) (f test : ℕ → Bool) {i : ℕ} → Lowest n (λ j. f j && test j) i → first test (passing-below n f) ≡ some i
+pub passing-first : (n : ℕ) (f test : ℕ → Bool) {i : ℕ} → Lowest n (λ j. f j && test j) i
+    → first test (passing-below n f) ≡ some i
 unfolding passing-below
 passing-first zero f test w = absurd (not-suc-le-zero (w .within))
 passing-first (suc n) f test {i} w =
     rw (first-append test (passing-below n f) (keep (f n) n []))
-    (⊎-elim (λ e. rw (passing-first-none n f test (λ j l. w .first j (rw e l))) (last e (f n) refl (rw e at (w .holds))))
-    (λ l. rw (passing-first n f test (record { within = l; holds = w .holds; first = w .first }))) (last-or-below (w .within)))
+    (⊎-elim (λ e. rw (passing-first-none n f test (λ j l. w .first j (rw e l)))
+    (last e (f n) refl (rw e at (w .holds))))
+    (λ l. rw (passing-first n f test (record { within = l; holds = w .holds; first = w .first })))
+    (last-or-below (w .within)))
   where
     last : i ≡ n → (b : Bool) → f n ≡ b → So (f n && test n) → first test (keep b n []) ≡ some i
     last e true g p = rw (and-right (f n) (test n) p, e)
@@ -137,11 +159,13 @@ unfolding passing-below
 passing-none zero f h = refl
 passing-none (suc n) f h = rw (passing-none n f (λ i l. h i (le-step l)), h n (le-refl (suc n)))
 
-pub passing-lowest : (n : ℕ) (f : ℕ → Bool) {i : ℕ} → Lowest n f i → passing-below n f ≡ i ∷ passing-below n (λ j. f j && not (eqb j i))
+pub passing-lowest : (n : ℕ) (f : ℕ → Bool) {i : ℕ} → Lowest n f i → passing-below n f ≡ i ∷ passing-below n (λ j. f j
+    && not (eqb j i))
 unfolding passing-below
 passing-lowest zero f w = absurd (not-suc-le-zero (w .within))
 passing-lowest (suc n) f {i} w =
-    ⊎-elim last (λ l. earlier l (passing-lowest n f (record { within = l; holds = w .holds; first = w .first }))) (last-or-below (w .within))
+    ⊎-elim last (λ l. earlier l (passing-lowest n f (record { within = l; holds = w .holds; first = w .first })))
+    (last-or-below (w .within))
   where
     others : ℕ → Bool
     others j = f j && not (eqb j i)
@@ -149,15 +173,23 @@ passing-lowest (suc n) f {i} w =
     last : i ≡ n → passing-below n f ++ keep (f n) n [] ≡ i ∷ passing-below n others ++ keep (others n) n []
     last e =
         let none-before : (j : ℕ) → j < n → f j ≡ false = λ j l. w .first j (rw e l) in
-        rw (passing-none n f none-before, passing-none n others (λ j l. rw (none-before j l)), rw e at (w .holds), eq-eqb n i (sym e), e)
+        rw (
+          passing-none n f none-before,
+          passing-none n others (λ j l. rw (none-before j l)),
+          rw e at (w .holds),
+          eq-eqb n i (sym e),
+          e,
+        )
 
-    earlier : i < n → passing-below n f ≡ i ∷ passing-below n others → passing-below n f ++ keep (f n) n [] ≡ i ∷ passing-below n others ++ keep (others n) n []
+    earlier : i < n → passing-below n f ≡ i ∷ passing-below n others → passing-below n f ++ keep (f n) n [] ≡ i ∷
+        passing-below n others ++ keep (others n) n []
     earlier l e = rw (e, ne-eqb n i (λ same. omega arith), and-true (f n))
 
 -- ---- a greater bound
 
 -- nothing more passes from m on
-pub passing-until : (m n : ℕ) (f : ℕ → Bool) → m ≤ n → ((i : ℕ) → m ≤ i → i < n → f i ≡ false) → passing-below n f ≡ passing-below m f
+pub passing-until : (m n : ℕ) (f : ℕ → Bool) → m ≤ n → ((i : ℕ) → m ≤ i → i < n → f i ≡ false)
+    → passing-below n f ≡ passing-below m f
 unfolding passing-below
 passing-until m zero f l h = let e : m ≡ 0 = omega arith in rw e
 passing-until m (suc n) f l h = choose (eq-or-lt-of-le l) (λ k. passing-until m n f k (λ i a b. h i a (le-step b)))
@@ -175,12 +207,20 @@ unfolding passing-below
 passing-next n f p = rw p
 
 -- the numbers below a + b are those below a, and those that are a and more
-pub passing-add : (a b : ℕ) (f : ℕ → Bool) → passing-below (a + b) f ≡ passing-below a f ++ map (λ i. a + i) (passing-below b (λ i. f (a + i)))
+pub passing-add : (a b : ℕ) (f : ℕ → Bool) → passing-below (a + b) f ≡ passing-below a f ++ map (λ i. a + i)
+    (passing-below b (λ i. f (a + i)))
 unfolding passing-below
 passing-add a zero f = rw (add-zero a) (sym (append-nil (passing-below a f)))
 passing-add a (suc b) f =
-    rw (add-suc a b, passing-add a b f, map-append (λ i. a + i) (passing-below b (λ i. f (a + i))) (keep (f (a + b)) b []), last (f (a + b)))
-    (append-assoc (passing-below a f) (map (λ i. a + i) (passing-below b (λ i. f (a + i)))) (keep (f (a + b)) (a + b) []))
+    rw (
+      add-suc a b,
+      passing-add a b f,
+      map-append (λ i. a + i) (passing-below b (λ i. f (a + i)))
+          (keep (f (a + b)) b []),
+      last (f (a + b)),
+    )
+    (append-assoc (passing-below a f) (map (λ i. a + i) (passing-below b (λ i. f (a + i))))
+    (keep (f (a + b)) (a + b) []))
   where
     last : (passes : Bool) → map (λ i. a + i) (keep passes b []) ≡ keep passes (a + b) []
     last true = refl

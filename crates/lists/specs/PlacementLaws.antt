@@ -1,7 +1,7 @@
--- What a placement says of its numbers. Class numbers are read off by `class-in`; a number may join a class if it goes together with every member
--- read off so; a placement is valid exactly when any two numbers of one class go together; and in a grown placement every class has a member.
--- Each law is an induction on the placement: a number in it is the latest or is in the earlier part.
--- Assumes nothing.
+-- What a placement says of its numbers. Class numbers are read off by `class-in`; a number may join a class if it
+-- goes together with every member read off so; a placement is valid exactly when any two numbers of one class go
+-- together; and in a grown placement every class has a member. Each law is an induction on the placement: a number in
+-- it is the latest or is in the earlier part. Assumes nothing.
 use Prim.Native.Nat.{ℕ, suc, _≤_, _<_}
 use mathlib.Core.Path.{_≡_, refl, sym, _∙_}
 use mathlib.Core.Logic.{⊎-elim}
@@ -22,11 +22,13 @@ use Rattle.lists.specs.Classing.{class-in, Valid, Grown, Classing}
 pub class-in-latest : (a : ℕ) (earlier : List ℕ) {i : ℕ} → i ≡ length earlier → class-in (a ∷ earlier) i ≡ a
 class-in-latest a earlier {i} e = rw (eq-eqb i (length earlier) e)
 
-pub class-in-earlier : (a : ℕ) (earlier : List ℕ) {i : ℕ} → i < length earlier → class-in (a ∷ earlier) i ≡ class-in earlier i
+pub class-in-earlier : (a : ℕ) (earlier : List ℕ) {i : ℕ} → i < length earlier → class-in (a ∷ earlier) i ≡ class-in
+    earlier i
 class-in-earlier a earlier {i} l = rw (ne-eqb i (length earlier) (omega arith))
 
 -- a longer placement agrees on the earlier numbers
-pub class-in-part : (later earlier : List ℕ) {i : ℕ} → i < length earlier → class-in (later ++ earlier) i ≡ class-in earlier i
+pub class-in-part : (later earlier : List ℕ) {i : ℕ} → i < length earlier → class-in (later ++ earlier) i ≡ class-in
+    earlier i
 class-in-part [] earlier l = refl
 class-in-part (a ∷ later) earlier l =
     class-in-earlier a (later ++ earlier) (omega (arith, length-append later earlier)) ∙ class-in-part later earlier l
@@ -43,7 +45,8 @@ pub class-below-used : (placed : List ℕ) {i : ℕ} → i < length placed → c
 class-below-used [] l = absurd (not-suc-le-zero l)
 class-below-used (a ∷ earlier) {i} l =
     ⊎-elim (λ e. rw (class-in-latest a earlier e) (latest-below-used a earlier))
-    (λ (k : i < length earlier). rw (class-in-earlier a earlier k) (le-trans (class-below-used earlier k) (earlier-uses-fewer a earlier)))
+    (λ (k : i < length earlier). rw (class-in-earlier a earlier k) (le-trans (class-below-used earlier k)
+    (earlier-uses-fewer a earlier)))
     (last-or-below l)
 
 -- ---- joining a class
@@ -85,7 +88,8 @@ valid-elim together (a ∷ earlier) v i j k l e =
     (last-or-below l)
 
 pub valid-intro : (together : ℕ → ℕ → Bool) (placed : List ℕ)
-    → ((i j : ℕ) → j < i → i < length placed → class-in placed i ≡ class-in placed j → So (together i j)) → Valid together placed
+    → ((i j : ℕ) → j < i → i < length placed → class-in placed i ≡ class-in placed j → So (together i j))
+    → Valid together placed
 valid-intro together [] h = tt
 valid-intro together (a ∷ earlier) h = (
   joins-intro together (length earlier) earlier a (λ j l e. h (length earlier) j l (lt-suc-self (length earlier))
@@ -102,7 +106,8 @@ valid-is-classing together placed v =
 
 -- what goes together under one test does so under another
 pub valid-mono : (together also : ℕ → ℕ → Bool) (placed : List ℕ)
-    → ((i j : ℕ) → j < i → i < length placed → So (together i j) → So (also i j)) → Valid together placed → Valid also placed
+    → ((i j : ℕ) → j < i → i < length placed → So (together i j) → So (also i j)) → Valid together placed
+    → Valid also placed
 valid-mono together also placed h v =
     valid-intro also placed (λ i j k l e. h i j k l (valid-elim together placed v i j k l e))
 
@@ -119,7 +124,12 @@ pub grown-member : (placed : List ℕ) → Grown placed → {c : ℕ} → c < us
 grown-member [] g l = absurd (not-suc-le-zero l)
 grown-member (a ∷ earlier) g {c} l =
     ⊎-elim
-    (λ e. record { number = length earlier; within = lt-suc-self (length earlier); classed = class-in-latest a earlier refl ∙ eqb-true a c e })
+    (λ e. record {
+      number = length earlier;
+      within = lt-suc-self (length earlier);
+      classed = class-in-latest a earlier
+          refl ∙ eqb-true a c e;
+    })
     (λ e. kept (grown-member earlier (g .1) (omega (arith, g .0, eqb-false a c e))))
     (passes-or-fails (eqb a c))
   where

@@ -1,5 +1,5 @@
--- Two lists compared from the front, place by place: lists of other lengths differ, and with equal elements in front the rests decide.
--- Assumes nothing.
+-- Two lists compared from the front, place by place: lists of other lengths differ, and with equal elements in front
+-- the rests decide. Assumes nothing.
 use Prim.Native.Nat.{ℕ, suc, _<_}
 use mathlib.Core.Path.{_≡_}
 use mathlib.Core.Bool.{Bool, false, _&&_}
@@ -11,7 +11,8 @@ use Rattle.bits.specs.Truth.{fails-unless}
 use Rattle.lists.specs.SameLaws.{same-by-length}
 
 module _ {A : Type 0} where
-  pub other-lengths-differ : (same : A → A → Bool) (l others : List A) → (length l ≡ length others → ⊥) → same-by same l others ≡ false
+  pub other-lengths-differ : (same : A → A → Bool) (l others : List A) → (length l ≡ length others → ⊥)
+      → same-by same l others ≡ false
   other-lengths-differ same l others h = fails-unless (same-by same l others) (λ e. h (same-by-length same l others e))
 
   -- the elements at place i, then the rests

@@ -1,5 +1,5 @@
--- Tests that agree on the numbers asked for give one grouping. A number is only ever tested with earlier ones, so it is enough that the tests agree there.
--- Assumes nothing.
+-- Tests that agree on the numbers asked for give one grouping. A number is only ever tested with earlier ones, so it
+-- is enough that the tests agree there. Assumes nothing.
 use Prim.Native.Nat.{ℕ, zero, suc, _<_}
 use mathlib.Core.Path.{_≡_, refl}
 use mathlib.Core.Bool.{Bool}
@@ -22,6 +22,8 @@ grouping-ext together also zero h = refl
 grouping-ext together also (suc n) h =
     rw (
       grouping-ext together also n (λ i j k l. h i j k (le-step l)),
-      lowest-below-ext (used (grouping also n)) (joins together n (grouping also n)) (joins also n (grouping also n)) (λ c l.
-          joins-ext together also n (grouping also n) c (λ i k. h n i (rw (grouping-length also n) at k) (lt-suc-self n))),
+      lowest-below-ext (used (grouping also n)) (joins together n (grouping also n)) (joins also n (grouping also n))
+          (λ c l.
+          joins-ext together also n (grouping also n) c (λ i k. h n i (rw (grouping-length also n) at k)
+          (lt-suc-self n))),
     )

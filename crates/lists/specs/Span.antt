@@ -1,5 +1,6 @@
--- How far it is to the first element that stops a reader, and the first part of a list that such elements end. Each law is an induction on the
--- list: at an element that stops, the part is empty and the rest follows it; any other belongs to the part that follows. Assumes nothing.
+-- How far it is to the first element that stops a reader, and the first part of a list that such elements end. Each
+-- law is an induction on the list: at an element that stops, the part is empty and the rest follows it; any other
+-- belongs to the part that follows. Assumes nothing.
 use Prim.Native.Nat.{ℕ, suc, _≤_, _<_}
 use native.Mathlib.Omega.{arith}
 use mathlib.Core.Path.{_≡_, refl, ap}

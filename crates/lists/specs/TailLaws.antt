@@ -1,5 +1,5 @@
--- A list without its first element: its elements are elements of the list, and it is one shorter. Both are cases of the list, empty or not.
--- Assumes nothing.
+-- A list without its first element: its elements are elements of the list, and it is one shorter. Both are cases of
+-- the list, empty or not. Assumes nothing.
 use Prim.Native.Nat.{suc, _≤_}
 use native.Mathlib.Nat.{not-suc-le-zero}
 use mathlib.Core.Path.{_≡_, refl}

@@ -1,12 +1,22 @@
--- What a passed or failed test over a list says of its members, and back. Each law is an induction on the list: a member of
--- `a ∷ rest` is a, or is a member of rest. Assumes nothing.
+-- What a passed or failed test over a list says of its members, and back. Each law is an induction on the list: a
+-- member of `a ∷ rest` is a, or is a member of rest. Assumes nothing.
 use Prim.Native.Nat.{ℕ, zero, suc, _<_}
 use native.Mathlib.Nat.{le-of-suc-le-suc, not-suc-le-zero}
 use native.Mathlib.Omega.{arith}
 use mathlib.Core.Path.{_≡_, refl, sym}
 use mathlib.Core.Logic.{_⊎_, inl, inr, ⊎-elim}
 use mathlib.Core.Bool.{Bool, true, false, So, false≢true}
-use mathlib.Core.List.{List, [], _∷_, List·Memᴰ, List·Memᴰ·head, List·Memᴰ·tail, List·Memᴰ·not-nil, List·Memᴰ·cases-cons, Memᴰ·cast}
+use mathlib.Core.List.{
+  List,
+  [],
+  _∷_,
+  List·Memᴰ,
+  List·Memᴰ·head,
+  List·Memᴰ·tail,
+  List·Memᴰ·not-nil,
+  List·Memᴰ·cases-cons,
+  Memᴰ·cast,
+}
 use mathlib.Core.Option.{none, some}
 use borrow.Author.Tests.{eqb-true, eq-eqb}
 use lib.Dec.{eqb}
@@ -19,11 +29,13 @@ module _ {A : Type 0} where
   pub all-intro : (test : A → Bool) (l : List A) → ((a : A) → List·Memᴰ a l → So (test a)) → So (all test l)
   all-intro test [] h = refl
   all-intro test (a ∷ rest) h =
-      and-intro (test a) (all test rest) (h a (List·Memᴰ·head refl)) (all-intro test rest (λ b m. h b (List·Memᴰ·tail m)))
+      and-intro (test a) (all test rest) (h a (List·Memᴰ·head refl))
+      (all-intro test rest (λ b m. h b (List·Memᴰ·tail m)))
 
   pub all-elim : (test : A → Bool) (l : List A) → So (all test l) → {a : A} → List·Memᴰ a l → So (test a)
   all-elim test [] e m = absurd (List·Memᴰ·not-nil m)
-  all-elim test (b ∷ rest) e {a} m = choose (all-elim test rest (and-right (test b) (all test rest) e)) (List·Memᴰ·cases-cons m)
+  all-elim test (b ∷ rest) e {a} m = choose (all-elim test rest (and-right (test b) (all test rest) e))
+      (List·Memᴰ·cases-cons m)
     where
       choose : (List·Memᴰ a rest → So (test a)) → (a ≡ b) ⊎ List·Memᴰ a rest → So (test a)
       choose later (inl p) = rw p (and-left (test b) (all test rest) e)
@@ -67,7 +79,8 @@ module _ {A : Type 0} where
   keep-later true a m = List·Memᴰ·tail m
   keep-later false a m = m
 
-  pub keep-cases : (b : Bool) (a : A) {rest : List A} {c : A} → List·Memᴰ c (keep b a rest) → (So b × (c ≡ a)) ⊎ List·Memᴰ c rest
+  pub keep-cases : (b : Bool) (a : A) {rest : List A} {c : A} → List·Memᴰ c (keep b a rest)
+      → (So b × (c ≡ a)) ⊎ List·Memᴰ c rest
   keep-cases true a {rest} {c} m = ⊎-elim (λ e. inl (refl, e)) (λ n. inr n) (List·Memᴰ·cases-cons m)
   keep-cases false a m = inr m
 
@@ -75,7 +88,8 @@ module _ {A : Type 0} where
   filter-member test [] m p = absurd (List·Memᴰ·not-nil m)
   filter-member test (b ∷ rest) {a} m p = choose (λ n. filter-member test rest n p) (List·Memᴰ·cases-cons m)
     where
-      choose : (List·Memᴰ a rest → List·Memᴰ a (filter test rest)) → (a ≡ b) ⊎ List·Memᴰ a rest → List·Memᴰ a (filter test (b ∷ rest))
+      choose : (List·Memᴰ a rest → List·Memᴰ a (filter test rest)) → (a ≡ b) ⊎ List·Memᴰ a rest
+          → List·Memᴰ a (filter test (b ∷ rest))
       choose later (inl e) = Memᴰ·cast e (keep-member (test b) b (filter test rest) (rw e at p))
       choose later (inr n) = keep-later (test b) b (later n)
 
@@ -88,7 +102,8 @@ module _ {A : Type 0} where
   filter-kept test [] m = absurd (List·Memᴰ·not-nil m)
   filter-kept test (b ∷ rest) {a} m = choose (filter-kept test rest) (keep-cases (test b) b m)
     where
-      choose : (List·Memᴰ a (filter test rest) → Kept test rest a) → (So (test b) × (a ≡ b)) ⊎ List·Memᴰ a (filter test rest)
+      choose : (List·Memᴰ a (filter test rest) → Kept test rest a) → (So (test b) × (a ≡ b)) ⊎ List·Memᴰ a
+          (filter test rest)
           → Kept test (b ∷ rest) a
       choose later (inl h) = record { member = List·Memᴰ·head (h .1); passes = rw (h .1) (h .0) }
       choose later (inr n) = let r = later n in record { member = List·Memᴰ·tail (r .member); passes = r .passes }
@@ -133,7 +148,11 @@ module _ {A : Type 0} where
     where
       choose : (List·Memᴰ a rest → At rest a d) → (a ≡ b) ⊎ List·Memᴰ a rest → At (b ∷ rest) a d
       choose later (inl e) = record { place = 0; within = omega arith; there = sym e }
-      choose later (inr n) = let r = later n in record { place = suc (r .place); within = omega (arith, r .within); there = r .there }
+      choose later (inr n) = let r = later n in record {
+        place = suc (r .place);
+        within = omega (arith, r .within);
+        there = r .there;
+      }
 
 -- equal bytes are the same bytes, and back
 pub same-bytes-equal : (a b : List ℕ) → So (same-bytes a b) → a ≡ b

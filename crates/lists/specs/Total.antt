@@ -1,5 +1,5 @@
--- The total of a measure over a list, and how it follows the list: end to end and by a map. A total is at most as many times
--- the greatest measure as the list is long.
+-- The total of a measure over a list, and how it follows the list: end to end and by a map. A total is at most as
+-- many times the greatest measure as the list is long.
 use Prim.Native.Nat.{ℕ, zero, suc, _+_, _*_, _≤_}
 use native.Mathlib.Nat.{suc-mul, not-suc-le-zero, le-of-suc-le-suc}
 use native.Mathlib.Omega.{arith}

@@ -1,11 +1,22 @@
--- The grants that the witness takes from a list: they stand in it, no two of them fit, and every grant of the list is one of them or fits one. Each choice drops
--- the grant taken and all that fit it, so later ones do not fit it; and it drops at least one grant, so as many choices as there are grants leave none.
+-- The grants that the witness takes from a list: they stand in it, no two of them fit, and every grant of the list is
+-- one of them or fits one. Each choice drops the grant taken and all that fit it, so later ones do not fit it; and it
+-- drops at least one grant, so as many choices as there are grants leave none.
 use Prim.Native.Nat.{ℕ, zero, suc, _≤_}
 use native.Mathlib.Omega.{arith}
 use mathlib.Core.Path.{_≡_, refl, sym, ap}
 use mathlib.Core.Logic.{_⊎_, inl, inr, ⊎-elim}
 use mathlib.Core.Bool.{So, false, not, _||_}
-use mathlib.Core.List.{List, [], _∷_, List·Memᴰ, List·Memᴰ·head, List·Memᴰ·tail, List·Memᴰ·not-nil, List·Memᴰ·cases-cons, Memᴰ·cast}
+use mathlib.Core.List.{
+  List,
+  [],
+  _∷_,
+  List·Memᴰ,
+  List·Memᴰ·head,
+  List·Memᴰ·tail,
+  List·Memᴰ·not-nil,
+  List·Memᴰ·cases-cons,
+  Memᴰ·cast,
+}
 use lib.ListN.{length}
 use Rattle.spec.specs.Vocabulary.{least, lesser}
 use Rattle.spec.specs.Sheet.{Sheet, Grant, same-grant}
@@ -22,12 +33,14 @@ use Rattle.minimality.specs.Removals.{Unfit}
 
 -- the grant that is taken from a list that is not empty
 abbrev pub picked : Sheet → Grant → List Grant → Grant
-picked sheet g rest = lesser (λ h. length (partners sheet (g ∷ rest) h)) g (least (λ h. length (partners sheet (g ∷ rest) h)) rest)
+picked sheet g rest =
+    lesser (λ h. length (partners sheet (g ∷ rest) h)) g (least (λ h. length (partners sheet (g ∷ rest) h)) rest)
 
 picked-member : (sheet : Sheet) (g : Grant) (rest : List Grant) → List·Memᴰ (picked sheet g rest) (g ∷ rest)
 picked-member sheet g rest = least-member (λ h. length (partners sheet (g ∷ rest) h)) g rest
 
-pub taken-member : (sheet : Sheet) (fuel : ℕ) (l : List Grant) {g : Grant} → List·Memᴰ g (taken sheet fuel l) → List·Memᴰ g l
+pub taken-member : (sheet : Sheet) (fuel : ℕ) (l : List Grant) {g : Grant} → List·Memᴰ g (taken sheet fuel l)
+    → List·Memᴰ g l
 taken-member sheet zero l m = absurd (List·Memᴰ·not-nil m)
 taken-member sheet (suc more) [] m = m
 taken-member sheet (suc more) (a ∷ rest) {g} m =
@@ -62,7 +75,8 @@ taken-meets sheet zero [] enough m = absurd (List·Memᴰ·not-nil m)
 taken-meets sheet zero (a ∷ rest) enough m = absurd (omega arith)
 taken-meets sheet (suc more) [] enough m = absurd (List·Memᴰ·not-nil m)
 taken-meets sheet (suc more) (a ∷ rest) enough {g} m =
-    choose (passes-or-fails (same-grant it g || fits sheet it g)) (taken-meets sheet more (left-after sheet it (a ∷ rest)) (omega (arith, shorter)))
+    choose (passes-or-fails (same-grant it g || fits sheet it g))
+    (taken-meets sheet more (left-after sheet it (a ∷ rest)) (omega (arith, shorter)))
   where
     it : Grant
     it = picked sheet a rest
@@ -73,17 +87,20 @@ taken-meets sheet (suc more) (a ∷ rest) enough {g} m =
         (ap not (or-left (same-grant it it) (fits sheet it it) (same-grant-refl it)))
 
     choose : So (same-grant it g || fits sheet it g) ⊎ ((same-grant it g || fits sheet it g) ≡ false)
-        → (List·Memᴰ g (left-after sheet it (a ∷ rest)) → Met sheet (taken sheet more (left-after sheet it (a ∷ rest))) g)
+        → (List·Memᴰ g (left-after sheet it (a ∷ rest))
+        → Met sheet (taken sheet more (left-after sheet it (a ∷ rest))) g)
         → Met sheet (it ∷ taken sheet more (left-after sheet it (a ∷ rest))) g
     choose (inl p) later =
         record {
           by = it;
           member = List·Memᴰ·head refl;
-          fitting = ⊎-elim (λ e. inl (sym (same-grant-equal it g e))) (λ e. inr e) (or-cases (same-grant it g) (fits sheet it g) p);
+          fitting = ⊎-elim (λ e. inl (sym (same-grant-equal it g e))) (λ e. inr e)
+              (or-cases (same-grant it g) (fits sheet it g) p);
         }
     choose (inr f) later =
         let r =
-        later (filter-member (λ h. not (same-grant it h || fits sheet it h)) (a ∷ rest) m (not-passes (same-grant it g || fits sheet it g) f))
+        later (filter-member (λ h. not (same-grant it h || fits sheet it h)) (a ∷ rest) m
+        (not-passes (same-grant it g || fits sheet it g) f))
         in
         record { by = r .by; member = List·Memᴰ·tail (r .member); fitting = r .fitting }
 

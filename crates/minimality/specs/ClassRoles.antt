@@ -1,6 +1,7 @@
--- Classes become roles. The roles of grants in classes number the classes by first appearance, so two grants have one role exactly if they have one
--- class. A cell that a role opens comes from two grants of one class, which fit: so it is held. And a held cell is a grant, whose role opens it. There are
--- no more roles than classes, and as many if every class has a grant.
+-- Classes become roles. The roles of grants in classes number the classes by first appearance, so two grants have one
+-- role exactly if they have one class. A cell that a role opens comes from two grants of one class, which fit: so it
+-- is held. And a held cell is a grant, whose role opens it. There are no more roles than classes, and as many if
+-- every class has a grant.
 use Prim.Native.Nat.{ℕ, _≤_, _<_}
 use native.Mathlib.Nat.{lt-of-lt-of-le, le-of-eq}
 use mathlib.Core.Path.{_≡_, sym, ap, _∙_}
@@ -56,7 +57,8 @@ module _ (all : List Grant) (members : List Classed) where
   pub role-count-is-class-count : (count : ℕ) → ((g : Grant) → List·Memᴰ g all → class-of members g < count)
       → ((c : ℕ) → c < count → InClass c) → roles-of-classes all members .count ≡ count
   role-count-is-class-count count within inhabited =
-      grouping-used-all class-number (length all) count (λ i l. within (grant-at all i) (grant-at-member all i l)) appears
+      grouping-used-all class-number (length all) count (λ i l. within (grant-at all i) (grant-at-member all i l))
+      appears
     where
       appears : (c : ℕ) → c < count → So (has-key class-number (length all) c)
       appears c l =
@@ -68,7 +70,8 @@ module _ (all : List Grant) (members : List Classed) where
 -- ---- the product of the roles
 
 -- what a role opens is held
-opened-is-held : (sheet : Sheet) (members : List Classed) (count : ℕ) → ClassingOf sheet (grants sheet) count (class-of members)
+opened-is-held : (sheet : Sheet) (members : List Classed) (count : ℕ) → ClassingOf sheet (grants sheet) count
+    (class-of members)
     → (u p : ℕ) → So (product (roles-of-classes (grants sheet) members) u p) → So (holds sheet u p)
 opened-is-held sheet members count classing u p e =
     let all = grants sheet in
@@ -93,10 +96,12 @@ held-is-opened sheet members u p e =
     let found = member-number all (held-grant sheet (record { user = u; permission = p }) e) in
     let l : found .number < length numbers = rw (role-numbers-length all members) (found .within) in
     rw (found .there) at
-    (product-intro all numbers (used numbers) (sym (role-numbers-length all members)) (found .number) l (class-below-used numbers l))
+    (product-intro all numbers (used numbers) (sym (role-numbers-length all members)) (found .number) l
+    (class-below-used numbers l))
 
 -- the roles of a classing of all grants multiply to the sheet
-pub classes-multiply : (sheet : Sheet) (members : List Classed) (count : ℕ) → ClassingOf sheet (grants sheet) count (class-of members)
+pub classes-multiply : (sheet : Sheet) (members : List Classed) (count : ℕ) → ClassingOf sheet (grants sheet) count
+    (class-of members)
     → Multiplies (roles-of-classes (grants sheet) members) sheet
 classes-multiply sheet members count classing =
     record {

@@ -1,5 +1,5 @@
--- The kernel is a part of the sheet's grants, in their order: a removal only takes a grant out of the list. So no grant stands twice in it, and
--- grants at different places are different.
+-- The kernel is a part of the sheet's grants, in their order: a removal only takes a grant out of the list. So no
+-- grant stands twice in it, and grants at different places are different.
 use native.Mathlib.Omega.{arith}
 use mathlib.Core.Path.{_≡_}
 use mathlib.Core.Logic.{inl, inr}
@@ -49,7 +49,9 @@ before-one-way g h (inr l) (inr k) = omega (arith, l .1, k .1)
 -- the sheet's grants that stand in the kernel, in their order
 pub kernel-is-part : (sheet : Sheet) → kernel sheet ≡ filter (among (kernel sheet)) (grants sheet)
 kernel-is-part sheet =
-    ordered-unique Before before-one-way (kernel sheet) (filter (among (kernel sheet)) (grants sheet)) (kernel-ordered sheet)
+    ordered-unique Before before-one-way (kernel sheet) (filter (among (kernel sheet)) (grants sheet))
+    (kernel-ordered sheet)
     (ordered-filter Before (among (kernel sheet)) (grants sheet) (grants-ordered sheet))
-    (λ g m. filter-member (among (kernel sheet)) (grants sheet) (kernel-granted sheet m) (member-among (kernel sheet) m))
+    (λ g m. filter-member (among (kernel sheet)) (grants sheet) (kernel-granted sheet m)
+    (member-among (kernel sheet) m))
     (λ g m. among-member (kernel sheet) g (filter-kept (among (kernel sheet)) (grants sheet) m .passes))

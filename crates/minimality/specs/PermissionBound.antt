@@ -1,6 +1,7 @@
--- Why there are never more roles than permissions: singles and the classes of the kernel by permission together are at most as many as the sheet's permissions.
--- Two held grants of one permission fit, and a single fits no other single and nothing that remains; so each single has a permission of its own, which no grant
--- of the kernel has. The classes by permission are the kernel's permissions.
+-- Why there are never more roles than permissions: singles and the classes of the kernel by permission together are
+-- at most as many as the sheet's permissions. Two held grants of one permission fit, and a single fits no other
+-- single and nothing that remains; so each single has a permission of its own, which no grant of the kernel has. The
+-- classes by permission are the kernel's permissions.
 use Prim.Native.Nat.{ℕ, _+_, _≤_, _<_}
 use native.Mathlib.Omega.{arith}
 use mathlib.Core.Path.{_≡_, refl, sym}
@@ -32,22 +33,27 @@ abbrev kernel-permission : Sheet → ℕ → ℕ
 kernel-permission sheet i = grant-at (kernel sheet) i .permission
 
 -- a grant's permission is one of the sheet's
-permission-below : {sheet : Sheet} → Even sheet → {g : Grant} → List·Memᴰ g (grants sheet) → g .permission < permission-count sheet
+permission-below : {sheet : Sheet} → Even sheet → {g : Grant} → List·Memᴰ g (grants sheet)
+    → g .permission < permission-count sheet
 permission-below {sheet} even {g} m = even-permission-below even (g .user) (g .permission) (grant-held sheet m)
 
 -- grants that do not fit have different permissions
-unfit-permissions-differ : (sheet : Sheet) {g h : Grant} → List·Memᴰ g (grants sheet) → List·Memᴰ h (grants sheet) → Unfit sheet g h
+unfit-permissions-differ : (sheet : Sheet) {g h : Grant} → List·Memᴰ g (grants sheet) → List·Memᴰ h (grants sheet)
+    → Unfit sheet g h
     → g .permission ≢ h .permission
-unfit-permissions-differ sheet {g} {h} m n unfit e = not-both (one-permission-fits sheet g h (grant-held sheet m) (grant-held sheet n) e) unfit
+unfit-permissions-differ sheet {g} {h} m n unfit e =
+    not-both (one-permission-fits sheet g h (grant-held sheet m) (grant-held sheet n) e) unfit
 
 -- no two singles have one permission
 pub single-permissions-distinct : (sheet : Sheet) → Distinct (map (λ g. g .permission) (singles sheet))
 single-permissions-distinct sheet =
     map-distinct (λ g. g .permission) (singles sheet)
-    (ordered-distinct (Unfit sheet) (singles sheet) (λ g m e. unfit-permissions-differ sheet (single-granted sheet m) (single-granted sheet m) e refl)
+    (ordered-distinct (Unfit sheet) (singles sheet) (λ g m e. unfit-permissions-differ sheet (single-granted sheet m)
+    (single-granted sheet m) e refl)
     (singles-apart sheet))
     (λ g h m n e.
-    ⊎-elim (λ same. same) (λ unfit. absurd (unfit-permissions-differ sheet (single-granted sheet m) (single-granted sheet n) unfit e))
+    ⊎-elim (λ same. same) (λ unfit. absurd (unfit-permissions-differ sheet (single-granted sheet m)
+    (single-granted sheet n) unfit e))
     (ordered-either (Unfit sheet) (singles sheet) (unfit-turned sheet) (singles-apart sheet) m n))
 
 -- and none has one of the kernel's
@@ -55,12 +61,15 @@ pub single-permission-not-kernel : (sheet : Sheet) {g : Grant} → List·Memᴰ 
     → has-key (kernel-permission sheet) (length (kernel sheet)) (g .permission) ≡ false
 single-permission-not-kernel sheet {g} m =
     none-below-intro (length (kernel sheet)) (λ i. eqb (kernel-permission sheet i) (g .permission))
-    (λ i l. ne-eqb (kernel-permission sheet i) (g .permission) (λ e. unfit-permissions-differ sheet (single-granted sheet m)
-    (kernel-granted sheet (grant-at-member (kernel sheet) i l)) (single-unfit-kernel sheet m (grant-at-member (kernel sheet) i l)) (sym e)))
+    (λ i l. ne-eqb (kernel-permission sheet i) (g .permission) (λ e. unfit-permissions-differ sheet
+    (single-granted sheet m)
+    (kernel-granted sheet (grant-at-member (kernel sheet) i l))
+    (single-unfit-kernel sheet m (grant-at-member (kernel sheet) i l)) (sym e)))
 
 -- singles and the kernel's classes by permission are at most as many as the permissions
 pub singles-and-permissions : {sheet : Sheet} → Even sheet
-    → length (singles sheet) + used (grouping (permission-at (kernel sheet)) (length (kernel sheet))) ≤ permission-count sheet
+    → length (singles sheet) + used (grouping (permission-at (kernel sheet)) (length (kernel sheet))) ≤
+    permission-count sheet
 singles-and-permissions {sheet} even =
     omega (
       arith,
@@ -78,6 +87,8 @@ singles-and-permissions {sheet} even =
         rw (← (r .2)) (permission-below even (single-granted sheet (r .1)), single-permission-not-kernel sheet (r .1))
 
 -- and so are singles and the classes of the first best
-pub singles-and-first-best : {sheet : Sheet} → Even sheet → length (singles sheet) + used (first-best sheet) ≤ permission-count sheet
+pub singles-and-first-best : {sheet : Sheet} → Even sheet → length (singles sheet) + used (first-best sheet) ≤
+    permission-count sheet
 unfolding first-best
-singles-and-first-best {sheet} even = omega (arith, singles-and-permissions even, best-le-by-permission sheet (kernel sheet))
+singles-and-first-best {sheet} even =
+    omega (arith, singles-and-permissions even, best-le-by-permission sheet (kernel sheet))

@@ -1,5 +1,6 @@
--- Going forward over the removals: a classing of all grants leaves one of what remains, with a class fewer for each single removed. Nothing left fits
--- a single, so nothing left shares its class; that class is taken out, and the classes above it are numbered one lower. A tied grant is just left out.
+-- Going forward over the removals: a classing of all grants leaves one of what remains, with a class fewer for each
+-- single removed. Nothing left fits a single, so nothing left shares its class; that class is taken out, and the
+-- classes above it are numbered one lower. A tied grant is just left out.
 use Prim.Native.Nat.{ℕ, _+_, _≤_, _<_, pred}
 use native.Mathlib.Omega.{arith}
 use mathlib.Core.Path.{_≡_, sym}
@@ -29,7 +30,8 @@ renumbered-cases c a =
     ⊎-elim (λ e. inl (ltb-true c a e, rw e)) (λ e. inr (ltb-false c a e, rw e)) (passes-or-fails (ltb c a))
 
 pub renumbered-within : (c a count : ℕ) → c < count → a < count → a ≢ c → renumbered c a < pred count
-renumbered-within c a count at-c at-a other = ⊎-elim (λ above. omega arith) (λ below. omega arith) (renumbered-cases c a)
+renumbered-within c a count at-c at-a other =
+    ⊎-elim (λ above. omega arith) (λ below. omega arith) (renumbered-cases c a)
 
 -- different classes keep different numbers
 pub renumbered-apart : (c a b : ℕ) → a ≢ c → b ≢ c → renumbered c a ≡ renumbered c b → a ≡ b
@@ -42,12 +44,14 @@ renumbered-apart c a b not-a not-b same =
 -- ---- one removal
 
 -- a single's class is its own, so without it there is a class fewer
-pub single-frees-its-class : (sheet : Sheet) (l : List Grant) (it : Grant) {count : ℕ} {class : Grant → ℕ} → List·Memᴰ it l
+pub single-frees-its-class : (sheet : Sheet) (l : List Grant) (it : Grant) {count : ℕ} {class : Grant → ℕ}
+    → List·Memᴰ it l
     → Alone sheet (without it l) it → ClassingOf sheet l count class
     → ClassingOf sheet (without it l) (pred count) (λ g. renumbered (class it) (class g))
 single-frees-its-class sheet l it {count} {class} m alone c =
     record {
-      within = λ g n. renumbered-within (class it) (class g) count (c .within it m) (c .within g (without-member it l n)) (other g n);
+      within = λ g n. renumbered-within (class it) (class g) count (c .within it m)
+          (c .within g (without-member it l n)) (other g n);
       fitting = λ g h n k e.
           c .fitting g h (without-member it l n) (without-member it l k)
           (renumbered-apart (class it) (class g) (class h) (other g n) (other h k) e);
@@ -57,7 +61,8 @@ single-frees-its-class sheet l it {count} {class} m alone c =
     other g n e = not-both (c .fitting it g m (without-member it l n) (sym e)) (alone g n)
 
 -- fewer grants keep their classes
-pub classing-of-fewer : (sheet : Sheet) (l : List Grant) (it : Grant) {count : ℕ} {class : Grant → ℕ} → ClassingOf sheet l count class
+pub classing-of-fewer : (sheet : Sheet) (l : List Grant) (it : Grant) {count : ℕ} {class : Grant → ℕ}
+    → ClassingOf sheet l count class
     → ClassingOf sheet (without it l) count class
 classing-of-fewer sheet l it c =
     record {
@@ -77,7 +82,8 @@ pub record Left (sheet : Sheet) (left removed : List Grant) (count : ℕ) : Type
 -- a classing of all grants leaves one in every state of the reduction
 pub reduction-keeps-a-classing : {sheet : Sheet} {r : Reduction} {count : ℕ} {class : Grant → ℕ} → Reached sheet r
     → ClassingOf sheet (grants sheet) count class → Left sheet (r .remaining) (singles-of (r .removed)) count
-reduction-keeps-a-classing {count} {class} at-first c = record { rest = count; class = class; classing = c; spared = omega arith }
+reduction-keeps-a-classing {count} {class} at-first c =
+    record { rest = count; class = class; classing = c; spared = omega arith }
 reduction-keeps-a-classing {sheet} (by-single {r} it reached m alone) c =
     let before = reduction-keeps-a-classing reached c in
     record {
@@ -96,7 +102,8 @@ reduction-keeps-a-classing {sheet} (by-tie {r} it g reached m dominating) c =
     }
 
 -- and so one of the kernel
-pub kernel-keeps-a-classing : (sheet : Sheet) {count : ℕ} {class : Grant → ℕ} → ClassingOf sheet (grants sheet) count class
+pub kernel-keeps-a-classing : (sheet : Sheet) {count : ℕ} {class : Grant → ℕ} → ClassingOf sheet (grants sheet) count
+    class
     → Left sheet (kernel sheet) (singles sheet) count
 unfolding kernel singles
 kernel-keeps-a-classing sheet c = reduction-keeps-a-classing (reduction-reached sheet) c

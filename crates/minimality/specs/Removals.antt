@@ -1,6 +1,7 @@
--- The states of a reduction, each reached from the whole sheet by removals. A single fits nothing that is left; a tied grant fits all that is left and
--- fits its partner. Every visit of a remaining grant makes such a removal or none, and a sweep visits only grants that still remain at
--- their moment, since no grant stands twice. So what every removal keeps, the whole reduction keeps: an induction on `Reached`.
+-- The states of a reduction, each reached from the whole sheet by removals. A single fits nothing that is left; a
+-- tied grant fits all that is left and fits its partner. Every visit of a remaining grant makes such a removal or
+-- none, and a sweep visits only grants that still remain at their moment, since no grant stands twice. So what every
+-- removal keeps, the whole reduction keeps: an induction on `Reached`.
 use Prim.Native.Nat.{ℕ, zero, suc}
 use mathlib.Core.Path.{_≡_, refl}
 use mathlib.Core.Logic.{⊎-elim, _≢_}
@@ -12,8 +13,36 @@ use lib.ListN.{length}
 use Rattle.spec.specs.Vocabulary.{empty}
 use Rattle.spec.specs.Sheet.{Sheet, Grant, same-grant, grants}
 use Rattle.spec.specs.Fit.{fits, without, partners}
-use Rattle.spec.specs.Reduction.{Reduction, dominates, dominated, Verdict, stays, is-single, is-tied, tied-if, verdict, carry-out, visit, visits, sweep, sweeps, unreduced, reduction}
-use Rattle.bits.specs.Truth.{not-both, fails-unless, and-intro, and-left, and-right, or-right, or-cases, implies-elim, not-passes, not-fails}
+use Rattle.spec.specs.Reduction.{
+  Reduction,
+  dominates,
+  dominated,
+  Verdict,
+  stays,
+  is-single,
+  is-tied,
+  tied-if,
+  verdict,
+  carry-out,
+  visit,
+  visits,
+  sweep,
+  sweeps,
+  unreduced,
+  reduction,
+}
+use Rattle.bits.specs.Truth.{
+  not-both,
+  fails-unless,
+  and-intro,
+  and-left,
+  and-right,
+  or-right,
+  or-cases,
+  implies-elim,
+  not-passes,
+  not-fails,
+}
 use Rattle.lists.specs.TestLaws.{Kept, all-elim, filter-member, first-passes}
 use Rattle.lists.specs.Ordered.{Ordered, ordered-filter}
 use Rattle.lists.specs.Distinct.{Distinct, ordered-distinct}
@@ -37,9 +66,11 @@ pub record Dominating (sheet : Sheet) (left : List Grant) (it g : Grant) : Type 
 -- a state that removals lead to from the whole sheet
 pub data Reached (sheet : Sheet) : Reduction → Type 0 where
   at-first : Reached sheet (unreduced sheet)
-  by-single : {r : Reduction} (it : Grant) → Reached sheet r → List·Memᴰ it (r .remaining) → Alone sheet (without it (r .remaining)) it
+  by-single : {r : Reduction} (it : Grant) → Reached sheet r → List·Memᴰ it (r .remaining)
+      → Alone sheet (without it (r .remaining)) it
       → Reached sheet (carry-out is-single it r)
-  by-tie : {r : Reduction} (it g : Grant) → Reached sheet r → List·Memᴰ it (r .remaining) → Dominating sheet (without it (r .remaining)) it g
+  by-tie : {r : Reduction} (it g : Grant) → Reached sheet r → List·Memᴰ it (r .remaining)
+      → Dominating sheet (without it (r .remaining)) it g
       → Reached sheet (carry-out (is-tied g) it r)
 
 -- ---- a visit makes a removal or none
@@ -49,33 +80,40 @@ empty-member [] e m = List·Memᴰ·not-nil m
 empty-member (a ∷ rest) e m = false≢true e
 
 -- no other remaining grant fits it
-pub partnerless-is-alone : (sheet : Sheet) (remaining : List Grant) (it : Grant) → So (empty (partners sheet remaining it))
+pub partnerless-is-alone : (sheet : Sheet) (remaining : List Grant) (it : Grant)
+    → So (empty (partners sheet remaining it))
     → Alone sheet (without it remaining) it
 partnerless-is-alone sheet remaining it e h m =
     fails-unless (fits sheet it h) (λ p. empty-member (partners sheet remaining it) e
     (filter-member (λ k. not (same-grant it k) && fits sheet it k) remaining (without-member it remaining m)
-    (and-intro (not (same-grant it h)) (fits sheet it h) (not-passes (same-grant it h) (without-fails it remaining m)) p)))
+    (and-intro (not (same-grant it h)) (fits sheet it h) (not-passes (same-grant it h) (without-fails it remaining m))
+    p)))
 
 -- the lowest other remaining grant that it dominates
-pub dominated-is-left : (sheet : Sheet) (remaining : List Grant) (it : Grant) {g : Grant} → dominated sheet remaining it ≡ some g
+pub dominated-is-left : (sheet : Sheet) (remaining : List Grant) (it : Grant) {g : Grant} → dominated sheet remaining
+    it ≡ some g
     → Dominating sheet (without it remaining) it g
 dominated-is-left sheet remaining it {g} e =
     record {
       is-left =
           without-keeps it remaining (found .member)
-          (not-fails (same-grant it g) (and-left (not (same-grant it g)) (dominates sheet remaining it g) (found .passes)));
+          (not-fails (same-grant it g) (and-left (not (same-grant it g)) (dominates sheet remaining it g)
+          (found .passes)));
       fits-all = λ h m p. reaches h m (or-right (same-grant g h) (fits sheet g h) p);
     }
   where
     found : Kept (λ g. not (same-grant it g) && dominates sheet remaining it g) remaining g
     found = first-passes (λ g. not (same-grant it g) && dominates sheet remaining it g) remaining e
 
-    reaches : (h : Grant) → List·Memᴰ h (without it remaining) → So (same-grant g h || fits sheet g h) → So (fits sheet it h)
+    reaches : (h : Grant) → List·Memᴰ h (without it remaining) → So (same-grant g h || fits sheet g h)
+        → So (fits sheet it h)
     reaches h m p =
         ⊎-elim (λ q. absurd (not-both q (without-fails it remaining m))) (λ q. q)
-        (or-cases (same-grant it h) (fits sheet it h) (implies-elim (same-grant g h || fits sheet g h) (same-grant it h || fits sheet it h)
+        (or-cases (same-grant it h) (fits sheet it h) (implies-elim (same-grant g h || fits sheet g h)
+        (same-grant it h || fits sheet it h)
         (all-elim (λ h. not (same-grant g h || fits sheet g h) || (same-grant it h || fits sheet it h)) remaining
-        (and-right (not (same-grant it g)) (dominates sheet remaining it g) (found .passes)) (without-member it remaining m)) p))
+        (and-right (not (same-grant it g)) (dominates sheet remaining it g) (found .passes))
+        (without-member it remaining m)) p))
 
 pub visit-reaches : (sheet : Sheet) (it : Grant) {r : Reduction} → Reached sheet r → List·Memᴰ it (r .remaining)
     → Reached sheet (visit sheet it r)
@@ -102,7 +140,8 @@ remaining-ordered (by-tie {r} it g reached m dominating) =
 -- no grant remains twice
 pub remaining-distinct : {sheet : Sheet} {r : Reduction} → Reached sheet r → Distinct (r .remaining)
 remaining-distinct {sheet} {r} reached =
-    ordered-distinct Before (r .remaining) (λ g m b. not-both (same-grant-refl g) (before-differs g g b)) (remaining-ordered reached)
+    ordered-distinct Before (r .remaining) (λ g m b. not-both (same-grant-refl g) (before-differs g g b))
+    (remaining-ordered reached)
 
 -- no grant stands twice
 pub grants-distinct : (sheet : Sheet) → Distinct (grants sheet)
@@ -113,7 +152,8 @@ pub remaining-granted : {sheet : Sheet} {r : Reduction} → Reached sheet r → 
     → List·Memᴰ g (grants sheet)
 remaining-granted at-first n = n
 remaining-granted (by-single {r} it reached m alone) n = remaining-granted reached (without-member it (r .remaining) n)
-remaining-granted (by-tie {r} it g reached m dominating) n = remaining-granted reached (without-member it (r .remaining) n)
+remaining-granted (by-tie {r} it g reached m dominating) n =
+    remaining-granted reached (without-member it (r .remaining) n)
 
 -- ---- the whole reduction is reached by removals
 
@@ -127,7 +167,8 @@ carry-out-leaves (is-tied h) it r {g} other m =
     without-keeps it (r .remaining) m (fails-unless (same-grant it g) (λ e. other (same-grant-equal it g e)))
 
 pub visits-reach : (sheet : Sheet) (visited : List Grant) {r : Reduction} → Distinct visited
-    → ((g : Grant) → List·Memᴰ g visited → List·Memᴰ g (r .remaining)) → Reached sheet r → Reached sheet (visits sheet visited r)
+    → ((g : Grant) → List·Memᴰ g visited → List·Memᴰ g (r .remaining)) → Reached sheet r
+    → Reached sheet (visits sheet visited r)
 visits-reach sheet [] distinct remain reached = reached
 visits-reach sheet (it ∷ later) {r} distinct remain reached =
     visits-reach sheet later (distinct .1)
@@ -140,7 +181,8 @@ sweep-reaches sheet {r} reached = visits-reach sheet (r .remaining) (remaining-d
 pub sweeps-reach : (sheet : Sheet) (fuel : ℕ) {r : Reduction} → Reached sheet r → Reached sheet (sweeps sheet fuel r)
 sweeps-reach sheet zero reached = reached
 sweeps-reach sheet (suc more) {r} reached =
-    either (eqb (length (sweep sheet r .remaining)) (length (r .remaining))) (sweeps-reach sheet more (sweep-reaches sheet reached))
+    either (eqb (length (sweep sheet r .remaining)) (length (r .remaining)))
+    (sweeps-reach sheet more (sweep-reaches sheet reached))
   where
     either : (settled : Bool) → Reached sheet (sweeps sheet more (sweep sheet r))
         → Reached sheet (cond settled (sweep sheet r) (sweeps sheet more (sweep sheet r)))

@@ -1,6 +1,7 @@
--- Why no role set beats a witness. A role set that multiplies to the sheet classes all grants: each by the lowest role that covers it, and two grants
--- under one role fit, since the product opens both cells that are asked for. Grants of which no two fit are all of different classes, so there
--- are at least as many classes, and at least as many roles, as such grants.
+-- Why no role set beats a witness. A role set that multiplies to the sheet classes all grants: each by the lowest
+-- role that covers it, and two grants under one role fit, since the product opens both cells that are asked for.
+-- Grants of which no two fit are all of different classes, so there are at least as many classes, and at least as
+-- many roles, as such grants.
 use Prim.Native.Nat.{ℕ, _≤_, _<_}
 use native.Mathlib.Omega.{arith}
 use mathlib.Core.Path.{_≡_, refl, sym, _∙_}
@@ -43,28 +44,36 @@ covers roles g r = roles .has (g .user) r && roles .gives r (g .permission)
 pub covering-role : RoleSet → Grant → ℕ
 covering-role roles g = Option·getD (lowest-below (roles .count) (covers roles g)) 0
 
-covers-elim : (roles : RoleSet) (g : Grant) (r : ℕ) → So (covers roles g r) → So (roles .has (g .user) r) × So (roles .gives r (g .permission))
-covers-elim roles g r e =
-    (and-left (roles .has (g .user) r) (roles .gives r (g .permission)) e, and-right (roles .has (g .user) r) (roles .gives r (g .permission)) e)
+covers-elim : (roles : RoleSet) (g : Grant) (r : ℕ) → So (covers roles g r) → So (roles .has (g .user) r)
+    × So (roles .gives r (g .permission))
+covers-elim roles g r e = (
+  and-left (roles .has (g .user) r) (roles .gives r (g .permission)) e,
+  and-right (roles .has (g .user) r)
+      (roles .gives r (g .permission)) e,
+)
 
 -- in a role set that multiplies to the sheet a held grant is covered
-pub held-is-covered : {roles : RoleSet} {sheet : Sheet} → Even sheet → Multiplies roles sheet → (g : Grant) → Held sheet g
+pub held-is-covered : {roles : RoleSet} {sheet : Sheet} → Even sheet → Multiplies roles sheet → (g : Grant)
+    → Held sheet g
     → Lowest (roles .count) (covers roles g) (covering-role roles g)
 unfolding covering-role product
 held-is-covered {roles} {sheet} even multiplies g held =
     let i = even-user-below even (g .user) (g .permission) held in
     let j = even-permission-below even (g .user) (g .permission) held in
-    let open-cell : So (product roles (g .user) (g .permission)) = multiplies .cell (g .user) (g .permission) i j ∙ held in
+    let open-cell : So (product roles (g .user) (g .permission)) = multiplies .cell (g .user) (g .permission) i j
+    ∙ held in
     let w = lowest-below-found (roles .count) (covers roles g) open-cell in
     rw (lowest-below-intro (roles .count) (covers roles g) (w .1)) (w .1)
 
 -- what a role opens is held, within the sheet
-pub role-opens : {roles : RoleSet} {sheet : Sheet} → Multiplies roles sheet → (u p : ℕ) → u < user-count sheet → p < permission-count sheet
+pub role-opens : {roles : RoleSet} {sheet : Sheet} → Multiplies roles sheet → (u p : ℕ) → u < user-count sheet
+    → p < permission-count sheet
     → {r : ℕ} → r < roles .count → So (roles .has u r) → So (roles .gives r p) → So (holds sheet u p)
 unfolding product
 role-opens {roles} {sheet} multiplies u p i j {r} l has gives =
     sym (multiplies .cell u p i j) ∙
-    some-below-intro (roles .count) (λ s. roles .has u s && roles .gives s p) l (and-intro (roles .has u r) (roles .gives r p) has gives)
+    some-below-intro (roles .count) (λ s. roles .has u s && roles .gives s p) l
+    (and-intro (roles .has u r) (roles .gives r p) has gives)
 
 -- a role set that multiplies to the sheet classes all grants, each by the lowest role that covers it
 pub role-set-classes : {roles : RoleSet} {sheet : Sheet} → Even sheet → Multiplies roles sheet
@@ -75,7 +84,8 @@ role-set-classes {roles} {sheet} even multiplies =
       fitting = λ g h m n e. together g h (grant-held sheet m) (grant-held sheet n) e;
     }
   where
-    together : (g h : Grant) → Held sheet g → Held sheet h → covering-role roles g ≡ covering-role roles h → So (fits sheet g h)
+    together : (g h : Grant) → Held sheet g → Held sheet h → covering-role roles g ≡ covering-role roles h
+        → So (fits sheet g h)
     together g h p q e =
         let a = held-is-covered even multiplies g p in
         let b = held-is-covered even multiplies h q in
@@ -91,15 +101,21 @@ role-set-classes {roles} {sheet} even multiplies =
 pub classings-bound-role-sets : {roles : RoleSet} {sheet : Sheet} (bound : ℕ) → Even sheet
     → ((count : ℕ) (class : Grant → ℕ) → ClassingOf sheet (grants sheet) count class → bound ≤ count)
     → Multiplies roles sheet → bound ≤ roles .count
-classings-bound-role-sets {roles} bound even h multiplies = h (roles .count) (covering-role roles) (role-set-classes even multiplies)
+classings-bound-role-sets {roles} bound even h multiplies =
+    h (roles .count) (covering-role roles) (role-set-classes even multiplies)
 
 -- ---- grants of which no two fit
 
 -- every classing has at least as many classes as there are grants of which no two fit
 pub independent-bounds-classes : (sheet : Sheet) (part all : List Grant) (count : ℕ) (class : Grant → ℕ)
-    → Independent sheet part → ((g : Grant) → List·Memᴰ g part → List·Memᴰ g all) → ClassingOf sheet all count class → length part ≤ count
+    → Independent sheet part → ((g : Grant) → List·Memᴰ g part → List·Memᴰ g all) → ClassingOf sheet all count class
+    → length part ≤ count
 independent-bounds-classes sheet part all count class independent inside classing =
-    rw (count-below-all-intro (length part) (λ i. true) (λ i l. refl), count-below-all-intro count (λ i. true) (λ i l. refl)) at
+    rw (
+      count-below-all-intro (length part) (λ i. true) (λ i l. refl),
+      count-below-all-intro count (λ i. true)
+          (λ i l. refl),
+    ) at
     (count-below-injects (length part) count (λ i. true) (λ i. true) (λ i. class (grant-at part i))
     (λ i l p. classing .within (grant-at part i) (there i l)) (λ i l p. refl) (λ i j l k p q e. one i j l k e))
   where
@@ -108,12 +124,14 @@ independent-bounds-classes sheet part all count class independent inside classin
 
     clash : (i j : ℕ) → i < j → j < length part → class (grant-at part i) ≡ class (grant-at part j) → ⊥
     clash i j k l e =
-        not-both (classing .fitting (grant-at part i) (grant-at part j) (there i (omega arith)) (there j l) e) (independent .apart i j k l)
+        not-both (classing .fitting (grant-at part i) (grant-at part j) (there i (omega arith)) (there j l) e)
+        (independent .apart i j k l)
 
     one : (i j : ℕ) → i < length part → j < length part → class (grant-at part i) ≡ class (grant-at part j) → i ≡ j
     one i j l k e =
         ⊎-elim (λ (m : i < j). absurd (clash i j m k e))
-        (λ (m : j ≤ i). ⊎-elim (λ (n : j < i). absurd (clash j i n l (sym e))) (λ (n : i ≤ j). omega arith) (below-or-from j i))
+        (λ (m : j ≤ i). ⊎-elim (λ (n : j < i). absurd (clash j i n l (sym e))) (λ (n : i ≤ j). omega arith)
+        (below-or-from j i))
         (below-or-from i j)
 
 -- and so has every role set that multiplies to the sheet
@@ -121,4 +139,5 @@ pub independent-bounds-role-sets : {roles : RoleSet} {sheet : Sheet} → Even sh
     → Independent sheet part → ((g : Grant) → List·Memᴰ g part → List·Memᴰ g (grants sheet)) → Multiplies roles sheet
     → length part ≤ roles .count
 independent-bounds-role-sets {roles} {sheet} even part independent inside multiplies =
-    independent-bounds-classes sheet part (grants sheet) (roles .count) (covering-role roles) independent inside (role-set-classes even multiplies)
+    independent-bounds-classes sheet part (grants sheet) (roles .count) (covering-role roles) independent
+    inside (role-set-classes even multiplies)

@@ -1,5 +1,5 @@
--- The reduction is whole: one more sweep over it removes nothing. A visit of a remaining grant changes nothing or leaves fewer
--- grants, and so does a sweep; as many sweeps as there are grants, and one more, cannot all leave fewer.
+-- The reduction is whole: one more sweep over it removes nothing. A visit of a remaining grant changes nothing or
+-- leaves fewer grants, and so does a sweep; as many sweeps as there are grants, and one more, cannot all leave fewer.
 use Prim.Native.Nat.{ℕ, zero, suc, _<_}
 use native.Mathlib.Nat.{not-suc-le-zero, le-refl}
 use native.Mathlib.Omega.{arith}
@@ -11,7 +11,20 @@ use borrow.Author.Tests.{eqb-true, eqb-false}
 use lib.Dec.{eqb}
 use lib.ListN.{length}
 use Rattle.spec.specs.Sheet.{Sheet, Grant, same-grant, grants}
-use Rattle.spec.specs.Reduction.{Reduction, Verdict, stays, is-single, is-tied, verdict, carry-out, visit, visits, sweep, sweeps, reduction}
+use Rattle.spec.specs.Reduction.{
+  Reduction,
+  Verdict,
+  stays,
+  is-single,
+  is-tied,
+  verdict,
+  carry-out,
+  visit,
+  visits,
+  sweep,
+  sweeps,
+  reduction,
+}
 use Rattle.lists.specs.FilterLength.{filter-shorter}
 use Rattle.lists.specs.Distinct.{Distinct}
 use Rattle.cells.specs.Laws.Grant.{same-grant-refl}
@@ -29,7 +42,8 @@ carry-out-same-or-less is-single it r m =
 carry-out-same-or-less (is-tied g) it r m =
     inr (filter-shorter (λ h. not (same-grant it h)) (r .remaining) m (ap not (same-grant-refl it)))
 
-same-or-less-then : {first second third : Reduction} → SameOrLess second first → SameOrLess third second → SameOrLess third first
+same-or-less-then : {first second third : Reduction} → SameOrLess second first → SameOrLess third second
+    → SameOrLess third first
 same-or-less-then (inl e) (inl f) = inl (f ∙ e)
 same-or-less-then (inl e) (inr l) = inr (rw (ap (λ r. length (r .remaining)) e) at l)
 same-or-less-then (inr k) (inl f) = inr (rw (ap (λ r. length (r .remaining)) f) k)
@@ -45,7 +59,8 @@ visits-same-or-less sheet (it ∷ later) r distinct remain =
 
 -- a sweep removes nothing, or leaves fewer grants
 pub sweep-same-or-less : (sheet : Sheet) {r : Reduction} → Reached sheet r → SameOrLess (sweep sheet r) r
-sweep-same-or-less sheet {r} reached = visits-same-or-less sheet (r .remaining) r (remaining-distinct reached) (λ g m. m)
+sweep-same-or-less sheet {r} reached =
+    visits-same-or-less sheet (r .remaining) r (remaining-distinct reached) (λ g m. m)
 
 -- with more sweeps at hand than grants remain, the last of them removes nothing
 pub sweeps-end : (sheet : Sheet) (fuel : ℕ) {r : Reduction} → Reached sheet r → length (r .remaining) < fuel
@@ -55,14 +70,18 @@ sweeps-end sheet (suc more) {r} reached enough =
     either (eqb (length (sweep sheet r .remaining)) (length (r .remaining))) refl (sweep-same-or-less sheet reached)
     (sweeps-end sheet more (sweep-reaches sheet reached))
   where
-    either : (settled : Bool) → eqb (length (sweep sheet r .remaining)) (length (r .remaining)) ≡ settled → SameOrLess (sweep sheet r) r
-        → (length (sweep sheet r .remaining) < more → sweep sheet (sweeps sheet more (sweep sheet r)) ≡ sweeps sheet more (sweep sheet r))
+    either : (settled : Bool) → eqb (length (sweep sheet r .remaining)) (length (r .remaining)) ≡ settled
+        → SameOrLess (sweep sheet r) r
+        → (length (sweep sheet r .remaining) < more → sweep sheet (sweeps sheet more (sweep sheet r)) ≡ sweeps sheet
+        more (sweep sheet r))
         → sweep sheet (cond settled (sweep sheet r) (sweeps sheet more (sweep sheet r)))
         ≡ cond settled (sweep sheet r) (sweeps sheet more (sweep sheet r))
     either true e (inl same) later = ap (sweep sheet) same
-    either true e (inr less) later = absurd (omega (arith, eqb-true (length (sweep sheet r .remaining)) (length (r .remaining)) e))
+    either true e (inr less) later = absurd
+        (omega (arith, eqb-true (length (sweep sheet r .remaining)) (length (r .remaining)) e))
     either false e (inl same) later =
-        absurd (eqb-false (length (sweep sheet r .remaining)) (length (r .remaining)) e (ap (λ s. length (s .remaining)) same))
+        absurd (eqb-false (length (sweep sheet r .remaining)) (length (r .remaining)) e
+        (ap (λ s. length (s .remaining)) same))
     either false e (inr less) later = later (omega arith)
 
 -- one more sweep removes nothing

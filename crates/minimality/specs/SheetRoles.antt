@@ -1,6 +1,7 @@
--- The roles of a sheet. A whole placement of the kernel, put back, classes all grants: so its roles multiply to the sheet, and there are as many as the
--- placement has classes and the sheet has singles. No role set has fewer roles than the witness has grants, and none has fewer than the smallest classing
--- of the kernel has classes and the sheet has singles. With the first best as the start there are never more roles than permissions.
+-- The roles of a sheet. A whole placement of the kernel, put back, classes all grants: so its roles multiply to the
+-- sheet, and there are as many as the placement has classes and the sheet has singles. No role set has fewer roles
+-- than the witness has grants, and none has fewer than the smallest classing of the kernel has classes and the sheet
+-- has singles. With the first best as the start there are never more roles than permissions.
 use Prim.Native.Nat.{ℕ, _+_, _≤_}
 use native.Mathlib.Omega.{arith}
 use mathlib.Core.Path.{_≡_, sym, _∙_}
@@ -21,7 +22,13 @@ use Rattle.minimality.specs.ClassRoles.{classes-multiply, role-count-is-
 use Rattle.minimality.specs.PlacementClasses.{classing-of-numbers, placement-classes, placed-class-has-a-grant}
 use Rattle.minimality.specs.KernelLaws.{kernel-held, kernel-different}
 use Rattle.minimality.specs.ReductionKeeps.{kernel-keeps-a-classing}
-use Rattle.minimality.specs.PuttingBack.{ClassesOf, AllInUse, putting-back-classes, putting-back-counts, putting-back-fills}
+use Rattle.minimality.specs.PuttingBack.{
+  ClassesOf,
+  AllInUse,
+  putting-back-classes,
+  putting-back-counts,
+  putting-back-fills,
+}
 use Rattle.minimality.specs.WitnessLaws.{witness-granted, witness-independent}
 use Rattle.minimality.specs.PermissionBound.{singles-and-first-best}
 
@@ -42,7 +49,8 @@ pub whole-classes : (sheet : Sheet) (placed : List ℕ) → Whole (kernel-of she
 unfolding kernel-of
 whole-classes sheet placed w =
     putting-back-classes sheet placed (sym (w .size))
-    (placement-classes sheet (kernel sheet) placed (sym (w .size)) (kernel-different sheet) (λ g m. kernel-held sheet m) (w .valid))
+    (placement-classes sheet (kernel sheet) placed (sym (w .size)) (kernel-different sheet)
+    (λ g m. kernel-held sheet m) (w .valid))
 
 pub whole-fills : (sheet : Sheet) (placed : List ℕ) → Whole (kernel-of sheet) placed
     → AllInUse (grants sheet) (classes-of (reduction sheet) placed)
@@ -52,7 +60,8 @@ whole-fills sheet placed w =
     (placed-class-has-a-grant sheet (kernel sheet) placed (sym (w .size)) (kernel-different sheet) (w .grown))
 
 -- its roles multiply to the sheet
-pub roles-multiply : (sheet : Sheet) (placed : List ℕ) → Whole (kernel-of sheet) placed → Multiplies (roles-of sheet placed) sheet
+pub roles-multiply : (sheet : Sheet) (placed : List ℕ) → Whole (kernel-of sheet) placed
+    → Multiplies (roles-of sheet placed) sheet
 unfolding roles-of
 roles-multiply sheet placed w =
     let classes = classes-of (reduction sheet) placed in
@@ -64,18 +73,22 @@ pub roles-counted : (sheet : Sheet) (placed : List ℕ) → Whole (kernel-of she
 unfolding roles-of
 roles-counted sheet placed w =
     let classes = classes-of (reduction sheet) placed in
-    role-count-is-class-count (grants sheet) (classes .members) (classes .count) (whole-classes sheet placed w .classing .within)
+    role-count-is-class-count (grants sheet) (classes .members) (classes .count)
+    (whole-classes sheet placed w .classing .within)
     (whole-fills sheet placed w) ∙ putting-back-counts sheet placed
 
 -- ---- how few roles a role set can have
 
 -- as many as the witness has grants
-pub witness-bounds-role-sets : {roles : RoleSet} {sheet : Sheet} → Even sheet → Multiplies roles sheet → length (witness sheet) ≤ roles .count
+pub witness-bounds-role-sets : {roles : RoleSet} {sheet : Sheet} → Even sheet → Multiplies roles sheet
+    → length (witness sheet) ≤ roles .count
 witness-bounds-role-sets {roles} {sheet} even multiplies =
-    independent-bounds-role-sets even (witness sheet) (witness-independent sheet) (λ g m. witness-granted sheet m) multiplies
+    independent-bounds-role-sets even (witness sheet) (witness-independent sheet) (λ g m. witness-granted sheet m)
+    multiplies
 
 -- as many as the smallest classing of the kernel has classes, and the singles
-pub smallest-bounds-role-sets : {roles : RoleSet} {sheet : Sheet} (placed : List ℕ) → Even sheet → Smallest (kernel-of sheet) placed
+pub smallest-bounds-role-sets : {roles : RoleSet} {sheet : Sheet} (placed : List ℕ) → Even sheet
+    → Smallest (kernel-of sheet) placed
     → Multiplies roles sheet → used placed + length (singles sheet) ≤ roles .count
 unfolding kernel-of
 smallest-bounds-role-sets {roles} {sheet} placed even smallest multiplies =
@@ -91,4 +104,5 @@ smallest-bounds-role-sets {roles} {sheet} placed even smallest multiplies =
 -- a placement no worse than the first best has no more roles than the sheet has permissions
 pub roles-le-permissions : {sheet : Sheet} (placed : List ℕ) → Even sheet → Whole (kernel-of sheet) placed
     → used placed ≤ used (first-best sheet) → roles-of sheet placed .count ≤ permission-count sheet
-roles-le-permissions {sheet} placed even w better = omega (arith, roles-counted sheet placed w, singles-and-first-best even)
+roles-le-permissions {sheet} placed even w better =
+    omega (arith, roles-counted sheet placed w, singles-and-first-best even)

@@ -1,6 +1,7 @@
--- What a session may say of a sheet in any state of its machine: the bound is a bound for every role set, and where the state is not `open` no role set has
--- fewer roles. A `witnessed` state has as many roles as the witness has grants; a finished machine has reached that count or has shown its
--- best placement to be the smallest; and the bound of an open state is the witness's count.
+-- What a session may say of a sheet in any state of its machine: the bound is a bound for every role set, and where
+-- the state is not `open` no role set has fewer roles. A `witnessed` state has as many roles as the witness has
+-- grants; a finished machine has reached that count or has shown its best placement to be the smallest; and the bound
+-- of an open state is the witness's count.
 use Prim.Native.Nat.{ℕ, _+_, _≤_}
 use native.Mathlib.Omega.{arith}
 use mathlib.Core.Path.{_≡_, refl, _∙_}
@@ -15,12 +16,30 @@ use Rattle.spec.specs.Witness.{witness}
 use Rattle.spec.specs.Cover.{used, first-best}
 use Rattle.spec.specs.Machine.{State, best-count, reaches-witness, search}
 use Rattle.spec.specs.RoleSet.{RoleSet, Multiplies}
-use Rattle.spec.specs.Roles.{roles-of, kernel-of, start-of, witnessed, searched, unsettled, bound-of, role-count, standing, bound}
+use Rattle.spec.specs.Roles.{
+  roles-of,
+  kernel-of,
+  start-of,
+  witnessed,
+  searched,
+  unsettled,
+  bound-of,
+  role-count,
+  standing,
+  bound,
+}
 use Rattle.search.specs.Laws.SoundState.{SoundState, sound-start, sound-search}
 use Rattle.search.specs.Laws.Complete.{Passed, passed-start, passed-search, finished-is-smallest}
 use Rattle.search.specs.Laws.Best.{search-best-le}
 use Rattle.minimality.specs.GrantClassing.{Even}
-use Rattle.minimality.specs.SheetRoles.{first-best-whole, roles-multiply, roles-counted, witness-bounds-role-sets, smallest-bounds-role-sets, roles-le-permissions}
+use Rattle.minimality.specs.SheetRoles.{
+  first-best-whole,
+  roles-multiply,
+  roles-counted,
+  witness-bounds-role-sets,
+  smallest-bounds-role-sets,
+  roles-le-permissions,
+}
 
 -- a state that searches of the sheet may come to
 pub record Searching (sheet : Sheet) (st : State) : Type 0 where
@@ -37,7 +56,8 @@ searching-start sheet =
       no-worse = omega arith;
     }
 
-pub searching-on : {sheet : Sheet} {st : State} (budget : ℕ) → Searching sheet st → Searching sheet (search (kernel-of sheet) budget st .state)
+pub searching-on : {sheet : Sheet} {st : State} (budget : ℕ) → Searching sheet st
+    → Searching sheet (search (kernel-of sheet) budget st .state)
 searching-on {sheet} {st} budget s =
     record {
       sound = sound-search (kernel-of sheet) budget st (s .sound);
@@ -72,7 +92,12 @@ module _ (sheet : Sheet) (st : State) (s : Searching sheet st) where
     -- as many roles as the witness has grants are the fewest
     witnessed-bounds : So (eqb (role-count sheet st) (length (witness sheet))) → role-count sheet st ≤ roles .count
     witnessed-bounds e =
-        omega (arith, eqb-true (role-count sheet st) (length (witness sheet)) e, witness-bounds-role-sets even multiplies)
+        omega (
+          arith,
+          eqb-true (role-count sheet st) (length (witness sheet)) e,
+          witness-bounds-role-sets even
+              multiplies,
+        )
 
     -- a finished machine's roles are the fewest
     finished-bounds : So (st .finished) → role-count sheet st ≤ roles .count
@@ -84,9 +109,11 @@ module _ (sheet : Sheet) (st : State) (s : Searching sheet st) where
     -- where the state is not `open`, no role set has fewer roles
     pub settled-is-smallest : standing sheet st ≢ unsettled → role-count sheet st ≤ roles .count
     unfolding standing
-    settled-is-smallest settled = by-cases (eqb (role-count sheet st) (length (witness sheet))) refl (st .finished) refl settled
+    settled-is-smallest settled = by-cases (eqb (role-count sheet st) (length (witness sheet))) refl (st .finished)
+        refl settled
       where
-        by-cases : (met : Bool) → eqb (role-count sheet st) (length (witness sheet)) ≡ met → (finished : Bool) → st .finished ≡ finished
+        by-cases : (met : Bool) → eqb (role-count sheet st) (length (witness sheet)) ≡ met → (finished : Bool)
+            → st .finished ≡ finished
             → cond met witnessed (cond finished searched unsettled) ≢ unsettled → role-count sheet st ≤ roles .count
         by-cases true e finished f h = witnessed-bounds e
         by-cases false e true f h = finished-bounds f
@@ -97,8 +124,10 @@ module _ (sheet : Sheet) (st : State) (s : Searching sheet st) where
     unfolding bound
     bound-bounds = by-cases (eqb (role-count sheet st) (length (witness sheet))) refl (st .finished) refl
       where
-        by-cases : (met : Bool) → eqb (role-count sheet st) (length (witness sheet)) ≡ met → (finished : Bool) → st .finished ≡ finished
-            → bound-of (cond met witnessed (cond finished searched unsettled)) (role-count sheet st) (length (witness sheet)) ≤ roles .count
+        by-cases : (met : Bool) → eqb (role-count sheet st) (length (witness sheet)) ≡ met → (finished : Bool)
+            → st .finished ≡ finished
+            → bound-of (cond met witnessed (cond finished searched unsettled)) (role-count sheet st)
+            (length (witness sheet)) ≤ roles .count
         by-cases true e finished f = witnessed-bounds e
         by-cases false e true f = finished-bounds f
         by-cases false e false f = witness-bounds-role-sets even multiplies

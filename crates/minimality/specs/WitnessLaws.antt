@@ -1,6 +1,6 @@
--- The witness: grants of the sheet of which no two fit, as many as were chosen and were single. A single fits nothing that remained at its moment, so no later
--- single and no grant of the kernel; the chosen grants stand in the kernel, and no two of them fit. A held grant fits itself, so grants that do not
--- fit are different: none is counted twice.
+-- The witness: grants of the sheet of which no two fit, as many as were chosen and were single. A single fits nothing
+-- that remained at its moment, so no later single and no grant of the kernel; the chosen grants stand in the kernel,
+-- and no two of them fit. A held grant fits itself, so grants that do not fit are different: none is counted twice.
 use Prim.Native.Nat.{_+_}
 use native.Mathlib.Omega.{arith}
 use mathlib.Core.Path.{_≡_}
@@ -35,7 +35,8 @@ chosen-and-singles sheet = chosen sheet ++ singles sheet
 pub chosen-granted : (sheet : Sheet) {g : Grant} → List·Memᴰ g (chosen sheet) → List·Memᴰ g (grants sheet)
 chosen-granted sheet m = kernel-granted sheet (chosen-member sheet m)
 
-chosen-and-singles-granted : (sheet : Sheet) {g : Grant} → List·Memᴰ g (chosen-and-singles sheet) → List·Memᴰ g (grants sheet)
+chosen-and-singles-granted : (sheet : Sheet) {g : Grant} → List·Memᴰ g (chosen-and-singles sheet)
+    → List·Memᴰ g (grants sheet)
 chosen-and-singles-granted sheet m =
     ⊎-elim (chosen-granted sheet) (single-granted sheet) (List·Memᴰ·append-cases (chosen sheet) m)
 
@@ -47,7 +48,8 @@ chosen-and-singles-unfit sheet =
 chosen-and-singles-distinct : (sheet : Sheet) → Distinct (chosen-and-singles sheet)
 chosen-and-singles-distinct sheet =
     ordered-distinct (Unfit sheet) (chosen-and-singles sheet)
-    (λ g m e. not-both (fits-itself sheet g (grant-held sheet (chosen-and-singles-granted sheet m))) e) (chosen-and-singles-unfit sheet)
+    (λ g m e. not-both (fits-itself sheet g (grant-held sheet (chosen-and-singles-granted sheet m))) e)
+    (chosen-and-singles-unfit sheet)
 
 -- ---- the witness
 
@@ -57,7 +59,8 @@ unfolding witness
 witness-granted sheet m = filter-kept (λ g. among (chosen sheet) g || among (singles sheet) g) (grants sheet) m .member
 
 -- each is chosen or single
-pub witness-chosen-or-single : (sheet : Sheet) {g : Grant} → List·Memᴰ g (witness sheet) → List·Memᴰ g (chosen-and-singles sheet)
+pub witness-chosen-or-single : (sheet : Sheet) {g : Grant} → List·Memᴰ g (witness sheet)
+    → List·Memᴰ g (chosen-and-singles sheet)
 unfolding witness
 witness-chosen-or-single sheet {g} m =
     ⊎-elim (λ e. Memᴰ·append-left (singles sheet) (among-member (chosen sheet) g e))
@@ -68,7 +71,8 @@ witness-chosen-or-single sheet {g} m =
 pub witness-has : (sheet : Sheet) {g : Grant} → List·Memᴰ g (chosen-and-singles sheet) → List·Memᴰ g (witness sheet)
 unfolding witness
 witness-has sheet {g} m =
-    filter-member (λ g. among (chosen sheet) g || among (singles sheet) g) (grants sheet) (chosen-and-singles-granted sheet m)
+    filter-member (λ g. among (chosen sheet) g || among (singles sheet) g) (grants sheet)
+    (chosen-and-singles-granted sheet m)
     (⊎-elim (λ n. or-left (among (chosen sheet) g) (among (singles sheet) g) (member-among (chosen sheet) n))
     (λ n. or-right (among (chosen sheet) g) (among (singles sheet) g) (member-among (singles sheet) n))
     (List·Memᴰ·append-cases (chosen sheet) m))
@@ -104,6 +108,8 @@ witness-length sheet =
     omega (
       arith,
       length-append (chosen sheet) (singles sheet),
-      distinct-within (witness sheet) (chosen-and-singles sheet) (witness-distinct sheet) (λ g m. witness-chosen-or-single sheet m),
-      distinct-within (chosen-and-singles sheet) (witness sheet) (chosen-and-singles-distinct sheet) (λ g m. witness-has sheet m),
+      distinct-within (witness sheet) (chosen-and-singles sheet) (witness-distinct sheet)
+          (λ g m. witness-chosen-or-single sheet m),
+      distinct-within (chosen-and-singles sheet) (witness sheet) (chosen-and-singles-distinct sheet)
+          (λ g m. witness-has sheet m),
     )

@@ -1,4 +1,5 @@
--- Buckets of names: equal names have one bucket, so a name is compared with those of its own bucket only. Assumes nothing.
+-- Buckets of names: equal names have one bucket, so a name is compared with those of its own bucket only. Assumes
+-- nothing.
 use Prim.Native.Nat.{ℕ, _+_, _*_, _/_, _%_, _<_}
 use mathlib.Core.Bool.{Bool, So, _&&_}
 use mathlib.Core.List.{List, [], _∷_}
@@ -34,7 +35,8 @@ bucket-of name = bucket-after 0 name
 -- the table notes the first n names: each has its bit in its bucket, and no bit is that of a later name
 pub record Noted (table : List ℕ) (text : Bytes) (places : Places) (n : ℕ) : Type 0 where
   pub size : length table ≡ bucket-count * bucket-words
-  pub below : (h k p : ℕ) → k < bucket-words → p < word-bits → So (bit (getD table (h * bucket-words + k) 0) p) → k * word-bits + p < n
+  pub below : (h k p : ℕ) → k < bucket-words → p < word-bits → So (bit (getD table (h * bucket-words + k) 0) p)
+      → k * word-bits + p < n
   pub each : (j : ℕ) → j < n
       → So (bit (getD table (bucket-of (name-there text places j) * bucket-words + j / word-bits) 0) (j % word-bits))
 

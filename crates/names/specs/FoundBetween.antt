@@ -1,5 +1,5 @@
--- Looking for a name among the names from one number up to another; and for one of names of which no two are equal, in two parts, whichever comes
--- first. Assumes nothing.
+-- Looking for a name among the names from one number up to another; and for one of names of which no two are equal,
+-- in two parts, whichever comes first. Assumes nothing.
 use Prim.Native.Nat.{ℕ, suc, _≤_, _<_}
 use native.Mathlib.Omega.{arith}
 use mathlib.Core.Path.{_≡_, sym, ap, _∙_}
@@ -42,13 +42,15 @@ module _ (text : Bytes) (places : Places) (name : Bytes) where
   pub nowhere-yet : (low : ℕ) → StandsNowhere text places name low low
   nowhere-yet low = record { unlike = λ i h k. absurd (omega arith) }
 
-  pub nowhere-more : (low n : ℕ) → StandsNowhere text places name low n → same-name name (name-there text places n) ≡ false
+  pub nowhere-more : (low n : ℕ) → StandsNowhere text places name low n → same-name name (name-there text places n) ≡
+      false
       → StandsNowhere text places name low (suc n)
   nowhere-more low n before other =
       record { unlike = λ i h k. ⊎-elim (λ e. rw e other) (λ l. before .unlike i h l) (last-or-below k) }
 
   -- past the end there is nothing to look at
-  pub nowhere-past : (low high n : ℕ) → StandsNowhere text places name low n → high ≤ n → StandsNowhere text places name low high
+  pub nowhere-past : (low high n : ℕ) → StandsNowhere text places name low n → high ≤ n → StandsNowhere text places
+      name low high
   nowhere-past low high n before h = record { unlike = λ i l k. before .unlike i l (omega arith) }
 
   module _ (count : ℕ) (apart : Apart text places count) where
@@ -60,12 +62,14 @@ module _ (text : Bytes) (places : Places) (name : Bytes) where
         found-at text places count name i below (λ j l.
         fails-unless (same-name name (getD (names-at text places count) j [])) (λ p.
         not-both
-        (both-equal name (name-there text places j) (name-there text places i) (rw (name-of text places count j (omega arith)) at p) (stands .equal))
+        (both-equal name (name-there text places j) (name-there text places i)
+        (rw (name-of text places count j (omega arith)) at p) (stands .equal))
         (apart j i l below)))
         (stands .equal)
 
   -- a name that stands in neither part has no number
-  pub nowhere-number : (count first end : ℕ) → StandsNowhere text places name first count → StandsNowhere text places name 0 end
+  pub nowhere-number : (count first end : ℕ) → StandsNowhere text places name first count → StandsNowhere text places
+      name 0 end
       → ((i : ℕ) → i < first → i < count → i < end) → name-number (names-at text places count) name ≡ none
   nowhere-number count first end late early all =
       found-nothing text places count name (λ j l.
@@ -73,7 +77,8 @@ module _ (text : Bytes) (places : Places) (name : Bytes) where
       (⊎-elim (λ h. early .unlike j (omega arith) (all j h l)) (λ h. late .unlike j h l) (below-or-from j first)))
 
 -- what looking in the earlier part finds, where the name does not stand in the later one
-pub found-early : (text : Bytes) (places : Places) (name : Bytes) (count : ℕ) → Apart text places count → (first end : ℕ) → end ≤ count
+pub found-early : (text : Bytes) (places : Places) (name : Bytes) (count : ℕ) → Apart text places count
+    → (first end : ℕ) → end ≤ count
     → ((i : ℕ) → i < first → i < count → i < end) → StandsNowhere text places name first count → (r : Found)
     → FoundBetween text places name 0 end r → r ≡ found (name-number (names-at text places count) name)
 found-early text places name count apart first end h all late (At i) early =

@@ -1,5 +1,5 @@
--- The layout of an accepted sheet: its counts, where its names stand, and where its user lines start; and what looking for a name finds.
--- Assumes nothing.
+-- The layout of an accepted sheet: its counts, where its names stand, and where its user lines start; and what
+-- looking for a name finds. Assumes nothing.
 use Prim.Native.Nat.{ℕ, suc, _<_}
 use mathlib.Core.Path.{_≡_}
 use mathlib.Core.Bool.{So}

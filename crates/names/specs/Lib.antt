@@ -1,4 +1,5 @@
--- Names as parts of the sheet itself: where they stand, one by its number, the number of one, and whether one stands twice.
+-- Names as parts of the sheet itself: where they stand, one by its number, the number of one, and whether one stands
+-- twice.
 pub mod Places
 pub mod PlacesLaws
 pub mod NamesAt

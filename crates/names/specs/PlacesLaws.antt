@@ -1,4 +1,5 @@
--- Places are noted one after the other: a place noted last is read back, those noted before stay, and past them none is noted. Assumes nothing.
+-- Places are noted one after the other: a place noted last is read back, those noted before stay, and past them none
+-- is noted. Assumes nothing.
 use Prim.Native.Nat.{ℕ, suc, _≤_, _<_}
 use native.Mathlib.Nat.{not-suc-le-zero, ne-of-lt}
 use native.Mathlib.Omega.{arith}
@@ -21,7 +22,8 @@ pub record HasRoom (room : ℕ) (places : Places) : Type 0 where
 abbrev pub note-place : Places → ℕ → ℕ → ℕ → Places
 note-place places n from to = record { from = set (places .from) n from; to = set (places .to) n to }
 
-pub note-room-kept : {room : ℕ} (places : Places) (n from to : ℕ) → HasRoom room places → HasRoom room (note-place places n from to)
+pub note-room-kept : {room : ℕ} (places : Places) (n from to : ℕ) → HasRoom room places
+    → HasRoom room (note-place places n from to)
 note-room-kept places n from to s =
     record {
       from-room = length-set (places .from) n from ∙ s .from-room;
@@ -42,7 +44,8 @@ module _ (room : ℕ) (places : Places) (s : HasRoom room places) (n : ℕ) (h :
   earlier-to i l = getD-set-other (places .to) n i to 0 (ne-of-lt l)
 
   -- one more name stands where it was noted
-  pub name-noted : (text : Bytes) (names : List Bytes) → PlacedBelow n text places names → Part text from to (getD names n [])
+  pub name-noted : (text : Bytes) (names : List Bytes) → PlacedBelow n text places names
+      → Part text from to (getD names n [])
       → PlacedBelow (suc n) text (note-place places n from to) names
   name-noted text names p q = record { each = λ i l. ⊎-elim (here i) (earlier i) (last-or-below l) }
     where
@@ -63,7 +66,8 @@ none-noted text places names = record { each = λ i l. absurd (not-suc-le-zero l
 pub zero-there : (n i : ℕ) → _≡_ {A = ℕ} (getD (replicate n 0) i 0) 0
 zero-there n i =
     ⊎-elim (λ l. getD-replicate n i 0 0 l)
-    (λ l. let past : length {A = ℕ} (replicate n 0) ≤ i = omega (arith, length-replicate {A = ℕ} n 0) in List·getD-eq-default (replicate n 0) 0 past)
+    (λ l. let past : length {A = ℕ} (replicate n 0) ≤ i = omega (arith, length-replicate {A = ℕ} n 0)
+    in List·getD-eq-default (replicate n 0) 0 past)
     (below-or-from i n)
 
 -- new lists have none
@@ -71,7 +75,8 @@ pub new-blank : (room n : ℕ) → BlankPast n (replicate room 0) (replicate roo
 new-blank room n = record { starts = λ i l. zero-there room i; ends = λ i l. zero-there room i }
 
 -- and none is past one that is noted next
-pub blank-kept : (n : ℕ) (from to : List ℕ) (start end : ℕ) → BlankPast n from to → BlankPast (suc n) (set from n start) (set to n end)
+pub blank-kept : (n : ℕ) (from to : List ℕ) (start end : ℕ) → BlankPast n from to
+    → BlankPast (suc n) (set from n start) (set to n end)
 blank-kept n from to start end b =
     record {
       starts = λ i l. getD-set-other from n i start 0 (λ e. omega arith) ∙ b .starts i (omega arith);

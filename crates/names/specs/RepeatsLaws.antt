@@ -16,12 +16,14 @@ use Rattle.names.specs.declared.places.Places.{Places}
 
 module _ {A : Type 0} where
   -- an element that is the same as that of a later place
-  pub repeats-intro : (same : A → A → Bool) (d : A) (l : List A) (i j : ℕ) → i < j → j < length l → So (same (getD l i d) (getD l j d))
+  pub repeats-intro : (same : A → A → Bool) (d : A) (l : List A) (i j : ℕ) → i < j → j < length l
+      → So (same (getD l i d) (getD l j d))
       → So (repeats same l)
   repeats-intro same d [] i j h k p = absurd (not-suc-le-zero k)
   repeats-intro same d (a ∷ rest) i zero h k p = absurd (not-suc-le-zero h)
   repeats-intro same d (a ∷ rest) zero (suc j) h k p =
-      or-left (any (same a) rest) (repeats same rest) (any-intro (same a) rest (member-at rest j d (le-of-suc-le-suc k)) p)
+      or-left (any (same a) rest) (repeats same rest)
+      (any-intro (same a) rest (member-at rest j d (le-of-suc-le-suc k)) p)
   repeats-intro same d (a ∷ rest) (suc i) (suc j) h k p =
       or-right (any (same a) rest) (repeats same rest)
       (repeats-intro same d rest i j (le-of-suc-le-suc h) (le-of-suc-le-suc k) p)
@@ -41,10 +43,12 @@ module _ {A : Type 0} where
 
 -- no two of the first n names are equal
 abbrev pub Apart : Bytes → Places → ℕ → Type 0
-Apart text places n = (i j : ℕ) → i < j → j < n → same-name (name-there text places i) (name-there text places j) ≡ false
+Apart text places n =
+    (i j : ℕ) → i < j → j < n → same-name (name-there text places i) (name-there text places j) ≡ false
 
 module _ (text : Bytes) (places : Places) (count : ℕ) where
-  pub equal-names-repeat : (i j : ℕ) → i < j → j < count → So (same-name (name-there text places i) (name-there text places j))
+  pub equal-names-repeat : (i j : ℕ) → i < j → j < count
+      → So (same-name (name-there text places i) (name-there text places j))
       → So (repeats same-name (names-at text places count))
   equal-names-repeat i j h k p =
       repeats-intro same-name [] (names-at text places count) i j h (rw (names-total text places count) k)

@@ -1,4 +1,5 @@
--- Adler-32: the sum of the bytes and the sum of those sums, each modulo the greatest prime below 65,536. Assumes nothing.
+-- Adler-32: the sum of the bytes and the sum of those sums, each modulo the greatest prime below 65,536. Assumes
+-- nothing.
 use Prim.Native.Nat.{ℕ, _+_, _*_, _%_, _<_}
 use native.Mathlib.Numerals.{add-one}
 use mathlib.Core.Path.{_≡_}
@@ -20,5 +21,6 @@ adler-32 bytes = adler-from 1 0 bytes
 -- the sums with the byte at a place
 pub adler-next : (low high : ℕ) (s : List ℕ) (i : ℕ) → i < length s
     → adler-from low high (drop i s)
-    ≡ adler-from ((low + getD s i 0) % adler-base) ((high + (low + getD s i 0) % adler-base) % adler-base) (drop (i + 1) s)
+    ≡ adler-from ((low + getD s i 0) % adler-base) ((high + (low + getD s i 0) % adler-base) % adler-base)
+    (drop (i + 1) s)
 adler-next low high s i h = rw (add-one i, drop-cons s i 0 h)

@@ -1,5 +1,5 @@
--- Answers in the order in which they are written: the first word, each number behind a blank, what ends the line; and how long they can be.
--- Assumes nothing.
+-- Answers in the order in which they are written: the first word, each number behind a blank, what ends the line; and
+-- how long they can be. Assumes nothing.
 use Prim.Native.Nat.{ℕ, _+_, _-_, _*_, _^_, _≤_, _<_}
 use native.Mathlib.Omega.{arith}
 use mathlib.Core.Path.{_≡_, sym, ap, _∙_}
@@ -48,15 +48,21 @@ words-parts word (next ∷ rest) = ap (λ (l : Bytes). word ++ blank ∷ l) (wor
 numbers-are-listed : (numbers : List ℕ) → concat (map behind-blank (map decimal numbers)) ≡ numbers-text numbers
 numbers-are-listed numbers =
     ap (λ (l : List ℕ). concat (map behind-blank (map decimal l))) (sym (list-of-places numbers 0))
-    ∙ rw (map-list-of decimal (length numbers) (λ i. getD numbers i 0), map-list-of behind-blank (length numbers) (λ i. decimal (getD numbers i 0)))
+    ∙ rw (
+      map-list-of decimal (length numbers) (λ i. getD numbers i 0),
+      map-list-of behind-blank (length numbers)
+          (λ i. decimal (getD numbers i 0)),
+    )
 
 -- a line of numbers alone
-pub numbers-line : (word : Bytes) (numbers : List ℕ) → answer-line (word ∷ map decimal numbers) ≡ front-text word numbers ++ line-feed ∷ []
+pub numbers-line : (word : Bytes) (numbers : List ℕ) → answer-line (word ∷ map decimal numbers) ≡ front-text word
+    numbers ++ line-feed ∷ []
 numbers-line word numbers = rw (words-parts word (map decimal numbers), numbers-are-listed numbers)
 
 -- a line with a last word
 pub line-with-last : (word : Bytes) (numbers : List ℕ) (last : Bytes)
-    → answer-line (word ∷ map decimal numbers ++ last ∷ []) ≡ front-text word numbers ++ (blank ∷ last ++ line-feed ∷ [])
+    → answer-line (word ∷ map decimal numbers ++ last ∷ []) ≡ front-text word numbers ++
+    (blank ∷ last ++ line-feed ∷ [])
 line-with-last word numbers last =
     rw (
       words-parts word (map decimal numbers ++ last ∷ []),
@@ -71,9 +77,11 @@ line-with-last word numbers last =
 pub number-room : (n : ℕ) → n < 2 ^ word-bits → length (behind-blank (decimal n)) ≤ number-most
 number-room n h = omega (arith, digits-of-word n h)
 
-pub numbers-room : (numbers : List ℕ) → ((i : ℕ) → getD numbers i 0 < 2 ^ word-bits) → length (numbers-text numbers) ≤ length numbers * number-most
+pub numbers-room : (numbers : List ℕ) → ((i : ℕ) → getD numbers i 0 < 2 ^ word-bits) → length (numbers-text numbers) ≤
+    length numbers * number-most
 numbers-room numbers small =
-    listed-length (length numbers) number-most (λ i. behind-blank (decimal (getD numbers i 0))) (λ i l. number-room (getD numbers i 0) (small i))
+    listed-length (length numbers) number-most (λ i. behind-blank (decimal (getD numbers i 0)))
+    (λ i l. number-room (getD numbers i 0) (small i))
 
 pub state-room : (state : Option Standing) → length (blank ∷ state-word state ++ line-feed ∷ []) ≤ state-most
 state-room none = omega arith
@@ -83,16 +91,19 @@ state-room (some unsettled) = omega arith
 
 -- the rest of a buffer from a place on
 pub rest-length : (n : ℕ) (mid : Bytes) → length (rest-from n mid) ≡ length mid - n
-rest-length n mid = ap length (take-all (length mid - n) (drop n mid) (rw (length-drop n mid) (omega arith))) ∙ length-drop n mid
+rest-length n mid =
+    ap length (take-all (length mid - n) (drop n mid) (rw (length-drop n mid) (omega arith))) ∙ length-drop n mid
 
 -- numbers behind a first word, with room for both
-pub behind-word : (numbers : List ℕ) {word before mid : Bytes} {at m : ℕ} → Written word before mid at → m ≡ length (numbers-text numbers)
+pub behind-word : (numbers : List ℕ) {word before mid : Bytes} {at m : ℕ} → Written word before mid at
+    → m ≡ length (numbers-text numbers)
     → m ≤ length numbers * number-most → length word + length numbers * number-most ≤ length before
     → WrittenSoFar word (numbers-text numbers) before mid at
 behind-word numbers {word} w e small room =
     record { written = w; fits = omega (arith, length-append word (numbers-text numbers)) }
 
 -- what ends a line, behind its front
-pub behind-front : {front last before mid : Bytes} {at : ℕ} → Written front before mid at → at + length last ≤ length before
+pub behind-front : {front last before mid : Bytes} {at : ℕ} → Written front before mid at → at + length last ≤ length
+    before
     → WrittenSoFar front last before mid at
 behind-front {front} {last} w room = record { written = w; fits = omega (arith, w .counted, length-append front last) }

@@ -1,4 +1,5 @@
--- The answers to the calls of a script, each as a line: its words, one blank behind each word but the last. Assumes nothing.
+-- The answers to the calls of a script, each as a line: its words, one blank behind each word but the last. Assumes
+-- nothing.
 use Prim.Native.Nat.{ℕ}
 use Prim.Native.Char.{code}
 use mathlib.Core.Option.{Option, none, some}

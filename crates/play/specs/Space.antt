@@ -23,7 +23,8 @@ pub record Patterned (space : List ℕ) (n : ℕ) : Type 0 where
 pub pattern-starts : (space : List ℕ) → length space ≡ space-limit → Patterned space 0
 pattern-starts space e = record { whole = e; below = below-none (λ i. getD space i 0 ≡ pattern i) }
 
-pub pattern-goes-on : (space : List ℕ) (n b : ℕ) → Patterned space n → n < space-limit → b ≡ pattern n → Patterned (set space n b) (n + 1)
+pub pattern-goes-on : (space : List ℕ) (n b : ℕ) → Patterned space n → n < space-limit → b ≡ pattern n
+    → Patterned (set space n b) (n + 1)
 pattern-goes-on space n b p h e =
     record {
       whole = length-set space n b ∙ p .whole;

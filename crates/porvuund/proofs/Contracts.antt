@@ -1,5 +1,6 @@
--- The demands from the library's contracts as the sources have them. A run of the exported session calls is a sequence of demand 3, as a run of the session's own calls
--- is; the calls for a whole task and what the programs print are tied to the demands one by one.
+-- The demands from the library's contracts as the sources have them. A run of the exported session calls is a
+-- sequence of demand 3, as a run of the session's own calls is; the calls for a whole task and what the programs
+-- print are tied to the demands one by one.
 use mathlib.Core.Path.{_≡_, refl}
 use denote.Ref.{now}
 use Rattle.spec.specs.Calls.{search-answer}
@@ -8,7 +9,18 @@ use Rattle.checker.specs.Laws.CodeCall.{CodeCall, Kept}
 use Rattle.right.specs.CheckOwed.{CheckOwed, check-owed}
 use Rattle.session.specs.Said.{load-said, write-said}
 use Rattle.session.specs.CodeSession.{view, Sound}
-use Rattle.session.specs.Laws.CodeSequence.{Ensured, Fresh, Calling, Tied, Demand1Of, Demand2Of, Demand3Of, tied-demand-1, tied-demand-2, tied-demand-3}
+use Rattle.session.specs.Laws.CodeSequence.{
+  Ensured,
+  Fresh,
+  Calling,
+  Tied,
+  Demand1Of,
+  Demand2Of,
+  Demand3Of,
+  tied-demand-1,
+  tied-demand-2,
+  tied-demand-3,
+}
 use Rattle.session.specs.declared.Session.{Session}
 use Rattle.porvuund.specs.SearchNumbers.{Numbers, numbers-said, numbers-searched}
 use Rattle.porvuund.specs.OneShot.{book-said}
@@ -34,15 +46,17 @@ use Rattle.porvuund.proofs.output.check_output.Reads as check-output-re
 
 -- ---- the session calls
 
--- an exported call, its contract kept, that was made on the value before with this outcome, and led to the value after; a search's outcome is the answer that its
--- numbers are
+-- an exported call, its contract kept, that was made on the value before with this outcome, and led to the value
+-- after; a search's outcome is the answer that its numbers are
 abbrev pub Step : (call : Call) → Outcome call → Session → Session → Type 1
 Step (load text) answer before after =
     (call : CodeCall 1 load-kinds.ps load-kinds.r) × Kept load-reads.Pre load-reads.Post call
-    × (before ≡ call .args .0) × (text ≡ now (call .args .1 .0)) × (answer ≡ load-said (call .result .answer)) × (after ≡ call .result .session)
+    × (before ≡ call .args .0) × (text ≡ now (call .args .1 .0)) × (answer ≡ load-said (call .result .answer))
+    × (after ≡ call .result .session)
 Step (search budget) answer before after =
     (call : CodeCall 0 search-kinds.ps search-kinds.r) × Kept search-reads.Pre search-reads.Post call
-    × (before ≡ call .args .0) × (budget ≡ call .args .1 .0) × (answer ≡ numbers-said (call .result .answer)) × (after ≡ call .result .session)
+    × (before ≡ call .args .0) × (budget ≡ call .args .1 .0) × (answer ≡ numbers-said (call .result .answer))
+    × (after ≡ call .result .session)
 Step (write buffer) written before after =
     (call : CodeCall 1 write-kinds.ps write-kinds.r) × Kept write-reads.Pre write-reads.Post call
     × (before ≡ call .args .0) × (buffer ≡ now (call .args .1 .0))
@@ -52,7 +66,8 @@ Step (write buffer) written before after =
 abbrev pub exported : Calling
 exported =
     record {
-      Made = λ s. (call : CodeCall 0 fresh-kinds.ps fresh-kinds.r) × Kept fresh-reads.Pre fresh-reads.Post call × (s ≡ call .result);
+      Made = λ s. (call : CodeCall 0 fresh-kinds.ps fresh-kinds.r) × Kept fresh-reads.Pre fresh-reads.Post call
+          × (s ≡ call .result);
       Step = Step;
     }
 
@@ -63,7 +78,8 @@ exported-tied = record { fresh = fresh-tied; step = step-tied }
     fresh-tied : (s : Session) → exported .Made s → Fresh s
     fresh-tied s (call, kept, same) = let e = kept tt in rw same (record { stands = e .0; sound = e .1 })
 
-    step-tied : (call : Call) (outcome : Outcome call) (before after : Session) → Step call outcome before after → Sound before
+    step-tied : (call : Call) (outcome : Outcome call) (before after : Session) → Step call outcome before after
+        → Sound before
         → Ensured call outcome before after
     step-tied (load text) answer before after (call, kept, on, given, gave, led) sound =
         let e = kept (rw on at sound) in
@@ -86,7 +102,8 @@ pub demand-3-of-the-library : Demand3Of exported
 demand-3-of-the-library = tied-demand-3 exported-tied
 
 -- the numbers of a search are those of the answer that the search owes, its state's among them
-pub search-numbers : (call : CodeCall 0 search-kinds.ps search-kinds.r) → Kept search-reads.Pre search-reads.Post call → Sound (call .args .0)
+pub search-numbers : (call : CodeCall 0 search-kinds.ps search-kinds.r) → Kept search-reads.Pre search-reads.Post call
+    → Sound (call .args .0)
     → Numbers (search-answer (view (call .args .0)) (call .args .1 .0)) (call .result .answer)
 search-numbers call kept sound = kept sound .0 .answers
 
@@ -111,11 +128,13 @@ check-of-the-library call kept =
 -- the book that the book program prints is believed
 pub book-program-printed : (call : CodeCall 2 book-output-kinds.ps book-output-kinds.r)
     → Kept book-output-reads.Pre book-output-reads.Post call
-    → BookPrinted (now (call .args .0)) (now (call .args .1 .0)) (now (call .args .1 .1 .0)) (now (call .left .1 .1 .0)) (call .result)
+    → BookPrinted (now (call .args .0)) (now (call .args .1 .0)) (now (call .args .1 .1 .0))
+    (now (call .left .1 .1 .0)) (call .result)
 book-program-printed call kept = book-printed (now (call .args .0)) (now (call .args .1 .0)) (kept tt)
 
 -- the line that the check program prints is that of an answer that is owed
 pub check-program-printed : (call : CodeCall 2 check-output-kinds.ps check-output-kinds.r)
     → Kept check-output-reads.Pre check-output-reads.Post call
-    → CheckPrinted (now (call .args .0)) (now (call .args .1 .0)) (now (call .args .1 .1 .0)) (now (call .left .1 .1 .0)) (call .result)
+    → CheckPrinted (now (call .args .0)) (now (call .args .1 .0)) (now (call .args .1 .1 .0))
+    (now (call .left .1 .1 .0)) (call .result)
 check-program-printed call kept = check-printed (now (call .args .0)) (now (call .args .1 .0)) (kept tt)

@@ -1,5 +1,5 @@
--- A budget read digit by digit into a number of the machine, which stops one past the greatest budget. A word that says a budget is read as
--- that number, and any other word as the bound, whatever its length is. Assumes nothing.
+-- A budget read digit by digit into a number of the machine, which stops one past the greatest budget. A word that
+-- says a budget is read as that number, and any other word as the bound, whatever its length is. Assumes nothing.
 use Prim.Native.Nat.{ℕ, suc, _+_, _-_, _*_, _≤_, _<_, min}
 use Prim.Native.Char.{code}
 use native.Mathlib.Numerals.{add-one}
@@ -40,9 +40,11 @@ budget-read word = cond (is-budget word) (Number (number-of word)) NoNumber
 -- ---- digit by digit
 
 -- numbers that are read alike are read alike with digits behind them
-capped-after : (m n : ℕ) (digits : Bytes) → capped m ≡ capped n → capped (number-after m digits) ≡ capped (number-after n digits)
+capped-after : (m n : ℕ) (digits : Bytes) → capped m ≡ capped n → capped (number-after m digits) ≡ capped
+    (number-after n digits)
 capped-after m n [] e = e
-capped-after m n (b ∷ digits) e = capped-after (10 * m + (b - code "0")) (10 * n + (b - code "0")) digits (more (b - code "0"))
+capped-after m n (b ∷ digits) e = capped-after (10 * m + (b - code "0")) (10 * n + (b - code "0")) digits
+    (more (b - code "0"))
   where
     more : (d : ℕ) → capped (10 * m + d) ≡ capped (10 * n + d)
     more d = omega arith
@@ -53,7 +55,11 @@ capped-twice n = omega arith
 digits-next : (n b : ℕ) (digits : Bytes) → So (is-digit b)
     → digits-read n (b ∷ digits) ≡ digits-read (capped (10 * n + (b - code "0"))) digits
 digits-next n b digits e =
-    rw (e, capped-after (10 * n + (b - code "0")) (capped (10 * n + (b - code "0"))) digits (sym (capped-twice (10 * n + (b - code "0")))))
+    rw (
+      e,
+      capped-after (10 * n + (b - code "0")) (capped (10 * n + (b - code "0"))) digits
+          (sym (capped-twice (10 * n + (b - code "0")))),
+    )
 
 -- the digits from a place on, where there is one
 pub digits-next-at : (n : ℕ) (word : Bytes) (i : ℕ) → i < length word → So (is-digit (getD word i 0))
@@ -89,13 +95,15 @@ no-digits [] e = refl
 no-digits (b ∷ rest) e = absurd (omega arith)
 
 -- below the bound it is the budget
-pub budget-found : (word : Bytes) → (length word ≡ 0 → ⊥) → digits-read 0 word < budget-cap → budget-read word ≡ Number (digits-read 0 word)
+pub budget-found : (word : Bytes) → (length word ≡ 0 → ⊥) → digits-read 0 word < budget-cap
+    → budget-read word ≡ Number (digits-read 0 word)
 unfolding is-budget
 budget-found [] some h = absurd (some refl)
 budget-found (b ∷ rest) some h = within (all is-digit (b ∷ rest)) (number-of (b ∷ rest)) h
 
 -- and else there is none
-pub budget-missing : (word : Bytes) → (length word ≡ 0 → ⊥) → budget-cap ≤ digits-read 0 word → budget-read word ≡ NoNumber
+pub budget-missing : (word : Bytes) → (length word ≡ 0 → ⊥) → budget-cap ≤ digits-read 0 word
+    → budget-read word ≡ NoNumber
 unfolding is-budget
 budget-missing [] some h = absurd (some refl)
 budget-missing (b ∷ rest) some h = beyond (all is-digit (b ∷ rest)) (number-of (b ∷ rest)) h

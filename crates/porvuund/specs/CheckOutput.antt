@@ -1,4 +1,5 @@
--- What the check program prints: roles and witness lines with a comma between, or the number of the refusal. Assumes nothing.
+-- What the check program prints: roles and witness lines with a comma between, or the number of the refusal. Assumes
+-- nothing.
 use mathlib.Core.Path.{_≡_, ap}
 use mathlib.Core.Bool.{cond}
 use mathlib.Core.Logic.{_≢_}
@@ -16,7 +17,8 @@ check-said c = record { number = c .number; roles = c .roles; witness-lines = c 
 
 -- the line for an answer
 abbrev pub check-line : CheckAnswer → Bytes
-check-line answer = cond (eqb (answer .number) 0) (pair-line (answer .roles) (answer .witness-lines)) (number-line (answer .number))
+check-line answer =
+    cond (eqb (answer .number) 0) (pair-line (answer .roles) (answer .witness-lines)) (number-line (answer .number))
 
 -- what is printed for a sheet and a book
 unfoldable pub check-output : Bytes → Bytes → Bytes
@@ -24,7 +26,8 @@ check-output sheet book = check-line (check sheet book)
 
 -- ---- by the answer
 
-line-of : (sheet book : Bytes) {answer : CheckAnswer} → Checks sheet book answer → check-line answer ≡ check-output sheet book
+line-of : (sheet book : Bytes) {answer : CheckAnswer} → Checks sheet book answer → check-line answer ≡ check-output
+    sheet book
 unfolding check-output
 line-of sheet book checks = ap check-line (checks .answers)
 

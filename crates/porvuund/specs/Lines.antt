@@ -16,7 +16,8 @@ pair-line first second = (decimal first ++ comma ∷ []) ++ number-line second
 pub number-line-length : (n : ℕ) → n < 2 ^ word-bits → length (number-line n) ≤ word-digits + 1
 number-line-length n h = omega (arith, digits-of-word n h, length-append (decimal n) (line-feed ∷ []))
 
-pub pair-line-length : (m n : ℕ) → m < 2 ^ word-bits → n < 2 ^ word-bits → length (pair-line m n) ≤ 2 * (word-digits + 1)
+pub pair-line-length : (m n : ℕ) → m < 2 ^ word-bits → n < 2 ^ word-bits → length (pair-line m n) ≤ 2 *
+    (word-digits + 1)
 pair-line-length m n h k =
     omega (
       arith,

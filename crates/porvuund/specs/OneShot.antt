@@ -1,5 +1,6 @@
--- A whole task in one call: a sheet is loaded into a fresh session, searched once within a budget, and its book is written. The answer is that of the
--- first of these calls that refuses, and else that of the writing. Assumes nothing.
+-- A whole task in one call: a sheet is loaded into a fresh session, searched once within a budget, and its book is
+-- written. The answer is that of the first of these calls that refuses, and else that of the writing. Assumes
+-- nothing.
 use Prim.Native.Nat.{ℕ}
 use mathlib.Core.Path.{_≡_, refl, ap, _∙_}
 use mathlib.Core.Bool.{cond}
@@ -8,7 +9,19 @@ use borrow.Author.Tests.{eq-eqb, ne-eqb}
 use Rattle.spec.specs.Text.{Bytes}
 use Rattle.spec.specs.Session.{Session, fresh}
 use Rattle.spec.specs.Refusal.{refusal, accepted}
-use Rattle.spec.specs.Calls.{LoadAnswer, SearchAnswer, after-load, after-search, WriteAnswer, write-refused, write-answer, buffer-after, Loads, Searches, Writes}
+use Rattle.spec.specs.Calls.{
+  LoadAnswer,
+  SearchAnswer,
+  after-load,
+  after-search,
+  WriteAnswer,
+  write-refused,
+  write-answer,
+  buffer-after,
+  Loads,
+  Searches,
+  Writes,
+}
 use Rattle.demands.specs.Demand1.{load-number-is-refusal}
 use Rattle.porvuund.specs.declared.calls.BookNumbers.{BookNumbers}
 
@@ -49,19 +62,23 @@ refused-by-load text budget buffer number e refuses =
 
 -- an accepted one, then a search and a writing
 pub written-after : (text : Bytes) (budget : ℕ) (buffer : Bytes) → refusal text ≡ 0
-    → {start loaded searched after : Session} {load : LoadAnswer} {search : SearchAnswer} {answer : WriteAnswer} {lent : Bytes}
-    → start ≡ fresh → Loads start text load loaded → Searches loaded budget search searched → Writes searched buffer answer lent after
+    → {start loaded searched after : Session} {load : LoadAnswer} {search : SearchAnswer} {answer : WriteAnswer}
+    {lent : Bytes}
+    → start ≡ fresh → Loads start text load loaded → Searches loaded budget search searched → Writes searched buffer
+    answer lent after
     → Books text budget buffer answer lent
 unfolding book-answer book-buffer
 written-after text budget buffer accepts {searched = searched} start loads searches writes =
     let e = eq-eqb (refusal text) 0 accepts in
     let same : searched ≡ searched-once text budget =
-    searches .leaves ∙ ap (λ (s : Session). after-search s budget) (loads .leaves ∙ ap (λ (s : Session). after-load s text) start) in
+    searches .leaves ∙ ap (λ (s : Session). after-search s budget) (loads .leaves
+    ∙ ap (λ (s : Session). after-load s text) start) in
     record {
       answers = rw e (writes .answers ∙ ap (λ (s : Session). write-answer s buffer) same);
       fills = rw e (writes .fills ∙ ap (λ (s : Session). buffer-after s buffer) same);
     }
 
 -- a load's number is the sheet's
-pub loaded-number : (text : Bytes) {before after : Session} {answer : LoadAnswer} → Loads before text answer after → answer .number ≡ refusal text
+pub loaded-number : (text : Bytes) {before after : Session} {answer : LoadAnswer} → Loads before text answer after
+    → answer .number ≡ refusal text
 loaded-number text loads = ap (λ (a : LoadAnswer). a .number) (loads .answers) ∙ load-number-is-refusal text

@@ -30,7 +30,8 @@ pub record SearchesAs (before : Session) (budget : ℕ) (n : SearchNumbers) (aft
   pub leaves : after ≡ after-search before budget
 
 -- the numbers of a search's own answer
-pub searches-as : {before after : Session} {budget : ℕ} {answer : SearchAnswer} {n : SearchNumbers} → Searches before budget answer after
+pub searches-as : {before after : Session} {budget : ℕ} {answer : SearchAnswer} {n : SearchNumbers}
+    → Searches before budget answer after
     → Numbers answer n → SearchesAs before budget n after
 searches-as s numbers = record { answers = rw (s .answers) at numbers; leaves = s .leaves }
 
@@ -48,7 +49,15 @@ numbered-state (some unsettled) = refl
 
 -- the answer that these numbers are
 abbrev pub numbers-said : SearchNumbers → SearchAnswer
-numbers-said n = record { number = n .number; steps = n .steps; roles = n .roles; bound = n .bound; standing = state-of (n .state) }
+numbers-said n =
+    record {
+      number = n .number;
+      steps = n .steps;
+      roles = n .roles;
+      bound = n .bound;
+      standing = state-of
+          (n .state);
+    }
 
 numbers-are : (answer : SearchAnswer) (n : SearchNumbers) → Numbers answer n → numbers-said n ≡ answer
 numbers-are answer n h = rw (h .number, h .steps, h .roles, h .bound, h .state, numbered-state (answer .standing))

@@ -1,4 +1,5 @@
--- What the code's reduction gives: of every sheet that the rows show, the kernel's cells, the removals and the number of singles.
+-- What the code's reduction gives: of every sheet that the rows show, the kernel's cells, the removals and the number
+-- of singles.
 use Prim.Native.Nat.{ℕ, _+_, _≤_}
 use native.Mathlib.Nat.{not-suc-le-zero}
 use native.Mathlib.Omega.{arith}
@@ -20,7 +21,8 @@ use Rattle.reduction.specs.declared.reduction.Reduced.{Reduced}
 -- as many cells are set as the sheet has grants
 shows-few : {rows : List ℕ} {users : ℕ} → Shows rows users → remaining-cells rows ≤ grant-limit
 shows-few {rows} given =
-    rw (sym (remaining-count (given .shown) (given .few-users) (part-all rows)) ∙ ap length (all-remain (given .shown))) (given .few-grants)
+    rw (sym (remaining-count (given .shown) (given .few-users) (part-all rows))
+    ∙ ap length (all-remain (given .shown))) (given .few-grants)
 
 -- nothing is removed at first
 pub shows-ready : {rows : List ℕ} {users : ℕ} → Shows rows users
@@ -58,7 +60,8 @@ pub record ReducedFrom (rows : List ℕ) (users : ℕ) (r : Reduced) : Type 0 wh
   pub single-count : (sheet : Sheet) → Shown rows users sheet → r .singles ≡ length (singles sheet)
 
 -- settled work, with its singles counted
-pub settled-reduced : {rows : List ℕ} {users : ℕ} {r : Reduced} → Settled rows users (work-in r) → r .singles ≡ length (singles-of (log-in r))
+pub settled-reduced : {rows : List ℕ} {users : ℕ} {r : Reduced} → Settled rows users (work-in r)
+    → r .singles ≡ length (singles-of (log-in r))
     → ReducedFrom rows users r
 unfolding kernel singles
 settled-reduced settled counted =

@@ -36,4 +36,5 @@ ones-in (field ∷ rest) = one-if (is-one field) + ones-in rest
 
 -- what some fields say
 abbrev pub cells-of : Line → Cells
-cells-of line = record { count = length line; names = all has-name-length line; bits = all is-bit line; ones = ones-in line }
+cells-of line =
+    record { count = length line; names = all has-name-length line; bits = all is-bit line; ones = ones-in line }

@@ -1,5 +1,6 @@
--- What reading the field at a cursor leaves of a line. A field ends at the first comma or line feed: after a comma the fields of the line go on,
--- after a line feed and at the end of the text there is none. The laws follow the bytes up to there, one by one. Assumes nothing.
+-- What reading the field at a cursor leaves of a line. A field ends at the first comma or line feed: after a comma
+-- the fields of the line go on, after a line feed and at the end of the text there is none. The laws follow the bytes
+-- up to there, one by one. Assumes nothing.
 use Prim.Native.Nat.{ℕ, suc, _+_, _-_, _≤_, _<_, min}
 use native.Mathlib.Numerals.{add-one}
 use native.Mathlib.Omega.{arith}
@@ -38,7 +39,8 @@ after-field true text = text
 after-field false text = after-line text
 
 -- a text with some byte is its first line and the lines that follow
-pub first-line-read : (b : ℕ) (rest : Bytes) → lines-of (b ∷ rest) ≡ line-fields (b ∷ rest) ∷ lines-of (after-line (b ∷ rest))
+pub first-line-read : (b : ℕ) (rest : Bytes) → lines-of (b ∷ rest) ≡ line-fields (b ∷ rest) ∷ lines-of
+    (after-line (b ∷ rest))
 first-line-read b rest = ap (map fields) (ended-first (eqb line-feed) b rest)
 
 -- where the first field ends, and whether it is the last of its line

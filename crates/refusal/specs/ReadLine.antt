@@ -1,4 +1,5 @@
--- What reading a line leaves: where its first field ends, what the other fields say, and where the next line starts. Assumes nothing.
+-- What reading a line leaves: where its first field ends, what the other fields say, and where the next line starts.
+-- Assumes nothing.
 use Prim.Native.Nat.{ℕ, suc, _+_, _≤_, _<_}
 use mathlib.Core.Path.{_≡_}
 use mathlib.Core.List.{tail}
@@ -10,7 +11,8 @@ use Rattle.refusal.specs.FieldLaws.{line-fields, after-line}
 use Rattle.refusal.specs.Cells.{cells-of}
 use Rattle.refusal.specs.declared.line.LineRead.{LineRead}
 
--- the line of a text that starts at a place. Each field takes a byte at least, with the separator that ends it, so the place of the next line bounds the counts.
+-- the line of a text that starts at a place. Each field takes a byte at least, with the separator that ends it, so
+-- the place of the next line bounds the counts.
 pub record ReadLine (text : Bytes) (at : ℕ) (r : LineRead) : Type 0 where
   pub name : Part text at (r .to) (first-field (line-fields (drop at text)))
   pub cells : r .cells ≡ cells-of (tail (line-fields (drop at text)))

@@ -1,5 +1,5 @@
--- Reading blocks undoes writing them, and writing undoes reading. Blocks are parted at empty lines as fields are at commas, so both
--- follow from the laws of cutting and of lines, where no line of a block is empty.
+-- Reading blocks undoes writing them, and writing undoes reading. Blocks are parted at empty lines as fields are at
+-- commas, so both follow from the laws of cutting and of lines, where no line of a block is empty.
 use Prim.Native.Nat.{ℕ, _≤_}
 use native.Mathlib.Nat.{not-suc-le-zero}
 use native.Mathlib.Omega.{arith}
@@ -35,7 +35,8 @@ is-empty-line-only (field ∷ next ∷ rest) e = absurd (false≢true e)
 
 -- a text can hold the empty field, and so the empty line
 pub empty-field : Field []
-empty-field = record { no-comma = λ b m. absurd (List·Memᴰ·not-nil m); no-line-feed = λ b m. absurd (List·Memᴰ·not-nil m) }
+empty-field =
+    record { no-comma = λ b m. absurd (List·Memᴰ·not-nil m); no-line-feed = λ b m. absurd (List·Memᴰ·not-nil m) }
 
 empty-line-fields : Fields empty-line
 empty-line-fields = record { some-field = omega arith; each = λ field m. rw (List·Memᴰ·eq-of-singleton m) empty-field }
@@ -44,7 +45,8 @@ pub blocks-read-as-written : (blocks : List Block) → GoodBlocks blocks → blo
 unfolding blocks-of text-of-blocks
 blocks-read-as-written blocks g =
     ap (parted-by is-empty-line) (read-as-written (joined empty-line blocks) each-line)
-    ∙ parted-joined is-empty-line empty-line refl blocks (g .some-block) (λ block m line n. g .each block m line n .not-empty)
+    ∙ parted-joined is-empty-line empty-line refl blocks (g .some-block) (λ block m line n. g .each block m line
+    n .not-empty)
   where
     each-line : Lines (joined empty-line blocks)
     each-line line m =
@@ -54,7 +56,8 @@ blocks-read-as-written blocks g =
 pub blocks-written-as-read : (text : Bytes) → last-byte text ≡ line-feed → text-of-blocks (blocks-of text) ≡ text
 unfolding blocks-of text-of-blocks
 blocks-written-as-read text e =
-    ap (λ (lines : List Line). text-of lines) (joined-parted is-empty-line empty-line is-empty-line-only (lines-of text))
+    ap (λ (lines : List Line). text-of lines) (joined-parted is-empty-line empty-line is-empty-line-only
+    (lines-of text))
     ∙ written-as-read-to-feed text e
 
 -- ---- what is written ends in a line feed

@@ -1,5 +1,5 @@
--- A written book is no longer than the checker takes: its length is the sum over its blocks, lines and fields, and each field, line and block
--- is at most as long as the limits of names, users, permissions and roles allow.
+-- A written book is no longer than the checker takes: its length is the sum over its blocks, lines and fields, and
+-- each field, line and block is at most as long as the limits of names, users, permissions and roles allow.
 use Prim.Native.Nat.{ℕ, suc, _+_, _*_, _≤_, _<_, suc-le-suc}
 use native.Mathlib.Nat.{le-trans}
 use native.Mathlib.Omega.{arith}
@@ -16,7 +16,18 @@ use Rattle.spec.specs.Sheet.{Sheet, Grant, cell-text, user-count, permission-co
 use Rattle.spec.specs.RoleSet.{RoleSet}
 use Rattle.spec.specs.Roles.{Standing, witnessed, searched, unsettled}
 use Rattle.spec.specs.Decimal.{decimal}
-use Rattle.spec.specs.Book.{standing-word, role-name, Said, counts-block, roles-block, users-block, witness-line, witness-block, blocks-saying, book-text}
+use Rattle.spec.specs.Book.{
+  standing-word,
+  role-name,
+  Said,
+  counts-block,
+  roles-block,
+  users-block,
+  witness-line,
+  witness-block,
+  blocks-saying,
+  book-text,
+}
 use Rattle.bits.specs.Laws.Below.{below-or-from}
 use Rattle.lists.specs.TestLaws.{member-at}
 use Rattle.lists.specs.ListOfLaws.{length-list-of}
@@ -70,14 +81,18 @@ short-standing searched = omega arith
 short-standing unsettled = omega arith
 
 -- a name by its number; there is none past the last
-short-name : (names : List Bytes) → Each (λ name. length name ≤ name-limit) names → (i : ℕ) → length (getD names i []) ≤ name-limit
+short-name : (names : List Bytes) → Each (λ name. length name ≤ name-limit) names → (i : ℕ) → length (getD names i [])
+    ≤ name-limit
 short-name names each i =
-    ⊎-elim (λ h. each (getD names i []) (member-at names i [] h)) (λ h. rw (List·getD-eq-default names [] {n = i} h) (omega arith))
+    ⊎-elim (λ h. each (getD names i []) (member-at names i [] h)) (λ h. rw (List·getD-eq-default names [] {n = i} h)
+    (omega arith))
     (below-or-from i (length names))
 
-cells-length : (count most : ℕ) (cell : ℕ → Bool) → count ≤ most → total field-length (list-of count (λ i. cell-text (cell i))) ≤ most * 2
+cells-length : (count most : ℕ) (cell : ℕ → Bool) → count ≤ most
+    → total field-length (list-of count (λ i. cell-text (cell i))) ≤ most * 2
 cells-length count most cell h =
-    total-le field-length most 2 (list-of count (λ i. cell-text (cell i))) (rw (length-list-of count (λ i. cell-text (cell i))) h)
+    total-le field-length most 2 (list-of count (λ i. cell-text (cell i)))
+    (rw (length-list-of count (λ i. cell-text (cell i))) h)
     (each-listed (λ field. field-length field ≤ 2) count (λ i. cell-text (cell i)) (λ i l. short-cell (cell i)))
   where
     short-cell : (cell : Bool) → field-length (cell-text cell) ≤ 2
@@ -86,7 +101,8 @@ cells-length count most cell h =
 
 -- ---- block by block
 
-counts-length : (count bound : ℕ) (s : Standing) → length (decimal count) ≤ most-digits → length (decimal bound) ≤ most-digits
+counts-length : (count bound : ℕ) (s : Standing) → length (decimal count) ≤ most-digits → length (decimal bound) ≤
+    most-digits
     → block-length (counts-block count bound s) ≤ 28 + 2 * suc most-digits
 counts-length count bound s h k =
     rw (
@@ -98,7 +114,8 @@ counts-length count bound s h k =
 -- each role line: a role name and a cell for each permission
 roles-length : (sheet : Sheet) (roles : RoleSet) → permission-count sheet ≤ permission-limit
     → Each (λ name. length name ≤ name-limit) (sheet .permissions) → roles .count ≤ role-limit
-    → block-length (roles-block sheet roles) ≤ 5 + permission-limit * suc name-limit + role-limit * (2 + most-digits + permission-limit * 2)
+    → block-length (roles-block sheet roles) ≤ 5 + permission-limit * suc name-limit + role-limit *
+    (2 + most-digits + permission-limit * 2)
 roles-length sheet roles few short-names few-roles =
     rw (line-length-fields (ascii "role") (sheet .permissions))
     (omega (arith, names, lines))
@@ -107,12 +124,18 @@ roles-length sheet roles few short-names few-roles =
     line r = role-name r ∷ list-of (permission-count sheet) (λ p. cell-text (roles .gives r p))
 
     names : total field-length (sheet .permissions) ≤ permission-limit * suc name-limit
-    names = total-le field-length permission-limit (suc name-limit) (sheet .permissions) few (λ name m. suc-le-suc (short-names name m))
+    names = total-le field-length permission-limit (suc name-limit) (sheet .permissions) few
+        (λ name m. suc-le-suc (short-names name m))
 
     short-line : (r : ℕ) → r < roles .count → line-length (line r) ≤ 2 + most-digits + permission-limit * 2
     short-line r h =
         rw (line-length-fields (role-name r) (list-of (permission-count sheet) (λ p. cell-text (roles .gives r p))))
-        (omega (arith, short-role-name r (omega arith), cells-length (permission-count sheet) permission-limit (roles .gives r) few))
+        (omega (
+          arith,
+          short-role-name r (omega arith),
+          cells-length (permission-count sheet) permission-limit
+              (roles .gives r) few,
+        ))
 
     lines : block-length (list-of (roles .count) line) ≤ role-limit * (2 + most-digits + permission-limit * 2)
     lines =
@@ -121,9 +144,11 @@ roles-length sheet roles few short-names few-roles =
         (each-listed (λ l. line-length l ≤ 2 + most-digits + permission-limit * 2) (roles .count) line short-line)
 
 -- each user line: a user name and a cell for each role
-users-length : (sheet : Sheet) (roles : RoleSet) → user-count sheet ≤ user-limit → Each (λ name. length name ≤ name-limit) (sheet .users)
+users-length : (sheet : Sheet) (roles : RoleSet) → user-count sheet ≤ user-limit
+    → Each (λ name. length name ≤ name-limit) (sheet .users)
     → roles .count ≤ role-limit
-    → block-length (users-block sheet roles) ≤ 5 + role-limit * (2 + most-digits) + user-limit * (suc name-limit + role-limit * 2)
+    → block-length (users-block sheet roles) ≤ 5 + role-limit * (2 + most-digits) + user-limit *
+    (suc name-limit + role-limit * 2)
 users-length sheet roles few short-names few-roles =
     rw (line-length-fields (ascii "user") (list-of (roles .count) role-name))
     (omega (arith, names, lines))
@@ -133,14 +158,20 @@ users-length sheet roles few short-names few-roles =
 
     names : total field-length (list-of (roles .count) role-name) ≤ role-limit * (2 + most-digits)
     names =
-        total-le field-length role-limit (2 + most-digits) (list-of (roles .count) role-name) (rw (length-list-of (roles .count) role-name) few-roles)
+        total-le field-length role-limit (2 + most-digits) (list-of (roles .count) role-name)
+        (rw (length-list-of (roles .count) role-name) few-roles)
         (each-listed (λ field. field-length field ≤ 2 + most-digits) (roles .count) role-name
         (λ r h. omega (arith, short-role-name r (omega arith))))
 
     short-line : (u : ℕ) → u < user-count sheet → line-length (line u) ≤ suc name-limit + role-limit * 2
     short-line u h =
         rw (line-length-fields (user-name sheet u) (list-of (roles .count) (λ r. cell-text (roles .has u r))))
-        (omega (arith, short-name (sheet .users) short-names u, cells-length (roles .count) role-limit (roles .has u) few-roles))
+        (omega (
+          arith,
+          short-name (sheet .users) short-names u,
+          cells-length (roles .count) role-limit (roles .has u)
+              few-roles,
+        ))
 
     lines : block-length (list-of (user-count sheet) line) ≤ user-limit * (suc name-limit + role-limit * 2)
     lines =
@@ -159,7 +190,12 @@ witness-length sheet grants short-users short-permissions few =
     short-line : (g : Grant) → line-length (witness-line sheet g) ≤ 2 * suc name-limit
     short-line g =
         rw (line-length-fields (user-name sheet (g .user)) (permission-name sheet (g .permission) ∷ []))
-        (omega (arith, short-name (sheet .users) short-users (g .user), short-name (sheet .permissions) short-permissions (g .permission)))
+        (omega (
+          arith,
+          short-name (sheet .users) short-users (g .user),
+          short-name (sheet .permissions)
+              short-permissions (g .permission),
+        ))
 
     lines : block-length (map (witness-line sheet) grants) ≤ role-limit * (2 * suc name-limit)
     lines =

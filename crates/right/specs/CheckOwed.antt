@@ -1,5 +1,6 @@
--- What demands 1 and 2 ask of a check, from what it promises: its number is the first of its causes that applies, whose numbers rise, so it is the lowest; where it is
--- not 0 its counts are 0; and it is 0 exactly where the sheet keeps the rules and the book is right.
+-- What demands 1 and 2 ask of a check, from what it promises: its number is the first of its causes that applies,
+-- whose numbers rise, so it is the lowest; where it is not 0 its counts are 0; and it is 0 exactly where the sheet
+-- keeps the rules and the book is right.
 use Prim.Native.Nat.{ℕ}
 use mathlib.Core.Path.{_≡_, refl, sym, ap, _∙_}
 use mathlib.Core.Bool.{Bool, true, false, So}
@@ -25,7 +26,8 @@ first-is-lowest causes r = record { none-lower = none-lower causes r; applies = 
 -- a call whose number is the first of its causes, and which changes nothing where that is not 0
 pub judged : (causes : List Cause) (number : ℕ) (Refused : Type 0) → So (rising 0 causes) → number ≡ first-number causes
     → (first-number causes ≢ 0 → Refused) → Judged causes number Refused
-judged causes number Refused r e h = record { lowest = rw e (first-is-lowest causes r); refused = λ n. h (λ z. n (e ∙ z)) }
+judged causes number Refused r e h =
+    record { lowest = rw e (first-is-lowest causes r); refused = λ n. h (λ z. n (e ∙ z)) }
 
 check-causes-rise : (sheet book : Bytes) → So (rising 0 (check-causes sheet book))
 unfolding check-causes sheet-causes book-causes
@@ -35,7 +37,8 @@ check-number : (sheet book : Bytes) → check sheet book .number ≡ first-numbe
 unfolding check
 check-number sheet book = choose (eqb (first-number (check-causes sheet book)) 0) refl
   where
-    choose : (b : Bool) → eqb (first-number (check-causes sheet book)) 0 ≡ b → check sheet book .number ≡ first-number (check-causes sheet book)
+    choose : (b : Bool) → eqb (first-number (check-causes sheet book)) 0 ≡ b → check sheet book .number ≡ first-number
+        (check-causes sheet book)
     choose true e = rw e (sym (eqb-true (first-number (check-causes sheet book)) 0 e))
     choose false e = rw e
 
@@ -50,7 +53,8 @@ pub checks-judged : (sheet book : Bytes) (answer : CheckAnswer) → Checks sheet
 checks-judged sheet book answer h =
     let number : answer .number ≡ first-number (check-causes sheet book) =
     ap (λ (a : CheckAnswer). a .number) (h .answers) ∙ check-number sheet book in
-    judged (check-causes sheet book) (answer .number) (answer ≡ check-refused (answer .number)) (check-causes-rise sheet book) number (λ n.
+    judged (check-causes sheet book) (answer .number) (answer ≡ check-refused (answer .number))
+    (check-causes-rise sheet book) number (λ n.
     h .answers ∙ (refused-check sheet book n ∙ ap check-refused (sym number)))
 
 -- what the demands ask of a check's answer

@@ -1,4 +1,5 @@
--- A book that is written from counts, roles and a witness that are right is of the form and short enough, and so it is right.
+-- A book that is written from counts, roles and a witness that are right is of the form and short enough, and so it
+-- is right.
 use Prim.Native.Nat.{ℕ, _≤_}
 use native.Mathlib.Nat.{le-trans, le-of-eq, lt-of-lt-of-le}
 use native.Mathlib.Omega.{arith}
@@ -26,7 +27,8 @@ pub record SoundBook (sheet : Sheet) (book : Said) : Type 0 where
 
 -- ---- what is sound is right
 
-bound-le-roles : (s : Standing) (bound roles lines : ℕ) → BoundAgrees s bound roles lines → (bound ≤ roles) × (lines ≤ roles)
+bound-le-roles : (s : Standing) (bound roles lines : ℕ) → BoundAgrees s bound roles lines → (bound ≤ roles)
+    × (lines ≤ roles)
 bound-le-roles witnessed bound roles lines b = (omega arith, omega arith)
 bound-le-roles searched bound roles lines b = (omega arith, omega arith)
 bound-le-roles unsettled bound roles lines b = (omega arith, omega arith)
@@ -36,7 +38,8 @@ module _ (text : Bytes) (takes : So (accepted text)) (book : Said) (s : SoundBoo
   unfolding user-limit permission-limit name-limit
   sound-small =
       let kept = accepted-keeps text takes in
-      let least = bound-le-roles (book .standing) (book .bound) (book .roles .count) (length (book .witness)) (s .counts .bound) in
+      let least = bound-le-roles (book .standing) (book .bound) (book .roles .count) (length (book .witness))
+      (s .counts .bound) in
       record {
         few-users = kept .few-users;
         few-permissions = kept .few-permissions;
@@ -58,9 +61,11 @@ module _ (text : Bytes) (takes : So (accepted text)) (book : Said) (s : SoundBoo
           short = book-within-limit (sheet-of text) book sound-small;
           few-roles = s .few-roles;
           known-users = λ g m.
-              lt-of-lt-of-le (held-user-below (sheet-of text) (g .user) (g .permission) (s .witness .all-held g m)) (le-of-eq (kept .a-row-each));
+              lt-of-lt-of-le (held-user-below (sheet-of text) (g .user) (g .permission) (s .witness .all-held g m))
+              (le-of-eq (kept .a-row-each));
           known-permissions = λ g m.
-              held-permission-below (sheet-of text) (g .user) (g .permission) (permission-count (sheet-of text)) (kept .even-rows)
+              held-permission-below (sheet-of text) (g .user) (g .permission) (permission-count (sheet-of text))
+              (kept .even-rows)
               (s .witness .all-held g m);
         };
         counts = s .counts;

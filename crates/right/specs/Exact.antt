@@ -1,5 +1,6 @@
--- The checker accepts a book exactly when it is right. What it read from an accepted book makes the book right, since a text of the form is
--- what is written for it; and a right book is read as what it says of every user, permission and role, so that every test passes.
+-- The checker accepts a book exactly when it is right. What it read from an accepted book makes the book right, since
+-- a text of the form is what is written for it; and a right book is read as what it says of every user, permission
+-- and role, so that every test passes.
 use Prim.Native.Nat.{ℕ, _<_}
 use mathlib.Core.Path.{_≡_, ap, _∙_}
 use mathlib.Core.Logic.{_↔_}
@@ -22,7 +23,14 @@ use Rattle.right.specs.NameLaws.{GoodSheet, good-names}
 use Rattle.right.specs.WrittenLines.{Sayable}
 use Rattle.right.specs.ReadBack.{SaysSame, written-has-form, read-back}
 use Rattle.right.specs.ReadForm.{form-is-written, form-is-sayable}
-use Rattle.right.specs.CheckParts.{counts-agree-elim, counts-agree-intro, product-agrees-elim, product-agrees-intro, witness-stands-elim, witness-stands-intro}
+use Rattle.right.specs.CheckParts.{
+  counts-agree-elim,
+  counts-agree-intro,
+  product-agrees-elim,
+  product-agrees-intro,
+  witness-stands-elim,
+  witness-stands-intro,
+}
 use Rattle.right.specs.Verdict.{Passes, check-confirms, zero-unrefused, unrefused-zero}
 
 -- ---- what passes is right
@@ -46,12 +54,14 @@ passes-right sheet text p =
 
 -- ---- what is right passes
 
-pub counts-agree-same : (sheet : Sheet) (read written : Said) → SaysSame sheet read written → counts-agree read ≡ counts-agree written
+pub counts-agree-same : (sheet : Sheet) (read written : Said) → SaysSame sheet read written
+    → counts-agree read ≡ counts-agree written
 unfolding counts-agree
 counts-agree-same sheet read written s =
     rw (s .count, s .bound, s .standing, s .roles, s .witness)
 
-pub product-same : (sheet : Sheet) (read written : Said) → SaysSame sheet read written → (u p : ℕ) → u < user-count sheet
+pub product-same : (sheet : Sheet) (read written : Said) → SaysSame sheet read written → (u p : ℕ)
+    → u < user-count sheet
     → p < permission-count sheet → product (read .roles) u p ≡ product (written .roles) u p
 unfolding product
 product-same sheet read written s u p h k =
@@ -59,7 +69,8 @@ product-same sheet read written s u p h k =
     (some-below-ext (written .roles .count) (λ r. read .roles .has u r && read .roles .gives r p)
     (λ r. written .roles .has u r && written .roles .gives r p) (λ r l. rw (s .has u r h l, s .gives r p l k)))
 
-multiplies-same : (sheet : Sheet) (read written : Said) → SaysSame sheet read written → Multiplies (written .roles) sheet
+multiplies-same : (sheet : Sheet) (read written : Said) → SaysSame sheet read written → Multiplies (written .roles)
+    sheet
     → Multiplies (read .roles) sheet
 multiplies-same sheet read written s m =
     record { cell = λ u p h k. product-same sheet read written s u p h k ∙ m .cell u p h k }
@@ -74,25 +85,30 @@ of-form-sayable sheet text says f =
     }
 
 -- a right book is read as what it says
-pub right-read : (sheet : Sheet) → GoodSheet sheet → (text : Bytes) (says : Said) → Right sheet text says → SaysSame sheet (said sheet text) says
+pub right-read : (sheet : Sheet) → GoodSheet sheet → (text : Bytes) (says : Said) → Right sheet text says
+    → SaysSame sheet (said sheet text) says
 right-read sheet good text says r =
     rw (r .of-form .written) (read-back sheet good says (of-form-sayable sheet text says (r .of-form)))
 
-pub right-passes : (sheet : Sheet) → GoodSheet sheet → (text : Bytes) (says : Said) → Right sheet text says → Passes sheet text
+pub right-passes : (sheet : Sheet) → GoodSheet sheet → (text : Bytes) (says : Said) → Right sheet text says
+    → Passes sheet text
 unfolding book-limit
 right-passes sheet good text says r =
     let same = right-read sheet good text says r in
     record {
       short = r .of-form .short;
-      has-form = rw (r .of-form .written) (written-has-form sheet good says (of-form-sayable sheet text says (r .of-form)));
+      has-form = rw (r .of-form .written) (written-has-form sheet good says (of-form-sayable sheet text says
+          (r .of-form)));
       counts = counts-agree-same sheet (said sheet text) says same ∙ counts-agree-intro says (r .counts);
-      product = product-agrees-intro sheet (said sheet text .roles) (multiplies-same sheet (said sheet text) says same (r .product));
+      product = product-agrees-intro sheet (said sheet text .roles) (multiplies-same sheet (said sheet text) says same
+          (r .product));
       witness = rw (same .witness) (witness-stands-intro sheet (says .witness) (r .witness));
     }
 
 -- ---- the checker's answer
 
-confirmed-same : (read written : Said) → read .roles .count ≡ written .roles .count → length (read .witness) ≡ length (written .witness)
+confirmed-same : (read written : Said) → read .roles .count ≡ written .roles .count → length (read .witness) ≡ length
+    (written .witness)
     → check-counts read ≡ check-counts written
 confirmed-same read written e f = rw (e, f)
 
@@ -105,33 +121,41 @@ pub sheet-accepted : (text book : Bytes) → check text book .number ≡ 0 → S
 sheet-accepted text book z = eq-eqb (refusal text) 0 (zero-unrefused text book z .sheet-stands)
 
 -- what the checker read from a book that it accepts makes the book right
-pub reads-books : (text book : Bytes) → check text book .number ≡ 0 → Right (sheet-of text) book (said (sheet-of text) book)
+pub reads-books : (text book : Bytes) → check text book .number ≡ 0 → Right (sheet-of text) book
+    (said (sheet-of text) book)
 reads-books text book z = passes-right (sheet-of text) book (zero-unrefused text book z .book-passes)
 
-module _ (text book : Bytes) (sheet : Sheet) (says : Said) (kept : Keeps text sheet) (right : Right sheet book says) where
-  -- the checker reads from a right book what it says
-  pub says-as-read : SaysSame sheet (said (sheet-of text) book) says
-  says-as-read = rw (reads-sheets text sheet kept) (right-read sheet (keeps-good kept) book says right)
+module _ (text book : Bytes) (sheet : Sheet) (says : Said) (kept : Keeps text sheet) (right : Right sheet book says)
+  where
+    -- the checker reads from a right book what it says
+    pub says-as-read : SaysSame sheet (said (sheet-of text) book) says
+    says-as-read = rw (reads-sheets text sheet kept) (right-read sheet (keeps-good kept) book says right)
 
-  -- the checker accepts a right book
-  pub right-is-accepted : check text book .number ≡ 0
-  right-is-accepted =
-      unrefused-zero text book
-      (record {
-        sheet-stands = eqb-true (refusal text) 0 (accepts-sheets text .1 (sheet, kept));
-        book-passes = rw (reads-sheets text sheet kept) (right-passes sheet (keeps-good kept) book says right);
-      })
+    -- the checker accepts a right book
+    pub right-is-accepted : check text book .number ≡ 0
+    right-is-accepted =
+        unrefused-zero text book
+        (record {
+          sheet-stands = eqb-true (refusal text) 0 (accepts-sheets text .1 (sheet, kept));
+          book-passes = rw (reads-sheets text sheet kept) (right-passes sheet (keeps-good kept) book says right);
+        })
 
-  -- and answers its counts
-  pub answers-counts : check text book ≡ check-counts says
-  answers-counts =
-      check-confirms text book right-is-accepted
-      ∙ confirmed-same (said (sheet-of text) book) says (says-as-read .roles) (ap length (says-as-read .witness))
+    -- and answers its counts
+    pub answers-counts : check text book ≡ check-counts says
+    answers-counts =
+        check-confirms text book right-is-accepted
+        ∙ confirmed-same (said (sheet-of text) book) says (says-as-read .roles) (ap length (says-as-read .witness))
 
 -- the checker accepts a book exactly when its sheet keeps the rules and its form, counts, product and witness are right
 pub accepts-books : (text book : Bytes)
     → (check text book .number ≡ 0) ↔ ((sheet : Sheet) × (says : Said) × Keeps text sheet × Right sheet book says)
 accepts-books text book = (
-  λ z. (sheet-of text, said (sheet-of text) book, accepted-keeps text (sheet-accepted text book z), reads-books text book z),
+  λ z. (
+    sheet-of text,
+    said (sheet-of text) book,
+    accepted-keeps text (sheet-accepted text book z),
+    reads-books text
+        book z,
+  ),
   λ found. right-is-accepted text book (found .0) (found .1) (found .2) (found .3),
 )

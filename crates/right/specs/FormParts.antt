@@ -1,5 +1,5 @@
--- The test of a book's form, taken apart: what it says of the text, of each block and of each line, as facts, and back from the facts to
--- the test.
+-- The test of a book's form, taken apart: what it says of the text, of each block and of each line, as facts, and
+-- back from the facts to the test.
 use Prim.Native.Nat.{ℕ, suc, _≤_, _<_}
 use mathlib.Core.Path.{_≡_}
 use mathlib.Core.Bool.{Bool, So, _&&_}
@@ -13,7 +13,20 @@ use Rattle.spec.specs.Text.{ascii, same-bytes, Bytes, Line, line-feed, last-byt
 use Rattle.spec.specs.Sheet.{Sheet, first-field, first-line, user-count, permission-count, is-bit, user-name}
 use Rattle.spec.specs.Decimal.{is-count}
 use Rattle.spec.specs.Book.{role-name, counts-heading, witness-heading, Block}
-use Rattle.spec.specs.Form.{blocks-of, block-at, line-at, field-at, is-standing, counts-form, cells-line, roles-form, users-form, known, witness-form, form}
+use Rattle.spec.specs.Form.{
+  blocks-of,
+  block-at,
+  line-at,
+  field-at,
+  is-standing,
+  counts-form,
+  cells-line,
+  roles-form,
+  users-form,
+  known,
+  witness-form,
+  form,
+}
 use Rattle.bits.specs.Truth.{and-intro, and-left, and-right}
 use Rattle.bits.specs.Laws.Below.{every-below-intro, every-below-elim}
 use Rattle.lists.specs.TestLaws.{all-intro, all-elim, same-bytes-equal, same-bytes-refl, equal-same-bytes}
@@ -66,7 +79,8 @@ pub record CellsLine (line : Line) (name : Bytes) (count : ℕ) : Type 0 where
   pub fields : length line ≡ suc count
   pub cells : So (all is-bit (tail line))
 
-pub cells-line-elim : (line : Line) (name : Bytes) (count : ℕ) → So (same-bytes (first-field line) name && cells-line line count)
+pub cells-line-elim : (line : Line) (name : Bytes) (count : ℕ) → So (same-bytes (first-field line) name
+    && cells-line line count)
     → CellsLine line name count
 cells-line-elim line name count e =
     record {
@@ -89,12 +103,14 @@ pub record RolesForm (sheet : Sheet) (block : Block) : Type 0 where
   pub heading : first-field (first-line block) ≡ ascii "role"
   pub permissions : tail (first-line block) ≡ sheet .permissions
   pub few : length (tail block) ≤ role-limit
-  pub lines : (r : ℕ) → r < length (tail block) → CellsLine (line-at (tail block) r) (role-name r) (permission-count sheet)
+  pub lines : (r : ℕ) → r < length (tail block) → CellsLine (line-at (tail block) r) (role-name r)
+      (permission-count sheet)
 
 -- the test of the line of role r
 role-line-test : Sheet → Block → ℕ → Bool
 role-line-test sheet block r =
-    same-bytes (first-field (line-at (tail block) r)) (role-name r) && cells-line (line-at (tail block) r) (permission-count sheet)
+    same-bytes (first-field (line-at (tail block) r)) (role-name r) && cells-line (line-at (tail block) r)
+    (permission-count sheet)
 
 pub roles-form-elim : (sheet : Sheet) (block : Block) → So (roles-form sheet block) → RolesForm sheet block
 unfolding roles-form role-line-test
@@ -133,19 +149,22 @@ user-line-test : Sheet → ℕ → Block → ℕ → Bool
 user-line-test sheet roles block u =
     same-name (first-field (line-at (tail block) u)) (user-name sheet u) && cells-line (line-at (tail block) u) roles
 
-pub users-form-elim : (sheet : Sheet) (roles : ℕ) (block : Block) → So (users-form sheet roles block) → UsersForm sheet roles block
+pub users-form-elim : (sheet : Sheet) (roles : ℕ) (block : Block) → So (users-form sheet roles block)
+    → UsersForm sheet roles block
 unfolding users-form user-line-test
 users-form-elim sheet roles block e =
     let each : So (every-below (user-count sheet) (user-line-test sheet roles block)) = search (and-right) in
     record {
-      heading = same-names-equal (first-line block) (ascii "user" ∷ list-of roles role-name) (search (and-left, and-right));
+      heading = same-names-equal (first-line block) (ascii "user" ∷ list-of roles role-name)
+          (search (and-left, and-right));
       a-line-each = eqb-true (length (tail block)) (user-count sheet) (search (and-left, and-right));
       lines = λ u h.
           cells-line-elim (line-at (tail block) u) (user-name sheet u) roles
           (every-below-elim (user-count sheet) (user-line-test sheet roles block) each h);
     }
 
-pub users-form-intro : (sheet : Sheet) (roles : ℕ) (block : Block) → UsersForm sheet roles block → So (users-form sheet roles block)
+pub users-form-intro : (sheet : Sheet) (roles : ℕ) (block : Block) → UsersForm sheet roles block
+    → So (users-form sheet roles block)
 unfolding users-form user-line-test
 users-form-intro sheet roles block f =
     let heading = equal-same-names (first-line block) (ascii "user" ∷ list-of roles role-name) (f .heading) in
@@ -200,7 +219,8 @@ pub witness-form-intro : (sheet : Sheet) (block : Block) → WitnessForm sheet b
 unfolding witness-form witness-line-test
 witness-form-intro sheet block f =
     let heading = equal-same-names (first-line block) witness-heading (f .heading) in
-    let each = all-intro (witness-line-test sheet) (tail block) (λ line m. witness-line-intro sheet line (f .lines line m)) in
+    let each = all-intro (witness-line-test sheet) (tail block) (λ line m. witness-line-intro sheet line
+    (f .lines line m)) in
     search and-intro
 
 -- ---- the text

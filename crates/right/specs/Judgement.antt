@@ -1,5 +1,6 @@
--- The checker's answer, from the answer's own side. A sheet that is refused gives its number. For any other sheet a book that is not written for
--- anything that can be said gives 12, and a book that is written for something is judged by what it says.
+-- The checker's answer, from the answer's own side. A sheet that is refused gives its number. For any other sheet a
+-- book that is not written for anything that can be said gives 12, and a book that is written for something is judged
+-- by what it says.
 use Prim.Native.Nat.{ℕ, _≤_, _<_}
 use mathlib.Core.Path.{_≡_, refl, ap, _∙_}
 use mathlib.Core.Bool.{Bool, true, false, So, _||_, not, cond, Bool·beq}
@@ -14,7 +15,18 @@ use Rattle.spec.specs.Sheet.{Sheet, sheet-of, user-count, permission-count, hol
 use Rattle.spec.specs.RoleSet.{product}
 use Rattle.spec.specs.Book.{Said, book-text}
 use Rattle.spec.specs.Form.{form, said}
-use Rattle.spec.specs.Refusal.{Cause, refuse-if, first-number, sheet-causes, refusal, counts-agree, product-agrees, witness-agrees, book-causes, check-causes}
+use Rattle.spec.specs.Refusal.{
+  Cause,
+  refuse-if,
+  first-number,
+  sheet-causes,
+  refusal,
+  counts-agree,
+  product-agrees,
+  witness-agrees,
+  book-causes,
+  check-causes,
+}
 use Rattle.spec.specs.Calls.{CheckAnswer, check-refused, check-counts, check}
 use Rattle.bits.specs.Truth.{fails-unless, or-left, or-right, not-passes}
 use Rattle.bits.specs.Laws.Below.{every-below-ext}
@@ -30,7 +42,8 @@ use Rattle.right.specs.Exact.{counts-agree-same, product-same, keeps-goo
 abbrev pub judged-number : Sheet → Said → ℕ
 judged-number sheet says =
     refuse-if (not (counts-agree says)) 13
-    (refuse-if (not (product-agrees sheet (says .roles))) 14 (refuse-if (not (witness-agrees sheet (says .witness))) 15 0))
+    (refuse-if (not (product-agrees sheet (says .roles))) 14 (refuse-if (not (witness-agrees sheet (says .witness)))
+    15 0))
 
 -- the answer of a number: the counts, where it is 0, else the number alone
 abbrev pub answered : ℕ → Said → CheckAnswer
@@ -55,23 +68,29 @@ second-of-both (cause ∷ a) b n = rw (n .0) (second-of-both a b (n .1))
 pub refused-by-sheet : (text book : Bytes) → (refusal text ≡ 0 → ⊥) → check text book ≡ check-refused (refusal text)
 unfolding check check-causes refusal
 refused-by-sheet text book h =
-    rw (first-of-both (sheet-causes text) (book-causes (sheet-of text) book) h, ne-eqb (first-number (sheet-causes text)) 0 h)
+    rw (
+      first-of-both (sheet-causes text) (book-causes (sheet-of text) book) h,
+      ne-eqb (first-number (sheet-causes text)) 0 h,
+    )
 
 -- past the sheet the book decides
 pub judged-by-book : (text book : Bytes) → refusal text ≡ 0
     → check text book ≡ answered (first-number (book-causes (sheet-of text) book)) (said (sheet-of text) book)
 unfolding check check-causes refusal
 judged-by-book text book e =
-    rw (second-of-both (sheet-causes text) (book-causes (sheet-of text) book) (zero-none-applies 0 (sheet-causes text) (sheet-causes-rise text) e))
+    rw (second-of-both (sheet-causes text) (book-causes (sheet-of text) book) (zero-none-applies 0 (sheet-causes text)
+    (sheet-causes-rise text) e))
 
 -- ---- 12
 
-refused-twelve : (text book : Bytes) → refusal text ≡ 0 → So (ltb book-limit (length book) || not (form (sheet-of text) book))
+refused-twelve : (text book : Bytes) → refusal text ≡ 0 → So (ltb book-limit (length book)
+    || not (form (sheet-of text) book))
     → check text book ≡ check-refused 12
 unfolding book-causes
 refused-twelve text book e t = judged-by-book text book e ∙ rw t
 
-pub too-long-book : (text book : Bytes) → refusal text ≡ 0 → book-limit < length book → check text book ≡ check-refused 12
+pub too-long-book : (text book : Bytes) → refusal text ≡ 0 → book-limit < length book
+    → check text book ≡ check-refused 12
 too-long-book text book e h =
     refused-twelve text book e
     (or-left (ltb book-limit (length book)) (not (form (sheet-of text) book)) (lt-ltb book-limit (length book) h))
@@ -80,13 +99,15 @@ too-long-book text book e h =
 pub record Unwritten (sheet : Sheet) (book : Bytes) : Type 0 where
   pub none : (says : Said) → Sayable sheet says → book ≡ book-text sheet says → ⊥
 
-pub unwritten-book : (text book : Bytes) → refusal text ≡ 0 → Unwritten (sheet-of text) book → check text book ≡ check-refused 12
+pub unwritten-book : (text book : Bytes) → refusal text ≡ 0 → Unwritten (sheet-of text) book
+    → check text book ≡ check-refused 12
 unwritten-book text book e u =
     refused-twelve text book e
     (or-right (ltb book-limit (length book)) (not (form (sheet-of text) book))
     (not-passes (form (sheet-of text) book)
     (fails-unless (form (sheet-of text) book) (λ f.
-    u .none (said (sheet-of text) book) (form-is-sayable (sheet-of text) book f) (form-is-written (sheet-of text) book f)))))
+    u .none (said (sheet-of text) book) (form-is-sayable (sheet-of text) book f) (form-is-written (sheet-of text) book
+    f)))))
 
 -- ---- what is written
 
@@ -100,7 +121,8 @@ product-agrees-same : (sheet : Sheet) (read written : Said) → SaysSame sheet r
     → product-agrees sheet (read .roles) ≡ product-agrees sheet (written .roles)
 unfolding product-agrees
 product-agrees-same sheet read written s =
-    every-below-ext (user-count sheet) (λ u. every-below (permission-count sheet) (λ p. Bool·beq (product (read .roles) u p) (holds sheet u p)))
+    every-below-ext (user-count sheet) (λ u. every-below (permission-count sheet)
+    (λ p. Bool·beq (product (read .roles) u p) (holds sheet u p)))
     (λ u. every-below (permission-count sheet) (λ p. Bool·beq (product (written .roles) u p) (holds sheet u p))) (λ u h.
     every-below-ext (permission-count sheet) (λ p. Bool·beq (product (read .roles) u p) (holds sheet u p))
     (λ p. Bool·beq (product (written .roles) u p) (holds sheet u p)) (λ p k.

@@ -1,5 +1,5 @@
--- How long a text is: each field of a line counts one byte more than it has, for the comma or the line feed behind it, and one line feed
--- stands between each two blocks.
+-- How long a text is: each field of a line counts one byte more than it has, for the comma or the line feed behind
+-- it, and one line feed stands between each two blocks.
 use Prim.Native.Nat.{ℕ, suc, _+_}
 use native.Mathlib.Omega.{arith}
 use mathlib.Core.Path.{_≡_, _∙_}
@@ -22,7 +22,8 @@ line-length line = length (line-text line)
 abbrev pub block-length : Block → ℕ
 block-length block = total line-length block
 
-pub line-length-fields : (field : Bytes) (rest : Line) → line-length (field ∷ rest) ≡ field-length field + total field-length rest
+pub line-length-fields : (field : Bytes) (rest : Line) → line-length (field ∷ rest) ≡ field-length field + total
+    field-length rest
 unfolding line-length
 line-length-fields field rest =
     rw (length-append (joined comma (field ∷ rest)) (line-feed ∷ [])) (omega (arith, length-joined comma field rest))
@@ -33,10 +34,15 @@ text-length lines = length-concat-total (map line-text lines) ∙ total-map leng
 
 -- one more for the line feed of the empty line before each block but the first
 joined-length : (block : Block) (blocks : List Block)
-    → total line-length (joined empty-line (block ∷ blocks)) ≡ block-length block + total (λ b. suc (block-length b)) blocks
+    → total line-length (joined empty-line (block ∷ blocks)) ≡ block-length block + total (λ b. suc (block-length b))
+    blocks
 joined-length block [] = omega arith
 joined-length block (next ∷ later) =
-    rw (total-append line-length block (empty-line ∷ joined empty-line (next ∷ later)), line-length-fields [] [], joined-length next later)
+    rw (
+      total-append line-length block (empty-line ∷ joined empty-line (next ∷ later)),
+      line-length-fields [] [],
+      joined-length next later,
+    )
     (omega arith)
 
 pub blocks-length : (block : Block) (blocks : List Block)

@@ -1,5 +1,5 @@
--- The names of a sheet as the checker uses them: each can stand as a field, and each says its own number, since the lowest place of a
--- name is the only one where no name stands twice.
+-- The names of a sheet as the checker uses them: each can stand as a field, and each says its own number, since the
+-- lowest place of a name is the only one where no name stands twice.
 use Prim.Native.Nat.{ℕ, _≤_, _<_}
 use mathlib.Core.Path.{_≡_, sym, ap}
 use mathlib.Core.Logic.{_⊎_, inl, inr, _≢_}
@@ -49,7 +49,8 @@ pub record StandsAt (names : List Bytes) (name : Bytes) (place : ℕ) : Type 0 w
   pub within : place < length names
   pub there : getD names place [] ≡ name
 
-pub known-stands : (names : List Bytes) (name : Bytes) → So (known names name) → StandsAt names name (number-among names name)
+pub known-stands : (names : List Bytes) (name : Bytes) → So (known names name)
+    → StandsAt names name (number-among names name)
 known-stands names name e = choose (lowest-below-cases (length names) test)
   where
     test : ℕ → Bool
@@ -69,7 +70,8 @@ pub known-at : (names : List Bytes) (i : ℕ) → i < length names → So (known
 known-at names i h =
     any-intro (same-name (getD names i [])) names (member-at names i [] h) (same-bytes-refl (getD names i []))
 
-pub number-among-at : (names : List Bytes) → GoodNames names → (i : ℕ) → i < length names → number-among names (getD names i []) ≡ i
+pub number-among-at : (names : List Bytes) → GoodNames names → (i : ℕ) → i < length names
+    → number-among names (getD names i []) ≡ i
 number-among-at names good i h = ap (λ found. Option·getD found 0) (lowest-below-intro (length names) test here)
   where
     test : ℕ → Bool
@@ -81,5 +83,6 @@ number-among-at names good i h = ap (λ found. Option·getD found 0) (lowest-bel
           within = h;
           holds = same-bytes-refl (getD names i []);
           first = λ j l.
-              fails-unless (test j) (λ e. good .distinct j i l h (sym (same-bytes-equal (getD names i []) (getD names j []) e)));
+              fails-unless (test j) (λ e. good .distinct j i l h
+              (sym (same-bytes-equal (getD names i []) (getD names j []) e)));
         }

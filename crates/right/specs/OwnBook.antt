@@ -1,5 +1,6 @@
--- The book of a sheet in a state of its search is right for what it says, where its roles are few and multiply to the sheet and its witness
--- stands: the state word and the bound are set from the roles and the witness just as the counts must agree.
+-- The book of a sheet in a state of its search is right for what it says, where its roles are few and multiply to the
+-- sheet and its witness stands: the state word and the bound are set from the roles and the witness just as the
+-- counts must agree.
 use Prim.Native.Nat.{ℕ, _≤_}
 use native.Mathlib.Omega.{arith}
 use mathlib.Core.Path.{_≡_, refl}
@@ -13,7 +14,17 @@ use Rattle.spec.specs.Sheet.{Sheet, sheet-of}
 use Rattle.spec.specs.Witness.{witness}
 use Rattle.spec.specs.Machine.{State}
 use Rattle.spec.specs.RoleSet.{Multiplies}
-use Rattle.spec.specs.Roles.{witnessed, searched, unsettled, standing-of, bound-of, roles-of, role-count, standing, bound}
+use Rattle.spec.specs.Roles.{
+  witnessed,
+  searched,
+  unsettled,
+  standing-of,
+  bound-of,
+  roles-of,
+  role-count,
+  standing,
+  bound,
+}
 use Rattle.spec.specs.Book.{said-in, book}
 use Rattle.spec.specs.Right.{BoundAgrees, WitnessStands, Right}
 use Rattle.spec.specs.Refusal.{accepted}
@@ -25,7 +36,8 @@ pub bound-agrees-of : (roles w : ℕ) (finished : Bool) → w ≤ roles
 bound-agrees-of roles w finished h = choose (eqb roles w) refl finished
   where
     choose : (t : Bool) → eqb roles w ≡ t → (f : Bool)
-        → BoundAgrees (cond t witnessed (cond f searched unsettled)) (bound-of (cond t witnessed (cond f searched unsettled)) roles w) roles w
+        → BoundAgrees (cond t witnessed (cond f searched unsettled))
+        (bound-of (cond t witnessed (cond f searched unsettled)) roles w) roles w
     choose true e f = (refl, eqb-true roles w e)
     choose false e true = (refl, let apart = eqb-false roles w e in omega arith)
     choose false e false = (refl, let apart = eqb-false roles w e in omega arith)

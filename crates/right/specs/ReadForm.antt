@@ -1,5 +1,6 @@
--- A text of the form is the very text that is written for what was read from it: the form leaves no byte of a line open but the counts,
--- the state word, the cells and the names of witness lines, and each of these is what is written for what it says.
+-- A text of the form is the very text that is written for what was read from it: the form leaves no byte of a line
+-- open but the counts, the state word, the cells and the names of witness lines, and each of these is what is written
+-- for what it says.
 use Prim.Native.Nat.{ℕ, suc, _<_}
 use native.Mathlib.Omega.{arith}
 use mathlib.Core.Path.{_≡_, refl, sym, ap, _∙_}
@@ -13,8 +14,31 @@ use Rattle.spec.specs.Sheet.{Sheet, is-one, cell-text, user-count, permission-c
 use Rattle.spec.specs.RoleSet.{RoleSet}
 use Rattle.spec.specs.Roles.{witnessed, searched, unsettled}
 use Rattle.spec.specs.Decimal.{number-of}
-use Rattle.spec.specs.Book.{standing-word, role-name, Block, text-of-blocks, counts-block, roles-block, users-block, witness-line, witness-block, blocks-saying, book-text}
-use Rattle.spec.specs.Form.{blocks-of, block-at, line-at, field-at, is-standing, grant-of-line, standing-said, form, said-by-blocks, said}
+use Rattle.spec.specs.Book.{
+  standing-word,
+  role-name,
+  Block,
+  text-of-blocks,
+  counts-block,
+  roles-block,
+  users-block,
+  witness-line,
+  witness-block,
+  blocks-saying,
+  book-text,
+}
+use Rattle.spec.specs.Form.{
+  blocks-of,
+  block-at,
+  line-at,
+  field-at,
+  is-standing,
+  grant-of-line,
+  standing-said,
+  form,
+  said-by-blocks,
+  said,
+}
 use Rattle.bits.specs.Truth.{or-cases}
 use Rattle.lists.specs.TestLaws.{all-elim, member-at, same-bytes-equal}
 use Rattle.lists.specs.JoinLaws.{map-fixed}
@@ -22,7 +46,20 @@ use Rattle.lists.specs.ListOfLaws.{list-of-places, list-of-same}
 use Rattle.lists.specs.EachLaws.{each-mapped}
 use Rattle.decimal.specs.Laws.Count.{count-is-decimal}
 use Rattle.right.specs.BlockLaws.{blocks-written-as-read}
-use Rattle.right.specs.FormParts.{CountsForm, counts-form-elim, CellsLine, RolesForm, roles-form-elim, UsersForm, users-form-elim, WitnessLine, WitnessForm, witness-form-elim, FormOf, form-elim}
+use Rattle.right.specs.FormParts.{
+  CountsForm,
+  counts-form-elim,
+  CellsLine,
+  RolesForm,
+  roles-form-elim,
+  UsersForm,
+  users-form-elim,
+  WitnessLine,
+  WitnessForm,
+  witness-form-elim,
+  FormOf,
+  form-elim,
+}
 use Rattle.right.specs.WrittenLines.{Sayable}
 use Rattle.right.specs.NameLaws.{known-stands}
 
@@ -40,10 +77,12 @@ standing-written : (word : Bytes) → So (is-standing word) → standing-word (s
 standing-written word e =
     ⊎-elim
     (λ p.
-    ⊎-elim (λ q. rw (same-bytes-equal word (standing-word witnessed) q)) (λ q. rw (same-bytes-equal word (standing-word searched) q))
+    ⊎-elim (λ q. rw (same-bytes-equal word (standing-word witnessed) q))
+    (λ q. rw (same-bytes-equal word (standing-word searched) q))
     (or-cases (same-bytes word (standing-word witnessed)) (same-bytes word (standing-word searched)) p))
     (λ p. rw (same-bytes-equal word (standing-word unsettled) p))
-    (or-cases (same-bytes word (standing-word witnessed) || same-bytes word (standing-word searched)) (same-bytes word (standing-word unsettled)) e)
+    (or-cases (same-bytes word (standing-word witnessed) || same-bytes word (standing-word searched))
+    (same-bytes word (standing-word unsettled)) e)
 
 counts-written : (block : Block) → CountsForm block
     → block
@@ -83,7 +122,8 @@ lines-written : (lines : List Line) (count width : ℕ) (name : ℕ → Bytes) �
     → lines ≡ list-of count (λ i. name i ∷ list-of width (λ j. cell-text (is-one (field-at (line-at lines i) (suc j)))))
 lines-written lines count width name e h =
     by-places lines [] count e
-    ∙ list-of-same count (line-at lines) (λ i. name i ∷ list-of width (λ j. cell-text (is-one (field-at (line-at lines i) (suc j)))))
+    ∙ list-of-same count (line-at lines)
+    (λ i. name i ∷ list-of width (λ j. cell-text (is-one (field-at (line-at lines i) (suc j)))))
     (λ i l. cells-written (line-at lines i) (name i) width (h i l))
 
 -- ---- block 2
@@ -97,7 +137,8 @@ roles-said roles users =
       gives = λ r p. is-one (field-at (line-at (tail roles) r) (suc p));
     }
 
-roles-written : (sheet : Sheet) (block users : Block) → RolesForm sheet block → block ≡ roles-block sheet (roles-said block users)
+roles-written : (sheet : Sheet) (block users : Block) → RolesForm sheet block → block ≡ roles-block sheet
+    (roles-said block users)
 unfolding roles-said
 roles-written sheet [] users f = absurd (let z : _≡_ {A = ℕ} 0 1 = cc in omega arith)
 roles-written sheet ([] ∷ lines) users f = absurd (let z : _≡_ {A = ℕ} 0 1 = cc in omega arith)
@@ -112,11 +153,13 @@ users-written : (sheet : Sheet) (roles block : Block) → UsersForm sheet (lengt
 unfolding roles-said
 users-written sheet roles [] f = absurd (let z : _≡_ {A = ℕ} 0 1 = cc in omega arith)
 users-written sheet roles (heading ∷ lines) f =
-    same-first-and-rest (f .heading) (lines-written lines (user-count sheet) (length (tail roles)) (user-name sheet) (f .a-line-each) (f .lines))
+    same-first-and-rest (f .heading) (lines-written lines (user-count sheet) (length (tail roles)) (user-name sheet)
+    (f .a-line-each) (f .lines))
 
 -- ---- block 4
 
-witness-line-written : (sheet : Sheet) (line : Line) → WitnessLine sheet line → witness-line sheet (grant-of-line sheet line) ≡ line
+witness-line-written : (sheet : Sheet) (line : Line) → WitnessLine sheet line
+    → witness-line sheet (grant-of-line sheet line) ≡ line
 witness-line-written sheet line f =
     rw (
       known-stands (sheet .users) (field-at line 0) (f .user) .there,
@@ -131,7 +174,8 @@ witness-written sheet (heading ∷ lines) f =
     same-first-and-rest (f .heading)
     (sym
     (map-map (witness-line sheet) (grant-of-line sheet) lines
-    ∙ map-fixed (λ line. witness-line sheet (grant-of-line sheet line)) lines (λ line m. witness-line-written sheet line (f .lines line m))))
+    ∙ map-fixed (λ line. witness-line sheet (grant-of-line sheet line)) lines (λ line m. witness-line-written sheet
+    line (f .lines line m))))
 
 -- ---- the text
 
@@ -141,11 +185,13 @@ unfolding blocks-saying roles-said
 blocks-written sheet text blocks f =
     by-places blocks [] 4 (f .four-blocks)
     ∙ same-first-and-rest (counts-written (block-at blocks 0) (counts-form-elim (block-at blocks 0) (f .counts)))
-    (same-first-and-rest (roles-written sheet (block-at blocks 1) (block-at blocks 2) (roles-form-elim sheet (block-at blocks 1) (f .roles)))
+    (same-first-and-rest (roles-written sheet (block-at blocks 1) (block-at blocks 2)
+    (roles-form-elim sheet (block-at blocks 1) (f .roles)))
     (same-first-and-rest
     (users-written sheet (block-at blocks 1) (block-at blocks 2)
     (users-form-elim sheet (length (tail (block-at blocks 1))) (block-at blocks 2) (f .users)))
-    (same-first-and-rest (witness-written sheet (block-at blocks 3) (witness-form-elim sheet (block-at blocks 3) (f .witness))) refl)))
+    (same-first-and-rest (witness-written sheet (block-at blocks 3) (witness-form-elim sheet (block-at blocks 3)
+    (f .witness))) refl)))
 
 pub form-is-written : (sheet : Sheet) (text : Bytes) → So (form sheet text) → text ≡ book-text sheet (said sheet text)
 unfolding book-text said
@@ -165,6 +211,7 @@ form-is-sayable sheet text e =
           each-mapped (λ g. g .user < user-count sheet) (grant-of-line sheet) (tail (block-at (blocks-of text) 3))
           (λ line m. known-stands (sheet .users) (field-at line 0) (witness .lines line m .user) .within);
       known-permissions =
-          each-mapped (λ g. g .permission < permission-count sheet) (grant-of-line sheet) (tail (block-at (blocks-of text) 3))
+          each-mapped (λ g. g .permission < permission-count sheet) (grant-of-line sheet)
+          (tail (block-at (blocks-of text) 3))
           (λ line m. known-stands (sheet .permissions) (field-at line 1) (witness .lines line m .permission) .within);
     }

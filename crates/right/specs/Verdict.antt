@@ -1,5 +1,5 @@
--- The checker's number is 0 exactly where no cause of the sheet and no cause of the book applies; and no cause of a book applies exactly
--- where its tests all pass.
+-- The checker's number is 0 exactly where no cause of the sheet and no cause of the book applies; and no cause of a
+-- book applies exactly where its tests all pass.
 use Prim.Native.Nat.{ℕ, _≤_}
 use mathlib.Core.Path.{_≡_, refl, sym, ap, _∙_}
 use mathlib.Core.Logic.{_≢_}
@@ -13,7 +13,17 @@ use Rattle.spec.specs.Text.{Bytes}
 use Rattle.spec.specs.Sheet.{Sheet, sheet-of}
 use Rattle.spec.specs.Book.{Said}
 use Rattle.spec.specs.Form.{form, said}
-use Rattle.spec.specs.Refusal.{Cause, first-number, sheet-causes, refusal, counts-agree, product-agrees, witness-agrees, book-causes, check-causes}
+use Rattle.spec.specs.Refusal.{
+  Cause,
+  first-number,
+  sheet-causes,
+  refusal,
+  counts-agree,
+  product-agrees,
+  witness-agrees,
+  book-causes,
+  check-causes,
+}
 use Rattle.spec.specs.Calls.{CheckAnswer, check-refused, check-counts, check}
 use Rattle.bits.specs.Truth.{or-fails, or-fails-left, or-fails-right}
 use Rattle.rules.specs.CauseLaws.{rising, NoneApplies, zero-none-applies, none-applies-zero, sheet-causes-rise}
@@ -29,7 +39,8 @@ pub record Passes (sheet : Sheet) (text : Bytes) : Type 0 where
 pub passes-none-applies : (sheet : Sheet) (text : Bytes) → Passes sheet text → NoneApplies (book-causes sheet text)
 unfolding book-causes
 passes-none-applies sheet text p = (
-  or-fails (ltb book-limit (length text)) (not (form sheet text)) (le-ltb book-limit (length text) (p .short)) (ap not (p .has-form)),
+  or-fails (ltb book-limit (length text)) (not (form sheet text)) (le-ltb book-limit (length text) (p .short))
+      (ap not (p .has-form)),
   (ap not (p .counts), (ap not (p .product), (ap not (p .witness), tt))),
 )
 
@@ -37,8 +48,10 @@ pub none-applies-passes : (sheet : Sheet) (text : Bytes) → NoneApplies (book-c
 unfolding book-causes
 none-applies-passes sheet text n =
     record {
-      short = ltb-false book-limit (length text) (or-fails-left (ltb book-limit (length text)) (not (form sheet text)) (n .0));
-      has-form = not-false (form sheet text) (or-fails-right (ltb book-limit (length text)) (not (form sheet text)) (n .0));
+      short = ltb-false book-limit (length text) (or-fails-left (ltb book-limit (length text)) (not (form sheet text))
+          (n .0));
+      has-form = not-false (form sheet text) (or-fails-right (ltb book-limit (length text)) (not (form sheet text))
+          (n .0));
       counts = not-false (counts-agree (said sheet text)) (n .1 .0);
       product = not-false (product-agrees sheet (said sheet text .roles)) (n .1 .1 .0);
       witness = not-false (witness-agrees sheet (said sheet text .witness)) (n .1 .1 .1 .0);
@@ -82,14 +95,16 @@ unfolding check answered
 check-number text book = answered-number (first-number (check-causes text book)) (said (sheet-of text) book)
 
 -- a number above 0 is returned with counts 0
-pub check-refuses : (text book : Bytes) → check text book .number ≢ 0 → check text book ≡ check-refused (check text book .number)
+pub check-refuses : (text book : Bytes) → check text book .number ≢ 0 → check text book ≡ check-refused
+    (check text book .number)
 unfolding check
 check-refuses text book h =
     let n = check-number text book in
     rw n (rw (ne-eqb (first-number (check-causes text book)) 0 (λ e. h (n ∙ e))))
 
 -- with no number above 0 the counts that were read are returned
-pub check-confirms : (text book : Bytes) → check text book .number ≡ 0 → check text book ≡ check-counts (said (sheet-of text) book)
+pub check-confirms : (text book : Bytes) → check text book .number ≡ 0 → check text book ≡ check-counts
+    (said (sheet-of text) book)
 unfolding check
 check-confirms text book e = rw (eq-eqb (first-number (check-causes text book)) 0 (sym (check-number text book) ∙ e))
 
@@ -101,10 +116,13 @@ pub record Unrefused (text book : Bytes) : Type 0 where
 pub zero-unrefused : (text book : Bytes) → check text book .number ≡ 0 → Unrefused text book
 unfolding check-causes refusal
 zero-unrefused text book e =
-    let none = zero-none-applies 0 (check-causes text book) (check-causes-rise text book) (sym (check-number text book) ∙ e) in
+    let none = zero-none-applies 0 (check-causes text book) (check-causes-rise text book)
+    (sym (check-number text book) ∙ e) in
     record {
-      sheet-stands = none-applies-zero (sheet-causes text) (none-applies-left (sheet-causes text) (book-causes (sheet-of text) book) none);
-      book-passes = none-applies-passes (sheet-of text) book (none-applies-right (sheet-causes text) (book-causes (sheet-of text) book) none);
+      sheet-stands = none-applies-zero (sheet-causes text) (none-applies-left (sheet-causes text)
+          (book-causes (sheet-of text) book) none);
+      book-passes = none-applies-passes (sheet-of text) book (none-applies-right (sheet-causes text)
+          (book-causes (sheet-of text) book) none);
     }
 
 pub unrefused-zero : (text book : Bytes) → Unrefused text book → check text book .number ≡ 0

@@ -1,5 +1,5 @@
--- The words of the book's form are fields: each has a byte, and all of its bytes are bytes of a name, so none is a comma or a line feed.
--- Two roles have two names, since a decimal count says its number.
+-- The words of the book's form are fields: each has a byte, and all of its bytes are bytes of a name, so none is a
+-- comma or a line feed. Two roles have two names, since a decimal count says its number.
 use Prim.Native.Nat.{ℕ, suc, _≤_, _<_, _^_}
 use Prim.Native.Char.{code}
 use native.Mathlib.Omega.{arith}
@@ -34,12 +34,14 @@ name-bytes-field field e =
 pub digit-name-byte : (b : ℕ) → So (is-digit b) → So (name-byte b)
 unfolding name-byte
 digit-name-byte b e =
-    third (between (code "A") (code "Z") b) (between (code "a") (code "z") b) (is-digit b) (eqb b (code "-")) (eqb b (code "."))
+    third (between (code "A") (code "Z") b) (between (code "a") (code "z") b) (is-digit b) (eqb b (code "-"))
+    (eqb b (code "."))
     (eqb b (code "_")) e
   where
     third : (a b c d e f : Bool) → So c → So (a || b || c || d || e || f)
     third a b c d e f p =
-        or-left (a || b || c || d || e) f (or-left (a || b || c || d) e (or-left (a || b || c) d (or-right (a || b) c p)))
+        or-left (a || b || c || d || e) f
+        (or-left (a || b || c || d) e (or-left (a || b || c) d (or-right (a || b) c p)))
 
 pub digits-name-bytes : (a : Bytes) → So (all is-digit a) → So (all name-byte a)
 digits-name-bytes a e = all-intro name-byte a (λ b m. digit-name-byte b (all-elim is-digit a e m))
@@ -82,6 +84,7 @@ role-name-length k r h = rw (role-name-parts r) (omega (arith, decimal-length k 
 
 pub role-name-injective : (r s : ℕ) → role-name r ≡ role-name s → r ≡ s
 role-name-injective r s e =
-    let parts : code "R" ∷ decimal (suc r) ≡ code "R" ∷ decimal (suc s) = sym (role-name-parts r) ∙ e ∙ role-name-parts s in
+    let parts : code "R" ∷ decimal (suc r) ≡ code "R" ∷ decimal (suc s) = sym (role-name-parts r) ∙ e
+    ∙ role-name-parts s in
     let counts : decimal (suc r) ≡ decimal (suc s) = cc in
     omega (arith, sym (number-of-decimal (suc r)) ∙ ap number-of counts ∙ number-of-decimal (suc s))

@@ -1,5 +1,5 @@
--- The four blocks that say a book of a sheet are of the form, block by block: each line has the fields that the form asks for, in its
--- order, and a cell is spelled `0` or `1`.
+-- The four blocks that say a book of a sheet are of the form, block by block: each line has the fields that the form
+-- asks for, in its order, and a cell is spelled `0` or `1`.
 use Prim.Native.Nat.{ℕ, suc, _≤_, _<_}
 use mathlib.Core.Path.{refl, ap}
 use mathlib.Core.Bool.{Bool, true, false, So}
@@ -10,12 +10,27 @@ use Rattle.spec.specs.Text.{Bytes, Line}
 use Rattle.spec.specs.Sheet.{Sheet, Grant, cell-text, user-count, permission-count, is-bit, user-name}
 use Rattle.spec.specs.RoleSet.{RoleSet}
 use Rattle.spec.specs.Roles.{Standing, witnessed, searched, unsettled}
-use Rattle.spec.specs.Book.{standing-word, role-name, counts-block, roles-block, users-block, witness-line, witness-block}
+use Rattle.spec.specs.Book.{
+  standing-word,
+  role-name,
+  counts-block,
+  roles-block,
+  users-block,
+  witness-line,
+  witness-block,
+}
 use Rattle.spec.specs.Form.{is-standing, counts-form, roles-form, users-form, witness-form}
 use Rattle.lists.specs.TestLaws.{all-intro}
 use Rattle.lists.specs.ListOfLaws.{length-list-of, getD-list-of, list-of-element}
 use Rattle.decimal.specs.Laws.Count.{decimal-is-count}
-use Rattle.right.specs.FormParts.{counts-form-intro, CellsLine, roles-form-intro, users-form-intro, WitnessLine, witness-form-intro}
+use Rattle.right.specs.FormParts.{
+  counts-form-intro,
+  CellsLine,
+  roles-form-intro,
+  users-form-intro,
+  WitnessLine,
+  witness-form-intro,
+}
 use Rattle.right.specs.NameLaws.{known-at}
 
 standing-word-stands : (s : Standing) → So (is-standing (standing-word s))
@@ -40,7 +55,8 @@ cell-text-bit true = refl
 cell-text-bit false = refl
 
 -- a line of a name and a cell for each number below the count
-cells-line-written : (name : Bytes) (count : ℕ) (cell : ℕ → Bool) → CellsLine (name ∷ list-of count (λ i. cell-text (cell i))) name count
+cells-line-written : (name : Bytes) (count : ℕ) (cell : ℕ → Bool)
+    → CellsLine (name ∷ list-of count (λ i. cell-text (cell i))) name count
 cells-line-written name count cell =
     record {
       named = refl;
@@ -49,9 +65,11 @@ cells-line-written name count cell =
     }
   where
     each : (field : Bytes) → List·Memᴰ field (list-of count (λ i. cell-text (cell i))) → So (is-bit field)
-    each field m = let r = list-of-element count (λ i. cell-text (cell i)) m in rw (← r .there) (cell-text-bit (cell (r .place)))
+    each field m = let r = list-of-element count (λ i. cell-text (cell i)) m
+        in rw (← r .there) (cell-text-bit (cell (r .place)))
 
-pub roles-block-form : (sheet : Sheet) (roles : RoleSet) → roles .count ≤ role-limit → So (roles-form sheet (roles-block sheet roles))
+pub roles-block-form : (sheet : Sheet) (roles : RoleSet) → roles .count ≤ role-limit
+    → So (roles-form sheet (roles-block sheet roles))
 roles-block-form sheet roles few =
     roles-form-intro sheet (roles-block sheet roles)
     (record {
@@ -66,14 +84,16 @@ roles-block-form sheet roles few =
     line : ℕ → Line
     line r = role-name r ∷ list-of (permission-count sheet) (λ p. cell-text (roles .gives r p))
 
-pub users-block-form : (sheet : Sheet) (roles : RoleSet) → So (users-form sheet (roles .count) (users-block sheet roles))
+pub users-block-form : (sheet : Sheet) (roles : RoleSet)
+    → So (users-form sheet (roles .count) (users-block sheet roles))
 users-block-form sheet roles =
     users-form-intro sheet (roles .count) (users-block sheet roles)
     (record {
       heading = refl;
       a-line-each = length-list-of (user-count sheet) line;
       lines = λ u h.
-          rw (getD-list-of (user-count sheet) line u [] h) (cells-line-written (user-name sheet u) (roles .count) (roles .has u));
+          rw (getD-list-of (user-count sheet) line u [] h) (cells-line-written (user-name sheet u) (roles .count)
+          (roles .has u));
     })
   where
     line : ℕ → Line

@@ -1,5 +1,5 @@
--- The lines of a written book are such as a block can hold: each begins with a word, a count or a name, which has a byte, and no field
--- of them has a comma or a line feed in it.
+-- The lines of a written book are such as a block can hold: each begins with a word, a count or a name, which has a
+-- byte, and no field of them has a comma or a line feed in it.
 use Prim.Native.Nat.{ℕ, _≤_, _<_}
 use native.Mathlib.Nat.{not-suc-le-zero}
 use native.Mathlib.Omega.{arith}
@@ -14,13 +14,30 @@ use Rattle.spec.specs.Sheet.{Sheet, Grant, cell-text, user-count, permission-co
 use Rattle.spec.specs.RoleSet.{RoleSet}
 use Rattle.spec.specs.Roles.{Standing}
 use Rattle.spec.specs.Decimal.{decimal}
-use Rattle.spec.specs.Book.{standing-word, role-name, Said, counts-block, roles-block, users-block, witness-line, witness-block, blocks-saying}
+use Rattle.spec.specs.Book.{
+  standing-word,
+  role-name,
+  Said,
+  counts-block,
+  roles-block,
+  users-block,
+  witness-line,
+  witness-block,
+  blocks-saying,
+}
 use Rattle.spec.specs.Form.{is-empty-line}
 use Rattle.lists.specs.TestLaws.{member-at}
 use Rattle.lists.specs.EachLaws.{Each, each-none, each-first, each-listed, each-mapped}
 use Rattle.text.specs.Laws.Text.{Field}
 use Rattle.decimal.specs.Laws.Count.{decimal-is-count, count-has-digit}
-use Rattle.right.specs.WordLaws.{name-bytes-field, count-field, standing-word-field, cell-text-field, role-name-field, role-name-some}
+use Rattle.right.specs.WordLaws.{
+  name-bytes-field,
+  count-field,
+  standing-word-field,
+  cell-text-field,
+  role-name-field,
+  role-name-some,
+}
 use Rattle.right.specs.BlockLaws.{BlockLine, GoodBlocks}
 use Rattle.right.specs.NameLaws.{GoodName, GoodNames, GoodSheet}
 
@@ -49,7 +66,8 @@ each-name names good name m = good .each name m .field
 each-cell : (count : ℕ) (cell : ℕ → Bool) → Each Field (list-of count (λ i. cell-text (cell i)))
 each-cell count cell = each-listed Field count (λ i. cell-text (cell i)) (λ i h. cell-text-field (cell i))
 
-word-line : (word : Bytes) (rest : Line) → So (all name-byte word) → 1 ≤ length word → Each Field rest → BlockLine (word ∷ rest)
+word-line : (word : Bytes) (rest : Line) → So (all name-byte word) → 1 ≤ length word → Each Field rest
+    → BlockLine (word ∷ rest)
 word-line word rest e h later = named-line word rest h (name-bytes-field word e) later
 
 counts-lines : (count bound : ℕ) (s : Standing) → Each BlockLine (counts-block count bound s)
@@ -57,20 +75,26 @@ unfolding name-byte
 counts-lines count bound s =
     each-first BlockLine
     (word-line (ascii "roles") (ascii "bound" ∷ ascii "state" ∷ []) refl (omega arith)
-    (each-first Field (name-bytes-field (ascii "bound") refl) (each-first Field (name-bytes-field (ascii "state") refl) (each-none Field))))
+    (each-first Field (name-bytes-field (ascii "bound") refl)
+    (each-first Field (name-bytes-field (ascii "state") refl) (each-none Field))))
     (each-first BlockLine
-    (named-line (decimal count) (decimal bound ∷ standing-word s ∷ []) (count-has-digit (decimal count) (decimal-is-count count))
+    (named-line (decimal count) (decimal bound ∷ standing-word s ∷ []) (count-has-digit (decimal count)
+    (decimal-is-count count))
     (count-field (decimal count) (decimal-is-count count))
-    (each-first Field (count-field (decimal bound) (decimal-is-count bound)) (each-first Field (standing-word-field s) (each-none Field))))
+    (each-first Field (count-field (decimal bound) (decimal-is-count bound)) (each-first Field (standing-word-field s)
+    (each-none Field))))
     (each-none BlockLine))
 
 roles-lines : (sheet : Sheet) → GoodSheet sheet → (roles : RoleSet) → Each BlockLine (roles-block sheet roles)
 unfolding name-byte
 roles-lines sheet good roles =
     each-first BlockLine
-    (word-line (ascii "role") (sheet .permissions) refl (omega arith) (each-name (sheet .permissions) (good .permissions)))
-    (each-listed BlockLine (roles .count) (λ r. role-name r ∷ list-of (permission-count sheet) (λ p. cell-text (roles .gives r p)))
-    (λ r h. named-line (role-name r) (list-of (permission-count sheet) (λ p. cell-text (roles .gives r p))) (role-name-some r) (role-name-field r)
+    (word-line (ascii "role") (sheet .permissions) refl (omega arith) (each-name (sheet .permissions)
+    (good .permissions)))
+    (each-listed BlockLine (roles .count) (λ r. role-name r ∷ list-of (permission-count sheet)
+    (λ p. cell-text (roles .gives r p)))
+    (λ r h. named-line (role-name r) (list-of (permission-count sheet) (λ p. cell-text (roles .gives r p)))
+    (role-name-some r) (role-name-field r)
     (each-cell (permission-count sheet) (roles .gives r))))
 
 users-lines : (sheet : Sheet) → GoodSheet sheet → (roles : RoleSet) → Each BlockLine (users-block sheet roles)
@@ -79,13 +103,16 @@ users-lines sheet good roles =
     each-first BlockLine
     (word-line (ascii "user") (list-of (roles .count) role-name) refl (omega arith)
     (each-listed Field (roles .count) role-name (λ r h. role-name-field r)))
-    (each-listed BlockLine (user-count sheet) (λ u. user-name sheet u ∷ list-of (roles .count) (λ r. cell-text (roles .has u r)))
+    (each-listed BlockLine (user-count sheet) (λ u. user-name sheet u ∷ list-of (roles .count)
+    (λ r. cell-text (roles .has u r)))
     (λ u h.
     let name = name-at (sheet .users) (good .users) u h in
-    named-line (user-name sheet u) (list-of (roles .count) (λ r. cell-text (roles .has u r))) (name .some-byte) (name .field)
+    named-line (user-name sheet u) (list-of (roles .count) (λ r. cell-text (roles .has u r))) (name .some-byte)
+    (name .field)
     (each-cell (roles .count) (roles .has u))))
 
-witness-lines : (sheet : Sheet) → GoodSheet sheet → (grants : List Grant) → Each (λ g. g .user < user-count sheet) grants
+witness-lines : (sheet : Sheet) → GoodSheet sheet → (grants : List Grant) → Each (λ g. g .user < user-count sheet)
+    grants
     → Each (λ g. g .permission < permission-count sheet) grants → Each BlockLine (witness-block sheet grants)
 unfolding name-byte
 witness-lines sheet good grants users permissions =
@@ -98,7 +125,8 @@ witness-lines sheet good grants users permissions =
     named-line (user-name sheet (g .user)) (permission-name sheet (g .permission) ∷ []) (name .some-byte) (name .field)
     (each-first Field (permission .field) (each-none Field))))
 
-pub good-blocks : (sheet : Sheet) → GoodSheet sheet → (book : Said) → Sayable sheet book → GoodBlocks (blocks-saying sheet book)
+pub good-blocks : (sheet : Sheet) → GoodSheet sheet → (book : Said) → Sayable sheet book
+    → GoodBlocks (blocks-saying sheet book)
 unfolding blocks-saying
 good-blocks sheet good book s =
     record {
@@ -108,6 +136,7 @@ good-blocks sheet good book s =
           (counts-lines (book .count) (book .bound) (book .standing))
           (each-first (Each BlockLine) (roles-lines sheet good (book .roles))
           (each-first (Each BlockLine) (users-lines sheet good (book .roles))
-          (each-first (Each BlockLine) (witness-lines sheet good (book .witness) (s .known-users) (s .known-permissions))
+          (each-first (Each BlockLine) (witness-lines sheet good (book .witness) (s .known-users)
+          (s .known-permissions))
           (each-none (Each BlockLine)))));
     }

@@ -1,4 +1,5 @@
--- Classes by cell: an array with the class of the grant at each cell, 0 at the other cells, as `class-of` says of any grant. Assumes nothing.
+-- Classes by cell: an array with the class of the grant at each cell, 0 at the other cells, as `class-of` says of any
+-- grant. Assumes nothing.
 use Prim.Native.Nat.{ℕ, _/_, _<_}
 use mathlib.Core.Path.{_≡_}
 use mathlib.Core.Bool.{cond}
@@ -46,7 +47,8 @@ removal-of it partner = cond (eqb it partner) (single (grant-of it)) (tied (gran
 
 -- what a reduction left and removed, as arrays of cells say it
 abbrev pub reduction-in : List ℕ → ℕ → List ℕ → List ℕ → ℕ → Reduction
-reduction-in kernel size removed partner count = record { remaining = listed kernel size; removed = log-of removed partner count }
+reduction-in kernel size removed partner count =
+    record { remaining = listed kernel size; removed = log-of removed partner count }
 
 -- the classes of all grants, as arrays say them
 abbrev pub classes-in : List ℕ → ℕ → List ℕ → List ℕ → List ℕ → ℕ → Classes

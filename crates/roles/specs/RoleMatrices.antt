@@ -1,5 +1,6 @@
--- The two matrices of some grants in roles as rows of words: a user has the role of each of its grants, and a role gives the permission of each of its grants.
--- Each grant sets one cell in either matrix, and the cells set by the grants so far are those that the definition finds among them.
+-- The two matrices of some grants in roles as rows of words: a user has the role of each of its grants, and a role
+-- gives the permission of each of its grants. Each grant sets one cell in either matrix, and the cells set by the
+-- grants so far are those that the definition finds among them.
 use Prim.Native.Nat.{ℕ, zero, suc, _+_, _*_, _/_, _%_, _<_}
 use native.Mathlib.Nat.{mul-assoc, mod-lt}
 use native.Mathlib.Numerals.{add-one}
@@ -76,24 +77,40 @@ one-more already first second = rw (and-true second) (or-comm already (first && 
 
 module _ {before after : List ℕ} (cells roles : List ℕ) (i : ℕ) where
   pub has-role-next : CellAdded before after (grant-of (getD cells i 0) .user) (getD roles i 0) true
-      → CellsShow before (has-role (paired-in cells roles i)) → CellsShow after (has-role (paired-in cells roles (i + 1)))
+      → CellsShow before (has-role (paired-in cells roles i))
+      → CellsShow after (has-role (paired-in cells roles (i + 1)))
   has-role-next added so-far = record { shown = next }
     where
       next : (u r : ℕ) → r < row-bits → cell after u r ≡ has-role (paired-in cells roles (i + 1)) u r
       next u r l =
           let user = grant-of (getD cells i 0) .user in
           let role = getD roles i 0 in
-          rw (add-one i, paired-next cells roles i, added .shows u r l, so-far .shown u r l, eqb-comm u user, eqb-comm r role)
+          rw (
+            add-one i,
+            paired-next cells roles i,
+            added .shows u r l,
+            so-far .shown u r l,
+            eqb-comm u user,
+            eqb-comm r role,
+          )
           (one-more (has-role (paired-in cells roles i) u r) (eqb user u) (eqb role r))
 
   pub gives-permission-next : CellAdded before after (getD roles i 0) (grant-of (getD cells i 0) .permission) true
-      → CellsShow before (gives-permission (paired-in cells roles i)) → CellsShow after (gives-permission (paired-in cells roles (i + 1)))
+      → CellsShow before (gives-permission (paired-in cells roles i))
+      → CellsShow after (gives-permission (paired-in cells roles (i + 1)))
   gives-permission-next added so-far = record { shown = next }
     where
       next : (r p : ℕ) → p < row-bits → cell after r p ≡ gives-permission (paired-in cells roles (i + 1)) r p
       next r p l =
           let permission = grant-of (getD cells i 0) .permission in
           let role = getD roles i 0 in
-          rw (add-one i, paired-next cells roles i, added .shows r p l, so-far .shown r p l, eqb-comm r role, eqb-comm p permission)
+          rw (
+            add-one i,
+            paired-next cells roles i,
+            added .shows r p l,
+            so-far .shown r p l,
+            eqb-comm r role,
+            eqb-comm p permission,
+          )
           (rw (and-comm (eqb permission p) (eqb role r))
           (one-more (gives-permission (paired-in cells roles i) r p) (eqb role r) (eqb permission p)))

@@ -1,4 +1,5 @@
--- Role numbers as arrays: the role of each grant by its number, found through a table with the role of each class. Assumes nothing.
+-- Role numbers as arrays: the role of each grant by its number, found through a table with the role of each class.
+-- Assumes nothing.
 use Prim.Native.Nat.{ℕ, _*_, _<_}
 use mathlib.Core.Bool.{cond}
 use mathlib.Core.List.{List}

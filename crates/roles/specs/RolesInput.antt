@@ -1,5 +1,5 @@
--- What the roles of a sheet are found from: the rows of the sheet, its kernel as cells in order, a placement of it as an array of class numbers, and the log
--- of its reduction as two arrays of cells. Assumes nothing.
+-- What the roles of a sheet are found from: the rows of the sheet, its kernel as cells in order, a placement of it as
+-- an array of class numbers, and the log of its reduction as two arrays of cells. Assumes nothing.
 use Prim.Native.Nat.{ℕ, _≤_}
 use mathlib.Core.Path.{_≡_}
 use mathlib.Core.List.{List}
@@ -15,7 +15,8 @@ use Rattle.verdict.specs.Log.{log-of}
 use Rattle.roles.specs.CellClasses.{listed}
 
 -- the arrays are those of a sheet and of a placement of its kernel, within the limits
-pub record Belongs (rows : List ℕ) (users : ℕ) (cells : List ℕ) (size : ℕ) (placed : List ℕ) (total : ℕ) (removed partner : List ℕ) (count : ℕ)
+pub record Belongs (rows : List ℕ) (users : ℕ) (cells : List ℕ) (size : ℕ) (placed : List ℕ) (total : ℕ)
+    (removed partner : List ℕ) (count : ℕ)
     (sheet : Sheet) (placement : List ℕ) : Type 0 where
   pub shown : Shown rows users sheet
   pub few-users : users ≤ user-limit
@@ -29,7 +30,8 @@ pub record Belongs (rows : List ℕ) (users : ℕ) (cells : List ℕ) (size : �
   pub few-roles : roles-of sheet placement .count ≤ row-bits
 
 -- there is such a sheet and such a placement
-pub record OfSheet (rows : List ℕ) (users : ℕ) (cells : List ℕ) (size : ℕ) (placed : List ℕ) (total : ℕ) (removed partner : List ℕ) (count : ℕ)
+pub record OfSheet (rows : List ℕ) (users : ℕ) (cells : List ℕ) (size : ℕ) (placed : List ℕ) (total : ℕ)
+    (removed partner : List ℕ) (count : ℕ)
     : Type 0 where
   pub sheet : Sheet
   pub placement : List ℕ

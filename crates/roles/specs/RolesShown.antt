@@ -1,5 +1,6 @@
--- The roles of some grants in classes, from their numbers and the two matrices: the matrices are those of the grants paired with their role numbers, and a
--- role number is below the count, so where the count is no more than a row's bits the rows have room for every role.
+-- The roles of some grants in classes, from their numbers and the two matrices: the matrices are those of the grants
+-- paired with their role numbers, and a role number is below the count, so where the count is no more than a row's
+-- bits the rows have room for every role.
 use Prim.Native.Nat.{ℕ, _/_, _≤_, _<_}
 use native.Mathlib.Nat.{lt-of-lt-of-le}
 use native.Mathlib.Omega.{arith}
@@ -37,13 +38,15 @@ pub record RolesOnly (has gives : List ℕ) (count users : ℕ) : Type 0 where
   pub no-giver : (r p : ℕ) → count ≤ r → p < row-bits → cell gives r p ≡ false
 
 -- role numbers are columns of a row
-pub roles-below : {numbers roles : List ℕ} {size count : ℕ} → Placed numbers roles size count → used numbers ≤ row-bits → RolesBelow size roles
+pub roles-below : {numbers roles : List ℕ} {size count : ℕ} → Placed numbers roles size count
+    → used numbers ≤ row-bits → RolesBelow size roles
 roles-below {numbers} {roles} {size} placed few =
     let room : used (latest-first roles size) ≤ row-bits = rw (placed .so-far) few in
     record {
       below = λ i l.
           let within : i < length (latest-first roles size) = rw (latest-first-length roles size) l in
-          rw (latest-first-class roles size l) at (lt-of-lt-of-le (class-below-used (latest-first roles size) within) room);
+          rw (latest-first-class roles size l) at (lt-of-lt-of-le (class-below-used (latest-first roles size) within)
+          room);
     }
 
 -- what the two matrices and the count show
@@ -64,8 +67,10 @@ matrices-show {cells} {roles} {size} users at below placed few has gives =
       total = placed .in-use ∙ ap used (sym (placed .so-far));
     })
 
--- and what else they have set: nothing, since every cell that is set comes from a grant, which has one of the users and a role below the count
-module _ {cells roles has gives numbers : List ℕ} {size count users : ℕ} (placed : Placed numbers roles size count) (below : UsersBelow users size cells)
+-- and what else they have set: nothing, since every cell that is set comes from a grant, which has one of the users
+-- and a role below the count
+module _ {cells roles has gives numbers : List ℕ} {size count users : ℕ} (placed : Placed numbers roles size count)
+    (below : UsersBelow users size cells)
     (has-cells : CellsShow has (has-role (paired-in cells roles size)))
     (gives-cells : CellsShow gives (gives-permission (paired-in cells roles size))) where
   whole : length (listed cells size) ≡ length (latest-first roles size)
@@ -81,12 +86,14 @@ module _ {cells roles has gives numbers : List ℕ} {size count users : ℕ} (pl
             let found = has-role-elim (listed cells size) (latest-first roles size) count whole u r s in
             let within : found .number < size = rw (latest-first-length roles size) at (found .within) in
             let user : getD cells (found .number) 0 / row-bits ≡ u =
-            rw (getD-list-of size (λ i. grant-of (getD cells i 0)) (found .number) (record { user = 0; permission = 0 }) within) at (found .valued) in
+            rw (getD-list-of size (λ i. grant-of (getD cells i 0)) (found .number)
+            (record { user = 0; permission = 0 }) within) at (found .valued) in
             omega (arith, below .below (found .number) within, user));
         no-role = λ u r past l. has-cells .shown u r l ∙ fails-unless (has-role (paired-in cells roles size) u r) (λ s.
             let found = has-role-elim (listed cells size) (latest-first roles size) count whole u r s in
             omega (arith, class-below-used (latest-first roles size) (found .within), found .of-role, counted));
-        no-giver = λ r p past l. gives-cells .shown r p l ∙ fails-unless (gives-permission (paired-in cells roles size) r p) (λ s.
+        no-giver = λ r p past l. gives-cells .shown r p l
+            ∙ fails-unless (gives-permission (paired-in cells roles size) r p) (λ s.
             let found = gives-permission-elim (listed cells size) (latest-first roles size) count whole r p s in
             omega (arith, class-below-used (latest-first roles size) (found .within), found .of-role, counted));
       }

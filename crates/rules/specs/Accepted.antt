@@ -1,5 +1,6 @@
--- A sheet is accepted exactly when it keeps the rules, and is then read as the sheet that keeps them. Where no cause applies, what the bytes
--- say keeps the rules; and bytes that keep the rules for some sheet are read as that sheet, with no cause. Assumes nothing.
+-- A sheet is accepted exactly when it keeps the rules, and is then read as the sheet that keeps them. Where no cause
+-- applies, what the bytes say keeps the rules; and bytes that keep the rules for some sheet are read as that sheet,
+-- with no cause. Assumes nothing.
 use mathlib.Core.Path.{_≡_}
 use mathlib.Core.Logic.{_↔_}
 use mathlib.Core.Bool.{So}
@@ -17,8 +18,11 @@ accepted-keeps text p = unrefused-keeps text (accepted-unrefused text p)
 
 -- a sheet is accepted exactly when it keeps the rules
 pub accepts-sheets : (text : Bytes) → So (accepted text) ↔ ((sheet : Sheet) × Keeps text sheet)
-accepts-sheets text =
-    (λ p. (sheet-of text, accepted-keeps text p), λ kept. unrefused-accepted text (keeps-unrefused text (kept .0) (kept .1)))
+accepts-sheets text = (
+  λ p. (sheet-of text, accepted-keeps text p),
+  λ kept. unrefused-accepted text (keeps-unrefused text (kept .0)
+      (kept .1)),
+)
 
 -- a sheet that keeps the rules is read as the sheet it says
 pub reads-sheets : (text : Bytes) (sheet : Sheet) → Keeps text sheet → sheet-of text ≡ sheet

@@ -1,5 +1,6 @@
--- What an accepted sheet has, place by place: counts within the limits, a row for each user and a cell for each permission, and names that are
--- not empty, hold neither comma nor line feed and stand in one place each. All of it is read off the rules. Assumes nothing.
+-- What an accepted sheet has, place by place: counts within the limits, a row for each user and a cell for each
+-- permission, and names that are not empty, hold neither comma nor line feed and stand in one place each. All of it
+-- is read off the rules. Assumes nothing.
 use Prim.Native.Nat.{ℕ, _≤_, _<_}
 use native.Mathlib.Omega.{arith}
 use mathlib.Core.Path.{_≡_}
@@ -52,7 +53,8 @@ keeps-lawful text sheet k =
       a-cell-each = λ u h.
           k .even-rows (getD (sheet .rows) u []) (member-at (sheet .rows) u [] (let e = k .a-row-each in omega arith));
       user-name = λ u h. k .user-names .each (getD (sheet .users) u []) (member-at (sheet .users) u [] h);
-      permission-name = λ p h. k .permission-names .each (getD (sheet .permissions) p []) (member-at (sheet .permissions) p [] h);
+      permission-name = λ p h. k .permission-names .each (getD (sheet .permissions) p [])
+          (member-at (sheet .permissions) p [] h);
       few-grants = k .few-grants;
     }
 

@@ -1,5 +1,6 @@
--- A sheet to which none of the nine causes applies keeps the rules: its lines are those of the sheet that it says, and a field holds neither
--- comma nor line feed, so that every allowed byte in it is a byte of a name. Assumes nothing.
+-- A sheet to which none of the nine causes applies keeps the rules: its lines are those of the sheet that it says,
+-- and a field holds neither comma nor line feed, so that every allowed byte in it is a byte of a name. Assumes
+-- nothing.
 use Prim.Native.Nat.{ℕ, suc, _≤_}
 use native.Mathlib.Nat.{not-suc-le-zero}
 use native.Mathlib.Omega.{arith}
@@ -39,7 +40,8 @@ module _ (text : Bytes) (u : Unrefused text) where
       allowed-name-byte b (u .bytes .allowed b (r .in-text)) (r .no-comma) (r .no-line-feed)
 
   first-line-member : List·Memᴰ (first-line (lines-of text)) (lines-of text)
-  first-line-member = member-at (lines-of text) 0 [] (some-line (lines-of text) (omega (arith, u .first .some-permission)))
+  first-line-member = member-at (lines-of text) 0 []
+      (some-line (lines-of text) (omega (arith, u .first .some-permission)))
 
   -- every line after the first is a user line
   user-line : (line : Line) → List·Memᴰ line (tail (lines-of text)) → UserLine line
@@ -51,7 +53,8 @@ module _ (text : Bytes) (u : Unrefused text) where
   permission-names =
       record {
         each = λ field m.
-            spelled-name field (u .sized .permissions field m) (field-spelled (first-line (lines-of text)) first-line-member field
+            spelled-name field (u .sized .permissions field m) (field-spelled (first-line (lines-of text))
+            first-line-member field
             (tail-member (first-line (lines-of text)) m));
         distinct = u .distinct .permissions;
       }
@@ -75,7 +78,8 @@ module _ (text : Bytes) (u : Unrefused text) where
   unfolding sheet-of
   written =
       sym (written-as-read-to-feed text (u .bytes .ends))
-      ∙ ap text-of (sym (lines-spelled (lines-of text) (u .first .says-user) (omega (arith, u .first .some-permission)) user-line))
+      ∙ ap text-of (sym (lines-spelled (lines-of text) (u .first .says-user)
+      (omega (arith, u .first .some-permission)) user-line))
       ∙ sym (sheet-text-lines (sheet-of text))
 
   permission-total : suc (length (sheet-of text .permissions)) ≡ length (first-line (lines-of text))
@@ -94,7 +98,8 @@ module _ (text : Bytes) (u : Unrefused text) where
   unfolding sheet-of
   even-rows row m =
       let line = Memᴰ·of-map cells (tail (lines-of text)) m in
-      let said : length row ≡ length (tail (line .0)) = sym (ap length (line .2)) ∙ length-map (tail (line .0)) is-one in
+      let said : length row ≡ length (tail (line .0)) = sym (ap length (line .2)) ∙ length-map (tail (line .0))
+      is-one in
       let shorter = length-tail (line .0) (user-line (line .0) (line .1) .some-field) in
       omega (arith, said, shorter, u .even (line .0) (line .1), permission-total)
 

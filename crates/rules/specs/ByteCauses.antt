@@ -1,5 +1,5 @@
--- What it means that the causes of a sheet's bytes, numbers 1 and 2, do not apply: each cause is a test, and the facts are what the test
--- asks, in both directions. Assumes nothing.
+-- What it means that the causes of a sheet's bytes, numbers 1 and 2, do not apply: each cause is a test, and the
+-- facts are what the test asks, in both directions. Assumes nothing.
 use Prim.Native.Nat.{ℕ, _≤_}
 use mathlib.Core.Path.{_≡_, ap}
 use mathlib.Core.Logic.{_↔_}
@@ -41,9 +41,11 @@ good-bytes text = (read, written)
         let front : (empty text || unended) ≡ false = or-fails-left (empty text || unended) unknown e in
         record {
           some-byte = or-fails-left (empty text) unended front;
-          ends = eqb-true (last-byte text) line-feed (not-false (eqb (last-byte text) line-feed) (or-fails-right (empty text) unended front));
+          ends = eqb-true (last-byte text) line-feed (not-false (eqb (last-byte text) line-feed)
+              (or-fails-right (empty text) unended front));
           allowed = λ b m.
-              all-elim allowed-byte text (not-false (all allowed-byte text) (or-fails-right (empty text || unended) unknown e)) m;
+              all-elim allowed-byte text (not-false (all allowed-byte text) (or-fails-right (empty text || unended)
+              unknown e)) m;
         }
 
     written : GoodBytes text → bad-bytes text ≡ false

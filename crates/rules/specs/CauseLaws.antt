@@ -1,12 +1,21 @@
--- The number of the first cause that applies is the lowest, where the numbers rise: every later cause has a higher number. It is 0 exactly
--- where no cause applies, since all numbers are above 0. Assumes nothing.
+-- The number of the first cause that applies is the lowest, where the numbers rise: every later cause has a higher
+-- number. It is 0 exactly where no cause applies, since all numbers are above 0. Assumes nothing.
 use Prim.Native.Nat.{ℕ, _≤_, _<_}
 use native.Mathlib.Nat.{le-refl, le-of-lt, lt-trans}
 use native.Mathlib.Omega.{arith}
 use mathlib.Core.Path.{_≡_, refl}
 use mathlib.Core.Logic.{_⊎_, inl, inr, _≢_}
 use mathlib.Core.Bool.{Bool, true, false, So, _&&_}
-use mathlib.Core.List.{List, [], _∷_, List·Memᴰ, List·Memᴰ·head, List·Memᴰ·tail, List·Memᴰ·not-nil, List·Memᴰ·cases-cons}
+use mathlib.Core.List.{
+  List,
+  [],
+  _∷_,
+  List·Memᴰ,
+  List·Memᴰ·head,
+  List·Memᴰ·tail,
+  List·Memᴰ·not-nil,
+  List·Memᴰ·cases-cons,
+}
 use borrow.Author.Tests.{ltb-true}
 use lib.Dec.{ltb}
 use Rattle.spec.specs.Text.{Bytes}
@@ -19,9 +28,11 @@ rising low [] = true
 rising low (cause ∷ later) = ltb low (cause .number) && rising (cause .number) later
 
 rising-here : (low : ℕ) (cause : Cause) (later : List Cause) → So (rising low (cause ∷ later)) → low < cause .number
-rising-here low cause later r = ltb-true low (cause .number) (and-left (ltb low (cause .number)) (rising (cause .number) later) r)
+rising-here low cause later r =
+    ltb-true low (cause .number) (and-left (ltb low (cause .number)) (rising (cause .number) later) r)
 
-rising-later : (low : ℕ) (cause : Cause) (later : List Cause) → So (rising low (cause ∷ later)) → So (rising (cause .number) later)
+rising-later : (low : ℕ) (cause : Cause) (later : List Cause) → So (rising low (cause ∷ later))
+    → So (rising (cause .number) later)
 rising-later low cause later r = and-right (ltb low (cause .number)) (rising (cause .number) later) r
 
 -- every number is above low
@@ -31,7 +42,8 @@ rising-member low [] r cause m = absurd (List·Memᴰ·not-nil m)
 rising-member low (first ∷ later) r cause m =
     choose (rising-member (first .number) later (rising-later low first later r) cause) (List·Memᴰ·cases-cons m)
   where
-    choose : (List·Memᴰ cause later → first .number < cause .number) → (cause ≡ first) ⊎ List·Memᴰ cause later → low < cause .number
+    choose : (List·Memᴰ cause later → first .number < cause .number) → (cause ≡ first) ⊎ List·Memᴰ cause later
+        → low < cause .number
     choose deeper (inl e) = rw e (rising-here low first later r)
     choose deeper (inr n) = omega (arith, rising-here low first later r, deeper n)
 
@@ -44,9 +56,11 @@ bounded-here : (low : ℕ) (first : Cause) (later : List Cause) (number : ℕ) �
     → first .number ≤ number → Bounded low (first ∷ later) number
 bounded-here low first later number e h k = record { above = rw e h; no-higher = rw e k }
 
-bounded-later : (low : ℕ) (first : Cause) (later : List Cause) (number : ℕ) → first .applies ≡ false → low < first .number
+bounded-later : (low : ℕ) (first : Cause) (later : List Cause) (number : ℕ) → first .applies ≡ false
+    → low < first .number
     → Bounded (first .number) later number → Bounded low (first ∷ later) number
-bounded-later low first later number e h b = record { above = rw e (lt-trans h (b .above)); no-higher = rw e (b .no-higher) }
+bounded-later low first later number e h b =
+    record { above = rw e (lt-trans h (b .above)); no-higher = rw e (b .no-higher) }
 
 pub lowest-bounded : (low : ℕ) (causes : List Cause) → So (rising low causes) → (cause : Cause) → List·Memᴰ cause causes
     → So (cause .applies) → Bounded low causes (cause .number)
@@ -64,12 +78,14 @@ lowest-bounded low (first ∷ later) r cause m p =
         → (cause ≡ first) ⊎ List·Memᴰ cause later → Bounded low (first ∷ later) (cause .number)
     choose true e deeper (inl q) = bounded-here low first later (cause .number) e here (rw q (le-refl (first .number)))
     choose true e deeper (inr n) =
-        bounded-here low first later (cause .number) e here (le-of-lt (rising-member (first .number) later rest cause n))
+        bounded-here low first later (cause .number) e here
+        (le-of-lt (rising-member (first .number) later rest cause n))
     choose false e deeper (inl q) = absurd (not-both (rw q at p) e)
     choose false e deeper (inr n) = bounded-later low first later (cause .number) e here (deeper n)
 
 -- a cause that applies: the number is not 0, and no higher than the cause's
-pub none-lower : (causes : List Cause) → So (rising 0 causes) → (cause : Cause) → List·Memᴰ cause causes → So (cause .applies)
+pub none-lower : (causes : List Cause) → So (rising 0 causes) → (cause : Cause) → List·Memᴰ cause causes
+    → So (cause .applies)
     → (first-number causes ≢ 0) × (first-number causes ≤ cause .number)
 none-lower causes r cause m p = let b = lowest-bounded 0 causes r cause m p in (omega (arith, b .above), b .no-higher)
 
@@ -94,12 +110,14 @@ NoneApplies [] = Unit {0}
 NoneApplies (cause ∷ later) = (cause .applies ≡ false) × NoneApplies later
 
 -- the number 0 says that no cause applies
-pub zero-none-applies : (low : ℕ) (causes : List Cause) → So (rising low causes) → first-number causes ≡ 0 → NoneApplies causes
+pub zero-none-applies : (low : ℕ) (causes : List Cause) → So (rising low causes) → first-number causes ≡ 0
+    → NoneApplies causes
 zero-none-applies low [] r e = tt
 zero-none-applies low (first ∷ later) r e =
     choose (first .applies) refl (zero-none-applies (first .number) later (rising-later low first later r))
   where
-    choose : (t : Bool) → first .applies ≡ t → (first-number later ≡ 0 → NoneApplies later) → NoneApplies (first ∷ later)
+    choose : (t : Bool) → first .applies ≡ t → (first-number later ≡ 0 → NoneApplies later)
+        → NoneApplies (first ∷ later)
     choose true p deeper =
         let none : first .number ≡ 0 = rw p at e in absurd (omega (arith, rising-here low first later r))
     choose false p deeper = (p, deeper (rw p at e))

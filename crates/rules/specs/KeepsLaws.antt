@@ -45,8 +45,10 @@ module _ (text : Bytes) (sheet : Sheet) (k : Keeps text sheet) where
   keeps-bytes : GoodBytes text
   keeps-bytes =
       record {
-        some-byte = ap empty bytes-written ∙ text-some (ascii "user" ∷ sheet .permissions) (user-lines (sheet .users) (sheet .rows));
-        ends = ap last-byte bytes-written ∙ text-ends (ascii "user" ∷ sheet .permissions) (user-lines (sheet .users) (sheet .rows));
+        some-byte = ap empty bytes-written ∙ text-some (ascii "user" ∷ sheet .permissions)
+            (user-lines (sheet .users) (sheet .rows));
+        ends = ap last-byte bytes-written ∙ text-ends (ascii "user" ∷ sheet .permissions)
+            (user-lines (sheet .users) (sheet .rows));
         allowed = λ b m. choose b (text-byte (sheet-lines sheet) b (rw bytes-written at m));
       }
     where
@@ -54,7 +56,8 @@ module _ (text : Bytes) (sheet : Sheet) (k : Keeps text sheet) where
       choose b (inl e) = rw e line-feed-allowed
       choose b (inr (inl e)) = rw e comma-allowed
       choose b (inr (inr f)) =
-          name-byte-allowed b (line-spelled text sheet (keeps-written text sheet k) (f .line) (f .line-member) (f .field) (f .field-member) b (f .byte-member))
+          name-byte-allowed b (line-spelled text sheet (keeps-written text sheet k) (f .line) (f .line-member)
+          (f .field) (f .field-member) b (f .byte-member))
 
   keeps-first : GoodFirstLine (sheet-lines sheet)
   unfolding permission-limit

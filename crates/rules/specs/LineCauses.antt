@@ -1,5 +1,5 @@
--- What it means that the causes of a sheet's lines, numbers 3, 4, 6 and 7, do not apply: each cause is a test, and the facts are what the
--- test asks of the first line or of every later one, in both directions. Assumes nothing.
+-- What it means that the causes of a sheet's lines, numbers 3, 4, 6 and 7, do not apply: each cause is a test, and
+-- the facts are what the test asks of the first line or of every later one, in both directions. Assumes nothing.
 use Prim.Native.Nat.{suc, _≤_}
 use mathlib.Core.Path.{_≡_, ap}
 use mathlib.Core.Logic.{_↔_}
@@ -84,10 +84,12 @@ even-lines lines = (read, written)
 
     read : uneven-line lines ≡ false → EvenLines lines
     read e line m =
-        eqb-true (length line) (length (first-line lines)) (all-elim even (tail lines) (not-false (all even (tail lines)) e) m)
+        eqb-true (length line) (length (first-line lines))
+        (all-elim even (tail lines) (not-false (all even (tail lines)) e) m)
 
     written : EvenLines lines → uneven-line lines ≡ false
-    written h = ap not (all-intro even (tail lines) (λ line m. eq-eqb (length line) (length (first-line lines)) (h line m)))
+    written h = ap not (all-intro even (tail lines) (λ line m. eq-eqb (length line) (length (first-line lines))
+        (h line m)))
 
 -- 7: every field after a user name is `0` or `1`
 abbrev pub BitLines : List Line → Type 0

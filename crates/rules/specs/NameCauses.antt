@@ -1,5 +1,5 @@
--- What it means that the causes of what a sheet says, numbers 5, 8 and 9, do not apply: each cause is a test, and the facts are what the
--- test asks of the names and of the grants, in both directions. Assumes nothing.
+-- What it means that the causes of what a sheet says, numbers 5, 8 and 9, do not apply: each cause is a test, and the
+-- facts are what the test asks of the names and of the grants, in both directions. Assumes nothing.
 use Prim.Native.Nat.{_≤_}
 use mathlib.Core.Path.{_≡_, ap}
 use mathlib.Core.Logic.{_↔_}
@@ -25,7 +25,11 @@ pub record Sized (name : Bytes) : Type 0 where
 pub sized-name : (name : Bytes) → So (has-name-length name) ↔ Sized name
 unfolding has-name-length
 sized-name name = (
-  λ p. record { some-byte = between-low 1 name-limit (length name) p; short = between-high 1 name-limit (length name) p },
+  λ p. record {
+    some-byte = between-low 1 name-limit (length name) p;
+    short = between-high 1 name-limit (length name)
+        p;
+  },
   λ s. between-intro 1 name-limit (length name) (s .some-byte) (s .short),
 )
 
@@ -48,13 +52,15 @@ sized-names sheet = (read, written)
     read e =
         let both : So (front && back) = not-false (front && back) e in
         record {
-          permissions = λ name m. sized-name name .0 (all-elim has-name-length (sheet .permissions) (and-left front back both) m);
+          permissions = λ name m. sized-name name .0 (all-elim has-name-length (sheet .permissions)
+              (and-left front back both) m);
           users = λ name m. sized-name name .0 (all-elim has-name-length (sheet .users) (and-right front back both) m);
         }
 
     written : SizedNames sheet → bad-name sheet ≡ false
     written s =
-        ap not (and-intro front back (all-intro has-name-length (sheet .permissions) (λ name m. sized-name name .1 (s .permissions name m)))
+        ap not (and-intro front back (all-intro has-name-length (sheet .permissions)
+        (λ name m. sized-name name .1 (s .permissions name m)))
         (all-intro has-name-length (sheet .users) (λ name m. sized-name name .1 (s .users name m))))
 
 -- 8: no two users and no two permissions have one name

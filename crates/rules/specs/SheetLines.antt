@@ -1,5 +1,5 @@
--- The lines of a sheet and the sheet of lines undo each other: each user line is a name and one field for each cell, and a cell's field
--- says the cell. Assumes nothing.
+-- The lines of a sheet and the sheet of lines undo each other: each user line is a name and one field for each cell,
+-- and a cell's field says the cell. Assumes nothing.
 use Prim.Native.Nat.{_≤_}
 use native.Mathlib.Nat.{not-suc-le-zero}
 use native.Mathlib.Omega.{arith}
@@ -36,9 +36,11 @@ bit-spelled field p =
 pub row-said : (row : List Bool) → map is-one (map cell-text row) ≡ row
 row-said row = map-map is-one cell-text row ∙ map-fixed (λ cell. is-one (cell-text cell)) row (λ cell m. cell-said cell)
 
-pub row-spelled : (line : Line) → ((field : Bytes) → List·Memᴰ field line → So (is-bit field)) → map cell-text (map is-one line) ≡ line
+pub row-spelled : (line : Line) → ((field : Bytes) → List·Memᴰ field line → So (is-bit field))
+    → map cell-text (map is-one line) ≡ line
 row-spelled line h =
-    map-map cell-text is-one line ∙ map-fixed (λ field. cell-text (is-one field)) line (λ field m. bit-spelled field (h field m))
+    map-map cell-text is-one line ∙ map-fixed (λ field. cell-text (is-one field)) line
+    (λ field m. bit-spelled field (h field m))
 
 -- ---- user lines
 
@@ -55,7 +57,8 @@ users-said (name ∷ names) [] e = absurd (omega arith)
 users-said (name ∷ names) (row ∷ rows) e = rw (users-said names rows (omega arith))
 
 -- and their rows
-pub rows-said : (names : List Bytes) (rows : List (List Bool)) → length rows ≡ length names → map cells (user-lines names rows) ≡ rows
+pub rows-said : (names : List Bytes) (rows : List (List Bool)) → length rows ≡ length names
+    → map cells (user-lines names rows) ≡ rows
 rows-said [] [] e = refl
 rows-said [] (row ∷ rows) e = absurd (omega arith)
 rows-said (name ∷ names) [] e = absurd (omega arith)
@@ -71,7 +74,8 @@ pub record UserLine (line : Line) : Type 0 where
   pub some-field : 1 ≤ length line
   pub bits : (field : Bytes) → List·Memᴰ field (tail line) → So (is-bit field)
 
-pub user-line-spelled : (line : Line) → UserLine line → _≡_ {A = Line} (first-field line ∷ map cell-text (cells line)) line
+pub user-line-spelled : (line : Line) → UserLine line → _≡_ {A = Line} (first-field line ∷ map cell-text (cells line))
+    line
 user-line-spelled [] u = absurd (not-suc-le-zero (u .some-field))
 user-line-spelled (name ∷ rest) u = rw (row-spelled rest (u .bits))
 
@@ -80,7 +84,11 @@ pub user-lines-spelled : (others : List Line) → ((line : Line) → List·Mem�
     → user-lines (map first-field others) (map cells others) ≡ others
 user-lines-spelled [] h = refl
 user-lines-spelled (line ∷ others) h =
-    rw (user-line-spelled line (h line (List·Memᴰ·head refl)), user-lines-spelled others (λ next m. h next (List·Memᴰ·tail m)))
+    rw (
+      user-line-spelled line (h line (List·Memᴰ·head refl)),
+      user-lines-spelled others
+          (λ next m. h next (List·Memᴰ·tail m)),
+    )
 
 -- ---- all lines
 
@@ -93,7 +101,8 @@ unfolding sheet-text
 sheet-text-lines sheet = refl
 
 -- the lines of a sheet say the sheet
-pub sheet-said : (sheet : Sheet) → length (sheet .rows) ≡ length (sheet .users) → sheet-of-lines (sheet-lines sheet) ≡ sheet
+pub sheet-said : (sheet : Sheet) → length (sheet .rows) ≡ length (sheet .users) → sheet-of-lines (sheet-lines sheet) ≡
+    sheet
 unfolding sheet-of-lines
 sheet-said sheet e = rw (users-said (sheet .users) (sheet .rows) e, rows-said (sheet .users) (sheet .rows) e)
 

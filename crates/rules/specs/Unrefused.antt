@@ -1,5 +1,5 @@
--- A sheet is accepted exactly when none of the nine causes applies, and each of them says of the bytes, lines and names what its own file
--- says. Assumes nothing.
+-- A sheet is accepted exactly when none of the nine causes applies, and each of them says of the bytes, lines and
+-- names what its own file says. Assumes nothing.
 use Prim.Native.Nat.{_≤_}
 use mathlib.Core.Bool.{So}
 use borrow.Author.Tests.{eqb-true, eq-eqb}
@@ -10,7 +10,16 @@ use Rattle.spec.specs.Sheet.{sheet-of, grants}
 use Rattle.spec.specs.Refusal.{sheet-causes, refusal, accepted}
 use Rattle.rules.specs.CauseLaws.{NoneApplies, zero-none-applies, none-applies-zero, sheet-causes-rise}
 use Rattle.rules.specs.ByteCauses.{short-enough, GoodBytes, good-bytes}
-use Rattle.rules.specs.LineCauses.{GoodFirstLine, good-first-line, GoodLineCount, good-line-count, EvenLines, even-lines, BitLines, bit-lines}
+use Rattle.rules.specs.LineCauses.{
+  GoodFirstLine,
+  good-first-line,
+  GoodLineCount,
+  good-line-count,
+  EvenLines,
+  even-lines,
+  BitLines,
+  bit-lines,
+}
 use Rattle.rules.specs.NameCauses.{SizedNames, sized-names, DistinctNames, distinct-names, few-grants}
 
 -- what the nine causes leave
@@ -69,9 +78,11 @@ unrefused-none-applies text u = (
 pub accepted-unrefused : (text : Bytes) → So (accepted text) → Unrefused text
 unfolding refusal
 accepted-unrefused text p =
-    none-applies-unrefused text (zero-none-applies 0 (sheet-causes text) (sheet-causes-rise text) (eqb-true (refusal text) 0 p))
+    none-applies-unrefused text (zero-none-applies 0 (sheet-causes text) (sheet-causes-rise text)
+    (eqb-true (refusal text) 0 p))
 
 -- and back
 pub unrefused-accepted : (text : Bytes) → Unrefused text → So (accepted text)
 unfolding refusal
-unrefused-accepted text u = eq-eqb (refusal text) 0 (none-applies-zero (sheet-causes text) (unrefused-none-applies text u))
+unrefused-accepted text u =
+    eq-eqb (refusal text) 0 (none-applies-zero (sheet-causes text) (unrefused-none-applies text u))

@@ -1,11 +1,22 @@
--- A sheet whose names are names is read as it was written: its fields hold neither comma nor line feed, since names and cells are spelled with
--- the bytes of names. Assumes nothing.
+-- A sheet whose names are names is read as it was written: its fields hold neither comma nor line feed, since names
+-- and cells are spelled with the bytes of names. Assumes nothing.
 use Prim.Native.Nat.{ℕ, _≤_}
 use native.Mathlib.Omega.{arith}
 use mathlib.Core.Path.{_≡_, refl, ap, _∙_}
 use mathlib.Core.Logic.{⊎-elim}
 use mathlib.Core.Bool.{Bool, true, false, So}
-use mathlib.Core.List.{List, [], _∷_, map, List·Memᴰ, List·Memᴰ·head, List·Memᴰ·tail, List·Memᴰ·not-nil, List·Memᴰ·cases-cons, Memᴰ·of-map}
+use mathlib.Core.List.{
+  List,
+  [],
+  _∷_,
+  map,
+  List·Memᴰ,
+  List·Memᴰ·head,
+  List·Memᴰ·tail,
+  List·Memᴰ·not-nil,
+  List·Memᴰ·cases-cons,
+  Memᴰ·of-map,
+}
 use lib.ListN.{length}
 use Rattle.spec.specs.Text.{ascii, Bytes, Line, name-byte, lines-of}
 use Rattle.spec.specs.Sheet.{Sheet, cell-text, sheet-of-lines, sheet-of}
@@ -46,7 +57,8 @@ pub user-row : (names : List Bytes) (rows : List (List Bool)) (line : Line) → 
     → UserRow names rows line
 user-row [] rows line m = absurd (List·Memᴰ·not-nil m)
 user-row (name ∷ names) [] line m = absurd (List·Memᴰ·not-nil m)
-user-row (name ∷ names) (row ∷ rows) line m = ⊎-elim here (λ n. later (user-row names rows line n)) (List·Memᴰ·cases-cons m)
+user-row (name ∷ names) (row ∷ rows) line m = ⊎-elim here (λ n. later (user-row names rows line n))
+    (List·Memᴰ·cases-cons m)
   where
     here : line ≡ name ∷ map cell-text row → UserRow (name ∷ names) (row ∷ rows) line
     here e =
@@ -74,20 +86,24 @@ module _ (text : Bytes) (sheet : Sheet) (w : SheetWritten text sheet) where
   first-spelled field m b n =
       ⊎-elim (λ e. user-spelled b (rw e at n)) (λ p. w .permissions-named field p .spelled b n) (List·Memᴰ·cases-cons m)
 
-  row-spelled : (line : Line) → UserRow (sheet .users) (sheet .rows) line → (field : Bytes) → List·Memᴰ field line → Spelled field
+  row-spelled : (line : Line) → UserRow (sheet .users) (sheet .rows) line → (field : Bytes) → List·Memᴰ field line
+      → Spelled field
   row-spelled line r field m b n =
       ⊎-elim (λ e. w .users-named (r .name) (r .name-member) .spelled b (rw e at n))
       (λ p. let c = Memᴰ·of-map cell-text (r .row) p in cell-spelled (c .0) b (rw (← c .2) at n))
       (List·Memᴰ·cases-cons (rw (r .says) at m))
 
-  pub line-spelled : (line : Line) → List·Memᴰ line (sheet-lines sheet) → (field : Bytes) → List·Memᴰ field line → Spelled field
+  pub line-spelled : (line : Line) → List·Memᴰ line (sheet-lines sheet) → (field : Bytes) → List·Memᴰ field line
+      → Spelled field
   line-spelled line m field n =
-      ⊎-elim (λ e. first-spelled field (rw e at n)) (λ p. row-spelled line (user-row (sheet .users) (sheet .rows) line p) field n)
+      ⊎-elim (λ e. first-spelled field (rw e at n)) (λ p. row-spelled line (user-row (sheet .users) (sheet .rows) line
+      p) field n)
       (List·Memᴰ·cases-cons m)
 
   line-some : (line : Line) → List·Memᴰ line (sheet-lines sheet) → 1 ≤ length line
   line-some line m =
-      ⊎-elim (λ e. rw e (omega arith)) (λ p. rw (user-row (sheet .users) (sheet .rows) line p .says) (omega arith)) (List·Memᴰ·cases-cons m)
+      ⊎-elim (λ e. rw e (omega arith)) (λ p. rw (user-row (sheet .users) (sheet .rows) line p .says) (omega arith))
+      (List·Memᴰ·cases-cons m)
 
   -- the bytes are read as the lines that were written
   pub written-lines : lines-of text ≡ sheet-lines sheet

@@ -1,5 +1,5 @@
--- What the two walks of the lent step share: the types that are lent, the machine value of a cursor, a cursor in memory as a local's cell, and one that is
--- lent. Assumes `Given`.
+-- What the two walks of the lent step share: the types that are lent, the machine value of a cursor, a cursor in
+-- memory as a local's cell, and one that is lent. Assumes `Given`.
 use mathlib.Core.Path.{_≡_, ap, subst}
 use Prim.Native.Nat.{ℕ, _<_, _^_}
 use mathlib.Core.List.{[], _∷_, List}
@@ -12,7 +12,27 @@ use base.Logic.{ent, guard}
 use base.Fml.{Lft, Share, GName, Fml, fsep, fat, flft, fobs, fauth, fbor, fobor}
 use prog.Wp.{Heap}
 use ghost.Atoms.{Atoms, sem}
-use types.Kit.{Given, Goal, Item, Seq, Soaks, ‵, _$_, _∵_, !, qed, move, keep, use1, check, fsplit, fjoin, fpick, fpack, done}
+use types.Kit.{
+  Given,
+  Goal,
+  Item,
+  Seq,
+  Soaks,
+  ‵,
+  _$_,
+  _∵_,
+  !,
+  qed,
+  move,
+  keep,
+  use1,
+  check,
+  fsplit,
+  fjoin,
+  fpick,
+  fpack,
+  done,
+}
 use types.SemTy.{Body}
 use denote.Array.{Array}
 use denote.Builtin.{u8, u64, usize, ArrayOf}
@@ -62,25 +82,39 @@ beside-vals a = (
     ptr-vals (a .1 .0),
     (
       ptr-vals (a .1 .1 .0),
-      (ptr-vals (a .1 .1 .1 .0), (vint w64 (a .1 .1 .1 .1 .0) ∷ [], (vint w64 (a .1 .1 .1 .1 .1 .0) ∷ [], (vint w64 (a .1 .1 .1 .1 .1 .1 .0) ∷ [], tt)))),
+      (
+        ptr-vals (a .1 .1 .1 .0),
+        (
+          vint w64 (a .1 .1 .1 .1 .0) ∷ [],
+          (
+            vint w64 (a .1 .1 .1 .1 .1 .0) ∷ [],
+            (vint w64 (a .1 .1 .1 .1 .1 .1 .0) ∷ [], tt),
+          ),
+        ),
+      ),
     ),
   ),
 )
 
--- their types at a lifetime. What a reference owns does not depend on the name that a signature gives its lifetime, so these serve every function's
+-- their types at a lifetime. What a reference owns does not depend on the name that a signature gives its lifetime,
+-- so these serve every function's
 abbrev pub BesideTs : Lft → List RattleType
 BesideTs κ =
-    MutRef (named 0) κ Bytes ∷ MutRef (named 0) κ Bytes ∷ MutRef (named 0) κ Words ∷ ShrRef (named 0) κ Words ∷ usize ∷ usize ∷ usize ∷ []
+    MutRef (named 0) κ Bytes ∷ MutRef (named 0) κ Bytes ∷ MutRef (named 0) κ Words ∷ ShrRef (named 0) κ Words ∷ usize
+    ∷ usize ∷ usize ∷ []
 
 abbrev pub beside-own : Lft → Beside → Fml
 beside-own κ a = owns (BesideTs κ) a (beside-vals a)
 
--- what a step asks of a cursor and of what is beside it, and what it ensures of the cursor and the three arrays after it
+-- what a step asks of a cursor and of what is beside it, and what it ensures of the cursor and the three arrays after
+-- it
 abbrev pub ReadyAt : Cursor → Beside → Type 0
 ReadyAt x a = Ready (a .1 .1 .1 .1 .0) x (a .0 .now) (a .1 .0 .now) (a .1 .1 .0 .now)
 
 abbrev pub MovedTo : Cursor → Beside → Cursor → List ℕ → List ℕ → List ℕ → Type 0
-MovedTo x a = Moved (a .1 .1 .1 .0 .now) (a .1 .1 .1 .1 .0) (a .1 .1 .1 .1 .1 .0) (a .1 .1 .1 .1 .1 .1 .0) x (a .0 .now) (a .1 .0 .now)
+MovedTo x a =
+    Moved (a .1 .1 .1 .0 .now) (a .1 .1 .1 .1 .0) (a .1 .1 .1 .1 .1 .0) (a .1 .1 .1 .1 .1 .1 .0) x (a .0 .now)
+    (a .1 .0 .now)
 
 -- the three numbers fit their type
 abbrev pub NumbersFit : Beside → Type 0
@@ -109,22 +143,29 @@ module _ {M : Type 1} (𝓤 : URA M) (H : Heap 𝓤) (A : Atoms 𝓤) (W : Given
   unfolding partOf
   lies-in x b o is =
       qed W (‵ (fat fullShare cursor-laws.mir b o (val x)) ∷ []) ∵
-      use1 W (‵ (cellAt fullShare (CursorT .mir) (val x ∷ []) b o)) (W .laws .at-raw fullShare cursor-laws.mir b o (val x)) $
-      owned ! CursorT (Is CursorT) (LL.makes cursor.the-type cursor-laws.the-plain 𝓤 H A) x _ is $ move ! (1 ∷ 0 ∷ []) $ fjoin ! $
+      use1 W (‵ (cellAt fullShare (CursorT .mir) (val x ∷ []) b o)) (W .laws .at-raw fullShare cursor-laws.mir b o
+      (val x)) $
+      owned ! CursorT (Is CursorT) (LL.makes cursor.the-type cursor-laws.the-plain 𝓤 H A) x _ is $ move ! (1 ∷ 0 ∷ [])
+      $ fjoin ! $
       fpack ! (List Val) (λ us. fsep (cellAt fullShare (CursorT .mir) us b o) (CursorT .own x us)) (val x ∷ []) $ done !
 
   pub lies-out : (x : Cursor) (b o : ℕ)
-      → ent 𝓤 (sem 𝓤 H A (mem CursorT .lies x b o)) (guard 𝓤 (Is CursorT x (val x ∷ [])) (sem 𝓤 H A (fat fullShare cursor-laws.mir b o (val x))))
+      → ent 𝓤 (sem 𝓤 H A (mem CursorT .lies x b o)) (guard 𝓤 (Is CursorT x (val x ∷ []))
+      (sem 𝓤 H A (fat fullShare cursor-laws.mir b o (val x))))
   unfolding partOf
   lies-out x b o =
       qed W (‵ (mem CursorT .lies x b o) ∷ []) ∵ fpick ! (λ vs. fsplit ! $
-      spelt ! CursorT (Is CursorT) (shows 𝓤 H A CursorT) (LL.vals cursor.the-type cursor-laws.the-laws) (LL.tells cursor.the-type cursor-laws.the-laws) fullShare x vs b o $
-      move ! (1 ∷ []) $ peeks ! CursorT (Is CursorT) (shows 𝓤 H A CursorT) x (val x ∷ []) (λ is. check ! is $ keep ! (1 ∷ []) $
-      use1 W (‵ (fat fullShare cursor-laws.mir b o (val x))) (W .laws .raw-at fullShare cursor-laws.mir b o (val x)) $ done !))
+      spelt ! CursorT (Is CursorT) (shows 𝓤 H A CursorT) (LL.vals cursor.the-type cursor-laws.the-laws)
+      (LL.tells cursor.the-type cursor-laws.the-laws) fullShare x vs b o $
+      move ! (1 ∷ []) $ peeks ! CursorT (Is CursorT) (shows 𝓤 H A CursorT) x (val x ∷ [])
+      (λ is. check ! is $ keep ! (1 ∷ []) $
+      use1 W (‵ (fat fullShare cursor-laws.mir b o (val x))) (W .laws .raw-at fullShare cursor-laws.mir b o (val x)) $
+      done !))
 
 -- ---- a lent cursor: its borrow is opened, which gives its cell and what it owns at its own machine value
 
-module _ {M : Type 1} {𝓤 : URA M} {H : Heap 𝓤} {A : Atoms 𝓤} {K : Type 0} {W : Given 𝓤 H A} {Γ : List (Item 𝓤)} {G : Goal 𝓤 H} where
+module _ {M : Type 1} {𝓤 : URA M} {H : Heap 𝓤} {A : Atoms 𝓤} {K : Type 0} {W : Given 𝓤 H A} {Γ : List (Item 𝓤)}
+    {G : Goal 𝓤 H} where
   pub opens-cursor : K → Soaks G → {κ : Lft} {q : Share} {γ : GName} (x : Cursor) (b o : ℕ)
       → (Is CursorT x (val x ∷ [])
       → Seq K W
@@ -137,5 +178,7 @@ module _ {M : Type 1} {𝓤 : URA M} {H : Heap 𝓤} {A : Atoms 𝓤} {K : Type 
       → Seq K W (‵ (fobs γ (CursorT .coded .code x)) ∷ ‵ (fbor κ (Body (mem CursorT) b o γ)) ∷ ‵ (flft κ q) ∷ Γ) G
   opens-cursor t z x b o k =
       opens t z CursorT {h = x} b o (λ vs.
-      spelt t CursorT (Is CursorT) (shows 𝓤 H A CursorT) (LL.vals cursor.the-type cursor-laws.the-laws) (LL.tells cursor.the-type cursor-laws.the-laws) fullShare x vs b o $
-      move t (1 ∷ []) $ peeks t CursorT (Is CursorT) (shows 𝓤 H A CursorT) x (val x ∷ []) (λ is. move t (1 ∷ 0 ∷ []) $ k is))
+      spelt t CursorT (Is CursorT) (shows 𝓤 H A CursorT) (LL.vals cursor.the-type cursor-laws.the-laws)
+      (LL.tells cursor.the-type cursor-laws.the-laws) fullShare x vs b o $
+      move t (1 ∷ []) $ peeks t CursorT (Is CursorT) (shows 𝓤 H A CursorT) x (val x ∷ [])
+      (λ is. move t (1 ∷ 0 ∷ []) $ k is))

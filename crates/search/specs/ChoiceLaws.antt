@@ -1,4 +1,5 @@
--- Which classes are open to a grant: those not below the next try all of whose members fit it, so that the lowest of them is the machine's choice.
+-- Which classes are open to a grant: those not below the next try all of whose members fit it, so that the lowest of
+-- them is the machine's choice.
 use Prim.Native.Nat.{ℕ, _+_, _*_, _-_, _/_, _%_, _≤_, _<_}
 use mathlib.Core.Path.{_≡_, refl}
 use mathlib.Core.Logic.{⊎-elim}
@@ -51,20 +52,24 @@ open-to table members d next c = leb next c && all-fit table members d c
 
 -- a class's words are within a grant's just where all members of the class fit the grant
 pub within-row : (table members : List ℕ) (d c : ℕ)
-    → every-below mark-limit (λ p. implies (marked (row members c) p) (marked (row table d) p)) ≡ all-fit table members d c
+    → every-below mark-limit (λ p. implies (marked (row members c) p) (marked (row table d) p)) ≡ all-fit table
+    members d c
 within-row table members d c =
     every-below-ext mark-limit (λ p. implies (marked (row members c) p) (marked (row table d) p))
     (λ i. implies (member members c i) (fit-in table d i)) (λ i l. rw (marked-row members c l, marked-row table d l))
 
 -- a class is open to grant d just where the grant can be placed in it
-pub open-joinable : (table : List ℕ) {classes members : List ℕ} (d next : ℕ) → d ≤ mark-limit → Gathered classes d members
+pub open-joinable : (table : List ℕ) {classes members : List ℕ} (d next : ℕ) → d ≤ mark-limit
+    → Gathered classes d members
     → (c : ℕ) → open-to table members d next c ≡ joinable table classes d next c
 open-joinable table {classes} {members} d next within g c =
     rw (
-      every-below-ext mark-limit (λ i. implies (member members c i) (fits i)) (λ i. implies (in-class i) (fits i)) (λ i l. rw (g .has c i l)),
+      every-below-ext mark-limit (λ i. implies (member members c i) (fits i)) (λ i. implies (in-class i) (fits i))
+          (λ i l. rw (g .has c i l)),
       every-below-not mark-limit (λ i. implies (in-class i) (fits i)),
       joins-unless-apart (fit-in table) classes d d c,
-      some-below-cut mark-limit d (λ i. not (implies (in-class i) (fits i))) (λ i. not (fits i) && eqb (getD classes i 0) c) within
+      some-below-cut mark-limit d (λ i. not (implies (in-class i) (fits i))) (λ i. not (fits i)
+          && eqb (getD classes i 0) c) within
           (λ i l. rw (lt-ltb i d l) (unmet (eqb (getD classes i 0) c) (fits i))) (λ i l. rw (le-ltb i d l)),
     )
   where
@@ -85,7 +90,8 @@ pub none-open : (table members : List ℕ) (d next : ℕ) {c : ℕ} → c < next
 none-open table members d next {c} l = rw (lt-leb next c l)
 
 -- the classes from the next try on are looked through, and those before c are not open
-module _ (table members : List ℕ) (d next end : ℕ) {c : ℕ} (passed : (q : ℕ) → q < c → open-to table members d next q ≡ false) where
+module _ (table members : List ℕ) (d next end : ℕ) {c : ℕ} (passed : (q : ℕ) → q < c → open-to table members d next q
+    ≡ false) where
   -- class c is open: it is the lowest
   pub opens-at : next ≤ c → c < end → So (all-fit table members d c)
       → c ≡ Option·getD (lowest-below end (open-to table members d next)) end

@@ -1,5 +1,6 @@
--- The members of each class, in a table laid out as the fit table is: bit i of class c's words says that grant i is in class c. One grant put in or taken out
--- changes one bit, so that the table goes with the classes of the first grants when the next one is placed or the latest taken back.
+-- The members of each class, in a table laid out as the fit table is: bit i of class c's words says that grant i is
+-- in class c. One grant put in or taken out changes one bit, so that the table goes with the classes of the first
+-- grants when the next one is placed or the latest taken back.
 use Prim.Native.Nat.{ℕ, zero, suc, _+_, _*_, _/_, _%_, _≤_, _<_}
 use mathlib.Core.Path.{_≡_, refl, sym, _∙_}
 use mathlib.Core.Logic.{_⊎_, inl, inr, ⊎-elim}
@@ -65,11 +66,17 @@ other-place c i class grant ne =
     ne (rw (classes, grants)))
 
 -- one word stored with one bit changed changes that grant's bit of that class
-pub word-changed : (change : Bool → Bool → Bool) → ((b : Bool) → change b false ≡ b) → (members : List ℕ) (class grant word : ℕ)
+pub word-changed : (change : Bool → Bool → Bool) → ((b : Bool) → change b false ≡ b)
+    → (members : List ℕ) (class grant word : ℕ)
     → grant < mark-limit → class * kernel-words + grant / word-bits < length members
-    → ((q : ℕ) → bit word q ≡ change (bit (getD members (class * kernel-words + grant / word-bits) 0) q) (eqb q (grant % word-bits)))
+    → ((q : ℕ) → bit word q ≡ change (bit (getD members (class * kernel-words + grant / word-bits) 0) q)
+    (eqb q (grant % word-bits)))
     → Changed change members class grant (set members (class * kernel-words + grant / word-bits) word)
-word-changed change keeps members class grant word k room changes = record { sized = length-set members at word; has = has }
+word-changed change keeps members class grant word k room changes = record {
+  sized = length-set members at word;
+  has =
+      has;
+}
   where
     at : ℕ
     at = class * kernel-words + grant / word-bits
@@ -95,7 +102,11 @@ pub gathered-none : (classes : List ℕ) → Gathered classes 0 (replicate table
 gathered-none classes =
     record {
       sized = length-replicate {A = ℕ} table-words 0;
-      has = λ c i l. rw (zero-word table-words (c * kernel-words + i / word-bits), bit-of-zero (i % word-bits), le-ltb i 0 (omega arith));
+      has = λ c i l. rw (
+        zero-word table-words (c * kernel-words + i / word-bits),
+        bit-of-zero (i % word-bits),
+        le-ltb i 0 (omega arith),
+      );
     }
   where
     zero-word : (m at : ℕ) → _≡_ {A = ℕ} (getD (replicate m 0) at 0) 0
@@ -103,8 +114,10 @@ gathered-none classes =
     zero-word (suc m) zero = refl
     zero-word (suc m) (suc at) = zero-word m at
 
--- grant d is placed in a class: the table in which it has joined the class goes with the classes in which that is stored
-pub gathered-more : {classes after members joined : List ℕ} {d class : ℕ} → Gathered classes d members → Joined members class d joined
+-- grant d is placed in a class: the table in which it has joined the class goes with the classes in which that is
+-- stored
+pub gathered-more : {classes after members joined : List ℕ} {d class : ℕ} → Gathered classes d members
+    → Joined members class d joined
     → ((i : ℕ) → i < d → getD after i 0 ≡ getD classes i 0) → getD after d 0 ≡ class → Gathered after (suc d) joined
 gathered-more {classes} {after} {d} {class} g j earlier here =
     record {
@@ -115,17 +128,33 @@ gathered-more {classes} {after} {d} {class} g j earlier here =
     by-place : (c i : ℕ) → (i < d) ⊎ (d ≤ i)
         → (ltb i d && eqb (getD classes i 0) c || eqb c class && eqb i d) ≡ (ltb i (suc d) && eqb (getD after i 0) c)
     by-place c i (inl k) =
-        rw (lt-ltb i d k, lt-ltb i (suc d) (omega arith), ne-eqb i d (λ e. omega arith), and-false, or-false, earlier i k)
+        rw (
+          lt-ltb i d k,
+          lt-ltb i (suc d) (omega arith),
+          ne-eqb i d (λ e. omega arith),
+          and-false,
+          or-false,
+          earlier i k,
+        )
     by-place c i (inr k) =
         ⊎-elim
         (λ (m : i < suc d).
         let e : i ≡ d = omega arith in
-        rw (e, le-ltb d d (omega arith), lt-ltb d (suc d) (omega arith), eq-eqb d d refl, here, eqb-comm c class, and-true))
+        rw (
+          e,
+          le-ltb d d (omega arith),
+          lt-ltb d (suc d) (omega arith),
+          eq-eqb d d refl,
+          here,
+          eqb-comm c class,
+          and-true,
+        ))
         (λ (m : suc d ≤ i). rw (le-ltb i d k, le-ltb i (suc d) m, ne-eqb i d (λ e. omega arith), and-false))
         (below-or-from i (suc d))
 
 -- the latest grant is taken back: it leaves its class
-pub gathered-fewer : {classes members left : List ℕ} {d : ℕ} → Gathered classes (suc d) members → Left members (getD classes d 0) d left
+pub gathered-fewer : {classes members left : List ℕ} {d : ℕ} → Gathered classes (suc d) members
+    → Left members (getD classes d 0) d left
     → Gathered classes d left
 gathered-fewer {classes} {d} g w =
     record {
@@ -138,13 +167,27 @@ gathered-fewer {classes} {d} g w =
     and-not false = refl
 
     by-place : (c i : ℕ) → (i < d) ⊎ (d ≤ i)
-        → (ltb i (suc d) && eqb (getD classes i 0) c && not (eqb c (getD classes d 0) && eqb i d)) ≡ (ltb i d && eqb (getD classes i 0) c)
-    by-place c i (inl k) = rw (lt-ltb i d k, lt-ltb i (suc d) (omega arith), ne-eqb i d (λ e. omega arith), and-false, and-true)
+        → (ltb i (suc d) && eqb (getD classes i 0) c && not (eqb c (getD classes d 0) && eqb i d)) ≡ (ltb i d
+        && eqb (getD classes i 0) c)
+    by-place c i (inl k) = rw (
+      lt-ltb i d k,
+      lt-ltb i (suc d) (omega arith),
+      ne-eqb i d (λ e. omega arith),
+      and-false,
+      and-true,
+    )
     by-place c i (inr k) =
         ⊎-elim
         (λ (m : i < suc d).
         let e : i ≡ d = omega arith in
-        rw (e, le-ltb d d (omega arith), lt-ltb d (suc d) (omega arith), eq-eqb d d refl, and-true, eqb-comm c (getD classes d 0))
+        rw (
+          e,
+          le-ltb d d (omega arith),
+          lt-ltb d (suc d) (omega arith),
+          eq-eqb d d refl,
+          and-true,
+          eqb-comm c (getD classes d 0),
+        )
         (and-not (eqb (getD classes d 0) c)))
         (λ (m : suc d ≤ i). rw (le-ltb i d k, le-ltb i (suc d) m))
         (below-or-from i (suc d))

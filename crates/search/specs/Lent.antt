@@ -17,7 +17,15 @@ use Rattle.search.specs.Marks.{mark-limit}
 use Rattle.search.specs.View.{kernel-given, view, PositionStands, class-end, joinable, CursorPlaced, taken-back}
 use Rattle.search.specs.Gathered.{Gathered, Joined, Left, gathered-more, gathered-fewer}
 use Rattle.search.specs.ChoiceLaws.{open-to, open-joinable}
-use Rattle.search.specs.Laws.Moves.{Looked, depth-le-limit, room-below-limit, closes, takes-back, places, improves}
+use Rattle.search.specs.Laws.Moves.{
+  Looked,
+  depth-le-limit,
+  room-below-limit,
+  closes,
+  takes-back,
+  places,
+  improves,
+}
 
 -- a cursor and its two arrays as one position
 abbrev pub at-position : Cursor → List ℕ → List ℕ → Position
@@ -30,14 +38,17 @@ pub record Ready (size : ℕ) (at : Cursor) (classes best members : List ℕ) : 
   pub gathered : Gathered classes (at .depth) members
 
 -- the view moved as the machine does in one step, and all is ready for the next
-pub record Moved (table : List ℕ) (size singles witness : ℕ) (at : Cursor) (classes best : List ℕ) (after : Cursor) (classes′ best′ members′ : List ℕ)
+pub record Moved (table : List ℕ) (size singles witness : ℕ) (at : Cursor) (classes best : List ℕ) (after : Cursor)
+    (classes′ best′ members′ : List ℕ)
     : Type 0 where
   pub stepped :
-      view (at-position after classes′ best′) size ≡ step (kernel-given table size singles witness) (view (at-position at classes best) size)
+      view (at-position after classes′ best′) size ≡ step (kernel-given table size singles witness)
+      (view (at-position at classes best) size)
   pub ready : Ready size after classes′ best′ members′
 
 -- the four ways that a step goes, over a table of members from which a class was looked for
-module _ (table : List ℕ) (size singles witness : ℕ) {at : Cursor} {classes best members : List ℕ} (r : Ready size at classes best members) {end class : ℕ}
+module _ (table : List ℕ) (size singles witness : ℕ) {at : Cursor} {classes best members : List ℕ}
+    (r : Ready size at classes best members) {end class : ℕ}
     (ends : end ≡ class-end (at .depth) size (at .used) (at .count))
     (finds : class ≡ Option·getD (lowest-below end (open-to table members (at .depth) (at .next))) end) where
   looked : Looked table size (at-position at classes best) end class
@@ -46,14 +57,22 @@ module _ (table : List ℕ) (size singles witness : ℕ) {at : Cursor} {classes 
         ends = ends;
         finds =
             finds
-            ∙ rw (lowest-below-ext end (open-to table members (at .depth) (at .next)) (joinable table classes (at .depth) (at .next))
+            ∙ rw (lowest-below-ext end (open-to table members (at .depth) (at .next))
+            (joinable table classes (at .depth) (at .next))
             (λ c l. open-joinable table (at .depth) (at .next) (depth-le-limit (r .stands)) (r .gathered) c));
       }
 
   -- no class is found and no grant is placed
   pub closed : end ≤ class → at .depth ≡ 0
       → Moved table size singles witness at classes best
-      (record { depth = at .depth; next = at .next; used = at .used; count = at .count; finished = true; opened = at .opened })
+      (record {
+        depth = at .depth;
+        next = at .next;
+        used = at .used;
+        count = at .count;
+        finished = true;
+        opened = at .opened;
+      })
       classes best members
   closed l e =
       let f = closes table size singles witness (at-position at classes best) (r .stands) looked l e in
@@ -64,7 +83,8 @@ module _ (table : List ℕ) (size singles witness : ℕ) {at : Cursor} {classes 
 
   -- no class is found: the latest grant is taken back, and leaves its class
   pub took-back : end ≤ class → 0 < at .depth → (after : Cursor) (left : List ℕ)
-      → after ≡ taken-back at (getD classes (at .depth - 1) 0) → Left members (getD classes (at .depth - 1) 0) (at .depth - 1) left
+      → after ≡ taken-back at (getD classes (at .depth - 1) 0) → Left members (getD classes (at .depth - 1) 0)
+      (at .depth - 1) left
       → Moved table size singles witness at classes best after classes best left
   took-back l pos after left e leaves =
       let f = takes-back table size singles witness (at-position at classes best) (r .stands) looked l pos after e in
@@ -82,7 +102,8 @@ module _ (table : List ℕ) (size singles witness : ℕ) {at : Cursor} {classes 
       latest = omega arith
 
   -- the next grant is placed in the class found, and joins it
-  module _ (l : class < end) (after : Cursor) (placed : CursorPlaced at class after) (joined : List ℕ) (joins : Joined members class (at .depth) joined) where
+  module _ (l : class < end) (after : Cursor) (placed : CursorPlaced at class after) (joined : List ℕ)
+      (joins : Joined members class (at .depth) joined) where
     stored : at .depth < length classes
     stored = omega (arith, room-below-limit (r .stands) end ends (omega arith), r .classes-sized)
 
@@ -95,7 +116,8 @@ module _ (table : List ℕ) (size singles witness : ℕ) {at : Cursor} {classes 
     pub put : (suc (at .depth) ≡ size → ⊥)
         → Moved table size singles witness at classes best after (set classes (at .depth) class) best joined
     put not-whole =
-        let f = places table size singles witness (at-position at classes best) (r .stands) looked l stored after placed not-whole in
+        let f = places table size singles witness (at-position at classes best) (r .stands) looked l stored after
+        placed not-whole in
         record {
           stepped = f .0;
           ready =
@@ -120,7 +142,8 @@ module _ (table : List ℕ) (size singles witness : ℕ) {at : Cursor} {classes 
         (set classes (at .depth) class) (set classes (at .depth) class) joined
     put-last whole finished e =
         let f =
-        improves table size singles witness (at-position at classes best) (r .stands) looked l stored after placed whole finished e in
+        improves table size singles witness (at-position at classes best) (r .stands) looked l stored after placed
+        whole finished e in
         record {
           stepped = f .0;
           ready =

@@ -1,5 +1,5 @@
--- What the words and bytes of a position stand for: a kernel from its fit table, a state of the machine from a position, and what
--- holds of every position that the code makes.
+-- What the words and bytes of a position stand for: a kernel from its fit table, a state of the machine from a
+-- position, and what holds of every position that the code makes.
 use Prim.Native.Nat.{ℕ, zero, suc, _+_, _*_, _-_, _/_, _%_, _≤_, _<_, max, min, pred}
 use mathlib.Core.Path.{_≡_}
 use mathlib.Core.Bool.{Bool, _&&_, cond}
@@ -30,7 +30,8 @@ fit-in table i j = bit (getD table (i * kernel-words + j / word-bits) 0) (j % wo
 
 -- the kernel that a fit table and three numbers give
 abbrev pub kernel-given : List ℕ → ℕ → ℕ → ℕ → Kernel
-kernel-given table size singles witness = record { size = size; fit = fit-in table; singles = singles; witness = witness }
+kernel-given table size singles witness =
+    record { size = size; fit = fit-in table; singles = singles; witness = witness }
 
 -- the state of the machine that a position over a kernel of some size stands for
 abbrev pub view : Position → ℕ → State
@@ -46,8 +47,8 @@ view position size =
 abbrev pub view-ran : Ran → ℕ → machine.Ran
 view-ran ran size = record { state = view (ran .position) size; steps = ran .steps }
 
--- the grants placed: no more than there are, in classes numbered by first appearance; the classes in use are counted, and a grant is marked where it
--- opened its class
+-- the grants placed: no more than there are, in classes numbered by first appearance; the classes in use are counted,
+-- and a grant is marked where it opened its class
 pub record Trail (size depth in-use : ℕ) (opened : Marks) (classes : List ℕ) : Type 0 where
   pub depth-within : depth ≤ size
   pub grown : Grown (placed-of classes depth)
@@ -57,10 +58,12 @@ pub record Trail (size depth in-use : ℕ) (opened : Marks) (classes : List ℕ)
 -- a position over a kernel that can be searched: its placed grants, and the class count of its best placement
 pub record PositionStands (size : ℕ) (position : Position) : Type 0 where
   pub size-within : size ≤ search-limit
-  pub trail : Trail size (position .cursor .depth) (position .cursor .used) (position .cursor .opened) (position .classes)
+  pub trail : Trail size (position .cursor .depth) (position .cursor .used) (position .cursor .opened)
+      (position .classes)
   pub best-counted : position .cursor .count ≡ used (placed-of (position .best) size)
 
--- the position before the first step: no grant is placed, and the best placement is the first one, whose classes are counted
+-- the position before the first step: no grant is placed, and the best placement is the first one, whose classes are
+-- counted
 abbrev pub started : List ℕ → ℕ → ℕ → ℕ → Position
 started first count singles witness =
     record {
@@ -77,7 +80,8 @@ started first count singles witness =
       best = first;
     }
 
--- one past the last class in which grant d may be placed: it is in use or the next one, and with it fewer are in use than the best placement has
+-- one past the last class in which grant d may be placed: it is in use or the next one, and with it fewer are in use
+-- than the best placement has
 abbrev pub class-end : ℕ → ℕ → ℕ → ℕ → ℕ
 class-end depth size in-use count = cond (ltb depth size && ltb in-use count) (min (suc in-use) (pred count)) 0
 

@@ -1,5 +1,5 @@
--- How many users and grants there are where each of four users holds every permission but their own, how many singles and what the witness
--- counts, and how many searches of which budget.
+-- How many users and grants there are where each of four users holds every permission but their own, how many singles
+-- and what the witness counts, and how many searches of which budget.
 use Prim.Native.Nat.{ℕ, _*_, pred}
 
 abbrev pub users : ℕ

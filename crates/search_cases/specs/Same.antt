@@ -39,7 +39,8 @@ truth-same false false same = refl
 pub same-class : (a b : List ℕ) (n i : ℕ) → i < n → placed-of a n ≡ placed-of b n → getD a i 0 ≡ getD b i 0
 same-class a b zero i l e = absurd (not-suc-le-zero l)
 same-class a b (suc n) i l e =
-    ⊎-elim (λ last. rw last (ap (λ (placed : List ℕ). getD placed 0 0) e)) (λ below. same-class a b n i below (ap (drop 1) e)) (last-or-below l)
+    ⊎-elim (λ last. rw last (ap (λ (placed : List ℕ). getD placed 0 0) e)) (λ below. same-class a b n i below
+    (ap (drop 1) e)) (last-or-below l)
 
 -- ---- runs that came to the same state
 
@@ -60,14 +61,19 @@ module _ (a b : Ran) (size : ℕ) where
   same-finished e = ap (λ (r : machine.Ran). r .state .finished) e
 
   pub same-placed : view-ran a size ≡ view-ran b size
-      → placed-of (a .position .classes) (a .position .cursor .depth) ≡ placed-of (b .position .classes) (a .position .cursor .depth)
-  same-placed e = ap (λ (r : machine.Ran). r .state .placed) e ∙ ap (placed-of (b .position .classes)) (sym (same-depth e))
+      → placed-of (a .position .classes) (a .position .cursor .depth) ≡ placed-of (b .position .classes)
+      (a .position .cursor .depth)
+  same-placed e = ap (λ (r : machine.Ran). r .state .placed) e ∙ ap (placed-of (b .position .classes))
+      (sym (same-depth e))
 
   -- with all else alike, the best placements tell
   pub best-tells : {test : Bool} → a .steps ≡ b .steps → a .position .cursor .depth ≡ b .position .cursor .depth
-      → a .position .cursor .next ≡ b .position .cursor .next → a .position .cursor .finished ≡ b .position .cursor .finished
-      → placed-of (a .position .classes) (a .position .cursor .depth) ≡ placed-of (b .position .classes) (a .position .cursor .depth)
-      → Tells test (placed-of (a .position .best) size ≡ placed-of (b .position .best) size) → Tells test (view-ran a size ≡ view-ran b size)
+      → a .position .cursor .next ≡ b .position .cursor .next → a .position .cursor .finished ≡
+      b .position .cursor .finished
+      → placed-of (a .position .classes) (a .position .cursor .depth) ≡ placed-of (b .position .classes)
+      (a .position .cursor .depth)
+      → Tells test (placed-of (a .position .best) size ≡ placed-of (b .position .best) size)
+      → Tells test (view-ran a size ≡ view-ran b size)
   best-tells steps depth next finished placed best =
       record {
         passes = λ s. rw (placed, best .passes s, depth, steps, next, finished);

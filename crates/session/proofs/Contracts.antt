@@ -1,12 +1,24 @@
--- The demands from the contracts as the source has them: a run of calls of the code is a sequence of demand 3, since what each contract requires and ensures,
--- by the reading that is made of its clauses, is what a step of a run needs (`Tied`).
+-- The demands from the contracts as the source has them: a run of calls of the code is a sequence of demand 3, since
+-- what each contract requires and ensures, by the reading that is made of its clauses, is what a step of a run needs
+-- (`Tied`).
 use mathlib.Core.Path.{_≡_, refl}
 use denote.Ref.{now}
 use Rattle.spec.specs.Sequence.{Call, load, search, write, Outcome}
 use Rattle.checker.specs.Laws.CodeCall.{CodeCall, Kept}
 use Rattle.session.specs.Said.{load-said, search-said, write-said}
 use Rattle.session.specs.CodeSession.{Sound}
-use Rattle.session.specs.Laws.CodeSequence.{Ensured, Fresh, Calling, Tied, Demand1Of, Demand2Of, Demand3Of, tied-demand-1, tied-demand-2, tied-demand-3}
+use Rattle.session.specs.Laws.CodeSequence.{
+  Ensured,
+  Fresh,
+  Calling,
+  Tied,
+  Demand1Of,
+  Demand2Of,
+  Demand3Of,
+  tied-demand-1,
+  tied-demand-2,
+  tied-demand-3,
+}
 use Rattle.session.specs.declared.Session.{Session}
 use Rattle.session.proofs.Session.fresh.Kinds as fresh-kinds
 use Rattle.session.proofs.Session.fresh.Reads as fresh-reads
@@ -17,15 +29,17 @@ use Rattle.session.proofs.Session.search.Reads as search-reads
 use Rattle.session.proofs.Session.write.Kinds as write-kinds
 use Rattle.session.proofs.Session.write.Reads as write-reads
 
--- a call of the code, its contract kept, that was made on the value before with this outcome, and led to the value after: the one that a load or a search handed
--- back; a writing leaves the one that it was made on
+-- a call of the code, its contract kept, that was made on the value before with this outcome, and led to the value
+-- after: the one that a load or a search handed back; a writing leaves the one that it was made on
 abbrev pub Step : (call : Call) → Outcome call → Session → Session → Type 1
 Step (load text) answer before after =
     (call : CodeCall 1 load-kinds.ps load-kinds.r) × Kept load-reads.Pre load-reads.Post call
-    × (before ≡ call .args .0) × (text ≡ now (call .args .1 .0)) × (answer ≡ load-said (call .result .answer)) × (after ≡ call .result .session)
+    × (before ≡ call .args .0) × (text ≡ now (call .args .1 .0)) × (answer ≡ load-said (call .result .answer))
+    × (after ≡ call .result .session)
 Step (search budget) answer before after =
     (call : CodeCall 0 search-kinds.ps search-kinds.r) × Kept search-reads.Pre search-reads.Post call
-    × (before ≡ call .args .0) × (budget ≡ call .args .1 .0) × (answer ≡ search-said (call .result .answer)) × (after ≡ call .result .session)
+    × (before ≡ call .args .0) × (budget ≡ call .args .1 .0) × (answer ≡ search-said (call .result .answer))
+    × (after ≡ call .result .session)
 Step (write buffer) written before after =
     (call : CodeCall 1 write-kinds.ps write-kinds.r) × Kept write-reads.Pre write-reads.Post call
     × (before ≡ call .args .0) × (buffer ≡ now (call .args .1 .0))
@@ -35,7 +49,8 @@ Step (write buffer) written before after =
 abbrev pub calling : Calling
 calling =
     record {
-      Made = λ s. (call : CodeCall 0 fresh-kinds.ps fresh-kinds.r) × Kept fresh-reads.Pre fresh-reads.Post call × (s ≡ call .result);
+      Made = λ s. (call : CodeCall 0 fresh-kinds.ps fresh-kinds.r) × Kept fresh-reads.Pre fresh-reads.Post call
+          × (s ≡ call .result);
       Step = Step;
     }
 
@@ -46,7 +61,8 @@ contracts-tied = record { fresh = fresh-tied; step = step-tied }
     fresh-tied : (s : Session) → calling .Made s → Fresh s
     fresh-tied s (call, kept, same) = let e = kept tt in rw same (record { stands = e .0; sound = e .1 })
 
-    step-tied : (call : Call) (outcome : Outcome call) (before after : Session) → Step call outcome before after → Sound before
+    step-tied : (call : Call) (outcome : Outcome call) (before after : Session) → Step call outcome before after
+        → Sound before
         → Ensured call outcome before after
     step-tied (load text) answer before after (call, kept, on, given, gave, led) sound =
         let e = kept (rw on at sound) in

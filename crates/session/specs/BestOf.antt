@@ -1,5 +1,5 @@
--- The best placement as an array, from the first cover's array and the position's: the position's where the kernel can be searched, and else the first
--- cover. Assumes nothing.
+-- The best placement as an array, from the first cover's array and the position's: the position's where the kernel
+-- can be searched, and else the first cover. Assumes nothing.
 use Prim.Native.Nat.{ℕ, _≤_, _<_}
 use mathlib.Core.Path.{_≡_}
 use mathlib.Core.List.{List}

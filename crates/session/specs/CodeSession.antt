@@ -1,5 +1,6 @@
--- What a session of the code stands for, and what its values keep from call to call: the parts kept beside the sheet's bytes are what follows from
--- them, and the position is one that searches of the sheet come to. Assumes nothing.
+-- What a session of the code stands for, and what its values keep from call to call: the parts kept beside the
+-- sheet's bytes are what follows from them, and the position is one that searches of the sheet come to. Assumes
+-- nothing.
 use Prim.Native.Nat.{ℕ, _≤_}
 use mathlib.Core.Path.{_≡_}
 use mathlib.Core.Bool.{So, cond}
@@ -27,7 +28,8 @@ size-in s = s .prepared .kernel .size
 
 -- the machine's state: that of the position, or the start where the kernel is too great to be searched
 abbrev pub state-in : CodeSession → State
-state-in s = cond (leb (size-in s) search-limit) (position.view (s .position) (size-in s)) (start-of (sheet-of (text-in s)))
+state-in s =
+    cond (leb (size-in s) search-limit) (position.view (s .position) (size-in s)) (start-of (sheet-of (text-in s)))
 
 -- the session that it stands for
 abbrev pub view : CodeSession → Session

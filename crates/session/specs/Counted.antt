@@ -31,6 +31,7 @@ moved-to s at =
 
 -- the search goes on as the machine does, and the session holds what it did
 pub record RanIn (s : CodeSession) (budget : ℕ) (ran : Ran) : Type 0 where
-  pub state : state-in (moved-to s (ran .position)) ≡ search (kernel-of (sheet-of (text-in s))) budget (state-in s) .state
+  pub state : state-in (moved-to s (ran .position)) ≡ search (kernel-of (sheet-of (text-in s))) budget
+      (state-in s) .state
   pub steps : ran .steps ≡ search (kernel-of (sheet-of (text-in s))) budget (state-in s) .steps
   pub holds : Holds (moved-to s (ran .position))

@@ -1,4 +1,5 @@
--- The three demands proved, and the session of the code: what it stands for, and that its calls are those of the demands.
+-- The three demands proved, and the session of the code: what it stands for, and that its calls are those of the
+-- demands.
 pub mod Said
 pub mod Prepared
 pub mod NothingPrepared

@@ -1,4 +1,5 @@
--- The first line of a sheet as it stands in a text: `user`, the names of the permissions, each behind a comma, and the line feed. Assumes nothing.
+-- The first line of a sheet as it stands in a text: `user`, the names of the permissions, each behind a comma, and
+-- the line feed. Assumes nothing.
 use Prim.Native.Nat.{ℕ, zero, suc, _+_, _≤_, _<_}
 use native.Mathlib.Nat.{not-suc-le-zero, ne-of-lt}
 use native.Mathlib.Omega.{arith}
@@ -76,11 +77,14 @@ pub record FirstLineRead (text : Bytes) (from to : List ℕ) (r : FirstLine) : T
       → So (r .good) × (r .permissions ≡ length names) × (drop (r .next) text ≡ rest)
 
 -- no name yet
-pub names-start : (text : Bytes) (from to : List ℕ) → BlankPast 0 from to → So (says-user text) → NamesRead text from to 0 4
+pub names-start : (text : Bytes) (from to : List ℕ) → BlankPast 0 from to → So (says-user text)
+    → NamesRead text from to 0 4
 unfolding says-user
 names-start text from to b p =
-    let long : 4 ≤ length text = ltb-false (length text) 4 (not-true (ltb (length text) 4) (and-left (not (ltb (length text) 4)) (same-bytes (part 0 4 text) (ascii "user")) p)) in
-    let user : part 0 4 text ≡ ascii "user" = same-bytes-equal (part 0 4 text) (ascii "user") (and-right (not (ltb (length text) 4)) (same-bytes (part 0 4 text) (ascii "user")) p) in
+    let long : 4 ≤ length text = ltb-false (length text) 4 (not-true (ltb (length text) 4)
+    (and-left (not (ltb (length text) 4)) (same-bytes (part 0 4 text) (ascii "user")) p)) in
+    let user : part 0 4 text ≡ ascii "user" = same-bytes-equal (part 0 4 text) (ascii "user")
+    (and-right (not (ltb (length text) 4)) (same-bytes (part 0 4 text) (ascii "user")) p) in
     record {
       few = omega arith;
       each = λ i l. absurd (not-suc-le-zero l);
@@ -96,8 +100,10 @@ end-kept to n v zero h = refl
 end-kept to n v (suc i) h = getD-set-other to n i v 0 (λ e. omega arith)
 
 -- one name more
-module _ (text : Bytes) (from to : List ℕ) (n at : ℕ) (read : NamesRead text from to n at) (from-room : length from ≡ user-limit)
-    (to-room : length to ≡ user-limit) (h : n < permission-limit) (found : So (ltb at (length text) && eqb (getD text at 0) comma))
+module _ (text : Bytes) (from to : List ℕ) (n at : ℕ) (read : NamesRead text from to n at)
+    (from-room : length from ≡ user-limit)
+    (to-room : length to ≡ user-limit) (h : n < permission-limit)
+    (found : So (ltb at (length text) && eqb (getD text at 0) comma))
     (end : ℕ) (name : NameAt text (at + 1) end) where
   here-from : getD (set from n (at + 1)) n 0 ≡ at + 1
   unfolding permission-limit user-limit
@@ -115,7 +121,8 @@ module _ (text : Bytes) (from to : List ℕ) (n at : ℕ) (read : NamesRead text
   fields-more =
       listed-suc n (λ i. comma ∷ name-there text (places-of (set from n (at + 1)) (set to n end)) i)
       ∙ rw (
-        listed-same n (λ i. comma ∷ name-there text (places-of (set from n (at + 1)) (set to n end)) i) (λ i. comma ∷ name-there text (places-of from to) i)
+        listed-same n (λ i. comma ∷ name-there text (places-of (set from n (at + 1)) (set to n end)) i)
+            (λ i. comma ∷ name-there text (places-of from to) i)
             (λ i k. rw (earlier from (at + 1) i k, earlier to end i k)),
         here-from,
         here-to,
@@ -131,14 +138,17 @@ module _ (text : Bytes) (from to : List ℕ) (n at : ℕ) (read : NamesRead text
   names-more =
       record {
         few = h;
-        each = λ i l. ⊎-elim (name-here i) (λ k. rw (earlier from (at + 1) i k, earlier to end i k) (read .each i k)) (last-or-below l);
+        each = λ i l. ⊎-elim (name-here i) (λ k. rw (earlier from (at + 1) i k, earlier to end i k) (read .each i k))
+            (last-or-below l);
         stands = subst (λ (l : Bytes). Stands text 0 (ascii "user" ++ l) end) (sym fields-more)
             (subst (λ (l : Bytes). Stands text 0 l end)
-            (append-assoc (ascii "user") (fields-text n (name-there text (places-of from to))) (comma ∷ part (at + 1) end text))
+            (append-assoc (ascii "user") (fields-text n (name-there text (places-of from to)))
+            (comma ∷ part (at + 1) end text))
             (stands-then (read .stands) (stands-then (stands-found text at comma found) behind)));
         reached = sym here-to;
         run = λ i l.
-            ⊎-elim (run-here i) (λ k. rw (earlier from (at + 1) i k, end-kept to n end i (omega arith)) (read .run i k)) (last-or-below l);
+            ⊎-elim (run-here i) (λ k. rw (earlier from (at + 1) i k, end-kept to n end i (omega arith))
+            (read .run i k)) (last-or-below l);
         unnoted = blank-kept n from to (at + 1) end (read .unnoted);
       }
     where

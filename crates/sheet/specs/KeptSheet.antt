@@ -1,5 +1,5 @@
--- What was noted of a sheet that was read in one pass, and the sheet that it says: the text is that sheet's, and keeps all rules where the limits are
--- kept and no name stands twice. Assumes nothing.
+-- What was noted of a sheet that was read in one pass, and the sheet that it says: the text is that sheet's, and
+-- keeps all rules where the limits are kept and no name stands twice. Assumes nothing.
 use Prim.Native.Nat.{ℕ, _*_, _≤_, _<_}
 use native.Mathlib.Omega.{arith}
 use mathlib.Core.Path.{_≡_, sym, ap, _∙_}
@@ -34,7 +34,8 @@ pub record SheetRoom (permission-from permission-to user-from user-to words : Li
   pub permissions-room : NamesRoom permission-from permission-to
   pub users-room : Room user-from user-to words
 
-pub new-sheet-room : SheetRoom (replicate user-limit 0) (replicate user-limit 0) (replicate user-limit 0) (replicate user-limit 0)
+pub new-sheet-room : SheetRoom (replicate user-limit 0) (replicate user-limit 0) (replicate user-limit 0)
+    (replicate user-limit 0)
     (replicate (user-limit * row-words) 0)
 new-sheet-room =
     record {
@@ -83,7 +84,8 @@ noted text n =
 pub record LinesStand (text : Bytes) (n : Notes) : Type 0 where
   pub next : ℕ
   pub first : FirstLineStands text (n .permission-from) (n .permission-to) (n .permissions) next
-  pub lines : LinesRead text next (n .permissions) (n .user-from) (n .user-to) (n .words) (n .users) (n .total) (length text)
+  pub lines : LinesRead text next (n .permissions) (n .user-from) (n .user-to) (n .words) (n .users) (n .total)
+      (length text)
 
 -- and within all limits
 pub record SheetStands (text : Bytes) (n : Notes) : Type 0 where
@@ -97,7 +99,8 @@ pub record SheetLines (text : Bytes) (n : Notes) (good : Bool) : Type 0 where
   pub stands : So good → SheetStands text n
   pub found : So (accepted text) → So good
 
-names-inside : (text : Bytes) (from to : List ℕ) (n : ℕ) → n ≤ user-limit → ((i : ℕ) → i < n → NameAt text (getD from i 0) (getD to i 0))
+names-inside : (text : Bytes) (from to : List ℕ) (n : ℕ) → n ≤ user-limit
+    → ((i : ℕ) → i < n → NameAt text (getD from i 0) (getD to i 0))
     → Inside text (places-of from to) n
 names-inside text from to n few each =
     record {
@@ -106,30 +109,36 @@ names-inside text from to n few each =
       within = λ i l. each i l .within;
     }
 
-named-at : (text : Bytes) (from to : List ℕ) (n : ℕ) → ((i : ℕ) → i < n → NameAt text (getD from i 0) (getD to i 0)) → (name : Bytes)
+named-at : (text : Bytes) (from to : List ℕ) (n : ℕ) → ((i : ℕ) → i < n → NameAt text (getD from i 0) (getD to i 0))
+    → (name : Bytes)
     → List·Memᴰ name (names-at text (places-of from to) n) → Name name
 named-at text from to n each name m =
-    let r = list-of-element n (name-there text (places-of from to)) m in rw (← r .there) (each (r .place) (r .within) .named)
+    let r = list-of-element n (name-there text (places-of from to)) m
+    in rw (← r .there) (each (r .place) (r .within) .named)
 
 module _ (text : Bytes) (n : Notes) (s : LinesStand text n) where
   pub users-are-inside : Inside text (places-of (n .user-from) (n .user-to)) (n .users)
-  users-are-inside = names-inside text (n .user-from) (n .user-to) (n .users) (s .lines .few) (λ u l. s .lines .each u l .name)
+  users-are-inside = names-inside text (n .user-from) (n .user-to) (n .users) (s .lines .few)
+      (λ u l. s .lines .each u l .name)
 
   pub permissions-are-inside : Inside text (places-of (n .permission-from) (n .permission-to)) (n .permissions)
   unfolding permission-limit user-limit
   permissions-are-inside =
-      names-inside text (n .permission-from) (n .permission-to) (n .permissions) (let few = s .first .few in omega arith) (s .first .each)
+      names-inside text (n .permission-from) (n .permission-to) (n .permissions) (let few = s .first .few
+      in omega arith) (s .first .each)
 
   pub noted-lines : user-lines (noted text n .users) (noted text n .rows)
       ≡ lines-at text (n .permissions) (n .user-from) (n .user-to) (n .words) (n .users)
-  noted-lines = word-lines (n .users) (n .permissions) (name-there text (places-of (n .user-from) (n .user-to))) (n .words)
+  noted-lines = word-lines (n .users) (n .permissions) (name-there text (places-of (n .user-from) (n .user-to)))
+      (n .words)
 
   bytes : text ≡ sheet-text (noted text n)
   bytes =
       s .first .stands .reads
       ∙ ap (λ (l : Bytes). line-text (ascii "user" ∷ noted text n .permissions) ++ l)
       (s .lines .stands .reads
-      ∙ ap (λ (l : Bytes). text-of (lines-at text (n .permissions) (n .user-from) (n .user-to) (n .words) (n .users)) ++ l) (drop-length text)
+      ∙ ap (λ (l : Bytes). text-of (lines-at text (n .permissions) (n .user-from) (n .user-to) (n .words) (n .users))
+      ++ l) (drop-length text)
       ∙ append-nil (text-of (lines-at text (n .permissions) (n .user-from) (n .user-to) (n .words) (n .users)))
       ∙ ap (λ (l : List Line). text-of l) (sym noted-lines))
       ∙ sym (sheet-text-lines (noted text n))
@@ -138,12 +147,14 @@ module _ (text : Bytes) (n : Notes) (s : LinesStand text n) where
   noted-users = length-list-of (n .users) (name-there text (places-of (n .user-from) (n .user-to)))
 
   pub noted-permissions : length (noted text n .permissions) ≡ n .permissions
-  noted-permissions = length-list-of (n .permissions) (name-there text (places-of (n .permission-from) (n .permission-to)))
+  noted-permissions = length-list-of (n .permissions)
+      (name-there text (places-of (n .permission-from) (n .permission-to)))
 
   pub noted-grants : length (grants (noted text n)) ≡ n .total
   unfolding permission-limit
   noted-grants =
-      word-grants (n .users) (n .permissions) (n .words) (s .first .few) (λ u l. s .lines .each u l .narrow) ∙ sym (s .lines .counted)
+      word-grants (n .users) (n .permissions) (n .words) (s .first .few) (λ u l. s .lines .each u l .narrow)
+      ∙ sym (s .lines .counted)
 
   -- the text is that sheet's
   pub noted-written : SheetWritten text (noted text n)
@@ -162,7 +173,8 @@ even-rows : (text : Bytes) (n : Notes) → LinesStand text n → (row : List Boo
     → length row ≡ length (noted text n .permissions)
 even-rows text n s row m =
     let r = list-of-element (n .users) (λ u. word-row (n .permissions) (getD (n .words) u 0)) m in
-    sym (ap length (r .there)) ∙ length-list-of (n .permissions) (bit (getD (n .words) (r .place) 0)) ∙ sym (noted-permissions text n s)
+    sym (ap length (r .there)) ∙ length-list-of (n .permissions) (bit (getD (n .words) (r .place) 0))
+    ∙ sym (noted-permissions text n s)
 
 -- within the limits and with no name twice it keeps all rules
 pub noted-keeps : (text : Bytes) (n : Notes) → SheetStands text n → repeats same-name (noted text n .users) ≡ false

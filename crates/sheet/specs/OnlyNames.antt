@@ -1,4 +1,5 @@
--- What the layout of an accepted sheet notes: its names at their own places, and nothing past them; and what is read of a refused sheet. Assumes nothing.
+-- What the layout of an accepted sheet notes: its names at their own places, and nothing past them; and what is read
+-- of a refused sheet. Assumes nothing.
 use Prim.Native.Nat.{ℕ, _*_}
 use lib.ListN.{replicate}
 use Rattle.spec.specs.Limits.{user-limit}
@@ -12,7 +13,8 @@ use Rattle.sheet.specs.declared.reading.SheetRead.{SheetRead}
 -- no place is noted past the counts, and the permissions' names are those of the first line, one behind the other
 pub record OnlyNames (layout : Layout) : Type 0 where
   pub users-end : BlankPast (layout .users) (layout .«user_places» .from) (layout .«user_places» .to)
-  pub permissions-end : BlankPast (layout .permissions) (layout .«permission_places» .from) (layout .«permission_places» .to)
+  pub permissions-end : BlankPast (layout .permissions) (layout .«permission_places» .from)
+      (layout .«permission_places» .to)
   pub permissions-run : Run (layout .«permission_places» .from) (layout .«permission_places» .to) (layout .permissions)
 
 -- no place is noted
@@ -21,7 +23,8 @@ no-places = record { from = replicate user-limit 0; to = replicate user-limit 0 
 
 -- the layout of nothing
 abbrev pub no-layout : Layout
-no-layout = record { users = 0; permissions = 0; grants = 0; «user_places» = no-places; «permission_places» = no-places }
+no-layout =
+    record { users = 0; permissions = 0; grants = 0; «user_places» = no-places; «permission_places» = no-places }
 
 -- what a sheet is read as that is refused for a number: no layout and no cell
 abbrev pub refused-as : ℕ → SheetRead

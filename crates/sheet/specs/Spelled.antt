@@ -23,7 +23,8 @@ pub record NameReads (text : Bytes) (at : ℕ) (r : NameRead) : Type 0 where
   pub judged : r .good ≡ (has-name-length (part at (r .to) text) && all name-byte (part at (r .to) text))
 
 -- where the field at a place within the text ends
-pub field-ends : (text : Bytes) (at : ℕ) → at ≤ length text → field-read text at .to ≡ at + span separator (drop at text)
+pub field-ends : (text : Bytes) (at : ℕ) → at ≤ length text → field-read text at .to ≡ at + span separator
+    (drop at text)
 unfolding field-read field-from
 field-ends text at h =
     let e : min at (length text) ≡ at = omega arith in
@@ -36,12 +37,14 @@ pub record NameAt (text : Bytes) (at to : ℕ) : Type 0 where
   pub named : Name (part at to text)
 
 -- where the field ends
-pub name-ends : (text : Bytes) (at : ℕ) (r : NameRead) → at ≤ length text → NameReads text at r → (at ≤ r .to) × (r .to ≤ length text)
+pub name-ends : (text : Bytes) (at : ℕ) (r : NameRead) → at ≤ length text → NameReads text at r → (at ≤ r .to)
+    × (r .to ≤ length text)
 name-ends text at r h read =
     (omega (arith, read .ends), omega (arith, read .ends, span-within separator (drop at text), length-drop at text))
 
 -- a name that was read stands there
-pub name-read : (text : Bytes) (at : ℕ) (r : NameRead) → at ≤ length text → NameReads text at r → So (r .good) → NameAt text at (r .to)
+pub name-read : (text : Bytes) (at : ℕ) (r : NameRead) → at ≤ length text → NameReads text at r → So (r .good)
+    → NameAt text at (r .to)
 unfolding name-limit
 name-read text at r h read good =
     let name : Bytes = part at (r .to) text in

@@ -49,19 +49,22 @@ pub record UserLineReads (text : Bytes) (at width : ℕ) (r : UserLine) : Type 0
 
 -- no line was found, since none stands there
 pub no-line : (text : Bytes) (at width : ℕ) (r : UserLine) → r .good ≡ false
-    → ((name : Bytes) (ones : ℕ → Bool) (rest : Bytes) → Spells text at width name ones rest → ⊥) → UserLineReads text at width r
+    → ((name : Bytes) (ones : ℕ → Bool) (rest : Bytes) → Spells text at width name ones rest → ⊥)
+    → UserLineReads text at width r
 no-line text at width r f none =
     record { good = λ p. absurd (not-both p f); found = λ name ones rest line. absurd (none name ones rest line) }
 
 -- a name, cells and a line feed are such a line
 pub line-stands : (text : Bytes) (at width to word : ℕ) → NameAt text at to → CellsIn text to width word
-    → So (ltb (to + 2 * width) (length text) && eqb (getD text (to + 2 * width) 0) line-feed) → LineStands text at width to word (suc (to + 2 * width))
+    → So (ltb (to + 2 * width) (length text) && eqb (getD text (to + 2 * width) 0) line-feed)
+    → LineStands text at width to word (suc (to + 2 * width))
 line-stands text at width to word name cells p =
     record {
       user = record { name = name; narrow = cells .beyond };
       forward = omega (arith, name .forward);
       stands = rw (line-in-parts (part at to text) width (λ i. cell-text (bit word i)))
           (stands-then
-          (stands-then (stands-part text at to (omega (arith, name .forward)) (name .within)) (stands-cells text to width (bit word) (cells .stand)))
+          (stands-then (stands-part text at to (omega (arith, name .forward)) (name .within))
+          (stands-cells text to width (bit word) (cells .stand)))
           (stands-found text (to + 2 * width) line-feed p));
     }

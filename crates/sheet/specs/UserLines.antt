@@ -41,7 +41,8 @@ pub record LinesRead (text : Bytes) (start width : ℕ) (from to words : List �
   pub few : n ≤ user-limit
   pub each : (u : ℕ) → u < n → UserAt text width (getD from u 0) (getD to u 0) (getD words u 0)
   pub stands : Stands text start (text-of (lines-at text width from to words n)) at
-  pub starts : (u : ℕ) → u < n → drop (getD from u 0) text ≡ text-of (drop u (lines-at text width from to words n)) ++ drop at text
+  pub starts : (u : ℕ) → u < n → drop (getD from u 0) text ≡ text-of (drop u (lines-at text width from to words n)) ++
+      drop at text
   pub unnoted : BlankPast n from to
   pub beyond : (i : ℕ) → n ≤ i → getD words i 0 ≡ 0
   pub counted : ones ≡ ones-at words n
@@ -56,5 +57,6 @@ pub record Fit (width : ℕ) (names : List Bytes) (rows : List (List Bool)) : Ty
 -- what reading the lines of the users up to the end of the text gives
 pub record UserLinesRead (text : Bytes) (start width : ℕ) (from to words : List ℕ) (r : UserLines) : Type 0 where
   pub good : So (r .good) → LinesRead text start width from to words (r .users) (r .grants) (length text)
-  pub found : (names : List Bytes) (rows : List (List Bool)) → Fit width names rows → drop start text ≡ text-of (user-lines names rows)
+  pub found : (names : List Bytes) (rows : List (List Bool)) → Fit width names rows → drop start text ≡ text-of
+      (user-lines names rows)
       → So (r .good)

@@ -126,10 +126,11 @@ pub record Searches (before : Session) (budget : ℕ) (answer : SearchAnswer) (a
   pub leaves : after ≡ after-search before budget
 
 -- what a writing promises: its answer, the lent buffer and the session after it
-pub record Writes (before : Session) (buffer : Bytes) (answer : WriteAnswer) (lent : Bytes) (after : Session) : Type 0 where
-  pub answers : answer ≡ write-answer before buffer
-  pub fills : lent ≡ buffer-after before buffer
-  pub leaves : after ≡ before
+pub record Writes (before : Session) (buffer : Bytes) (answer : WriteAnswer) (lent : Bytes) (after : Session) : Type 0
+  where
+    pub answers : answer ≡ write-answer before buffer
+    pub fills : lent ≡ buffer-after before buffer
+    pub leaves : after ≡ before
 
 -- what a check promises: its answer; it has no session and writes nothing
 pub record Checks (sheet-bytes book-bytes : Bytes) (answer : CheckAnswer) : Type 0 where

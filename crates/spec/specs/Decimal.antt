@@ -1,5 +1,26 @@
 -- "The book", its counts: decimal, and what a decimal count says.
-use Rattle.spec.specs.Vocabulary.{ℕ, zero, suc, _+_, _-_, _*_, _/_, _%_, code, Bool, false, _&&_, cond, [], _∷_, _++_, eqb, ltb, empty, all}
+use Rattle.spec.specs.Vocabulary.{
+  ℕ,
+  zero,
+  suc,
+  _+_,
+  _-_,
+  _*_,
+  _/_,
+  _%_,
+  code,
+  Bool,
+  false,
+  _&&_,
+  cond,
+  [],
+  _∷_,
+  _++_,
+  eqb,
+  ltb,
+  empty,
+  all,
+}
 use Rattle.spec.specs.Text.{Bytes, between}
 
 -- the digit of a number below ten

@@ -1,7 +1,23 @@
 -- The customer's three demands as statements. The limits that they speak of stand here and in `Rules` and `Right` as
 -- the paper has them, and not by the names that the tests and the machine use; the refusal numbers stand once, in
 -- `Refusal`, and 2·(1!+2!+..+k!)+1 in `Sequence`.
-use Rattle.spec.specs.Vocabulary.{ℕ, _+_, _≤_, _≡_, _≢_, _⊎_, _↔_, So, none, some, List, [], _∷_, List·Memᴰ, length}
+use Rattle.spec.specs.Vocabulary.{
+  ℕ,
+  _+_,
+  _≤_,
+  _≡_,
+  _≢_,
+  _⊎_,
+  _↔_,
+  So,
+  none,
+  some,
+  List,
+  [],
+  _∷_,
+  List·Memᴰ,
+  length,
+}
 use Rattle.spec.specs.Text.{Bytes}
 use Rattle.spec.specs.Sheet.{Sheet, sheet-of}
 use Rattle.spec.specs.Rules.{Keeps}
@@ -12,12 +28,44 @@ use Rattle.spec.specs.Book.{Said}
 use Rattle.spec.specs.Right.{Right}
 use Rattle.spec.specs.Session.{Session}
 use Rattle.spec.specs.Refusal.{Cause, sheet-causes, search-causes, write-causes, check-causes, accepted}
-use Rattle.spec.specs.Calls.{LoadAnswer, load-answer, load-refused, SearchAnswer, search-refused, WriteAnswer, write-refused, CheckAnswer, check, check-refused, check-counts, Loads, Searches, Writes, Checks}
-use Rattle.spec.specs.Sequence.{Call, load, search, write, WriteOutcome, Outcome, Happens, Event, Led, calls, last-accepted, budgets-given, enough, brought-out}
+use Rattle.spec.specs.Calls.{
+  LoadAnswer,
+  load-answer,
+  load-refused,
+  SearchAnswer,
+  search-refused,
+  WriteAnswer,
+  write-refused,
+  CheckAnswer,
+  check,
+  check-refused,
+  check-counts,
+  Loads,
+  Searches,
+  Writes,
+  Checks,
+}
+use Rattle.spec.specs.Sequence.{
+  Call,
+  load,
+  search,
+  write,
+  WriteOutcome,
+  Outcome,
+  Happens,
+  Event,
+  Led,
+  calls,
+  last-accepted,
+  budgets-given,
+  enough,
+  brought-out,
+}
 
 -- number is the lowest of the causes that apply, and 0 exactly where none applies
 pub record LowestThatApplies (causes : List Cause) (number : ℕ) : Type 0 where
-  pub none-lower : (cause : Cause) → List·Memᴰ cause causes → So (cause .applies) → (number ≢ 0) × (number ≤ cause .number)
+  pub none-lower : (cause : Cause) → List·Memᴰ cause causes → So (cause .applies) → (number ≢ 0)
+      × (number ≤ cause .number)
   pub applies : number ≢ 0 → (cause : Cause) × List·Memᴰ cause causes × So (cause .applies) × (cause .number ≡ number)
 
 -- what a call owes whose answer has this number: it is the lowest that applies, and a refusal is as it should be
@@ -29,14 +77,16 @@ pub record Judged (causes : List Cause) (number : ℕ) (Refused : Type 0) : Type
 -- applies, and a refusal returns that number and counts 0 and leaves the session and every lent byte untouched
 pub record Demand1 : Type 0 where
   -- every call gets an answer, on every session
-  pub answered : (call : Call) (before : Session) → (outcome : Outcome call) × (after : Session) × Happens call outcome before after
+  pub answered : (call : Call) (before : Session) → (outcome : Outcome call) × (after : Session)
+      × Happens call outcome before after
   pub checked : (sheet-bytes book-bytes : Bytes) → (answer : CheckAnswer) × Checks sheet-bytes book-bytes answer
   -- and it is judged by the paper's table
   pub loads : (before after : Session) (text : Bytes) (answer : LoadAnswer) → Loads before text answer after
       → Judged (sheet-causes text) (answer .number) ((answer ≡ load-refused (answer .number)) × (after ≡ before))
   pub searches : (before after : Session) (budget : ℕ) (answer : SearchAnswer) → Searches before budget answer after
       → Judged (search-causes before) (answer .number) ((answer ≡ search-refused (answer .number)) × (after ≡ before))
-  pub writes : (before after : Session) (buffer lent : Bytes) (answer : WriteAnswer) → Writes before buffer answer lent after
+  pub writes : (before after : Session) (buffer lent : Bytes) (answer : WriteAnswer) → Writes before buffer answer
+      lent after
       → Judged (write-causes before buffer) (answer .number)
       ((answer ≡ write-refused (answer .number)) × (lent ≡ buffer) × (after ≡ before))
   pub checks : (sheet-bytes book-bytes : Bytes) (answer : CheckAnswer) → Checks sheet-bytes book-bytes answer
@@ -55,7 +105,8 @@ pub record Demand2 : Type 0 where
       → check text book ≡ check-counts says
   pub own-books : (buffer : Bytes) (written : WriteOutcome) (earlier : List Event) (session : Session)
       → Led (record { call = write buffer; outcome = written } ∷ earlier) session → written .answer .number ≡ 0
-      → (text : Bytes) × (says : Said) × (last-accepted (calls earlier) ≡ some text) × Right (sheet-of text) (brought-out written) says
+      → (text : Bytes) × (says : Said) × (last-accepted (calls earlier) ≡ some text) × Right (sheet-of text)
+      (brought-out written) says
 
 -- what every book owes that was brought out for the sheet of the last accepted load, through what it says
 pub record Believed (text book : Bytes) : Type 0 where
@@ -82,7 +133,8 @@ pub record BookOwed (book : Bytes) (earlier : List Call) : Type 0 where
   pub last : last-accepted earlier ≡ some text
   pub believed : Believed text book
   -- once the budgets since that load add up, no book says `open`
-  pub settled : BudgetsSuffice (kernel-size (sheet-of text)) (budgets-given earlier) → believed .says .standing ≢ unsettled
+  pub settled : BudgetsSuffice (kernel-size (sheet-of text)) (budgets-given earlier) → believed .says .standing ≢
+      unsettled
 
 -- what is owed of a load: it answers 0 exactly where its sheet is accepted
 abbrev pub LoadOwed : Bytes → LoadAnswer → Type 0
@@ -95,13 +147,15 @@ pub record SearchOwed (budget : ℕ) (answer : SearchAnswer) (earlier : List Cal
   pub answered : (text : Bytes) → last-accepted earlier ≡ some text → answer .number ≡ 0
   -- once the budgets since that load add up, the answering one included, no search answers `open`
   pub settled : (text : Bytes) → last-accepted earlier ≡ some text
-      → BudgetsSuffice (kernel-size (sheet-of text)) (budget + budgets-given earlier) → answer .standing ≢ some unsettled
+      → BudgetsSuffice (kernel-size (sheet-of text)) (budget + budgets-given earlier) → answer .standing ≢ some
+      unsettled
 
 -- what is owed of a writing, after the earlier calls
 pub record WriteOwed (buffer : Bytes) (written : WriteOutcome) (earlier : List Call) : Type 0 where
   -- 10 with no accepted sheet, and no refusal otherwise of a buffer of as many bytes as the checker takes
   pub sheetless : last-accepted earlier ≡ none → written .answer ≡ write-refused 10
-  pub answered : (text : Bytes) → last-accepted earlier ≡ some text → 65_536 ≤ length buffer → written .answer .number ≡ 0
+  pub answered : (text : Bytes) → last-accepted earlier ≡ some text → 65_536 ≤ length buffer → written .answer .number
+      ≡ 0
   pub book : written .answer .number ≡ 0 → BookOwed (brought-out written) earlier
 
 -- what is owed of one outcome, after the earlier calls
@@ -120,4 +174,5 @@ OwedOfAll (event ∷ earlier) = Owed (event .call) (event .outcome) (calls earli
 -- with exactly those calls
 pub record Demand3 : Type 0 where
   pub owed : (events : List Event) (session : Session) → Led events session → OwedOfAll events
-  pub happens : (made : List Call) → (events : List Event) × (session : Session) × Led events session × (calls events ≡ made)
+  pub happens : (made : List Call) → (events : List Event) × (session : Session) × Led events session
+      × (calls events ≡ made)

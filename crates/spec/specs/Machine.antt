@@ -1,5 +1,26 @@
 -- "The search machine" over a kernel: where it stands, one step, and a search within a budget.
-use Rattle.spec.specs.Vocabulary.{ℕ, zero, suc, _+_, max, Bool, true, _&&_, cond, Option, none, some, List, [], _∷_, eqb, leb, ltb, length, lowest-below}
+use Rattle.spec.specs.Vocabulary.{
+  ℕ,
+  zero,
+  suc,
+  _+_,
+  max,
+  Bool,
+  true,
+  _&&_,
+  cond,
+  Option,
+  none,
+  some,
+  List,
+  [],
+  _∷_,
+  eqb,
+  leb,
+  ltb,
+  length,
+  lowest-below,
+}
 use Rattle.spec.specs.Limits.{search-limit}
 use Rattle.spec.specs.Cover.{used, joins}
 
@@ -65,7 +86,8 @@ place kernel st c =
 -- back plus 1
 abbrev pub take-back-or-close : State → List ℕ → State
 take-back-or-close st [] = record { placed = []; next = st .next; best = st .best; finished = true }
-take-back-or-close st (a ∷ earlier) = record { placed = earlier; next = suc a; best = st .best; finished = st .finished }
+take-back-or-close st (a ∷ earlier) =
+    record { placed = earlier; next = suc a; best = st .best; finished = st .finished }
 
 abbrev pub move : Kernel → State → Option ℕ → State
 move kernel st (some c) = place kernel st c

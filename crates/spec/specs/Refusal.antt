@@ -1,9 +1,55 @@
 -- "Refused, and how": the causes of the paper's table, and the lowest number that applies. Each cause looks at the
 -- whole text, whatever the others say.
-use Rattle.spec.specs.Vocabulary.{ℕ, suc, Bool, true, false, _&&_, _||_, not, Bool·beq, List, [], _∷_, _++_, tail, eqb, ltb, length, every-below, empty, any, all, repeats}
+use Rattle.spec.specs.Vocabulary.{
+  ℕ,
+  suc,
+  Bool,
+  true,
+  false,
+  _&&_,
+  _||_,
+  not,
+  Bool·beq,
+  List,
+  [],
+  _∷_,
+  _++_,
+  tail,
+  eqb,
+  ltb,
+  length,
+  every-below,
+  empty,
+  any,
+  all,
+  repeats,
+}
 use Rattle.spec.specs.Limits.{sheet-limit, permission-limit, user-limit, name-limit, grant-limit, book-limit}
-use Rattle.spec.specs.Text.{Bytes, Line, ascii, same-bytes, between, last-byte, line-feed, allowed-byte, same-name, lines-of}
-use Rattle.spec.specs.Sheet.{Sheet, Grant, first-field, first-line, is-bit, sheet-of, user-count, permission-count, holds, held, grants}
+use Rattle.spec.specs.Text.{
+  Bytes,
+  Line,
+  ascii,
+  same-bytes,
+  between,
+  last-byte,
+  line-feed,
+  allowed-byte,
+  same-name,
+  lines-of,
+}
+use Rattle.spec.specs.Sheet.{
+  Sheet,
+  Grant,
+  first-field,
+  first-line,
+  is-bit,
+  sheet-of,
+  user-count,
+  permission-count,
+  holds,
+  held,
+  grants,
+}
 use Rattle.spec.specs.Fit.{fits}
 use Rattle.spec.specs.RoleSet.{RoleSet, product}
 use Rattle.spec.specs.Roles.{Standing, witnessed, searched, unsettled}
@@ -78,7 +124,8 @@ too-many-grants sheet = ltb grant-limit (length (grants sheet))
 
 -- the causes for which a sheet is refused
 unfoldable pub sheet-causes : Bytes → List Cause
-unfolding too-long bad-bytes bad-first-line bad-line-count bad-name uneven-line bad-cell name-twice too-many-grants sheet-of
+unfolding too-long bad-bytes bad-first-line bad-line-count bad-name uneven-line bad-cell name-twice too-many-grants
+    sheet-of
 sheet-causes text =
     let lines : List Line = lines-of text in
     let sheet : Sheet = sheet-of text in

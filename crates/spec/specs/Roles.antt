@@ -35,7 +35,11 @@ abbrev pub put-back : Removal → Classes → Classes
 put-back (single g) classes =
     record { members = record { grant = g; class = classes .count } ∷ classes .members; count = suc (classes .count) }
 put-back (tied g h) classes =
-    record { members = record { grant = g; class = class-of (classes .members) h } ∷ classes .members; count = classes .count }
+    record {
+      members = record { grant = g; class = class-of (classes .members) h } ∷ classes .members;
+      count =
+          classes .count;
+    }
 
 -- in reverse order of removal: the latest stands first
 abbrev pub put-all-back : List Removal → Classes → Classes

@@ -39,7 +39,8 @@ Happens (write buffer) written before after = Writes before buffer (written .ans
 -- before left it
 abbrev pub Led : List Event → Session → Type 0
 Led [] session = session ≡ fresh
-Led (event ∷ earlier) session = (before : Session) × Led earlier before × Happens (event .call) (event .outcome) before session
+Led (event ∷ earlier) session =
+    (before : Session) × Led earlier before × Happens (event .call) (event .outcome) before session
 
 -- the calls of some events
 abbrev pub calls : List Event → List Call

@@ -1,5 +1,6 @@
--- The parts of a fit table's words. A word has the cells from a place on. Those that fit the grant at a cell are the ones whose permissions its user holds and
--- whose users hold its permission: the first are the same for all grants of a user, the second for all grants of a permission.
+-- The parts of a fit table's words. A word has the cells from a place on. Those that fit the grant at a cell are the
+-- ones whose permissions its user holds and whose users hold its permission: the first are the same for all grants of
+-- a user, the second for all grants of a permission.
 use Prim.Native.Nat.{ℕ, _+_, _/_, _%_, _<_, _≤_}
 use mathlib.Core.Bool.{Bool, So, _&&_}
 use mathlib.Core.List.{List}
@@ -33,4 +34,5 @@ permission-held rows cells from u q = ltb (from + q) (length cells) && permissio
 
 -- for each permission of a set below a bound, the cells of a word whose users hold it
 pub record ColumnsOf (rows cells : List ℕ) (from some bound : ℕ) (words : List ℕ) : Type 0 where
-  pub column : (p : ℕ) → p < bound → So (bit some p) → FirstBits (user-holds rows cells from p) word-bits (getD words p 0)
+  pub column : (p : ℕ) → p < bound → So (bit some p) → FirstBits (user-holds rows cells from p) word-bits
+      (getD words p 0)

@@ -1,5 +1,5 @@
--- The fit table: two words a grant, as many positions as grants. Position j of grant i's words says that grants i and j fit; no position past the kernel
--- is set.
+-- The fit table: two words a grant, as many positions as grants. Position j of grant i's words says that grants i and
+-- j fit; no position past the kernel is set.
 use Prim.Native.Nat.{ℕ, _+_, _*_, _/_, _%_, _<_}
 use mathlib.Core.Path.{_≡_}
 use mathlib.Core.Bool.{Bool, _&&_}

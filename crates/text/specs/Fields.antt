@@ -1,5 +1,6 @@
--- Reading field after field with a cursor. A field ends at the first comma or line feed; after a comma the line goes on, after a line feed and at
--- the end of the text it does not. The laws follow the bytes up to there, one by one. Assumes nothing.
+-- Reading field after field with a cursor. A field ends at the first comma or line feed; after a comma the line goes
+-- on, after a line feed and at the end of the text it does not. The laws follow the bytes up to there, one by one.
+-- Assumes nothing.
 use Prim.Native.Nat.{ℕ, _+_, min}
 use mathlib.Core.Bool.{Bool, not, _||_}
 use lib.Dec.{eqb}

@@ -1,5 +1,6 @@
--- Lines and blocks in the order in which they are written: a field first, then each further field behind a comma, then the line feed; the line of
--- names first, then the lines by number; a block, then each further block behind an empty line. Assumes nothing.
+-- Lines and blocks in the order in which they are written: a field first, then each further field behind a comma,
+-- then the line feed; the line of names first, then the lines by number; a block, then each further block behind an
+-- empty line. Assumes nothing.
 use Prim.Native.Nat.{ℕ}
 use mathlib.Core.Path.{_≡_, refl, sym, ap, _∙_}
 use mathlib.Core.List.{List, [], _∷_, _++_, map, map-append, append-assoc, append-nil}
@@ -19,7 +20,8 @@ behind-comma field = comma ∷ field
 abbrev pub line-end : Bytes
 line-end = line-feed ∷ []
 
-joined-parts : (field : Bytes) (rest : List Bytes) → joined comma (field ∷ rest) ≡ field ++ concat (map behind-comma rest)
+joined-parts : (field : Bytes) (rest : List Bytes) → joined comma (field ∷ rest) ≡ field ++ concat
+    (map behind-comma rest)
 joined-parts field [] = sym (append-nil field)
 joined-parts field (next ∷ rest) = ap (λ (l : Bytes). field ++ comma ∷ l) (joined-parts next rest)
 
@@ -28,18 +30,21 @@ pub line-parts : (field : Bytes) (count : ℕ) (f : ℕ → Bytes)
     → line-text (field ∷ list-of count f) ≡ (field ++ listed count (λ i. behind-comma (f i))) ++ line-end
 line-parts field count f =
     ap (λ (l : Bytes). l ++ line-end)
-    (joined-parts field (list-of count f) ∙ ap (λ (l : List Bytes). field ++ concat l) (map-list-of behind-comma count f))
+    (joined-parts field (list-of count f) ∙ ap (λ (l : List Bytes). field ++ concat l) (map-list-of behind-comma count
+    f))
 
 -- a line whose further fields are a list
 pub line-parts-of : (field : Bytes) (rest : List Bytes)
     → line-text (field ∷ rest) ≡ (field ++ listed (length rest) (λ i. behind-comma (getD rest i []))) ++ line-end
 line-parts-of field rest =
-    ap (λ (l : List Bytes). line-text (field ∷ l)) (sym (list-of-places rest [])) ∙ line-parts field (length rest) (λ i. getD rest i [])
+    ap (λ (l : List Bytes). line-text (field ∷ l)) (sym (list-of-places rest [])) ∙ line-parts field (length rest)
+    (λ i. getD rest i [])
 
 -- a block whose lines are numbered
 pub block-parts : (heading : Line) (count : ℕ) (line : ℕ → Line)
     → text-of (heading ∷ list-of count line) ≡ line-text heading ++ listed count (λ i. line-text (line i))
-block-parts heading count line = ap (λ (l : List Bytes). line-text heading ++ concat l) (map-list-of line-text count line)
+block-parts heading count line =
+    ap (λ (l : List Bytes). line-text heading ++ concat l) (map-list-of line-text count line)
 
 -- lines one after the other
 pub text-append : (a b : List Line) → text-of (a ++ b) ≡ text-of a ++ text-of b

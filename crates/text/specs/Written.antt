@@ -1,6 +1,6 @@
--- What a writer leaves in the buffer that it is lent: its bytes at the front, then the buffer's own bytes past them. A writer that is lent the
--- rest from where another ended leaves, with that one, both texts one after the other: the buffer's own bytes past both are what was dropped
--- twice. Assumes nothing.
+-- What a writer leaves in the buffer that it is lent: its bytes at the front, then the buffer's own bytes past them.
+-- A writer that is lent the rest from where another ended leaves, with that one, both texts one after the other: the
+-- buffer's own bytes past both are what was dropped twice. Assumes nothing.
 use Prim.Native.Nat.{ℕ, suc, _+_, _-_, _≤_, _<_}
 use native.Mathlib.Numerals.{add-one}
 use native.Mathlib.Omega.{arith}
@@ -19,7 +19,8 @@ pub record Written (bytes before after : Bytes) (count : ℕ) : Type 0 where
 pub fits-as : {bytes same : Bytes} {room : ℕ} → bytes ≡ same → length bytes ≤ room → length same ≤ room
 fits-as e fits = rw e at fits
 
-pub written-as : {bytes same before after : Bytes} {count : ℕ} → bytes ≡ same → Written bytes before after count → Written same before after count
+pub written-as : {bytes same before after : Bytes} {count : ℕ} → bytes ≡ same → Written bytes before after count
+    → Written same before after count
 written-as e w = rw e at w
 
 -- nothing is written yet
@@ -27,10 +28,12 @@ pub nothing-written : (before : Bytes) → Written [] before before 0
 nothing-written before = record { buffer = refl; counted = refl }
 
 -- a buffer keeps its length
-pub written-length : (bytes : Bytes) {before after : Bytes} {count : ℕ} → length bytes ≤ length before → Written bytes before after count
+pub written-length : (bytes : Bytes) {before after : Bytes} {count : ℕ} → length bytes ≤ length before
+    → Written bytes before after count
     → length after ≡ length before
 written-length bytes {before} fits w =
-    ap length (w .buffer) ∙ length-append bytes (drop (length bytes) before) ∙ rw (length-drop (length bytes) before) (omega arith)
+    ap length (w .buffer) ∙ length-append bytes (drop (length bytes) before) ∙ rw (length-drop (length bytes) before)
+    (omega arith)
 
 -- ---- one writer after another
 
@@ -49,9 +52,11 @@ rest-is-own a {before} {mid} {n} fits w =
     ∙ rw (w .buffer) (drop-at a (drop (length a) before) n (sym (w .counted)))
 
 -- what is put back is all that follows
-with-rest-is : (a : Bytes) {before mid : Bytes} {n : ℕ} (rest : Bytes) → Written a before mid n → with-rest n mid rest ≡ a ++ rest
+with-rest-is : (a : Bytes) {before mid : Bytes} {n : ℕ} (rest : Bytes) → Written a before mid n
+    → with-rest n mid rest ≡ a ++ rest
 with-rest-is a {before} {mid} {n} rest w =
-    let past : drop (length mid - n) (drop n mid) ≡ [] = drop-of-length-le (drop n mid) {i = length mid - n} (rw (length-drop n mid) (omega arith)) in
+    let past : drop (length mid - n) (drop n mid) ≡ [] = drop-of-length-le (drop n mid) {i = length mid - n}
+    (rw (length-drop n mid) (omega arith)) in
     let front : take n mid ≡ a = rw (w .buffer) (take-at a (drop (length a) before) n (sym (w .counted))) in
     rw (past, front, append-nil rest)
 
@@ -90,7 +95,8 @@ module _ {done next before mid : Bytes} {at : ℕ} (r : WrittenSoFar done next b
       let both : length (done ++ next) ≡ length done + length next = length-append done next in
       record {
         buffer = with-rest-is done rest (r .written)
-            ∙ rw (e, drop-drop (length next) (length done) before, both) (sym (append-assoc done next (drop (length done + length next) before)));
+            ∙ rw (e, drop-drop (length next) (length done) before, both)
+            (sym (append-assoc done next (drop (length done + length next) before)));
         counted = omega (arith, r .written .counted, v .counted);
       }
 
@@ -98,12 +104,14 @@ module _ {done next before mid : Bytes} {at : ℕ} (r : WrittenSoFar done next b
   pub end-within : {rest : Bytes} {m : ℕ} → Written next (rest-from at mid) rest m → at + m ≤ length before
   end-within v = omega (arith, then-written v .counted, r .fits)
 
-  pub then-same-length : {rest : Bytes} {m : ℕ} → Written next (rest-from at mid) rest m → length (with-rest at mid rest) ≡ length before
+  pub then-same-length : {rest : Bytes} {m : ℕ} → Written next (rest-from at mid) rest m
+      → length (with-rest at mid rest) ≡ length before
   then-same-length v = written-length (done ++ next) (r .fits) (then-written v)
 
 -- ---- one byte more
 
-pub byte-written : (bytes : Bytes) (b : ℕ) {before mid : Bytes} {count : ℕ} → count < length before → Written bytes before mid count
+pub byte-written : (bytes : Bytes) (b : ℕ) {before mid : Bytes} {count : ℕ} → count < length before
+    → Written bytes before mid count
     → Written (bytes ++ b ∷ []) before (set mid count b) (count + 1)
 byte-written bytes b {before} {mid} {count} fits w =
     let e = w .counted in
@@ -135,4 +143,5 @@ module _ {done before mid : Bytes} {at b : ℕ} (r : WrittenSoFar done (b ∷ []
 pub copied-byte : (bytes : Bytes) (i : ℕ) {before mid : Bytes} → i < length bytes → length bytes ≤ length before
     → Written (take i bytes) before mid i → Written (take (i + 1) bytes) before (set mid i (getD bytes i 0)) (i + 1)
 copied-byte bytes i {before} {mid} h fits w =
-    rw (add-one i, take-suc bytes i 0 h) (rw (add-one i) at (byte-written (take i bytes) (getD bytes i 0) (omega arith) w))
+    rw (add-one i, take-suc bytes i 0 h) (rw (add-one i) at (byte-written (take i bytes) (getD bytes i 0)
+    (omega arith) w))

@@ -1,5 +1,6 @@
--- What keeps a cell from dominating another: a word of a user who holds the other's permission, with a cell of left that is in the row of the other's user and does
--- not fit the first. Whether the word's cells fit does not depend on the other's permission, so one such word speaks of all permissions that its user holds.
+-- What keeps a cell from dominating another: a word of a user who holds the other's permission, with a cell of left
+-- that is in the row of the other's user and does not fit the first. Whether the word's cells fit does not depend on
+-- the other's permission, so one such word speaks of all permissions that its user holds.
 use Prim.Native.Nat.{ℕ, min, _+_, _*_, _/_, _%_, _≤_, _<_}
 use mathlib.Core.Path.{_≡_}
 use mathlib.Core.Bool.{Bool, false, So, not, _&&_}
@@ -20,9 +21,11 @@ row-word rows v j = getD rows (v * row-words + j % row-words) 0
 -- the cells of left in word j that are in the row of user v all fit the cell it
 abbrev pub row-fits : List ℕ → List ℕ → ℕ → ℕ → ℕ → Bool
 row-fits rows left it v j =
-    every-below word-bits (λ q. implies (marked left (j * word-bits + q) && bit (row-word rows v j) q) (fit-in rows (grant-of it) (grant-of (j * word-bits + q))))
+    every-below word-bits (λ q. implies (marked left (j * word-bits + q) && bit (row-word rows v j) q)
+    (fit-in rows (grant-of it) (grant-of (j * word-bits + q))))
 
--- the user of word j holds the permission of the cell g, and the cells of left there that are in the row of g's user do not all fit the cell it
+-- the user of word j holds the permission of the cell g, and the cells of left there that are in the row of g's user
+-- do not all fit the cell it
 abbrev pub misfit-at : List ℕ → List ℕ → ℕ → ℕ → ℕ → Bool
 misfit-at rows left it g j = held-in rows (g % row-bits) j && not (row-fits rows left it (g / row-bits) j)
 
@@ -35,7 +38,8 @@ pub record HoldersWord (rows : List ℕ) (users p j word : ℕ) : Type 0 where
 pub record SuspectsWord (rows left : List ℕ) (users it g j word : ℕ) : Type 0 where
   pub within : (q : ℕ) → q < word-bits → So (bit word q) → j * word-bits + q < users * row-words
   pub holds : (q : ℕ) → q < word-bits → So (bit word q) → So (held-in rows (g % row-bits) (j * word-bits + q))
-  pub others : (q : ℕ) → q < word-bits → bit word q ≡ false → j * word-bits + q < users * row-words → misfit-at rows left it g (j * word-bits + q) ≡ false
+  pub others : (q : ℕ) → q < word-bits → bit word q ≡ false → j * word-bits + q < users * row-words
+      → misfit-at rows left it g (j * word-bits + q) ≡ false
 
 -- how many of the users' words come before those at word j of a column
 abbrev pub words-before : ℕ → ℕ → ℕ

@@ -1,5 +1,6 @@
--- Domination as the rows say it: all cells of left that are near g fit the judged cell. Both grants are held, so each fits itself, and "are it or fit it"
--- is to fit it. The lowest other cell of left that is dominated is what the judged grant is tied to.
+-- Domination as the rows say it: all cells of left that are near g fit the judged cell. Both grants are held, so each
+-- fits itself, and "are it or fit it" is to fit it. The lowest other cell of left that is dominated is what the
+-- judged grant is tied to.
 use Prim.Native.Nat.{ℕ, _*_}
 use mathlib.Core.Bool.{Bool, not, _&&_}
 use mathlib.Core.List.{List}

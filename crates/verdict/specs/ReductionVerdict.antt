@@ -1,4 +1,5 @@
--- What the code's answers say: the lowest cell of a range to which a grant is tied, and the verdict that the definition names. Assumes nothing.
+-- What the code's answers say: the lowest cell of a range to which a grant is tied, and the verdict that the
+-- definition names. Assumes nothing.
 use Prim.Native.Nat.{ℕ, _≤_, _<_}
 use mathlib.Core.Path.{_≡_}
 use mathlib.Core.Logic.{_≢_}
@@ -54,4 +55,5 @@ NamesOther users it (Tied n) = (n .0 < cells-of users) × (it ≢ n .0)
 -- what is judged of it: the definition's verdict, in every sheet that the rows show
 pub record GrantJudged (rows left : List ℕ) (users it : ℕ) (judged : Verdict) : Type 0 where
   pub named : NamesOther users it judged
-  pub right : (sheet : Sheet) → Shown rows users sheet → verdict-of judged ≡ verdict sheet (cell-grants sheet left) (grant-of it)
+  pub right : (sheet : Sheet) → Shown rows users sheet → verdict-of judged ≡ verdict sheet (cell-grants sheet left)
+      (grant-of it)

@@ -1,5 +1,6 @@
--- The reduction at work: the cells that remain, and the removals so far as two lists of cells. What it says of every sheet that the rows show is a state of the
--- definition, and visiting some cells takes it to the state that the visits of their grants lead to.
+-- The reduction at work: the cells that remain, and the removals so far as two lists of cells. What it says of every
+-- sheet that the rows show is a state of the definition, and visiting some cells takes it to the state that the
+-- visits of their grants lead to.
 use Prim.Native.Nat.{ℕ, _+_, _*_, _≤_, _<_}
 use mathlib.Core.Path.{_≡_}
 use mathlib.Core.Logic.{_≢_}
@@ -31,7 +32,11 @@ work-of left removed partner count = record { left = left; removed = removed; pa
 -- what it says of a sheet
 abbrev pub state-of : Sheet → Work → Reduction
 state-of sheet work =
-    record { remaining = cell-grants sheet (work .left); removed = log-of (work .removed) (work .partner) (work .count) }
+    record {
+      remaining = cell-grants sheet (work .left);
+      removed = log-of (work .removed) (work .partner)
+          (work .count);
+    }
 
 -- the cells at the positions of a word, in rising number
 abbrev pub word-cells : ℕ → ℕ → List ℕ
@@ -41,7 +46,8 @@ word-cells i w = map (λ q. i * word-bits + q) (passing-below word-bits (bit w))
 abbrev pub remaining-cells : List ℕ → ℕ
 remaining-cells left = count-below cell-limit (marked left)
 
--- the lists have a place for every removal that there can be, the removals are of cells, and past them the lists are blank
+-- the lists have a place for every removal that there can be, the removals are of cells, and past them the lists are
+-- blank
 pub record Logged (work : Work) : Type 0 where
   pub removed-length : length (work .removed) ≡ grant-limit
   pub partner-length : length (work .partner) ≡ grant-limit
@@ -63,7 +69,8 @@ pub record Visited (rows : List ℕ) (users : ℕ) (cells : List ℕ) (before af
   pub kept : (n : ℕ) → (List·Memᴰ n cells → ⊥) → marked (after .left) n ≡ marked (before .left) n
   pub total : after .count + remaining-cells (after .left) ≡ before .count + remaining-cells (before .left)
   pub logged : Logged after
-  pub state : (sheet : Sheet) → Shown rows users sheet → state-of sheet after ≡ visits sheet (map grant-of cells) (state-of sheet before)
+  pub state : (sheet : Sheet) → Shown rows users sheet → state-of sheet after ≡ visits sheet (map grant-of cells)
+      (state-of sheet before)
 
 -- the work is done: what it says of every sheet that the rows show is the whole reduction
 pub record Settled (rows : List ℕ) (users : ℕ) (work : Work) : Type 0 where

@@ -35,7 +35,8 @@ pub record Changing (op : ℕ → ℕ → ℕ) (u some by w : ℕ) (before now :
   pub sized : length now ≡ length before
   pub among : (n : ℕ) → So (at-position u w n) → So (at-position u some n)
   pub still : (n : ℕ) → So (at-position u w n) → getD now n 0 ≡ getD before n 0
-  pub done : (n : ℕ) → at-position u w n ≡ false → getD now n 0 ≡ cond (at-position u some n) (op (getD before n 0) by) (getD before n 0)
+  pub done : (n : ℕ) → at-position u w n ≡ false → getD now n 0 ≡ cond (at-position u some n)
+      (op (getD before n 0) by) (getD before n 0)
 
 pub nothing-changed : (op : ℕ → ℕ → ℕ) (u by : ℕ) (before : List ℕ) → Changed op u 0 by before before
 nothing-changed op u by before = record { sized = refl; says = λ n. rw (none-at u n) }
@@ -48,7 +49,8 @@ change-starts op u some by before = record {
   done = λ n f. rw f;
 }
 
-pub change-ends : (op : ℕ → ℕ → ℕ) (u some by : ℕ) (before now : List ℕ) → Changing op u some by 0 before now → Changed op u some by before now
+pub change-ends : (op : ℕ → ℕ → ℕ) (u some by : ℕ) (before now : List ℕ) → Changing op u some by 0 before now
+    → Changed op u some by before now
 change-ends op u some by before now c = record { sized = c .sized; says = λ n. c .done n (none-at u n) }
 
 -- the lowest position dropped
@@ -76,7 +78,8 @@ at-dropped u {w} {low} {rest} is-low dropped n = ⊎-elim here elsewhere (passes
             (λ p. eq-eqb n (u * word-bits + low) (omega (arith, eqb-true (n % word-bits) low p)))
             (λ p. eq-eqb (n % word-bits) low (omega (arith, is-low .within, eqb-true n (u * word-bits + low) p)))
 
-    elsewhere : eqb (n / word-bits) u ≡ false → at-position u rest n ≡ (at-position u w n && not (eqb n (u * word-bits + low)))
+    elsewhere : eqb (n / word-bits) u ≡ false → at-position u rest n ≡ (at-position u w n
+        && not (eqb n (u * word-bits + low)))
     elsewhere f =
         ap (λ b. b && bit rest (n % word-bits)) f
         ∙ sym (ap (λ b. (b && bit w (n % word-bits)) && not (eqb n (u * word-bits + low))) f)
@@ -92,24 +95,30 @@ module _ (u : ℕ) {w low rest : ℕ} (is-low : Lowest word-bits (bit w) low) (d
 
   pub was-not-at : at-position u rest n ≡ false → eqb n (u * word-bits + low) ≡ false → at-position u w n ≡ false
   was-not-at f g =
-      sym (and-true (at-position u w n)) ∙ ap (λ b. at-position u w n && not b) (sym g) ∙ sym (at-dropped u is-low dropped n) ∙ f
+      sym (and-true (at-position u w n)) ∙ ap (λ b. at-position u w n && not b) (sym g)
+      ∙ sym (at-dropped u is-low dropped n) ∙ f
 
-module _ (op : ℕ → ℕ → ℕ) (u some by : ℕ) {w low rest : ℕ} (before now : List ℕ) (c : Changing op u some by w before now)
-    (is-low : Lowest word-bits (bit w) low) (dropped : LowestDropped w rest) (inside : u * word-bits + low < length now) where
+module _ (op : ℕ → ℕ → ℕ) (u some by : ℕ) {w low rest : ℕ} (before now : List ℕ) (c : Changing op u some by w before
+    now)
+    (is-low : Lowest word-bits (bit w) low) (dropped : LowestDropped w rest) (inside : u * word-bits + low < length
+    now) where
   changed : List ℕ
   changed = set now (u * word-bits + low) (op (getD now (u * word-bits + low) 0) by)
 
   other : (n : ℕ) → eqb n (u * word-bits + low) ≡ false → getD changed n 0 ≡ getD now n 0
   unfolding changed
-  other n f = getD-set-other now (u * word-bits + low) n (op (getD now (u * word-bits + low) 0) by) 0 (eqb-false n (u * word-bits + low) f)
+  other n f = getD-set-other now (u * word-bits + low) n (op (getD now (u * word-bits + low) 0) by) 0
+      (eqb-false n (u * word-bits + low) f)
 
-  pub change-goes-on : Changing op u some by rest before (set now (u * word-bits + low) (op (getD now (u * word-bits + low) 0) by))
+  pub change-goes-on : Changing op u some by rest before
+      (set now (u * word-bits + low) (op (getD now (u * word-bits + low) 0) by))
   unfolding changed
   change-goes-on = record {
     sized = length-set now (u * word-bits + low) (op (getD now (u * word-bits + low) 0) by) ∙ c .sized;
     among = λ n p. c .among n (was-at u is-low dropped n p);
     still = λ n p. other n (not-lowest u is-low dropped n p) ∙ c .still n (was-at u is-low dropped n p);
-    done = λ n f. ⊎-elim (λ e. here n (eqb-true n (u * word-bits + low) e)) (λ g. other n g ∙ c .done n (was-not-at u is-low dropped n f g))
+    done = λ n f. ⊎-elim (λ e. here n (eqb-true n (u * word-bits + low) e)) (λ g. other n g
+        ∙ c .done n (was-not-at u is-low dropped n f g))
         (passes-or-fails (eqb n (u * word-bits + low)));
   }
     where

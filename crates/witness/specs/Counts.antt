@@ -1,5 +1,5 @@
--- The counts of the grants open to choice, exact at the cells of the open grants. They grow word by word from nothing, and when grants are closed to choice
--- these are taken off word by word.
+-- The counts of the grants open to choice, exact at the cells of the open grants. They grow word by word from
+-- nothing, and when grants are closed to choice these are taken off word by word.
 use Prim.Native.Nat.{ℕ, _+_, _-_, _*_, _/_, _≤_, _<_}
 use native.Mathlib.Omega.{arith}
 use mathlib.Core.Path.{_≡_, refl, sym, ap, ap₂, _∙_}
@@ -33,19 +33,23 @@ near-below rows left n i = sum-below i (near-in-word rows left n)
 -- the counts of the grants of left
 pub record Counted (rows left : List ℕ) (users : ℕ) (counts : List ℕ) : Type 0 where
   pub sized : length counts ≡ cell-limit
-  pub exact : (n : ℕ) → n / word-bits < cell-words → So (marked left n) → getD counts n 0 ≡ near-below rows left n (users * row-words)
+  pub exact : (n : ℕ) → n / word-bits < cell-words → So (marked left n) → getD counts n 0 ≡ near-below rows left n
+      (users * row-words)
 
 -- a count is that of the grants of left that fit
-pub counted-grants : {rows : List ℕ} {users : ℕ} {sheet : Sheet} → users ≤ user-limit → Shown rows users sheet → {left : List ℕ} → Part left rows
+pub counted-grants : {rows : List ℕ} {users : ℕ} {sheet : Sheet} → users ≤ user-limit → Shown rows users sheet
+    → {left : List ℕ} → Part left rows
     → {counts : List ℕ} → Counted rows left users counts → (n : ℕ) → n < users * row-bits → So (marked left n)
     → getD counts n 0 ≡ length (filter (fits sheet (grant-of n)) (cell-grants sheet left))
 unfolding user-limit row-bits row-words
 counted-grants {rows} {users} few shown {left} part counted n inside p =
-    counted .exact n (omega arith) p ∙ sym (count-below-blocks (users * row-words) word-bits (near rows left n)) ∙ near-count shown part n
+    counted .exact n (omega arith) p ∙ sym (count-below-blocks (users * row-words) word-bits (near rows left n))
+    ∙ near-count shown part n
 
 near-as-word : (rows left : List ℕ) (n i : ℕ) → near-in-word rows left n i ≡ fit-count rows i (getD left i 0) n
 near-as-word rows left n i =
-    count-below-ext word-bits (λ q. near rows left n (i * word-bits + q)) (λ q. bit (getD left i 0) q && fit-in rows (grant-of n) (grant-of (i * word-bits + q)))
+    count-below-ext word-bits (λ q. near rows left n (i * word-bits + q)) (λ q. bit (getD left i 0) q
+    && fit-in rows (grant-of n) (grant-of (i * word-bits + q)))
     (λ q l. ap (λ b. b && fit-in rows (grant-of n) (grant-of (i * word-bits + q))) (marked-in-word left i q l))
 
 -- ---- from nothing
@@ -57,7 +61,8 @@ pub record Growing (rows left : List ℕ) (users i : ℕ) (counts : List ℕ) : 
 
 pub growth-starts : (rows left : List ℕ) (users : ℕ) → Growing rows left users 0 (replicate cell-limit 0)
 unfolding sum-below
-growth-starts rows left users = record { sized = length-replicate cell-limit 0; so-far = λ n l p. getD-zeros cell-limit n }
+growth-starts rows left users =
+    record { sized = length-replicate cell-limit 0; so-far = λ n l p. getD-zeros cell-limit n }
 
 module _ (rows left : List ℕ) (users i : ℕ) (counts : List ℕ) (growing : Growing rows left users i counts) where
   pub growth-fits : i < cell-words → (n : ℕ) → n / word-bits < cell-words → So (marked left n)
@@ -66,8 +71,10 @@ module _ (rows left : List ℕ) (users i : ℕ) (counts : List ℕ) (growing : G
       omega (
         arith,
         growing .so-far n l p,
-        sum-below-le i word-bits (near-in-word rows left n) (λ j k. count-below-le word-bits (λ q. near rows left n (j * word-bits + q))),
-        count-below-le word-bits (λ q. bit (getD left i 0) q && fit-in rows (grant-of n) (grant-of (i * word-bits + q))),
+        sum-below-le i word-bits (near-in-word rows left n) (λ j k. count-below-le word-bits
+            (λ q. near rows left n (j * word-bits + q))),
+        count-below-le word-bits (λ q. bit (getD left i 0) q && fit-in rows (grant-of n)
+            (grant-of (i * word-bits + q))),
       )
 
   pub growth-goes-on : (after : List ℕ) → WordChanged (_+_) rows left i (getD left i 0) cell-words counts after
@@ -91,7 +98,8 @@ pub record Recounting (rows left rest : List ℕ) (users i : ℕ) (counts : List
   pub sized : length counts ≡ cell-limit
   pub so-far :
       (n : ℕ) → n / word-bits < cell-words → So (marked rest n)
-      → getD counts n 0 + near-below rows left n i ≡ near-below rows left n (users * row-words) + near-below rows rest n i
+      → getD counts n 0 + near-below rows left n i ≡ near-below rows left n (users * row-words) + near-below rows rest
+      n i
 
 module _ (rows left rest : List ℕ) (users : ℕ) (within : (n : ℕ) → So (marked rest n) → So (marked left n)) where
   pub recount-starts : (counts : List ℕ) → Counted rows left users counts → Recounting rows left rest users 0 counts
@@ -107,11 +115,15 @@ module _ (rows left rest : List ℕ) (users : ℕ) (within : (n : ℕ) → So (m
   near-split n i closed says =
       count-below-split word-bits (λ q. near rows left n (i * word-bits + q)) (λ q. marked rest (i * word-bits + q))
       ∙ ap₂ (λ a b. a + b)
-      (count-below-ext word-bits (λ q. near rows left n (i * word-bits + q) && marked rest (i * word-bits + q)) (λ q. near rows rest n (i * word-bits + q)) (λ q l.
-      kept (marked left (i * word-bits + q)) (fitting q) (marked rest (i * word-bits + q)) (within (i * word-bits + q))))
-      (count-below-ext word-bits (λ q. near rows left n (i * word-bits + q) && not (marked rest (i * word-bits + q))) (λ q. bit closed q && fitting q) (λ q l.
+      (count-below-ext word-bits (λ q. near rows left n (i * word-bits + q) && marked rest (i * word-bits + q))
+      (λ q. near rows rest n (i * word-bits + q)) (λ q l.
+      kept (marked left (i * word-bits + q)) (fitting q) (marked rest (i * word-bits + q))
+      (within (i * word-bits + q))))
+      (count-below-ext word-bits (λ q. near rows left n (i * word-bits + q) && not (marked rest (i * word-bits + q)))
+      (λ q. bit closed q && fitting q) (λ q l.
       gone (marked left (i * word-bits + q)) (fitting q) (marked rest (i * word-bits + q))
-      ∙ ap (λ b. b && fitting q) (ap₂ (λ a b. a && not b) (marked-in-word left i q l) (marked-in-word rest i q l) ∙ sym (says q))))
+      ∙ ap (λ b. b && fitting q) (ap₂ (λ a b. a && not b) (marked-in-word left i q l) (marked-in-word rest i q l)
+      ∙ sym (says q))))
     where
       fitting : ℕ → Bool
       fitting q = fit-in rows (grant-of n) (grant-of (i * word-bits + q))
@@ -125,9 +137,11 @@ module _ (rows left rest : List ℕ) (users : ℕ) (within : (n : ℕ) → So (m
       gone true f r = and-comm f (not r)
       gone false f r = refl
 
-  module _ (i closed : ℕ) (counts : List ℕ) (going : Recounting rows left rest users i counts) (inside : i < users * row-words)
+  module _ (i closed : ℕ) (counts : List ℕ) (going : Recounting rows left rest users i counts)
+      (inside : i < users * row-words)
       (says : (q : ℕ) → bit closed q ≡ (bit (getD left i 0) q && not (bit (getD rest i 0) q))) where
-    pub recount-enough : (n : ℕ) → n / word-bits < cell-words → So (marked rest n) → fit-count rows i closed n ≤ getD counts n 0
+    pub recount-enough : (n : ℕ) → n / word-bits < cell-words → So (marked rest n) → fit-count rows i closed n ≤ getD
+        counts n 0
     recount-enough n l p =
         omega (
           arith,
@@ -153,5 +167,6 @@ module _ (rows left rest : List ℕ) (users : ℕ) (within : (n : ℕ) → So (m
           );
     }
 
-  pub recount-ends : (counts : List ℕ) → Recounting rows left rest users (users * row-words) counts → Counted rows rest users counts
+  pub recount-ends : (counts : List ℕ) → Recounting rows left rest users (users * row-words) counts
+      → Counted rows rest users counts
   recount-ends counts going = record { sized = going .sized; exact = λ n l p. omega (arith, going .so-far n l p) }

@@ -1,5 +1,5 @@
--- How many grants of one word fit a grant. A row is one word: they are those whose permission the grant's user holds, if their user holds the grant's permission.
--- So the counts of one user's grants all change by the same number.
+-- How many grants of one word fit a grant. A row is one word: they are those whose permission the grant's user holds,
+-- if their user holds the grant's permission. So the counts of one user's grants all change by the same number.
 use Prim.Native.Nat.{ℕ, _+_, _*_, _/_, _%_, _≤_, _<_}
 use native.Mathlib.Nat.{mod-lt}
 use native.Mathlib.Omega.{arith}
@@ -27,17 +27,20 @@ use Rattle.fit.specs.ColumnUnion.{Reaches}
 
 -- how many grants at the positions of a word, as word i, fit that at cell n
 abbrev pub fit-count : List ℕ → ℕ → ℕ → ℕ → ℕ
-fit-count rows i word n = count-below word-bits (λ q. bit word q && fit-in rows (grant-of n) (grant-of (i * word-bits + q)))
+fit-count rows i word n =
+    count-below word-bits (λ q. bit word q && fit-in rows (grant-of n) (grant-of (i * word-bits + q)))
 
 fit-by-row : (rows : List ℕ) (i n q : ℕ) → q < word-bits
-    → fit-in rows (grant-of n) (grant-of (i * word-bits + q)) ≡ (bit (getD rows (n / word-bits) 0) q && bit (getD rows i 0) (n % word-bits))
+    → fit-in rows (grant-of n) (grant-of (i * word-bits + q)) ≡ (bit (getD rows (n / word-bits) 0) q
+    && bit (getD rows i 0) (n % word-bits))
 unfolding row-bits row-words
 fit-by-row rows i n q l =
     let own : n / row-bits * row-words + i % row-words ≡ n / word-bits = omega arith in
     let other : i / row-words * row-words + n % row-bits / word-bits ≡ i = omega arith in
     let position : n % row-bits % word-bits ≡ n % word-bits = omega arith in
     fit-by-word rows n i q l
-    ∙ ap (λ k. bit (getD rows k 0) q && bit (getD rows (i / row-words * row-words + n % row-bits / word-bits) 0) (n % row-bits % word-bits)) own
+    ∙ ap (λ k. bit (getD rows k 0) q && bit (getD rows (i / row-words * row-words + n % row-bits / word-bits) 0)
+    (n % row-bits % word-bits)) own
     ∙ ap (λ k. bit (getD rows (n / word-bits) 0) q && bit (getD rows k 0) (n % row-bits % word-bits)) other
     ∙ ap (λ k. bit (getD rows (n / word-bits) 0) q && bit (getD rows i 0) k) position
 
@@ -48,13 +51,15 @@ module _ (rows : List ℕ) (i word n : ℕ) where
       count-below-ext word-bits (bit (bitAnd word (getD rows (n / word-bits) 0)))
       (λ q. bit word q && fit-in rows (grant-of n) (grant-of (i * word-bits + q)))
       (λ q l. bit-and word (getD rows (n / word-bits) 0) q
-      ∙ ap (λ b. bit word q && b) (sym (fit-by-row rows i n q l ∙ ap (λ b. bit (getD rows (n / word-bits) 0) q && b) held ∙ and-true (bit (getD rows (n / word-bits) 0) q))))
+      ∙ ap (λ b. bit word q && b) (sym (fit-by-row rows i n q l ∙ ap (λ b. bit (getD rows (n / word-bits) 0) q && b)
+      held ∙ and-true (bit (getD rows (n / word-bits) 0) q))))
 
   pub fit-count-lacked : bit (getD rows i 0) (n % word-bits) ≡ false → fit-count rows i word n ≡ 0
   fit-count-lacked lacked =
       count-below-none-intro word-bits (λ q. bit word q && fit-in rows (grant-of n) (grant-of (i * word-bits + q)))
       (λ q l. ap (λ b. bit word q && b)
-      (fit-by-row rows i n q l ∙ ap (λ b. bit (getD rows (n / word-bits) 0) q && b) lacked ∙ and-false (bit (getD rows (n / word-bits) 0) q))
+      (fit-by-row rows i n q l ∙ ap (λ b. bit (getD rows (n / word-bits) 0) q && b) lacked
+      ∙ and-false (bit (getD rows (n / word-bits) 0) q))
       ∙ and-false (bit word q))
 
 pub fit-count-of-none : (rows : List ℕ) (i n : ℕ) → fit-count rows i 0 n ≡ 0
@@ -67,7 +72,8 @@ fit-count-of-none rows i n =
 -- the grants at the positions of word i change the counts of the open grants of user u
 pub record UserChanged (op : ℕ → ℕ → ℕ) (rows left : List ℕ) (i word u : ℕ) (before after : List ℕ) : Type 0 where
   pub sized : length after ≡ length before
-  pub own : (n : ℕ) → n / word-bits ≡ u → So (marked left n) → getD after n 0 ≡ op (getD before n 0) (fit-count rows i word n)
+  pub own : (n : ℕ) → n / word-bits ≡ u → So (marked left n) → getD after n 0 ≡ op (getD before n 0)
+      (fit-count rows i word n)
   pub others : (n : ℕ) → (n / word-bits ≡ u → ⊥) → getD after n 0 ≡ getD before n 0
 
 -- the open grants of user u that the grants of word i can fit
@@ -80,22 +86,28 @@ shared rows word u = count-below word-bits (bit (bitAnd word (getD rows u 0)))
 
 module _ (rows left : List ℕ) (i word u : ℕ) where
   -- a grant of the user that is reached is open
-  pub reached-open : (n : ℕ) → So (at-position u (reached rows left i u) n) → (n / word-bits ≡ u) × So (marked left n) × (shared rows word u ≡ fit-count rows i word n)
+  pub reached-open : (n : ℕ) → So (at-position u (reached rows left i u) n) → (n / word-bits ≡ u) × So (marked left n)
+      × (shared rows word u ≡ fit-count rows i word n)
   reached-open n p =
-      let same = eqb-true (n / word-bits) u (and-left (eqb (n / word-bits) u) (bit (reached rows left i u) (n % word-bits)) p) in
-      let both = sym (bit-and (getD left u 0) (getD rows i 0) (n % word-bits)) ∙ and-right (eqb (n / word-bits) u) (bit (reached rows left i u) (n % word-bits)) p in (
+      let same = eqb-true (n / word-bits) u (and-left (eqb (n / word-bits) u)
+      (bit (reached rows left i u) (n % word-bits)) p) in
+      let both = sym (bit-and (getD left u 0) (getD rows i 0) (n % word-bits)) ∙ and-right (eqb (n / word-bits) u)
+      (bit (reached rows left i u) (n % word-bits)) p in (
         same,
         rw same (and-left (bit (getD left u 0) (n % word-bits)) (bit (getD rows i 0) (n % word-bits)) both),
         ap (λ k. shared rows word k) (sym same)
-            ∙ fit-count-held rows i word n (and-right (bit (getD left u 0) (n % word-bits)) (bit (getD rows i 0) (n % word-bits)) both),
+            ∙ fit-count-held rows i word n (and-right (bit (getD left u 0) (n % word-bits))
+            (bit (getD rows i 0) (n % word-bits)) both),
       )
 
   pub user-changed : (op : ℕ → ℕ → ℕ) → ((k : ℕ) → op k 0 ≡ k) → (before after : List ℕ)
-      → Changed op u (reached rows left i u) (shared rows word u) before after → UserChanged op rows left i word u before after
+      → Changed op u (reached rows left i u) (shared rows word u) before after → UserChanged op rows left i word u
+      before after
   user-changed op nothing before after c = record {
     sized = c .sized;
     own = λ n e p. c .says n ∙ ⊎-elim (held n e p) (lacked n e) (passes-or-fails (bit (getD rows i 0) (n % word-bits)));
-    others = λ n other. c .says n ∙ ap (λ b. cond (b && bit (reached rows left i u) (n % word-bits)) (op (getD before n 0) (shared rows word u)) (getD before n 0)) (ne-eqb (n / word-bits) u other);
+    others = λ n other. c .says n ∙ ap (λ b. cond (b && bit (reached rows left i u) (n % word-bits))
+        (op (getD before n 0) (shared rows word u)) (getD before n 0)) (ne-eqb (n / word-bits) u other);
   }
     where
       told : ℕ → Bool → ℕ
@@ -104,7 +116,8 @@ module _ (rows left : List ℕ) (i word u : ℕ) where
       held : (n : ℕ) → n / word-bits ≡ u → So (marked left n) → So (bit (getD rows i 0) (n % word-bits))
           → told n (at-position u (reached rows left i u) n) ≡ op (getD before n 0) (fit-count rows i word n)
       held n e p h =
-          let there = and-intro (eqb (n / word-bits) u) (bit (reached rows left i u) (n % word-bits)) (eq-eqb (n / word-bits) u e)
+          let there = and-intro (eqb (n / word-bits) u) (bit (reached rows left i u) (n % word-bits))
+          (eq-eqb (n / word-bits) u e)
           (bit-and (getD left u 0) (getD rows i 0) (n % word-bits)
           ∙ and-intro (bit (getD left u 0) (n % word-bits)) (bit (getD rows i 0) (n % word-bits)) (rw e at p) h) in
           ap (told n) there ∙ ap (op (getD before n 0)) (reached-open n there .2)
@@ -119,22 +132,25 @@ module _ (rows left : List ℕ) (i word u : ℕ) where
 
 -- ---- the counts of the users of a column's word
 
--- the grants at the positions of word i change the counts of the open grants of the users at the positions of some in word j of a column
+-- the grants at the positions of word i change the counts of the open grants of the users at the positions of some in
+-- word j of a column
 pub record UsersChanged (op : ℕ → ℕ → ℕ) (rows left : List ℕ) (i word j some : ℕ) (before after : List ℕ) : Type 0 where
   pub sized : length after ≡ length before
   pub own :
-      (n : ℕ) → So (at-position j some (n / word-bits)) → So (marked left n) → getD after n 0 ≡ op (getD before n 0) (fit-count rows i word n)
+      (n : ℕ) → So (at-position j some (n / word-bits)) → So (marked left n) → getD after n 0 ≡ op (getD before n 0)
+      (fit-count rows i word n)
   pub others : (n : ℕ) → at-position j some (n / word-bits) ≡ false → getD after n 0 ≡ getD before n 0
 
 -- those at the positions of w are still to come
-pub record UsersChanging (op : ℕ → ℕ → ℕ) (rows left : List ℕ) (i word j some w : ℕ) (before now : List ℕ) : Type 0 where
-  pub sized : length now ≡ length before
-  pub among : (u : ℕ) → So (at-position j w u) → So (at-position j some u)
-  pub still : (n : ℕ) → So (at-position j w (n / word-bits)) → getD now n 0 ≡ getD before n 0
-  pub own :
-      (n : ℕ) → So (at-position j some (n / word-bits)) → at-position j w (n / word-bits) ≡ false → So (marked left n)
-      → getD now n 0 ≡ op (getD before n 0) (fit-count rows i word n)
-  pub others : (n : ℕ) → at-position j some (n / word-bits) ≡ false → getD now n 0 ≡ getD before n 0
+pub record UsersChanging (op : ℕ → ℕ → ℕ) (rows left : List ℕ) (i word j some w : ℕ) (before now : List ℕ) : Type 0
+  where
+    pub sized : length now ≡ length before
+    pub among : (u : ℕ) → So (at-position j w u) → So (at-position j some u)
+    pub still : (n : ℕ) → So (at-position j w (n / word-bits)) → getD now n 0 ≡ getD before n 0
+    pub own :
+        (n : ℕ) → So (at-position j some (n / word-bits)) → at-position j w (n / word-bits) ≡ false → So (marked left n)
+        → getD now n 0 ≡ op (getD before n 0) (fit-count rows i word n)
+    pub others : (n : ℕ) → at-position j some (n / word-bits) ≡ false → getD now n 0 ≡ getD before n 0
 
 module _ (op : ℕ → ℕ → ℕ) (rows left : List ℕ) (i word j some : ℕ) (before : List ℕ) where
   pub users-start : UsersChanging op rows left i word j some some before before
@@ -147,29 +163,42 @@ module _ (op : ℕ → ℕ → ℕ) (rows left : List ℕ) (i word j some : ℕ)
   }
 
   pub users-go-on : {w low rest : ℕ} (now after : List ℕ) → UsersChanging op rows left i word j some w before now
-      → Lowest word-bits (bit w) low → LowestDropped w rest → UserChanged op rows left i word (j * word-bits + low) now after
+      → Lowest word-bits (bit w) low → LowestDropped w rest → UserChanged op rows left i word (j * word-bits + low)
+      now after
       → UsersChanging op rows left i word j some rest before after
   users-go-on {w} {low} {rest} now after earlier is-low dropped here = record {
     sized = here .sized ∙ earlier .sized;
     among = λ u p. earlier .among u (was-at j is-low dropped u p);
-    still = λ n p. here .others n (eqb-false (n / word-bits) (j * word-bits + low) (not-lowest j is-low dropped (n / word-bits) p)) ∙ earlier .still n (was-at j is-low dropped (n / word-bits) p);
+    still = λ n p. here .others n (eqb-false (n / word-bits) (j * word-bits + low)
+        (not-lowest j is-low dropped (n / word-bits) p)) ∙ earlier .still n (was-at j is-low dropped (n / word-bits)
+        p);
     own = λ n p f m. ⊎-elim
         (λ e. here .own n (eqb-true (n / word-bits) (j * word-bits + low) e) m
-        ∙ ap (λ k. op k (fit-count rows i word n)) (earlier .still n (rw (eqb-true (n / word-bits) (j * word-bits + low) e) (lowest-at j w is-low))))
-        (λ g. here .others n (eqb-false (n / word-bits) (j * word-bits + low) g) ∙ earlier .own n p (was-not-at j is-low dropped (n / word-bits) f g) m)
+        ∙ ap (λ k. op k (fit-count rows i word n))
+        (earlier .still n (rw (eqb-true (n / word-bits) (j * word-bits + low) e) (lowest-at j w is-low))))
+        (λ g. here .others n (eqb-false (n / word-bits) (j * word-bits + low) g)
+        ∙ earlier .own n p (was-not-at j is-low dropped (n / word-bits) f g) m)
         (passes-or-fails (eqb (n / word-bits) (j * word-bits + low)));
-    others = λ n f. here .others n (λ e. not-both (earlier .among (j * word-bits + low) (lowest-at j w is-low)) (rw e at f)) ∙ earlier .others n f;
+    others = λ n f. here .others n (λ e. not-both (earlier .among (j * word-bits + low) (lowest-at j w is-low))
+        (rw e at f)) ∙ earlier .others n f;
   }
 
-  pub users-end : (now : List ℕ) → UsersChanging op rows left i word j some 0 before now → UsersChanged op rows left i word j some before now
-  users-end now all = record { sized = all .sized; own = λ n p m. all .own n p (none-at j (n / word-bits)) m; others = all .others }
+  pub users-end : (now : List ℕ) → UsersChanging op rows left i word j some 0 before now → UsersChanged op rows left i
+      word j some before now
+  users-end now all = record {
+    sized = all .sized;
+    own = λ n p m. all .own n p (none-at j (n / word-bits)) m;
+    others =
+        all .others;
+  }
 
 -- ---- the counts of all users
 
 -- the grants at the positions of word i change the counts of the open grants in the words below an end
 pub record WordChanged (op : ℕ → ℕ → ℕ) (rows left : List ℕ) (i word end : ℕ) (before after : List ℕ) : Type 0 where
   pub sized : length after ≡ length before
-  pub below : (n : ℕ) → n / word-bits < end → So (marked left n) → getD after n 0 ≡ op (getD before n 0) (fit-count rows i word n)
+  pub below : (n : ℕ) → n / word-bits < end → So (marked left n) → getD after n 0 ≡ op (getD before n 0)
+      (fit-count rows i word n)
   pub rest : (n : ℕ) → end ≤ n / word-bits → getD after n 0 ≡ getD before n 0
 
 -- a word with no grants changes nothing
@@ -194,11 +223,13 @@ fit-count-unreached rows i word j some n reaches column unreached =
     held : (q : ℕ) → q < word-bits → So (bit word q && fit-in rows (grant-of n) (grant-of (i * word-bits + q)))
         → So (held-in rows q (j * word-bits + n / word-bits % word-bits))
     held q l p =
-        let user : (j * word-bits + n / word-bits % word-bits) / row-words * row-words + q / word-bits ≡ n / word-bits = omega arith in
+        let user : (j * word-bits + n / word-bits % word-bits) / row-words * row-words + q / word-bits ≡ n /
+        word-bits = omega arith in
         let position : q % word-bits ≡ q = omega arith in
         rw (user, position)
         (and-left (bit (getD rows (n / word-bits) 0) q) (bit (getD rows i 0) (n % word-bits))
-        (sym (fit-by-row rows i n q l) ∙ and-right (bit word q) (fit-in rows (grant-of n) (grant-of (i * word-bits + q))) p))
+        (sym (fit-by-row rows i n q l) ∙ and-right (bit word q)
+        (fit-in rows (grant-of n) (grant-of (i * word-bits + q))) p))
 
 module _ (op : ℕ → ℕ → ℕ) (rows left : List ℕ) (i word : ℕ) where
   pub no-user-changed : (before : List ℕ) → WordChanged op rows left i word 0 before before
@@ -217,11 +248,16 @@ module _ (op : ℕ → ℕ → ℕ) (rows left : List ℕ) (i word : ℕ) where
   }
     where
       elsewhere : (n : ℕ) → (n / word-bits / word-bits ≡ j → ⊥) → at-position j some (n / word-bits) ≡ false
-      elsewhere n other = ap (λ b. b && bit some (n / word-bits % word-bits)) (ne-eqb (n / word-bits / word-bits) j other)
+      elsewhere n other = ap (λ b. b && bit some (n / word-bits % word-bits)) (ne-eqb (n / word-bits / word-bits) j
+          other)
 
-      in-word : (n : ℕ) → n / word-bits / word-bits ≡ j → So (marked left n) → getD after n 0 ≡ op (getD now n 0) (fit-count rows i word n)
+      in-word : (n : ℕ) → n / word-bits / word-bits ≡ j → So (marked left n) → getD after n 0 ≡ op (getD now n 0)
+          (fit-count rows i word n)
       in-word n column p = ⊎-elim
-          (λ e. here .own n (and-intro (eqb (n / word-bits / word-bits) j) (bit some (n / word-bits % word-bits)) (eq-eqb (n / word-bits / word-bits) j column) e) p)
-          (λ f. here .others n (ap (λ b. eqb (n / word-bits / word-bits) j && b) f ∙ and-false (eqb (n / word-bits / word-bits) j))
-          ∙ sym (ap (op (getD now n 0)) (fit-count-unreached rows i word j some n reaches column f) ∙ nothing (getD now n 0)))
+          (λ e. here .own n (and-intro (eqb (n / word-bits / word-bits) j) (bit some (n / word-bits % word-bits))
+          (eq-eqb (n / word-bits / word-bits) j column) e) p)
+          (λ f. here .others n (ap (λ b. eqb (n / word-bits / word-bits) j && b) f
+          ∙ and-false (eqb (n / word-bits / word-bits) j))
+          ∙ sym (ap (op (getD now n 0)) (fit-count-unreached rows i word j some n reaches column f)
+          ∙ nothing (getD now n 0)))
           (passes-or-fails (bit some (n / word-bits % word-bits)))

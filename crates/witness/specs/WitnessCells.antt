@@ -23,9 +23,11 @@ pub left-over-word : (rows left : List ℕ) (it i word fit : ℕ) → FittingWor
 left-over-word rows left it i word fit fitting says q l = rw (marked-in-word left i q l, ← fitting .bits q l) (says q)
 
 -- what is left over is part of left
-pub left-over-part : (rows left : List ℕ) (it end : ℕ) (rest : List ℕ) → MadeCells (left-over rows left it) end rest → Part rest left
+pub left-over-part : (rows left : List ℕ) (it end : ℕ) (rest : List ℕ) → MadeCells (left-over rows left it) end rest
+    → Part rest left
 left-over-part rows left it end rest made =
-    made-part (left-over rows left it) end rest left made (λ n. and-left (marked left n) (not (fit-in rows (grant-of it) (grant-of n))))
+    made-part (left-over rows left it) end rest left made
+    (λ n. and-left (marked left n) (not (fit-in rows (grant-of it) (grant-of n))))
 
 -- the cell is set in one of two
 abbrev pub either : List ℕ → List ℕ → ℕ → Bool
@@ -34,4 +36,5 @@ either some others n = marked some n || marked others n
 -- a word of each
 pub either-word : (some others : List ℕ) (i q : ℕ) → q < word-bits
     → bit (bitOr (getD some i 0) (getD others i 0)) q ≡ either some others (i * word-bits + q)
-either-word some others i q l = rw (marked-in-word some i q l, marked-in-word others i q l) (bit-or (getD some i 0) (getD others i 0) q)
+either-word some others i q l =
+    rw (marked-in-word some i q l, marked-in-word others i q l) (bit-or (getD some i 0) (getD others i 0) q)

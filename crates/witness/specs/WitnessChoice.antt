@@ -1,5 +1,6 @@
--- The remaining grant with the fewest partners, found by one walk over the cells: the best so far is kept unless the next grant has fewer. The words count a
--- grant itself among those that fit it, so every count is 1 more than the partners, and 0 says that no grant was found.
+-- The remaining grant with the fewest partners, found by one walk over the cells: the best so far is kept unless the
+-- next grant has fewer. The words count a grant itself among those that fit it, so every count is 1 more than the
+-- partners, and 0 says that no grant was found.
 use Prim.Native.Nat.{ℕ, _+_, _*_, _<_}
 use native.Mathlib.Omega.{arith}
 use mathlib.Core.Path.{_≡_, refl, _∙_}
@@ -44,7 +45,8 @@ pub record ChoiceWithin (left : List ℕ) (end : ℕ) (choice : Choice) : Type 0
 pub record Fewest (rows left : List ℕ) (users : ℕ) (choice : Choice) : Type 0 where
   pub standing : ChoiceWithin left (users * row-bits) choice
   pub is-fewest :
-      (sheet : Sheet) → Shown rows users sheet → Part left rows → fewest-partners sheet (cell-grants sheet left) ≡ choice-of choice
+      (sheet : Sheet) → Shown rows users sheet → Part left rows → fewest-partners sheet (cell-grants sheet left) ≡
+      choice-of choice
 
 -- ---- in the walk
 
@@ -59,27 +61,31 @@ none-seen measure = record { first = refl; counted = λ l. absurd (omega arith) 
 module _ (measure : Grant → ℕ) (seen : List Grant) (best : Choice) (so-far : Least measure seen best) (n count : ℕ)
     (exact : count ≡ measure (grant-of n) + 1) where
   -- the grant at the cell is taken
-  found-better : or-lesser measure (least measure seen) (grant-of n) ≡ grant-of n → Least measure (seen ++ grant-of n ∷ []) (choose n count)
+  found-better : or-lesser measure (least measure seen) (grant-of n) ≡ grant-of n
+      → Least measure (seen ++ grant-of n ∷ []) (choose n count)
   found-better h = record {
     first = least-last measure seen (grant-of n) ∙ rw (h, ne-eqb count 0 (omega arith));
     counted = λ l. exact;
   }
 
   -- there was one so far
-  some-so-far : eqb (best .partners) 0 ≡ false → (least measure seen ≡ some (grant-of (best .cell .0))) × (best .partners ≡ measure (grant-of (best .cell .0)) + 1)
+  some-so-far : eqb (best .partners) 0 ≡ false → (least measure seen ≡ some (grant-of (best .cell .0)))
+      × (best .partners ≡ measure (grant-of (best .cell .0)) + 1)
   some-so-far p = (so-far .first ∙ rw p, so-far .counted (omega (arith, eqb-false (best .partners) 0 p)))
 
   pub one-more-seen : Least measure (seen ++ grant-of n ∷ []) (better-of best n count)
   one-more-seen = split (passes-or-fails (eqb (best .partners) 0)) (passes-or-fails (ltb count (best .partners)))
     where
-      split : So (eqb (best .partners) 0) ⊎ (eqb (best .partners) 0 ≡ false) → So (ltb count (best .partners)) ⊎ (ltb count (best .partners) ≡ false)
+      split : So (eqb (best .partners) 0) ⊎ (eqb (best .partners) 0 ≡ false) → So (ltb count (best .partners)) ⊎
+          (ltb count (best .partners) ≡ false)
           → Least measure (seen ++ grant-of n ∷ []) (better-of best n count)
       split (inl p) q = rw p (found-better (rw (so-far .first, p)))
       split (inr p) (inl q) =
           let h = some-so-far p in
           rw (p, q) (found-better (rw (
             h .0,
-            lt-leb (measure (grant-of (best .cell .0))) (measure (grant-of n)) (omega (arith, h .1, ltb-true count (best .partners) q)),
+            lt-leb (measure (grant-of (best .cell .0))) (measure (grant-of n))
+                (omega (arith, h .1, ltb-true count (best .partners) q)),
           )))
       split (inr p) (inr q) =
           let h = some-so-far p in
@@ -99,7 +105,8 @@ module _ (measure : Grant → ℕ) (seen : List Grant) (best : Choice) (so-far :
 pub none-standing : (left : List ℕ) (end : ℕ) → ChoiceWithin left end (no-choice)
 none-standing left end = record { within = λ l. absurd (omega arith); is-set = λ l. absurd (omega arith) }
 
-pub better-standing : (left : List ℕ) (end : ℕ) (best : Choice) → ChoiceWithin left end best → (n count : ℕ) → n < end → So (marked left n)
+pub better-standing : (left : List ℕ) (end : ℕ) (best : Choice) → ChoiceWithin left end best → (n count : ℕ) → n < end
+    → So (marked left n)
     → ChoiceWithin left end (better-of best n count)
 better-standing left end best s n count l p = pick (eqb (best .partners) 0 || ltb count (best .partners))
   where

@@ -1,5 +1,5 @@
--- The greedy choice by cells. The grants that are left once one is taken are those whose cells the words leave; a grant is taken in the end exactly if it is
--- taken so far or is taken from those left.
+-- The greedy choice by cells. The grants that are left once one is taken are those whose cells the words leave; a
+-- grant is taken in the end exactly if it is taken so far or is taken from those left.
 use Prim.Native.Nat.{ℕ, suc, _*_}
 use mathlib.Core.Path.{_≡_, refl, sym, ap, subst, _∙_}
 use mathlib.Core.Bool.{Bool, true, false, So, not, _&&_, _||_, or-false, or-assoc}
@@ -30,7 +30,8 @@ use Rattle.witness.specs.WitnessCells.{left-over}
 
 -- ---- what is left once a grant is taken
 
-module _ {rows left : List ℕ} {users : ℕ} {sheet : Sheet} (shown : Shown rows users sheet) (part : Part left rows) (it : ℕ) (p : So (marked left it))
+module _ {rows left : List ℕ} {users : ℕ} {sheet : Sheet} (shown : Shown rows users sheet) (part : Part left rows)
+    (it : ℕ) (p : So (marked left it))
     {rest : List ℕ} (made : MadeCells (left-over rows left it) (cells-of users) rest) where
   pub rest-part : Part rest rows
   rest-part =
@@ -38,9 +39,11 @@ module _ {rows left : List ℕ} {users : ℕ} {sheet : Sheet} (shown : Shown row
       (λ n q. part .held n (and-left (marked left n) (not (fit-in rows (grant-of it) (grant-of n))) q))
 
   -- the grant itself fits itself, so to be neither it nor a partner is not to fit it
-  neither : (n : ℕ) → not (fit-in rows (grant-of it) (grant-of n)) ≡ not (same-grant (grant-of it) (grant-of n) || fits sheet (grant-of it) (grant-of n))
+  neither : (n : ℕ) → not (fit-in rows (grant-of it) (grant-of n)) ≡ not (same-grant (grant-of it) (grant-of n)
+      || fits sheet (grant-of it) (grant-of n))
   neither n =
-      ap not (fits-in-rows shown it n ∙ absorbed (same-grant (grant-of it) (grant-of n)) (fits sheet (grant-of it) (grant-of n)) same-fits)
+      ap not (fits-in-rows shown it n ∙ absorbed (same-grant (grant-of it) (grant-of n))
+      (fits sheet (grant-of it) (grant-of n)) same-fits)
     where
       same-fits : So (same-grant (grant-of it) (grant-of n)) → So (fits sheet (grant-of it) (grant-of n))
       same-fits e =
@@ -54,9 +57,11 @@ module _ {rows left : List ℕ} {users : ℕ} {sheet : Sheet} (shown : Shown row
   pub rest-grants : cell-grants sheet rest ≡ left-after sheet (grant-of it) (cell-grants sheet left)
   rest-grants =
       cell-grants-by-cell shown rest-part
-      ∙ ap (map grant-of) (passing-ext (users * row-bits) (marked rest) (λ n. marked left n && stays (grant-of n)) (λ n l.
+      ∙ ap (map grant-of) (passing-ext (users * row-bits) (marked rest) (λ n. marked left n && stays (grant-of n))
+      (λ n l.
       made .inside n (rw (row-cells users) l) ∙ ap (λ b. marked left n && b) (neither n)))
-      ∙ sym (rw (cell-grants-by-cell shown part) (filter-map stays grant-of (passing-below (users * row-bits) (marked left))
+      ∙ sym (rw (cell-grants-by-cell shown part)
+      (filter-map stays grant-of (passing-below (users * row-bits) (marked left))
       ∙ ap (map grant-of) (passing-filter (users * row-bits) (marked left) (λ n. stays (grant-of n)))))
     where
       stays : Grant → Bool
@@ -80,7 +85,8 @@ greedy-starts sheet rows kernel count part = record {
   so-far = λ n. rw (no-cells count n);
 }
 
-module _ {rows : List ℕ} {users : ℕ} {sheet : Sheet} (shown : Shown rows users sheet) (kernel left chosen : List ℕ) (more : ℕ) where
+module _ {rows : List ℕ} {users : ℕ} {sheet : Sheet} (shown : Shown rows users sheet) (kernel left chosen : List ℕ)
+    (more : ℕ) where
   -- the grant at a cell is taken
   pub greedy-goes-on : Greedy sheet rows kernel left chosen (suc more) → (it : ℕ) → So (marked left it)
       → fewest-partners sheet (cell-grants sheet left) ≡ some (grant-of it)
@@ -89,7 +95,10 @@ module _ {rows : List ℕ} {users : ℕ} {sheet : Sheet} (shown : Shown rows use
       → Greedy sheet rows kernel rest also more
   greedy-goes-on greedy it p found rest made also says = record {
     left-part = rest-part shown (greedy .left-part) it p made;
-    chosen-part = record { held = λ n q. ⊎-elim (greedy .chosen-part .held n) (here n) (or-cases (marked chosen n) (eqb n it) (sym (says n) ∙ q)) };
+    chosen-part = record {
+      held = λ n q. ⊎-elim (greedy .chosen-part .held n) (here n)
+          (or-cases (marked chosen n) (eqb n it) (sym (says n) ∙ q));
+    };
     so-far = λ n.
         greedy .so-far n
         ∙ rw (found, same-cell n it, ← rest-grants shown (greedy .left-part) it p made, says n, turned n it)
@@ -100,7 +109,8 @@ module _ {rows : List ℕ} {users : ℕ} {sheet : Sheet} (shown : Shown rows use
       here n e = rw (eqb-true n it e) (greedy .left-part .held it p)
 
       turned : (m n : ℕ) → eqb n m ≡ eqb m n
-      turned m n = same-truth (eqb n m) (eqb m n) (λ e. eq-eqb m n (sym (eqb-true n m e))) (λ e. eq-eqb n m (sym (eqb-true m n e)))
+      turned m n = same-truth (eqb n m) (eqb m n) (λ e. eq-eqb m n (sym (eqb-true n m e)))
+          (λ e. eq-eqb n m (sym (eqb-true m n e)))
 
 -- the cells of the grants taken
 pub record Chosen (sheet : Sheet) (rows kernel chosen : List ℕ) : Type 0 where
@@ -108,7 +118,8 @@ pub record Chosen (sheet : Sheet) (rows kernel chosen : List ℕ) : Type 0 where
   pub says : (n : ℕ) → marked chosen n ≡ among (taken sheet grant-limit (cell-grants sheet kernel)) (grant-of n)
 
 -- none is left to choose, or no choice
-pub greedy-ends : (sheet : Sheet) (rows kernel left chosen : List ℕ) (more : ℕ) → Greedy sheet rows kernel left chosen more
+pub greedy-ends : (sheet : Sheet) (rows kernel left chosen : List ℕ) (more : ℕ) → Greedy sheet rows kernel left chosen
+    more
     → taken sheet more (cell-grants sheet left) ≡ [] → Chosen sheet rows kernel chosen
 greedy-ends sheet rows kernel left chosen more greedy e = record {
   part = greedy .chosen-part;

@@ -1,4 +1,5 @@
--- The witness by cells: the grants taken from the kernel and the singles together, in order, and as many cells as there are of them.
+-- The witness by cells: the grants taken from the kernel and the singles together, in order, and as many cells as
+-- there are of them.
 use Prim.Native.Nat.{ℕ, _*_, _≤_}
 use native.Mathlib.Nat.{le-refl, le-trans}
 use mathlib.Core.Path.{_≡_, sym, ap, subst, _∙_}
@@ -53,32 +54,40 @@ pub record Witnessed (sheet : Sheet) (rows cells : List ℕ) (count : ℕ) : Typ
 
 module _ {rows : List ℕ} {users : ℕ} {sheet : Sheet} (shown : Shown rows users sheet) where
   -- how many grants a set has
-  pub cells-count : {left : List ℕ} → Part left rows → count-below (cells-of users) (marked left) ≡ length (cell-grants sheet left)
+  pub cells-count : {left : List ℕ} → Part left rows → count-below (cells-of users) (marked left) ≡ length
+      (cell-grants sheet left)
   cells-count {left} part =
       rw (row-cells users)
-      (sym (passing-length (users * row-bits) (marked left)) ∙ sym (length-map (passing-below (users * row-bits) (marked left)) grant-of)
+      (sym (passing-length (users * row-bits) (marked left))
+      ∙ sym (length-map (passing-below (users * row-bits) (marked left)) grant-of)
       ∙ ap length (sym (cell-grants-by-cell shown part)))
 
-  module _ {kernel singles : List ℕ} (reduced : ReducedTo sheet rows kernel singles) {taken-cells : List ℕ} (chosen-cells : Chosen sheet rows kernel taken-cells) where
+  module _ {kernel singles : List ℕ} (reduced : ReducedTo sheet rows kernel singles) {taken-cells : List ℕ}
+      (chosen-cells : Chosen sheet rows kernel taken-cells) where
     -- the choices do not run out
     chosen-by-cell : (n : ℕ) → marked taken-cells n ≡ among (chosen sheet) (grant-of n)
     unfolding chosen
     chosen-by-cell n =
-        chosen-cells .says n ∙ ap (λ l. among l (grant-of n)) (enough ∙ ap (λ l. taken sheet (length l) l) (reduced .kernel-grants))
+        chosen-cells .says n ∙ ap (λ l. among l (grant-of n)) (enough ∙ ap (λ l. taken sheet (length l) l)
+        (reduced .kernel-grants))
       where
-        enough : taken sheet grant-limit (cell-grants sheet kernel) ≡ taken sheet (length (cell-grants sheet kernel)) (cell-grants sheet kernel)
+        enough : taken sheet grant-limit (cell-grants sheet kernel) ≡ taken sheet (length (cell-grants sheet kernel))
+            (cell-grants sheet kernel)
         enough =
             taken-enough sheet grant-limit (length (cell-grants sheet kernel)) (cell-grants sheet kernel)
-            (le-trans (filter-length (in-cells kernel) (grants sheet)) (reduced .few-grants)) (le-refl (length (cell-grants sheet kernel)))
+            (le-trans (filter-length (in-cells kernel) (grants sheet)) (reduced .few-grants))
+            (le-refl (length (cell-grants sheet kernel)))
 
     module _ {cells : List ℕ} (made : MadeCells (either taken-cells singles) (cells-of users) cells) where
       pub witness-part : Part cells rows
       witness-part =
           made-part (either taken-cells singles) (cells-of users) cells rows made
-          (λ n p. ⊎-elim (chosen-cells .part .held n) (reduced .singles-part .held n) (or-cases (marked taken-cells n) (marked singles n) p))
+          (λ n p. ⊎-elim (chosen-cells .part .held n) (reduced .singles-part .held n) (or-cases (marked taken-cells n)
+          (marked singles n) p))
 
       -- a grant of the sheet stands in the witness where its cell is set
-      by-cell : (g : Grant) → List·Memᴰ g (grants sheet) → in-cells cells g ≡ (among (chosen sheet) g || among (reduction.singles sheet) g)
+      by-cell : (g : Grant) → List·Memᴰ g (grants sheet) → in-cells cells g ≡ (among (chosen sheet) g
+          || among (reduction.singles sheet) g)
       by-cell g m =
           let held = grant-held sheet m in
           let e : grant-of (cell-of g) ≡ g = grant-of-cell g (shown .short (g .user) (g .permission) held) in
@@ -88,9 +97,11 @@ module _ {rows : List ℕ} {users : ℕ} {sheet : Sheet} (shown : Shown rows use
 
       pub witness-grants : cell-grants sheet cells ≡ witness sheet
       unfolding witness
-      witness-grants = filter-same (in-cells cells) (λ g. among (chosen sheet) g || among (reduction.singles sheet) g) (grants sheet) by-cell
+      witness-grants = filter-same (in-cells cells) (λ g. among (chosen sheet) g || among (reduction.singles sheet) g)
+          (grants sheet) by-cell
 
-      pub witnessed : (count : ℕ) → count ≡ count-below (cells-of users) (marked cells) → Witnessed sheet rows cells count
+      pub witnessed : (count : ℕ) → count ≡ count-below (cells-of users) (marked cells) → Witnessed sheet rows cells
+          count
       witnessed count e = record {
         part = witness-part;
         in-order = witness-grants;

@@ -1,5 +1,5 @@
--- The walk that finds the grant with the fewest partners: the cells passed give the grants seen, each with the count of those that fit it. Of a word the lowest
--- position is passed next.
+-- The walk that finds the grant with the fewest partners: the cells passed give the grants seen, each with the count
+-- of those that fit it. Of a word the lowest position is passed next.
 use Prim.Native.Nat.{ℕ, _+_, _*_, _/_, _%_, _≤_, _<_}
 use native.Mathlib.Nat.{add-zero}
 use native.Mathlib.Numerals.{add-one}
@@ -31,7 +31,17 @@ use Rattle.fit.specs.Laws.FitWord.{marked-in-word}
 use Rattle.verdict.specs.Laws.Near.{partners-one-fewer}
 use Rattle.cells.specs.KernelWalk.{Skipped}
 use Rattle.witness.specs.Counts.{Counted, counted-grants}
-use Rattle.witness.specs.WitnessChoice.{no-choice, better-of, ChoiceWithin, Fewest, Least, none-seen, one-more-seen, none-standing, better-standing}
+use Rattle.witness.specs.WitnessChoice.{
+  no-choice,
+  better-of,
+  ChoiceWithin,
+  Fewest,
+  Least,
+  none-seen,
+  one-more-seen,
+  none-standing,
+  better-standing,
+}
 
 -- how many partners a grant has among those of left
 abbrev pub partner-count : Sheet → List ℕ → Grant → ℕ
@@ -60,13 +70,15 @@ module _ (rows left : List ℕ) (users : ℕ) where
       so-far = λ sheet shown part. rw (passing-until n m (marked left) l skipped) (walked .so-far sheet shown part);
     }
 
-    pub walk-goes-on : users ≤ user-limit → (counts : List ℕ) → Counted rows left users counts → n < users * row-bits → So (marked left n)
+    pub walk-goes-on : users ≤ user-limit → (counts : List ℕ) → Counted rows left users counts → n < users * row-bits
+        → So (marked left n)
         → Walked rows left users (better-of best n (getD counts n 0)) (n + 1)
     walk-goes-on few counts counted inside p = record {
       standing = better-standing left (users * row-bits) best (walked .standing) n (getD counts n 0) inside p;
       so-far = λ sheet shown part.
           rw (add-one n, passing-next n (marked left) p, map-append grant-of (passing-below n (marked left)) (n ∷ []))
-          (one-more-seen (partner-count sheet left) (map grant-of (passing-below n (marked left))) best (walked .so-far sheet shown part) n (getD counts n 0)
+          (one-more-seen (partner-count sheet left) (map grant-of (passing-below n (marked left))) best
+          (walked .so-far sheet shown part) n (getD counts n 0)
           (counted-grants few shown part counted n inside p ∙ partners-one-fewer shown part n inside p));
     }
 
@@ -74,7 +86,8 @@ module _ (rows left : List ℕ) (users : ℕ) where
     walk-ends e = record {
       standing = walked .standing;
       is-fewest = λ sheet shown part.
-          ap (least (partner-count sheet left)) (cell-grants-by-cell shown part) ∙ (rw e at (walked .so-far sheet shown part .first));
+          ap (least (partner-count sheet left)) (cell-grants-by-cell shown part)
+          ∙ (rw e at (walked .so-far sheet shown part .first));
     }
 
 -- ---- a word
@@ -88,7 +101,8 @@ pub record InWord (rows left : List ℕ) (users i w : ℕ) (best : Choice) : Typ
   pub walked : Walked rows left users best (i * word-bits + from)
 
 module _ (rows left : List ℕ) (users i : ℕ) where
-  pub word-starts : (best : Choice) → Walked rows left users best (i * word-bits) → InWord rows left users i (getD left i 0) best
+  pub word-starts : (best : Choice) → Walked rows left users best (i * word-bits) → InWord rows left users i
+      (getD left i 0) best
   word-starts best walked = record {
     from = 0;
     not-past = omega arith;
@@ -99,13 +113,15 @@ module _ (rows left : List ℕ) (users i : ℕ) where
 
   -- no cell of the word is set between the walk and a position below which w has none
   skipped-in-word : (w : ℕ) (best : Choice) (in-word : InWord rows left users i w best) (end : ℕ) → end ≤ word-bits
-      → ((q : ℕ) → q < end → bit w q ≡ false) → Skipped (marked left) (i * word-bits + in-word .from) (i * word-bits + end)
+      → ((q : ℕ) → q < end → bit w q ≡ false) → Skipped (marked left) (i * word-bits + in-word .from)
+      (i * word-bits + end)
   skipped-in-word w best in-word end l none m k h =
       let word : m / word-bits ≡ i = omega arith in
       let position : i * word-bits + m % word-bits ≡ m = omega arith in
       rw word (sym (in-word .ahead (m % word-bits) (omega arith)) ∙ none (m % word-bits) (omega arith))
 
-  pub word-goes-on : {w low rest : ℕ} (best : Choice) → InWord rows left users i w best → Lowest word-bits (bit w) low → LowestDropped w rest
+  pub word-goes-on : {w low rest : ℕ} (best : Choice) → InWord rows left users i w best → Lowest word-bits (bit w) low
+      → LowestDropped w rest
       → users ≤ user-limit → i < users * row-words → (counts : List ℕ) → Counted rows left users counts
       → InWord rows left users i rest (better-of best (i * word-bits + low) (getD counts (i * word-bits + low) 0))
   unfolding row-bits row-words
@@ -117,15 +133,19 @@ module _ (rows left : List ℕ) (users i : ℕ) where
         (λ k. ap (λ b. bit w q && not b) (eq-eqb q low (omega arith)) ∙ and-false (bit w q))
         (below-or-from q low);
     ahead = λ q l.
-        dropped .others is-low q ∙ ap (λ b. bit w q && not b) (ne-eqb q low (omega arith)) ∙ and-true (bit w q) ∙ in-word .ahead q (omega (arith, not-below));
+        dropped .others is-low q ∙ ap (λ b. bit w q && not b) (ne-eqb q low (omega arith)) ∙ and-true (bit w q)
+        ∙ in-word .ahead q (omega (arith, not-below));
     walked = rw next (walk-goes-on rows left users best (i * word-bits + low)
-        (walk-passes rows left users best (i * word-bits + in-word .from) (in-word .walked) (i * word-bits + low) (omega (arith, not-below))
+        (walk-passes rows left users best (i * word-bits + in-word .from) (in-word .walked) (i * word-bits + low)
+        (omega (arith, not-below))
         (skipped-in-word w best in-word low (omega (arith, is-low .within)) (is-low .first)))
-        few counts counted (omega (arith, is-low .within)) (marked-in-word left i low (is-low .within) ∙ sym (in-word .ahead low not-below) ∙ is-low .holds));
+        few counts counted (omega (arith, is-low .within)) (marked-in-word left i low (is-low .within)
+        ∙ sym (in-word .ahead low not-below) ∙ is-low .holds));
   }
     where
       not-below : in-word .from ≤ low
-      not-below = ⊎-elim (λ l. absurd (not-both (is-low .holds) (in-word .done low l))) (λ l. l) (below-or-from low (in-word .from))
+      not-below = ⊎-elim (λ l. absurd (not-both (is-low .holds) (in-word .done low l))) (λ l. l)
+          (below-or-from low (in-word .from))
 
       next : i * word-bits + (low + 1) ≡ i * word-bits + low + 1
       next = omega arith
@@ -133,5 +153,6 @@ module _ (rows left : List ℕ) (users i : ℕ) where
   pub word-ends : (best : Choice) → InWord rows left users i 0 best → Walked rows left users best ((i + 1) * word-bits)
   word-ends best in-word =
       let end : (i + 1) * word-bits ≡ i * word-bits + word-bits = omega arith in
-      rw end (walk-passes rows left users best (i * word-bits + in-word .from) (in-word .walked) (i * word-bits + word-bits) (omega (arith, in-word .not-past))
+      rw end (walk-passes rows left users best (i * word-bits + in-word .from) (in-word .walked)
+      (i * word-bits + word-bits) (omega (arith, in-word .not-past))
       (skipped-in-word 0 best in-word word-bits (omega arith) (λ q l. bit-of-zero q)))

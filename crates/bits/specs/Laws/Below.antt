@@ -1,15 +1,39 @@
--- How to show and how to use that some or every number below a bound passes a test. Each law is an induction on the bound: a number below
--- `suc n` is n, or is below n.
+-- How to show and how to use that some or every number below a bound passes a test. Each law is an induction on the
+-- bound: a number below `suc n` is n, or is below n.
 use mathlib.Core.Path.{_≡_, refl, sym, ap, _∙_}
 use mathlib.Core.Logic.{_⊎_, inl, inr, ⊎-elim}
 use mathlib.Core.Bool.{Bool, false, So, not, _&&_, _||_, false≢true, or-false, and-true}
 use Prim.Native.Nat.{ℕ, zero, suc, _+_, _≤_, _<_}
-use native.Mathlib.Nat.{add-zero, add-suc, le-refl, le-step, le-of-suc-le-suc, lt-of-lt-of-le, not-suc-le-zero, eq-or-lt-of-le}
+use native.Mathlib.Nat.{
+  add-zero,
+  add-suc,
+  le-refl,
+  le-step,
+  le-of-suc-le-suc,
+  lt-of-lt-of-le,
+  not-suc-le-zero,
+  eq-or-lt-of-le,
+}
 use native.Mathlib.Omega.{arith}
 use borrow.Author.Tests.{not-false, ltb-true, ltb-false}
 use lib.Dec.{ltb}
 use Rattle.spec.specs.Vocabulary.{some-below, every-below}
-use Rattle.bits.specs.Truth.{passes-or-fails, not-both, fails-unless, same-truth, and-intro, and-left, and-right, and-left-comm, or-left, or-right, or-cases, or-left-comm, not-passes, not-fails}
+use Rattle.bits.specs.Truth.{
+  passes-or-fails,
+  not-both,
+  fails-unless,
+  same-truth,
+  and-intro,
+  and-left,
+  and-right,
+  and-left-comm,
+  or-left,
+  or-right,
+  or-cases,
+  or-left-comm,
+  not-passes,
+  not-fails,
+}
 use Rattle.bits.specs.Counting.{Found, Missed}
 
 -- a number below suc n
@@ -26,7 +50,8 @@ pub some-below-intro : (n : ℕ) (f : ℕ → Bool) {i : ℕ} → i < n → So (
 unfolding some-below
 some-below-intro zero f l p = absurd (not-suc-le-zero l)
 some-below-intro (suc n) f l p =
-    ⊎-elim (λ e. or-left (f n) (some-below n f) (rw e at p)) (λ k. or-right (f n) (some-below n f) (some-below-intro n f k p))
+    ⊎-elim (λ e. or-left (f n) (some-below n f) (rw e at p)) (λ k. or-right (f n) (some-below n f)
+    (some-below-intro n f k p))
     (last-or-below l)
 
 pub some-below-elim : (n : ℕ) (f : ℕ → Bool) → So (some-below n f) → Found n f
@@ -46,7 +71,8 @@ none-below-intro n f h =
 pub none-below-elim : (n : ℕ) (f : ℕ → Bool) → some-below n f ≡ false → {i : ℕ} → i < n → f i ≡ false
 none-below-elim n f e {i} l = fails-unless (f i) (λ p. not-both (some-below-intro n f l p) e)
 
-pub some-below-mono : (n : ℕ) (f g : ℕ → Bool) → ((i : ℕ) → i < n → So (f i) → So (g i)) → So (some-below n f) → So (some-below n g)
+pub some-below-mono : (n : ℕ) (f g : ℕ → Bool) → ((i : ℕ) → i < n → So (f i) → So (g i)) → So (some-below n f)
+    → So (some-below n g)
 some-below-mono n f g h e =
     let r = some-below-elim n f e in some-below-intro n g (r .within) (h (r .place) (r .within) (r .holds))
 
@@ -98,7 +124,8 @@ missed-below-elim (suc n) f e = split (passes-or-fails (f n)) (missed-below-elim
         let r = earlier (rw p at e) in record { place = r .place; within = le-step (r .within); fails = r .fails }
     split (inr p) earlier = record { place = n; within = le-refl (suc n); fails = p }
 
-pub every-below-mono : (n : ℕ) (f g : ℕ → Bool) → ((i : ℕ) → i < n → So (f i) → So (g i)) → So (every-below n f) → So (every-below n g)
+pub every-below-mono : (n : ℕ) (f g : ℕ → Bool) → ((i : ℕ) → i < n → So (f i) → So (g i)) → So (every-below n f)
+    → So (every-below n g)
 every-below-mono n f g h e = every-below-intro n g (λ i l. h i l (every-below-elim n f e l))
 
 pub every-below-ext : (n : ℕ) (f g : ℕ → Bool) → ((i : ℕ) → i < n → f i ≡ g i) → every-below n f ≡ every-below n g
@@ -109,7 +136,8 @@ every-below-ext n f g h =
 pub every-below-fewer : (m n : ℕ) (f : ℕ → Bool) → m ≤ n → So (every-below n f) → So (every-below m f)
 every-below-fewer m n f h e = every-below-intro m f (λ i l. every-below-elim n f e (lt-of-lt-of-le l h))
 
-pub every-below-add : (a b : ℕ) (f : ℕ → Bool) → every-below (a + b) f ≡ (every-below a f && every-below b (λ i. f (a + i)))
+pub every-below-add : (a b : ℕ) (f : ℕ → Bool) → every-below (a + b) f ≡ (every-below a f
+    && every-below b (λ i. f (a + i)))
 unfolding every-below
 every-below-add a zero f = rw (add-zero, and-true)
 every-below-add a (suc b) f =
@@ -118,12 +146,14 @@ every-below-add a (suc b) f =
 pub every-below-first : (n : ℕ) (f : ℕ → Bool) → every-below (suc n) f ≡ (f 0 && every-below n (λ i. f (suc i)))
 unfolding every-below
 every-below-first zero f = refl
-every-below-first (suc n) f = rw (every-below-first n f) (and-left-comm (f (suc n)) (f 0) (every-below n (λ i. f (suc i))))
+every-below-first (suc n) f =
+    rw (every-below-first n f) (and-left-comm (f (suc n)) (f 0) (every-below n (λ i. f (suc i))))
 
 -- every number passes where none fails
 pub every-below-not : (n : ℕ) (f : ℕ → Bool) → every-below n f ≡ not (some-below n (λ i. not (f i)))
 every-below-not n f =
     same-truth (every-below n f) (not (some-below n (λ i. not (f i))))
-    (λ e. not-passes (some-below n (λ i. not (f i))) (none-below-intro n (λ i. not (f i)) (λ i l. ap not (every-below-elim n f e l))))
+    (λ e. not-passes (some-below n (λ i. not (f i))) (none-below-intro n (λ i. not (f i))
+    (λ i l. ap not (every-below-elim n f e l))))
     (λ e. every-below-intro n f (λ i l.
     not-false (f i) (none-below-elim n (λ i. not (f i)) (not-fails (some-below n (λ i. not (f i))) e) l)))

@@ -1,10 +1,25 @@
--- The positions of a number, of any width: what each operation on numbers does to them. The lowest position tells the remainder by 2, and the
--- others are those of the half, so a law holds at each position by the same law at the half (`bit-first`, `bit-next`).
+-- The positions of a number, of any width: what each operation on numbers does to them. The lowest position tells the
+-- remainder by 2, and the others are those of the half, so a law holds at each position by the same law at the half
+-- (`bit-first`, `bit-next`).
 use mathlib.Core.Path.{_≡_, refl, sym, ap, _∙_}
 use mathlib.Core.Logic.{_⊎_, inl, inr, ⊎-elim}
 use mathlib.Core.Bool.{Bool, false, So, not, _&&_, _||_, xor}
 use Prim.Native.Nat.{ℕ, zero, suc, _+_, _-_, _*_, _/_, _%_, _^_, _≤_, _<_, suc-le-suc}
-use native.Mathlib.Nat.{pow-suc, zero-div, div-one, div-eq-of-lt, mod-lt, mod-eq-of-lt, mul-mod-left, one-mul, sub-zero, lt-of-lt-of-le, le-of-suc-le-suc, not-suc-le-zero, zero-lt-suc}
+use native.Mathlib.Nat.{
+  pow-suc,
+  zero-div,
+  div-one,
+  div-eq-of-lt,
+  mod-lt,
+  mod-eq-of-lt,
+  mul-mod-left,
+  one-mul,
+  sub-zero,
+  lt-of-lt-of-le,
+  le-of-suc-le-suc,
+  not-suc-le-zero,
+  zero-lt-suc,
+}
 use native.Mathlib.Omega.{arith}
 use native.Mathlib.Numerals.{one-add}
 use borrow.Author.Tests.{lt-ltb, le-ltb}
@@ -116,7 +131,8 @@ pub bit-not : (k n : ℕ) → n < 2 ^ k → {p : ℕ} → p < k → bit (2 ^ k -
 bit-not k n h l = bit-of-rest k n (2 ^ k - 1 - n) (omega arith) l
 
 -- the positions of a that b has not
-pub bit-and-not : (k a b : ℕ) → a < 2 ^ k → b < 2 ^ k → (p : ℕ) → bit (bitAnd a (2 ^ k - 1 - b)) p ≡ (bit a p && not (bit b p))
+pub bit-and-not : (k a b : ℕ) → a < 2 ^ k → b < 2 ^ k → (p : ℕ) → bit (bitAnd a (2 ^ k - 1 - b)) p ≡ (bit a p
+    && not (bit b p))
 bit-and-not k a b ha hb p =
     bit-and a (2 ^ k - 1 - b) p
     ∙ ⊎-elim (λ l. rw (bit-not k b hb {p = p} l)) (λ l. rw (bit-above k a ha {p = p} l)) (below-or-from p k)
@@ -154,6 +170,7 @@ bit-one-shifted (suc p) (suc q) =
 pub bit-full : (n p : ℕ) → bit (2 ^ n - 1) p ≡ ltb p n
 bit-full n p =
     ⊎-elim
-    (λ l. ap (λ (m : ℕ). bit m p) (sym (sub-zero (2 ^ n - 1))) ∙ bit-not n 0 (pow-pos n) l ∙ rw (bit-of-zero p, lt-ltb p n l))
+    (λ l. ap (λ (m : ℕ). bit m p) (sym (sub-zero (2 ^ n - 1))) ∙ bit-not n 0 (pow-pos n) l
+    ∙ rw (bit-of-zero p, lt-ltb p n l))
     (λ l. bit-above n (2 ^ n - 1) (ones-lt n) l ∙ sym (le-ltb p n l))
     (below-or-from p n)

@@ -1,5 +1,6 @@
--- How many numbers below a bound pass a test. The count of a bound one greater is the count so far, and 1 more where the last number passes:
--- so every law is an induction on the bound that compares what the last number adds on both sides.
+-- How many numbers below a bound pass a test. The count of a bound one greater is the count so far, and 1 more where
+-- the last number passes: so every law is an induction on the bound that compares what the last number adds on both
+-- sides.
 use mathlib.Core.Path.{_≡_, refl}
 use mathlib.Core.Logic.{⊎-elim}
 use mathlib.Core.Bool.{Bool, true, false, So, false≢true}
@@ -33,25 +34,33 @@ unfolding count-below
 count-below-ext zero f g h = refl
 count-below-ext (suc n) f g h = rw (count-below-ext n f g (λ i l. h i (le-step l)), h n (le-refl (suc n)))
 
-pub count-below-mono : (n : ℕ) (f g : ℕ → Bool) → ((i : ℕ) → i < n → So (f i) → So (g i)) → count-below n f ≤ count-below n g
+pub count-below-mono : (n : ℕ) (f g : ℕ → Bool) → ((i : ℕ) → i < n → So (f i) → So (g i))
+    → count-below n f ≤ count-below n g
 unfolding count-below
 count-below-mono zero f g h = omega arith
 count-below-mono (suc n) f g h =
     omega (arith, count-below-mono n f g (λ i l. h i (le-step l)), one-if-mono (f n) (g n) (h n (le-refl (suc n))))
 
 -- one number that only g takes makes the difference
-pub count-below-less : (n : ℕ) (f g : ℕ → Bool) → ((i : ℕ) → i < n → So (f i) → So (g i)) → {i : ℕ} → i < n → f i ≡ false → So (g i)
+pub count-below-less : (n : ℕ) (f g : ℕ → Bool) → ((i : ℕ) → i < n → So (f i) → So (g i)) → {i : ℕ} → i < n
+    → f i ≡ false → So (g i)
     → count-below n f < count-below n g
 unfolding count-below
 count-below-less zero f g h l p q = absurd (not-suc-le-zero l)
 count-below-less (suc n) f g h l p q =
     ⊎-elim
     (λ e. rw (rw e at p, rw e at q) (omega (arith, count-below-mono n f g (λ i l. h i (le-step l)))))
-    (λ k. omega (arith, count-below-less n f g (λ i l. h i (le-step l)) k p q, one-if-mono (f n) (g n) (h n (le-refl (suc n)))))
+    (λ k. omega (
+      arith,
+      count-below-less n f g (λ i l. h i (le-step l)) k p q,
+      one-if-mono (f n) (g n)
+          (h n (le-refl (suc n))),
+    ))
     (last-or-below l)
 
 -- the numbers below a + b are those below a, and a and more
-pub count-below-add : (a b : ℕ) (f : ℕ → Bool) → count-below (a + b) f ≡ count-below a f + count-below b (λ i. f (a + i))
+pub count-below-add : (a b : ℕ) (f : ℕ → Bool) → count-below (a + b) f ≡ count-below a f + count-below b
+    (λ i. f (a + i))
 unfolding count-below
 count-below-add a zero f = rw (add-zero a) (omega arith)
 count-below-add a (suc b) f = rw (add-suc a b, count-below-add a b f) (omega arith)
@@ -87,7 +96,11 @@ count-below-all-intro (suc n) f h =
 
 pub count-below-all-elim : (n : ℕ) (f : ℕ → Bool) → count-below n f ≡ n → {i : ℕ} → i < n → So (f i)
 count-below-all-elim n f e {i} l =
-    ⊎-elim (λ p. p) (λ p. absurd (omega (arith, count-below-less n f (λ j. true) (λ j k q. refl) l p refl, count-below-all-intro n (λ j. true) (λ j k. refl))))
+    ⊎-elim (λ p. p) (λ p. absurd (omega (
+      arith,
+      count-below-less n f (λ j. true) (λ j k q. refl) l p refl,
+      count-below-all-intro n (λ j. true) (λ j k. refl),
+    )))
     (passes-or-fails (f i))
 
 pub count-below-found : (n : ℕ) (f : ℕ → Bool) → 0 < count-below n f → Found n f

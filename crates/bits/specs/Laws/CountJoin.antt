@@ -1,6 +1,6 @@
--- Counts of tests that are joined by and, or and not, of a test with one number put in or taken out, and of two tests with a map between them.
--- The first group compares number by number; the second follows from it, since the number put in is counted once; for the map, each number taken
--- out on the left takes its image out on the right.
+-- Counts of tests that are joined by and, or and not, of a test with one number put in or taken out, and of two tests
+-- with a map between them. The first group compares number by number; the second follows from it, since the number
+-- put in is counted once; for the map, each number taken out on the left takes its image out on the right.
 use mathlib.Core.Path.{_≡_, refl, sym, _∙_}
 use mathlib.Core.Logic.{⊎-elim}
 use mathlib.Core.Bool.{Bool, true, false, So, not, _&&_, _||_, and-false}
@@ -84,10 +84,12 @@ count-below-without n f {p} l e = omega (arith, count-below-split n f (λ i. eqb
 pub count-below-one-intro : (n : ℕ) (f : ℕ → Bool) {i : ℕ} → i < n → So (f i) → ((j : ℕ) → j < n → So (f j) → j ≡ i)
     → count-below n f ≡ 1
 count-below-one-intro n f {i} l p h =
-    count-below-ext n f (λ j. eqb j i) (λ j k. same-truth (f j) (eqb j i) (λ q. eq-eqb j i (h j k q)) (λ q. rw (eqb-true j i q) p))
+    count-below-ext n f (λ j. eqb j i) (λ j k. same-truth (f j) (eqb j i) (λ q. eq-eqb j i (h j k q))
+    (λ q. rw (eqb-true j i q) p))
     ∙ count-below-only n l
 
-pub count-below-one-elim : (n : ℕ) (f : ℕ → Bool) → count-below n f ≡ 1 → {i j : ℕ} → i < n → So (f i) → j < n → So (f j) → j ≡ i
+pub count-below-one-elim : (n : ℕ) (f : ℕ → Bool) → count-below n f ≡ 1 → {i j : ℕ} → i < n → So (f i) → j < n
+    → So (f j) → j ≡ i
 count-below-one-elim n f e {i} {j} at-i pass-i at-j pass-j =
     eqb-true j i (not-false (eqb j i) (rw pass-j at (count-below-none-elim n (λ k. f k && not (eqb k i)) others at-j)))
   where
@@ -121,4 +123,5 @@ count-below-injects (suc n) m f g image into lands apart =
     other : So (f n) → (i : ℕ) → i < n → So (f i) → So (g (image i) && not (eqb (image i) (image n)))
     other p i l q =
         and-intro (g (image i)) (not (eqb (image i) (image n))) (lands i (le-step l) q)
-        (not-passes (eqb (image i) (image n)) (ne-eqb (image i) (image n) (λ e. omega (arith, apart i n (le-step l) (le-refl (suc n)) q p e))))
+        (not-passes (eqb (image i) (image n))
+        (ne-eqb (image i) (image n) (λ e. omega (arith, apart i n (le-step l) (le-refl (suc n)) q p e))))

@@ -1,5 +1,5 @@
--- What is looked for below a bound, when everything from a lesser bound on fails, is what is looked for below that one; and what some number below a
--- bound passes, one number apart from the others.
+-- What is looked for below a bound, when everything from a lesser bound on fails, is what is looked for below that
+-- one; and what some number below a bound passes, one number apart from the others.
 use Prim.Native.Nat.{ℕ, _≤_, _<_}
 use mathlib.Core.Path.{_≡_, sym, _∙_}
 use mathlib.Core.Logic.{_⊎_, inl, inr, ⊎-elim}
@@ -10,7 +10,18 @@ use native.Mathlib.Omega.{arith}
 use borrow.Author.Tests.{eqb-true}
 use lib.Dec.{eqb}
 use Rattle.spec.specs.Vocabulary.{some-below, lowest-below}
-use Rattle.bits.specs.Truth.{passes-or-fails, not-both, same-truth, and-intro, and-left, and-right, or-left, or-right, or-cases, not-passes}
+use Rattle.bits.specs.Truth.{
+  passes-or-fails,
+  not-both,
+  same-truth,
+  and-intro,
+  and-left,
+  and-right,
+  or-left,
+  or-right,
+  or-cases,
+  not-passes,
+}
 use Rattle.bits.specs.Counting.{Lowest}
 use Rattle.bits.specs.Laws.Below.{below-or-from, some-below-intro, some-below-elim}
 use Rattle.bits.specs.Laws.Lowest.{lowest-below-intro, lowest-below-none-intro, lowest-below-cases}
@@ -30,7 +41,8 @@ module _ (m n : ℕ) (f g : ℕ → Bool) (less : n ≤ m) (same : (i : ℕ) →
       forth : So (some-below m f) → So (some-below n g)
       forth e =
           let r = some-below-elim m f e in
-          ⊎-elim (λ l. some-below-intro n g l (sym (same (r .place) l) ∙ r .holds)) (λ l. absurd (not-both (r .holds) (later (r .place) l)))
+          ⊎-elim (λ l. some-below-intro n g l (sym (same (r .place) l) ∙ r .holds))
+          (λ l. absurd (not-both (r .holds) (later (r .place) l)))
           (below-or-from (r .place) n)
 
       back : So (some-below n g) → So (some-below m f)
@@ -77,7 +89,8 @@ getD-found none n e l = absurd (omega arith)
 getD-found (some i) n e l = cc
 
 -- and the bound is got only where none was found
-pub getD-missing : (n : ℕ) (f : ℕ → Bool) {r : ℕ} → r ≡ Option·getD (lowest-below n f) n → n ≤ r → lowest-below n f ≡ none
+pub getD-missing : (n : ℕ) (f : ℕ → Bool) {r : ℕ} → r ≡ Option·getD (lowest-below n f) n → n ≤ r
+    → lowest-below n f ≡ none
 getD-missing n f {r} e l =
     ⊎-elim
     (λ w.

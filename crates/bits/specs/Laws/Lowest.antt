@@ -1,11 +1,21 @@
--- What the lowest number below a bound is: a number that passes with none before it, and there is one unless every number fails.
--- Each law is an induction on the bound, or follows from `lowest-below-cases` and the two laws of introduction.
+-- What the lowest number below a bound is: a number that passes with none before it, and there is one unless every
+-- number fails. Each law is an induction on the bound, or follows from `lowest-below-cases` and the two laws of
+-- introduction.
 use mathlib.Core.Path.{_≡_, refl, sym, _∙_}
 use mathlib.Core.Logic.{_⊎_, inl, inr, ⊎-elim}
 use mathlib.Core.Bool.{Bool, false, So}
 use mathlib.Core.Option.{none, some}
 use Prim.Native.Nat.{ℕ, zero, suc, _+_, _-_, _≤_, _<_, suc-le-suc}
-use native.Mathlib.Nat.{le-refl, le-step, le-of-suc-le-suc, lt-of-not-le, lt-trans, not-suc-le-zero, zero-lt-suc, add-sub-of-le}
+use native.Mathlib.Nat.{
+  le-refl,
+  le-step,
+  le-of-suc-le-suc,
+  lt-of-not-le,
+  lt-trans,
+  not-suc-le-zero,
+  zero-lt-suc,
+  add-sub-of-le,
+}
 use native.Mathlib.Omega.{arith}
 use Rattle.spec.specs.Vocabulary.{some-below, lowest-below}
 use Rattle.bits.specs.Truth.{passes-or-fails, not-both}
@@ -34,7 +44,15 @@ lowest-below-cases (suc n) f = one-more (lowest-below-cases n f) (passes-or-fail
     one-more :
         ((i : ℕ) × Lowest n f i) ⊎ ((i : ℕ) → i < n → f i ≡ false) → So (f n) ⊎ (f n ≡ false)
         → ((i : ℕ) × Lowest (suc n) f i) ⊎ ((i : ℕ) → i < suc n → f i ≡ false)
-    one-more (inl w) last = inl (w .0, record { within = le-step (w .1 .within); holds = w .1 .holds; first = w .1 .first })
+    one-more (inl w) last = inl (
+      w .0,
+      record {
+        within = le-step (w .1 .within);
+        holds = w .1 .holds;
+        first =
+            w .1 .first;
+      },
+    )
     one-more (inr h) (inl p) = inl (n, record { within = le-refl (suc n); holds = p; first = h })
     one-more (inr h) (inr p) = inr (λ i l. ⊎-elim (λ e. rw e p) (h i) (last-or-below l))
 
@@ -55,7 +73,8 @@ lowest-below-none-elim n f e {i} l = pick (lowest-below-cases n f)
 -- where some number passes, one of them is the lowest
 pub lowest-below-found : (n : ℕ) (f : ℕ → Bool) → So (some-below n f) → (i : ℕ) × Lowest n f i
 lowest-below-found n f e =
-    ⊎-elim (λ w. w) (λ h. let r = some-below-elim n f e in absurd (not-both (r .holds) (h (r .place) (r .within)))) (lowest-below-cases n f)
+    ⊎-elim (λ w. w) (λ h. let r = some-below-elim n f e in absurd (not-both (r .holds) (h (r .place) (r .within))))
+    (lowest-below-cases n f)
 
 -- nothing that passes is lower
 pub lowest-le : {n : ℕ} {f : ℕ → Bool} {i j : ℕ} → Lowest n f i → So (f j) → i ≤ j
@@ -95,7 +114,8 @@ lowest-below-more m n f h e =
     lowest-below-intro n f (record { within = omega arith; holds = w .holds; first = w .first })
 
 -- where no number below a passes, the search goes on from a
-pub lowest-below-later : (a b : ℕ) (f : ℕ → Bool) {i : ℕ} → lowest-below a f ≡ none → lowest-below b (λ j. f (a + j)) ≡ some i
+pub lowest-below-later : (a b : ℕ) (f : ℕ → Bool) {i : ℕ} → lowest-below a f ≡ none → lowest-below b (λ j. f (a + j))
+    ≡ some i
     → lowest-below (a + b) f ≡ some (a + i)
 lowest-below-later a b f {i} e s =
     lowest-below-intro (a + b) f (record { within = omega (arith, w .within); holds = w .holds; first = before })

@@ -1,4 +1,5 @@
--- One turn of a loop that counts up: each definition's clause at n + 1, as the code writes it, where the clause itself has `suc n`.
+-- One turn of a loop that counts up: each definition's clause at n + 1, as the code writes it, where the clause
+-- itself has `suc n`.
 use mathlib.Core.Path.{_≡_}
 use mathlib.Core.Bool.{Bool, _&&_, _||_}
 use Prim.Native.Nat.{ℕ, _+_}

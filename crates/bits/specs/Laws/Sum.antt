@@ -1,4 +1,5 @@
--- Sums over the numbers below a bound. As with a count, each law is an induction on the bound that compares what the last number adds.
+-- Sums over the numbers below a bound. As with a count, each law is an induction on the bound that compares what the
+-- last number adds.
 use mathlib.Core.Path.{_≡_, refl, sym}
 use mathlib.Core.Logic.{⊎-elim}
 use mathlib.Core.Bool.{Bool}
@@ -65,7 +66,8 @@ sum-below-count zero f = refl
 sum-below-count (suc n) f = rw (sum-below-count n f)
 
 -- rows first or columns first
-pub sum-below-swap : (m n : ℕ) (g : ℕ → ℕ → ℕ) → sum-below m (λ i. sum-below n (g i)) ≡ sum-below n (λ j. sum-below m (λ i. g i j))
+pub sum-below-swap : (m n : ℕ) (g : ℕ → ℕ → ℕ) → sum-below m (λ i. sum-below n (g i)) ≡ sum-below n
+    (λ j. sum-below m (λ i. g i j))
 unfolding sum-below
 sum-below-swap zero n g = sym (sum-below-none n (λ j. 0) (λ j l. refl))
 sum-below-swap (suc m) n g = rw (sum-below-swap m n g) (sym (sum-below-plus n (λ j. sum-below m (λ i. g i j)) (g m)))

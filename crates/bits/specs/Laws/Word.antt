@@ -1,5 +1,6 @@
--- What a machine's instructions on a word say of its positions, for a word of any width k: the count of ones, the zeros below the lowest one, the
--- word with its lowest one dropped, and the tests that compare a word with an `and`. A step down to the half is a step up in positions.
+-- What a machine's instructions on a word say of its positions, for a word of any width k: the count of ones, the
+-- zeros below the lowest one, the word with its lowest one dropped, and the tests that compare a word with an `and`.
+-- A step down to the half is a step up in positions.
 use mathlib.Core.Path.{_≡_, sym, ap, _∙_}
 use mathlib.Core.Logic.{⊎-elim}
 use mathlib.Core.Bool.{false, So, not, _&&_, and-true, and-self}
@@ -12,9 +13,25 @@ use lib.Pow.{pow-pos}
 use lib.Bits.{bitAnd, and-le-l, and-le-r}
 use lib.Count.{ones, ones-step, ones-le, trailingZeros}
 use Rattle.spec.specs.Vocabulary.{some-below, every-below}
-use Rattle.bits.specs.Truth.{implies, implies-intro, and-absorbs, and-right, not-both, not-passes, not-fails, same-truth}
+use Rattle.bits.specs.Truth.{
+  implies,
+  implies-intro,
+  and-absorbs,
+  and-right,
+  not-both,
+  not-passes,
+  not-fails,
+  same-truth,
+}
 use Rattle.bits.specs.Counting.{one-if, count-below, Lowest}
-use Rattle.bits.specs.Laws.Below.{some-below-intro, some-below-ext, none-below-intro, none-below-elim, every-below-intro, every-below-elim}
+use Rattle.bits.specs.Laws.Below.{
+  some-below-intro,
+  some-below-ext,
+  none-below-intro,
+  none-below-elim,
+  every-below-intro,
+  every-below-elim,
+}
 use Rattle.bits.specs.Laws.Lowest.{lowest-ext, lowest-at-zero, lowest-next}
 use Rattle.bits.specs.Laws.Count.{count-below-ext, count-below-first}
 use Rattle.bits.specs.Laws.CountJoin.{count-below-without}
@@ -70,15 +87,18 @@ below-lowest zero n zero pos p h =
 below-lowest zero n (suc q) pos p h =
     let odd : n % 2 ≡ 1 = first-digit n ∙ ap one-if p in
     let half : (n - 1) / 2 ≡ n / 2 = omega arith in
-    rw (bit-next (n - 1) q, half, bit-next n q, eqb·suc-zero q) (and-self (bit (n / 2) q) ∙ sym (and-true (bit (n / 2) q)))
+    rw (bit-next (n - 1) q, half, bit-next n q, eqb·suc-zero q) (and-self (bit (n / 2) q)
+    ∙ sym (and-true (bit (n / 2) q)))
 below-lowest (suc i) n zero pos p h = rw (h 0 (zero-lt-suc i))
 below-lowest (suc i) n (suc q) pos p h =
     let even : n % 2 ≡ 0 = first-digit n ∙ ap one-if (h 0 (zero-lt-suc i)) in
     let half : (n - 1) / 2 ≡ n / 2 - 1 = omega arith in
     rw (bit-next (n - 1) q, half, bit-next n q, eqb·suc-suc q i)
-    (below-lowest i (n / 2) q (omega arith) (sym (bit-next n i) ∙ p) (λ j l. sym (bit-next n j) ∙ h (suc j) (suc-le-suc l)))
+    (below-lowest i (n / 2) q (omega arith) (sym (bit-next n i) ∙ p) (λ j l. sym (bit-next n j)
+    ∙ h (suc j) (suc-le-suc l)))
 
-pub bit-drop-lowest : (k n : ℕ) {i : ℕ} → Lowest k (bit n) i → (q : ℕ) → bit (bitAnd n (n - 1)) q ≡ (bit n q && not (eqb q i))
+pub bit-drop-lowest : (k n : ℕ) {i : ℕ} → Lowest k (bit n) i → (q : ℕ) → bit (bitAnd n (n - 1)) q ≡ (bit n q
+    && not (eqb q i))
 bit-drop-lowest k n {i} w q =
     bit-and n (n - 1) q ∙ below-lowest i n q (some-bit-pos n i (w .holds)) (w .holds) (w .first)
 

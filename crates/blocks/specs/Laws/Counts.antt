@@ -1,5 +1,5 @@
--- Block 1 in the order in which it is written: the line of names, the number of roles, the bound behind a comma, the state behind a comma.
--- Assumes nothing.
+-- Block 1 in the order in which it is written: the line of names, the number of roles, the bound behind a comma, the
+-- state behind a comma. Assumes nothing.
 use mathlib.Core.Path.{_≡_}
 use mathlib.Core.List.{_++_, append-assoc, append-nil}
 use Rattle.spec.specs.Text.{ascii}

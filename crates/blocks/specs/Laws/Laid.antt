@@ -32,21 +32,25 @@ module _ {text : Bytes} {layout : Layout} (laid : LaidOut text layout) where
   unfolding name-limit
   user-name-short u h = lawful .user-name u (omega (arith, laid .user-total)) .short
 
-  pub permission-name-short : (p : ℕ) → p < layout .permissions → length (permission-name (sheet-of text) p) ≤ name-limit
+  pub permission-name-short : (p : ℕ) → p < layout .permissions → length (permission-name (sheet-of text) p) ≤
+      name-limit
   unfolding name-limit
   permission-name-short p h = lawful .permission-name p (omega (arith, laid .permission-total)) .short
 
 -- the same of a sheet whose names' places are lent
-pub placed-user-name-short : {text : Bytes} {from to : List ℕ} → UsersAt text from to → (u : ℕ) → u < user-count (sheet-of text)
+pub placed-user-name-short : {text : Bytes} {from to : List ℕ} → UsersAt text from to → (u : ℕ)
+    → u < user-count (sheet-of text)
     → length (user-name (sheet-of text) u) ≤ name-limit
 unfolding name-limit
 placed-user-name-short {text} at u h = accepted-lawful text (at .accepts) .user-name u h .short
 
-pub placed-permission-name-short : {text : Bytes} {from to : List ℕ} → PermissionsAt text from to → (p : ℕ) → p < permission-count (sheet-of text)
+pub placed-permission-name-short : {text : Bytes} {from to : List ℕ} → PermissionsAt text from to → (p : ℕ)
+    → p < permission-count (sheet-of text)
     → length (permission-name (sheet-of text) p) ≤ name-limit
 unfolding name-limit
 placed-permission-name-short {text} at p h = accepted-lawful text (at .accepts) .permission-name p h .short
 
-pub placed-permissions-fit : {text : Bytes} {from to : List ℕ} → PermissionsAt text from to → permission-count (sheet-of text) ≤ row-bits
+pub placed-permissions-fit : {text : Bytes} {from to : List ℕ} → PermissionsAt text from to
+    → permission-count (sheet-of text) ≤ row-bits
 unfolding permission-limit row-bits row-words
 placed-permissions-fit {text} at = accepted-lawful text (at .accepts) .few-permissions

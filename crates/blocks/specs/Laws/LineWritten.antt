@@ -1,4 +1,5 @@
--- A line written in three steps: a name, the fields behind it, the line feed behind them. Room for the line is room at each step.
+-- A line written in three steps: a name, the fields behind it, the line feed behind them. Room for the line is room
+-- at each step.
 use Prim.Native.Nat.{ℕ, _+_, _≤_}
 use mathlib.Core.List.{_++_}
 use lib.ListN.{length}
@@ -20,6 +21,7 @@ module _ {name fields before : Bytes} (room : LineRoom name fields before) where
   pub behind-name : {mid : Bytes} {at : ℕ} → Written name before mid at → WrittenSoFar name fields before mid at
   behind-name w = record { written = w; fits = fields-fit }
 
-  pub behind-fields : {mid rest : Bytes} {at m : ℕ} → Written name before mid at → Written fields (rest-from at mid) rest m
+  pub behind-fields : {mid rest : Bytes} {at m : ℕ} → Written name before mid at → Written fields (rest-from at mid)
+      rest m
       → WrittenSoFar (name ++ fields) line-end before (with-rest at mid rest) (at + m)
   behind-fields w v = record { written = then-written (behind-name w) v; fits = room .fits }

@@ -1,4 +1,5 @@
--- Reading cells one by one into a word: one more cell adds one position, and a place where no cell stands is no place of any cells. Assumes nothing.
+-- Reading cells one by one into a word: one more cell adds one position, and a place where no cell stands is no place
+-- of any cells. Assumes nothing.
 use Prim.Native.Nat.{ℕ, _+_, _*_, _%_, _≤_, _<_}
 use native.Mathlib.Nat.{not-suc-le-zero}
 use native.Mathlib.Omega.{arith}
@@ -43,7 +44,8 @@ cells-more text at i word more c h p added =
       stand = record {
         within = h;
         commas = λ j l. ⊎-elim (λ e. rw e comma-here) (λ k. c .stand .commas j k) (before j l);
-        cells = λ j l. ⊎-elim (λ e. rw e cell-here) (λ k. c .stand .cells j k ∙ ap cell-byte (sym (kept j k))) (before j l);
+        cells = λ j l. ⊎-elim (λ e. rw e cell-here) (λ k. c .stand .cells j k ∙ ap cell-byte (sym (kept j k)))
+            (before j l);
       };
       beyond = λ q l.
           added q ∙ rw (c .beyond q (omega arith), ne-eqb q i (λ e. omega arith));
@@ -56,14 +58,16 @@ cells-more text at i word more c h p added =
     before j l = last-or-below (omega arith)
 
     comma-here : getD text (at + 2 * i) 0 ≡ comma
-    comma-here = eqb-true (getD text (at + 2 * i) 0) comma (and-left (eqb (getD text (at + 2 * i) 0) comma) (eqb there (cell-byte false) || eqb there (cell-byte true)) p)
+    comma-here = eqb-true (getD text (at + 2 * i) 0) comma (and-left (eqb (getD text (at + 2 * i) 0) comma)
+        (eqb there (cell-byte false) || eqb there (cell-byte true)) p)
 
     here : bit more i ≡ eqb (there % 2) 1
     here = added i ∙ rw (c .beyond i (omega arith), eq-eqb i i refl)
 
     cell-here : getD text (at + 2 * i + 1) 0 ≡ cell-byte (bit more i)
     cell-here =
-        cell-odd there (and-right (eqb (getD text (at + 2 * i) 0) comma) (eqb there (cell-byte false) || eqb there (cell-byte true)) p)
+        cell-odd there (and-right (eqb (getD text (at + 2 * i) 0) comma) (eqb there (cell-byte false)
+        || eqb there (cell-byte true)) p)
         ∙ ap cell-byte (sym here)
 
     kept : (j : ℕ) → j < i → bit more j ≡ bit word j
@@ -76,6 +80,7 @@ cell-of false = refl
 
 -- no cells stand where one of them does not
 pub cells-off : (text : Bytes) (at i count : ℕ) → i < count
-    → cell-stands (getD text (at + 2 * i) 0) (getD text (at + 2 * i + 1) 0) ≡ false → (ones : ℕ → Bool) → CellsStand text at count ones → ⊥
+    → cell-stands (getD text (at + 2 * i) 0) (getD text (at + 2 * i + 1) 0) ≡ false → (ones : ℕ → Bool)
+    → CellsStand text at count ones → ⊥
 cells-off text at i count h f ones c =
     not-both (cell-of (ones i)) (rw (c .commas i h, c .cells i h) at f)

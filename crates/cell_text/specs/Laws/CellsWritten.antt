@@ -14,8 +14,10 @@ pub cell-field-length : (b : Bool) → length (cell-field b) ≡ 2
 cell-field-length true = refl
 cell-field-length false = refl
 
-pub cell-written : (b : Bool) (byte : ℕ) (before : Bytes) → length (cell-field b) ≤ length before → byte ∷ [] ≡ cell-text b
+pub cell-written : (b : Bool) (byte : ℕ) (before : Bytes) → length (cell-field b) ≤ length before
+    → byte ∷ [] ≡ cell-text b
     → Written (cell-field b) before (set (set before 0 comma) 1 byte) 2
 cell-written b byte before fits e =
     let two = cell-field-length b in
-    rw (← e) (byte-written (comma ∷ []) byte (omega arith) (byte-written [] comma (omega arith) (nothing-written before)))
+    rw (← e) (byte-written (comma ∷ []) byte (omega arith) (byte-written [] comma (omega arith)
+    (nothing-written before)))

@@ -1,4 +1,5 @@
--- Cells read four at once: eight bytes whose number says four cells are those cells, and four cells behind others are that many more. Assumes nothing.
+-- Cells read four at once: eight bytes whose number says four cells are those cells, and four cells behind others are
+-- that many more. Assumes nothing.
 use Prim.Native.Nat.{ℕ, zero, suc, _+_, _-_, _*_, _%_, _^_, _≤_, _<_}
 use native.Mathlib.Nat.{mod-eq-of-lt, lt-of-lt-of-le}
 use lib.Bits.{bitOr}
@@ -29,24 +30,48 @@ record TwoCells (a b c d : ℕ) (x y : Bool) : Type 0 where
   second-comma : c ≡ comma
   second-cell : d ≡ cell-byte y
 
-two-cells : (a b c d n : ℕ) (x y : Bool) → FourBytes a b c d n → n ≡ 808202284 + one-if x * 256 + one-if y * 16777216 → TwoCells a b c d x y
+two-cells : (a b c d n : ℕ) (x y : Bool) → FourBytes a b c d n → n ≡ 808202284 + one-if x * 256 + one-if y * 16777216
+    → TwoCells a b c d x y
 two-cells a b c d n x y f e =
     record {
       first-comma = omega (arith, f .first, f .second, f .third, f .fourth, f .sum, e, one-if-small x, one-if-small y);
-      first-cell = rw (byte-is x) (omega (arith, f .first, f .second, f .third, f .fourth, f .sum, e, one-if-small x, one-if-small y));
+      first-cell = rw (byte-is x) (omega (
+        arith,
+        f .first,
+        f .second,
+        f .third,
+        f .fourth,
+        f .sum,
+        e,
+        one-if-small x,
+        one-if-small y,
+      ));
       second-comma = omega (arith, f .first, f .second, f .third, f .fourth, f .sum, e, one-if-small x, one-if-small y);
-      second-cell = rw (byte-is y) (omega (arith, f .first, f .second, f .third, f .fourth, f .sum, e, one-if-small x, one-if-small y));
+      second-cell = rw (byte-is y) (omega (
+        arith,
+        f .first,
+        f .second,
+        f .third,
+        f .fourth,
+        f .sum,
+        e,
+        one-if-small x,
+        one-if-small y,
+      ));
     }
 
 module _ (text : Bytes) (at low high : ℕ)
-    (l : FourBytes (getD text (at + 2 * 0) 0) (getD text (at + 2 * 0 + 1) 0) (getD text (at + 2 * 1) 0) (getD text (at + 2 * 1 + 1) 0) low)
-    (h : FourBytes (getD text (at + 2 * 2) 0) (getD text (at + 2 * 2 + 1) 0) (getD text (at + 2 * 3) 0) (getD text (at + 2 * 3 + 1) 0) high)
+    (l : FourBytes (getD text (at + 2 * 0) 0) (getD text (at + 2 * 0 + 1) 0) (getD text (at + 2 * 1) 0)
+    (getD text (at + 2 * 1 + 1) 0) low)
+    (h : FourBytes (getD text (at + 2 * 2) 0) (getD text (at + 2 * 2 + 1) 0) (getD text (at + 2 * 3) 0)
+    (getD text (at + 2 * 3 + 1) 0) high)
   where
     abbrev both : ℕ
     both = low + high * 4294967296
 
     -- the number of cells that stand there
-    stands-said : (ones : ℕ → Bool) → CellsStand text at 4 ones → both ≡ no-cells + four-set (ones 0) (ones 1) (ones 2) (ones 3)
+    stands-said : (ones : ℕ → Bool) → CellsStand text at 4 ones → both ≡ no-cells + four-set (ones 0) (ones 1)
+        (ones 2) (ones 3)
     stands-said ones c =
         rw (
           l .sum,
@@ -66,7 +91,8 @@ module _ (text : Bytes) (at low high : ℕ)
         ) (omega arith)
 
     -- the cells that a number says
-    said-stands : at + 8 ≤ length text → (ones : ℕ → Bool) → both ≡ no-cells + four-set (ones 0) (ones 1) (ones 2) (ones 3) → CellsStand text at 4 ones
+    said-stands : at + 8 ≤ length text → (ones : ℕ → Bool) → both ≡ no-cells + four-set (ones 0) (ones 1) (ones 2)
+        (ones 3) → CellsStand text at 4 ones
     said-stands w ones e =
         record {
           within = omega (arith, w);
@@ -74,11 +100,33 @@ module _ (text : Bytes) (at low high : ℕ)
           cells = cells-there;
         }
       where
-        low-two : TwoCells (getD text (at + 2 * 0) 0) (getD text (at + 2 * 0 + 1) 0) (getD text (at + 2 * 1) 0) (getD text (at + 2 * 1 + 1) 0) (ones 0) (ones 1)
-        low-two = two-cells _ _ _ _ low (ones 0) (ones 1) l (omega (arith, e, l .first, l .second, l .third, l .fourth, l .sum, one-if-small (ones 0), one-if-small (ones 1)))
+        low-two : TwoCells (getD text (at + 2 * 0) 0) (getD text (at + 2 * 0 + 1) 0) (getD text (at + 2 * 1) 0)
+            (getD text (at + 2 * 1 + 1) 0) (ones 0) (ones 1)
+        low-two = two-cells _ _ _ _ low (ones 0) (ones 1) l (omega (
+          arith,
+          e,
+          l .first,
+          l .second,
+          l .third,
+          l .fourth,
+          l .sum,
+          one-if-small (ones 0),
+          one-if-small (ones 1),
+        ))
 
-        high-two : TwoCells (getD text (at + 2 * 2) 0) (getD text (at + 2 * 2 + 1) 0) (getD text (at + 2 * 3) 0) (getD text (at + 2 * 3 + 1) 0) (ones 2) (ones 3)
-        high-two = two-cells _ _ _ _ high (ones 2) (ones 3) h (omega (arith, e, l .first, l .second, l .third, l .fourth, l .sum, one-if-small (ones 0), one-if-small (ones 1)))
+        high-two : TwoCells (getD text (at + 2 * 2) 0) (getD text (at + 2 * 2 + 1) 0) (getD text (at + 2 * 3) 0)
+            (getD text (at + 2 * 3 + 1) 0) (ones 2) (ones 3)
+        high-two = two-cells _ _ _ _ high (ones 2) (ones 3) h (omega (
+          arith,
+          e,
+          l .first,
+          l .second,
+          l .third,
+          l .fourth,
+          l .sum,
+          one-if-small (ones 0),
+          one-if-small (ones 1),
+        ))
 
         commas-there : (i : ℕ) → i < 4 → getD text (at + 2 * i) 0 ≡ comma
         commas-there zero k = low-two .first-comma
@@ -115,17 +163,21 @@ placed text a b c d a' b' c' d' n ea eb ec ed f = rw (ea, eb, ec, ed) at f
 pub four-cells-read : (text : Bytes) (at low high : ℕ)
     → FourBytes (getD text at 0) (getD text (at + 1) 0) (getD text (at + 2) 0) (getD text (at + 3) 0) low
     → FourBytes (getD text (at + 4) 0) (getD text (at + 5) 0) (getD text (at + 6) 0) (getD text (at + 7) 0) high
-    → at + 8 ≤ length text → (r : CellsWord) → FourOf (low + high * 4294967296) r → (r .word < 2 ^ 4) × WordOfCells text at 4 r
+    → at + 8 ≤ length text → (r : CellsWord) → FourOf (low + high * 4294967296) r → (r .word < 2 ^ 4)
+    × WordOfCells text at 4 r
 four-cells-read text at low high l h w r f = (
   f .small,
   four-read text at low high
-      (placed text at (at + 1) (at + 2) (at + 3) (at + 2 * 0) (at + 2 * 0 + 1) (at + 2 * 1) (at + 2 * 1 + 1) low (omega arith) (omega arith) (omega arith) (omega arith) l)
-      (placed text (at + 4) (at + 5) (at + 6) (at + 7) (at + 2 * 2) (at + 2 * 2 + 1) (at + 2 * 3) (at + 2 * 3 + 1) high (omega arith) (omega arith) (omega arith) (omega arith) h)
+      (placed text at (at + 1) (at + 2) (at + 3) (at + 2 * 0) (at + 2 * 0 + 1) (at + 2 * 1) (at + 2 * 1 + 1) low
+      (omega arith) (omega arith) (omega arith) (omega arith) l)
+      (placed text (at + 4) (at + 5) (at + 6) (at + 7) (at + 2 * 2) (at + 2 * 2 + 1) (at + 2 * 3) (at + 2 * 3 + 1)
+      high (omega arith) (omega arith) (omega arith) (omega arith) h)
       w r f,
 )
 
 -- of cells that stand, so do the first
-pub stand-first : {text : Bytes} {at count : ℕ} {ones : ℕ → Bool} (i : ℕ) → i ≤ count → CellsStand text at count ones → CellsStand text at i ones
+pub stand-first : {text : Bytes} {at count : ℕ} {ones : ℕ → Bool} (i : ℕ) → i ≤ count → CellsStand text at count ones
+    → CellsStand text at i ones
 stand-first i h c =
     record {
       within = omega (arith, c .within);
@@ -134,7 +186,8 @@ stand-first i h c =
     }
 
 -- and those from one on
-pub stand-from : {text : Bytes} {at count : ℕ} {ones : ℕ → Bool} (i more from : ℕ) → i + more ≤ count → from ≡ at + 2 * i
+pub stand-from : {text : Bytes} {at count : ℕ} {ones : ℕ → Bool} (i more from : ℕ) → i + more ≤ count
+    → from ≡ at + 2 * i
     → CellsStand text at count ones → CellsStand text from more (λ j. ones (i + j))
 stand-from {text} {at} i more from h e c =
     record {
@@ -144,16 +197,19 @@ stand-from {text} {at} i more from h e c =
     }
 
 -- four cells behind others
-pub cells-join : (text : Bytes) (at i from word four more : ℕ) → CellsIn text at i word → CellsIn text from 4 four → from ≡ at + 2 * i
+pub cells-join : (text : Bytes) (at i from word four more : ℕ) → CellsIn text at i word → CellsIn text from 4 four
+    → from ≡ at + 2 * i
     → ((q : ℕ) → bit more q ≡ (bit word q || bit (four * 2 ^ i) q)) → CellsIn text at (i + 4) more
 cells-join text at i from word four more c f e added =
     record {
       stand = record {
         within = omega (arith, f .stand .within);
-        commas = λ j l. ⊎-elim (λ k. c .stand .commas j k) (λ k. rw (place j k) at (f .stand .commas (j - i) (omega arith))) (below-or-from j i);
+        commas = λ j l. ⊎-elim (λ k. c .stand .commas j k)
+            (λ k. rw (place j k) at (f .stand .commas (j - i) (omega arith))) (below-or-from j i);
         cells = λ j l.
             ⊎-elim (λ k. c .stand .cells j k ∙ ap cell-byte (sym (before j k)))
-            (λ k. rw (place j k) at (f .stand .cells (j - i) (omega arith)) ∙ ap cell-byte (sym (behind j k))) (below-or-from j i);
+            (λ k. rw (place j k) at (f .stand .cells (j - i) (omega arith)) ∙ ap cell-byte (sym (behind j k)))
+            (below-or-from j i);
       };
       beyond = λ q l. behind q (omega arith) ∙ f .beyond (q - i) (omega arith);
     }
@@ -174,9 +230,11 @@ pub four-shifted : (four i : ℕ) → four < 2 ^ 4 → i + 4 ≤ 64 → four * 2
 four-shifted four i s h = mod-eq-of-lt (lt-of-lt-of-le (shl-lt 4 i s) (pow-mono {i = 4 + i} {j = 64} (omega arith)))
 
 -- a turn more
-pub fours-more : (text : Bytes) (at i word four : ℕ) → CellsIn text at (4 * i) word → CellsIn text (at + 8 * i) 4 four → four < 2 ^ 4 → 4 * i + 4 ≤ 64
+pub fours-more : (text : Bytes) (at i word four : ℕ) → CellsIn text at (4 * i) word → CellsIn text (at + 8 * i) 4 four
+    → four < 2 ^ 4 → 4 * i + 4 ≤ 64
     → CellsIn text at (4 * (i + 1)) (bitOr word (four * 2 ^ (4 * i) % 2 ^ 64))
 fours-more text at i word four c f s h =
     let e : 4 * (i + 1) ≡ 4 * i + 4 = omega arith in
     rw (e, four-shifted four (4 * i) s h)
-    (cells-join text at (4 * i) (at + 8 * i) word four (bitOr word (four * 2 ^ (4 * i))) c f (omega arith) (λ q. bit-or word (four * 2 ^ (4 * i)) q))
+    (cells-join text at (4 * i) (at + 8 * i) word four (bitOr word (four * 2 ^ (4 * i))) c f (omega arith)
+    (λ q. bit-or word (four * 2 ^ (4 * i)) q))

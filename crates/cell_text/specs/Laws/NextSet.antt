@@ -1,5 +1,5 @@
--- The next set cell of a row that is one word: the cells of the row are the bits of the word, so the next bit of the word is the next cell, where it is one of
--- the cells that are looked at, and else there is none.
+-- The next set cell of a row that is one word: the cells of the row are the bits of the word, so the next bit of the
+-- word is the next cell, where it is one of the cells that are looked at, and else there is none.
 use Prim.Native.Nat.{ℕ, _*_, _/_, _%_, _≤_, _<_}
 use native.Mathlib.Nat.{le-refl, add-zero}
 use native.Mathlib.Omega.{arith}
@@ -31,7 +31,8 @@ next-at-end test from count e = record {
   passes = λ l. absurd (omega arith);
 }
 
-module _ (words : List ℕ) (row from count next : ℕ) (room : count ≤ row-bits) (found : NextFrom (bit (row-word words row)) from word-bits next) where
+module _ (words : List ℕ) (row from count next : ℕ) (room : count ≤ row-bits)
+    (found : NextFrom (bit (row-word words row)) from word-bits next) where
   -- the next bit is past the cells that are looked at
   pub next-past : from ≤ count → count ≤ next → NextFrom (cell words row) from count count
   next-past h e = record {

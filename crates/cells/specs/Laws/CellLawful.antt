@@ -1,5 +1,5 @@
--- What a caller with a sheet that keeps the rules has: its rows show it, of as many users as it has. The sheet's limits are those that the words have room
--- for.
+-- What a caller with a sheet that keeps the rules has: its rows show it, of as many users as it has. The sheet's
+-- limits are those that the words have room for.
 use Prim.Native.Nat.{ℕ, _≤_, _<_}
 use native.Mathlib.Omega.{arith}
 use mathlib.Core.Bool.{So}
@@ -18,7 +18,8 @@ room-for-permissions : permission-limit ≤ row-bits
 unfolding permission-limit row-bits row-words
 room-for-permissions = lit≤ tt
 
-pub lawful-shown : {rows : List ℕ} {sheet : Sheet} → Lawful sheet → RowsOf rows sheet → Shown rows (user-count sheet) sheet
+pub lawful-shown : {rows : List ℕ} {sheet : Sheet} → Lawful sheet → RowsOf rows sheet → Shown rows (user-count sheet)
+    sheet
 lawful-shown {sheet = sheet} lawful read =
     record { cells = read; few = λ u p held. user u p held; short = λ u p held. permission u p held }
   where
@@ -27,8 +28,20 @@ lawful-shown {sheet = sheet} lawful read =
 
     permission : (u p : ℕ) → So (holds sheet u p) → p < row-bits
     permission u p held =
-        omega (arith, yes-within (getD (sheet .rows) u []) held, lawful .a-cell-each u (user u p held), lawful .few-permissions, room-for-permissions)
+        omega (
+          arith,
+          yes-within (getD (sheet .rows) u []) held,
+          lawful .a-cell-each u (user u p held),
+          lawful .few-permissions,
+          room-for-permissions,
+        )
 
 pub lawful-shows : {rows : List ℕ} {sheet : Sheet} → Lawful sheet → RowsOf rows sheet → Shows rows (user-count sheet)
 lawful-shows {sheet = sheet} lawful read =
-    record { sheet = sheet; shown = lawful-shown lawful read; few-users = lawful .few-users; few-grants = lawful .few-grants }
+    record {
+      sheet = sheet;
+      shown = lawful-shown lawful read;
+      few-users = lawful .few-users;
+      few-grants =
+          lawful .few-grants;
+    }

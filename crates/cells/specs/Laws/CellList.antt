@@ -1,5 +1,6 @@
--- The list of a set's grants, from the numbers of its cells: the cells in rising number give the grants in order. Both lists are in order, and a grant
--- stands in either exactly where its cell is set. So what a test finds in the list is found, and counted, by the cells' numbers.
+-- The list of a set's grants, from the numbers of its cells: the cells in rising number give the grants in order.
+-- Both lists are in order, and a grant stands in either exactly where its cell is set. So what a test finds in the
+-- list is found, and counted, by the cells' numbers.
 use Prim.Native.Nat.{ℕ, _+_, _*_, _/_, _%_, _<_}
 use native.Mathlib.Nat.{mod-lt, div-add-mod', le-div-iff-mul-le, div-mul-le-self, eq-or-lt-of-le}
 use native.Mathlib.Omega.{arith}
@@ -16,7 +17,15 @@ use Rattle.bits.specs.Counting.{count-below}
 use Rattle.lists.specs.AppendLaws.{filter-map}
 use Rattle.lists.specs.OrderedMap.{ordered-map}
 use Rattle.lists.specs.OrderedUnique.{ordered-unique}
-use Rattle.lists.specs.PassingBelow.{passing-below, passing-only, passing-member, passing-rises, passing-filter, passing-length, passing-ext}
+use Rattle.lists.specs.PassingBelow.{
+  passing-below,
+  passing-only,
+  passing-member,
+  passing-rises,
+  passing-filter,
+  passing-length,
+  passing-ext,
+}
 use Rattle.cells.specs.Rows.{row-bits}
 use Rattle.cells.specs.Laws.Grant.{same-parts, grant-held, held-grant}
 use Rattle.cells.specs.Laws.GrantOrder.{Before, grants-ordered}
@@ -29,7 +38,8 @@ use Rattle.cells.specs.Laws.CellPlace.{row-bits-pos, cell-marked}
 -- of two numbers the lower has the lower quotient, or the same and the lower remainder
 lower-parts : (b m n : ℕ) → 0 < b → m < n → (m / b < n / b) ⊎ ((m / b ≡ n / b) × (m % b < n % b))
 lower-parts b m n pos l =
-    ⊎-elim (λ e. inr (e, remainders e)) (λ k. inl k) (eq-or-lt-of-le (le-div-iff-mul-le pos .1 (omega (arith, div-mul-le-self m b))))
+    ⊎-elim (λ e. inr (e, remainders e)) (λ k. inl k)
+    (eq-or-lt-of-le (le-div-iff-mul-le pos .1 (omega (arith, div-mul-le-self m b))))
   where
     remainders : m / b ≡ n / b → m % b < n % b
     remainders e =
@@ -68,30 +78,36 @@ module _ {rows : List ℕ} {users : ℕ} {sheet : Sheet} (shown : Shown rows use
   pub grants-by-cell : grants sheet ≡ map grant-of (passing-below (users * row-bits) (marked rows))
   grants-by-cell =
       ordered-unique Before before-strict (grants sheet) (map grant-of (passing-below (users * row-bits) (marked rows)))
-      (grants-ordered sheet) (ordered-map _<_ Before grant-of lower-cell (passing-below (users * row-bits) (marked rows)) (passing-rises (users * row-bits) (marked rows)))
+      (grants-ordered sheet) (ordered-map _<_ Before grant-of lower-cell (passing-below (users * row-bits)
+      (marked rows)) (passing-rises (users * row-bits) (marked rows)))
       there back
     where
-      there : (g : Grant) → List·Memᴰ g (grants sheet) → List·Memᴰ g (map grant-of (passing-below (users * row-bits) (marked rows)))
+      there : (g : Grant) → List·Memᴰ g (grants sheet)
+          → List·Memᴰ g (map grant-of (passing-below (users * row-bits) (marked rows)))
       there g m =
           let p = grant-held sheet m in
           let e = grant-of-cell g (shown .short (g .user) (g .permission) p) in
           Memᴰ·cast (sym e) (Memᴰ·map grant-of (passing-member (users * row-bits) (marked rows) (cell-below g p)
           (marked-holds (cell-of g) ∙ rw (ap (λ x. x .user) e, ap (λ x. x .permission) e) p)))
 
-      back : (g : Grant) → List·Memᴰ g (map grant-of (passing-below (users * row-bits) (marked rows))) → List·Memᴰ g (grants sheet)
+      back : (g : Grant) → List·Memᴰ g (map grant-of (passing-below (users * row-bits) (marked rows)))
+          → List·Memᴰ g (grants sheet)
       back g m =
           let r = Memᴰ·of-map grant-of (passing-below (users * row-bits) (marked rows)) m in
-          Memᴰ·cast (sym (r .2)) (held-grant sheet (grant-of (r .0)) (sym (marked-holds (r .0)) ∙ passing-only (users * row-bits) (marked rows) (r .1) .holds))
+          Memᴰ·cast (sym (r .2)) (held-grant sheet (grant-of (r .0)) (sym (marked-holds (r .0))
+          ∙ passing-only (users * row-bits) (marked rows) (r .1) .holds))
 
   -- a set of them
-  pub cell-grants-by-cell : {left : List ℕ} → Part left rows → cell-grants sheet left ≡ map grant-of (passing-below (users * row-bits) (marked left))
+  pub cell-grants-by-cell : {left : List ℕ} → Part left rows → cell-grants sheet left ≡ map grant-of
+      (passing-below (users * row-bits) (marked left))
   cell-grants-by-cell {left} part =
       rw (
         grants-by-cell,
         filter-map (in-cells left) grant-of (passing-below (users * row-bits) (marked rows)),
         passing-filter (users * row-bits) (marked rows) (λ n. in-cells left (grant-of n)),
       )
-      (ap (map grant-of) (passing-ext (users * row-bits) (λ n. marked rows n && in-cells left (grant-of n)) (marked left) (λ n l. rw (cell-marked left n) (both n))))
+      (ap (map grant-of) (passing-ext (users * row-bits) (λ n. marked rows n && in-cells left (grant-of n))
+      (marked left) (λ n l. rw (cell-marked left n) (both n))))
     where
       both : (n : ℕ) → (marked rows n && marked left n) ≡ marked left n
       both n =
@@ -100,7 +116,8 @@ module _ {rows : List ℕ} {users : ℕ} {sheet : Sheet} (shown : Shown rows use
 
   -- how many of them pass a test
   pub passing-grants-count : {left : List ℕ} → Part left rows → (test : Grant → Bool)
-      → length (filter test (cell-grants sheet left)) ≡ count-below (users * row-bits) (λ n. marked left n && test (grant-of n))
+      → length (filter test (cell-grants sheet left)) ≡ count-below (users * row-bits) (λ n. marked left n
+      && test (grant-of n))
   passing-grants-count {left} part test =
       rw (
         cell-grants-by-cell part,

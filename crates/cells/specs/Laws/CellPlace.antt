@@ -1,5 +1,6 @@
--- Where a cell stands among the words: its user, its word within the row and its position are the quotients and remainders of its number, first by the
--- bits of a word, then by the words of a row. So the bit of a cell is the cell of its user and permission.
+-- Where a cell stands among the words: its user, its word within the row and its position are the quotients and
+-- remainders of its number, first by the bits of a word, then by the words of a row. So the bit of a cell is the cell
+-- of its user and permission.
 use Prim.Native.Nat.{ℕ, _+_, _*_, _/_, _%_, _<_}
 use native.Mathlib.Nat.{mul-comm, mod-lt, div-add-mod', div-div-eq-div-mul, div-lt-iff-lt-mul}
 use mathlib.Core.Path.{_≡_, sym}
@@ -46,9 +47,16 @@ pub cell-marked : (words : List ℕ) (n : ℕ) → in-cells words (grant-of n) �
 cell-marked words n =
     rw (word-of-cell n, position-of-cell n, user-of-cell n, div-add-mod' (n / word-bits) row-words)
 
--- the cells of a word, against the grant at a cell: the same word of that grant's row, where their user holds its permission
+-- the cells of a word, against the grant at a cell: the same word of that grant's row, where their user holds its
+-- permission
 pub fit-by-word : (rows : List ℕ) (it i q : ℕ) → q < word-bits
     → fit-in rows (grant-of it) (grant-of (i * word-bits + q))
     ≡ (bit (getD rows (it / row-bits * row-words + i % row-words) 0) q && cell rows (i / row-words) (it % row-bits))
 fit-by-word rows it i q l =
-    rw (word-of-cell (i * word-bits + q), position-of-cell (i * word-bits + q), user-of-cell (i * word-bits + q), digits-div i l, digits-mod i l)
+    rw (
+      word-of-cell (i * word-bits + q),
+      position-of-cell (i * word-bits + q),
+      user-of-cell (i * word-bits + q),
+      digits-div i l,
+      digits-mod i l,
+    )

@@ -1,5 +1,5 @@
--- The grants stand by user, then permission, so no grant stands twice. A row's grants have one user and rising permissions; the grants of later rows
--- have greater users.
+-- The grants stand by user, then permission, so no grant stands twice. A row's grants have one user and rising
+-- permissions; the grants of later rows have greater users.
 use Prim.Native.Nat.{ℕ, suc, _<_}
 use native.Mathlib.Omega.{arith}
 use mathlib.Core.Path.{_≡_, sym, ap}
@@ -33,7 +33,8 @@ row-ordered u p (cell ∷ row) =
 rows-ordered : (u : ℕ) (rows : List (List Bool)) → Ordered Before (grants-of-rows u rows)
 rows-ordered u [] = tt
 rows-ordered u (row ∷ rows) =
-    ordered-append Before (grants-of-row u 0 row) (grants-of-rows (suc u) rows) (row-ordered u 0 row) (rows-ordered (suc u) rows)
+    ordered-append Before (grants-of-row u 0 row) (grants-of-rows (suc u) rows) (row-ordered u 0 row)
+    (rows-ordered (suc u) rows)
     (λ g h m n. let r = row-only u 0 row m in let s = rows-only (suc u) rows n in inl (omega (arith, r .user, s .user)))
 
 -- the grants of a sheet are in order

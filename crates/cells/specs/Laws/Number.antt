@@ -1,5 +1,5 @@
--- Grants by their numbers in a list: a number below the length names a member, and a member has such a number. In a list in order no two numbers
--- name one grant.
+-- Grants by their numbers in a list: a number below the length names a member, and a member has such a number. In a
+-- list in order no two numbers name one grant.
 use Prim.Native.Nat.{ℕ, _<_}
 use mathlib.Core.Path.{_≡_}
 use mathlib.Core.Bool.{false}

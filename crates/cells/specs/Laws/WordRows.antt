@@ -1,4 +1,5 @@
--- Rows whose cells are the positions of words: the lines that spell them, how many grants they have, and the words as the rows of a sheet. Assumes nothing.
+-- Rows whose cells are the positions of words: the lines that spell them, how many grants they have, and the words as
+-- the rows of a sheet. Assumes nothing.
 use Prim.Native.Nat.{ℕ, zero, suc, _+_, _-_, _*_, _/_, _%_, _≤_, _<_}
 use native.Mathlib.Omega.{arith}
 use mathlib.Core.Path.{_≡_, refl, sym, ap, _∙_}
@@ -33,11 +34,13 @@ word-rows width words n = list-of n (λ u. word-row width (getD words u 0))
 lines-from : (i n : ℕ) (name : ℕ → Bytes) (row : ℕ → List Bool)
     → user-lines (list-from i n name) (list-from i n row) ≡ list-from i n (λ u. name u ∷ map cell-text (row u))
 lines-from i zero name row = refl
-lines-from i (suc n) name row = ap (λ (l : List Line). (name i ∷ map cell-text (row i)) ∷ l) (lines-from (suc i) n name row)
+lines-from i (suc n) name row =
+    ap (λ (l : List Line). (name i ∷ map cell-text (row i)) ∷ l) (lines-from (suc i) n name row)
 
 -- the lines of names and of rows of words
 pub word-lines : (n width : ℕ) (name : ℕ → Bytes) (words : List ℕ)
-    → user-lines (list-of n name) (word-rows width words n) ≡ list-of n (λ u. name u ∷ list-of width (λ i. cell-text (bit (getD words u 0) i)))
+    → user-lines (list-of n name) (word-rows width words n) ≡ list-of n
+    (λ u. name u ∷ list-of width (λ i. cell-text (bit (getD words u 0) i)))
 word-lines n width name words =
     lines-from 0 n name (λ u. word-row width (getD words u 0))
     ∙ list-of-same n (λ u. name u ∷ map cell-text (word-row width (getD words u 0)))
@@ -65,7 +68,8 @@ unfolding sum-below
 rows-grants u zero width f = refl
 rows-grants u (suc n) width f =
     ap (λ (l : List (List Bool)). length (grants-of-rows u l)) (list-of-first n (λ v. list-of width (f v)))
-    ∙ length-append (grants-of-row u 0 (list-of width (f 0))) (grants-of-rows (suc u) (list-of n (λ v. list-of width (f (suc v)))))
+    ∙ length-append (grants-of-row u 0 (list-of width (f 0)))
+    (grants-of-rows (suc u) (list-of n (λ v. list-of width (f (suc v)))))
     ∙ rw (row-grants u 0 width (f 0), rows-grants (suc u) n width (λ v. f (suc v)))
     (sym (sum-below-first n (λ v. count-below width (f v))))
 
@@ -76,26 +80,32 @@ narrow-count width word h narrow =
     let all : word-bits ≡ width + (word-bits - width) = omega arith in
     let none : count-below (word-bits - width) (λ i. bit word (width + i)) ≡ 0 =
     count-below-none-intro (word-bits - width) (λ i. bit word (width + i)) (λ i l. narrow (width + i) (omega arith)) in
-    ap (λ (k : ℕ). count-below k (bit word)) all ∙ count-below-add width (word-bits - width) (bit word) ∙ omega (arith, none)
+    ap (λ (k : ℕ). count-below k (bit word)) all ∙ count-below-add width (word-bits - width) (bit word)
+    ∙ omega (arith, none)
 
 -- the grants of rows of words are as many as the words have positions
-pub word-grants : (n width : ℕ) (words : List ℕ) → width ≤ word-bits → ((u : ℕ) → u < n → (q : ℕ) → width ≤ q → bit (getD words u 0) q ≡ false)
-    → length (grants-of-rows 0 (word-rows width words n)) ≡ sum-below n (λ u. count-below word-bits (bit (getD words u 0)))
+pub word-grants : (n width : ℕ) (words : List ℕ) → width ≤ word-bits → ((u : ℕ) → u < n → (q : ℕ) → width ≤ q
+    → bit (getD words u 0) q ≡ false)
+    → length (grants-of-rows 0 (word-rows width words n)) ≡ sum-below n
+    (λ u. count-below word-bits (bit (getD words u 0)))
 word-grants n width words h narrow =
     rows-grants 0 n width (λ u. bit (getD words u 0))
-    ∙ sym (sum-below-ext n (λ u. count-below word-bits (bit (getD words u 0))) (λ u. count-below width (bit (getD words u 0)))
+    ∙ sym (sum-below-ext n (λ u. count-below word-bits (bit (getD words u 0)))
+    (λ u. count-below width (bit (getD words u 0)))
     (λ u l. narrow-count width (getD words u 0) h (narrow u l)))
 
 -- ---- cells
 
 -- words with no position past the width and none from word n on are the rows of a sheet with these rows
-module _ (n width : ℕ) (words : List ℕ) (narrow : (u : ℕ) → u < n → (q : ℕ) → width ≤ q → bit (getD words u 0) q ≡ false)
+module _ (n width : ℕ) (words : List ℕ) (narrow : (u : ℕ) → u < n → (q : ℕ) → width ≤ q → bit (getD words u 0) q ≡
+    false)
     (beyond : (i : ℕ) → n ≤ i → getD words i 0 ≡ 0) where
   in-row : (u p : ℕ) → u < n → bit (getD words u 0) p ≡ getD (word-row width (getD words u 0)) p false
   in-row u p h =
       ⊎-elim (λ l. sym (getD-list-of width (bit (getD words u 0)) p false l))
       (λ l. narrow u h p l
-      ∙ sym (List·getD-eq-default (word-row width (getD words u 0)) false (rw (length-list-of width (bit (getD words u 0))) l)))
+      ∙ sym (List·getD-eq-default (word-row width (getD words u 0)) false
+      (rw (length-list-of width (bit (getD words u 0))) l)))
       (below-or-from p width)
 
   in-rows : (u p : ℕ) → bit (getD words u 0) p ≡ getD (getD (word-rows width words n) u []) p false
@@ -106,10 +116,12 @@ module _ (n width : ℕ) (words : List ℕ) (narrow : (u : ℕ) → u < n → (q
 
       past : n ≤ u → bit (getD words u 0) p ≡ getD (getD (word-rows width words n) u []) p false
       past h =
-          let none : length (word-rows width words n) ≤ u = rw (length-list-of n (λ v. word-row width (getD words v 0))) h in
+          let none : length (word-rows width words n) ≤ u =
+          rw (length-list-of n (λ v. word-row width (getD words v 0))) h in
           rw (beyond u h, List·getD-eq-default (word-rows width words n) [] none) (bit-of-zero p)
 
-  pub word-rows-read : (sheet : Sheet) → sheet .rows ≡ word-rows width words n → user-count sheet ≡ n → RowsRead words sheet
+  pub word-rows-read : (sheet : Sheet) → sheet .rows ≡ word-rows width words n → user-count sheet ≡ n
+      → RowsRead words sheet
   unfolding row-words row-bits
   word-rows-read sheet rows users =
       record {

@@ -1,5 +1,6 @@
--- The check, step by step: what each reading is handed, and the checker's answer wherever the code gives one. A sheet is refused by its number, a
--- book that is too long or lacks a block by 12, and any other book is judged by what was read of it.
+-- The check, step by step: what each reading is handed, and the checker's answer wherever the code gives one. A sheet
+-- is refused by its number, a book that is too long or lacks a block by 12, and any other book is judged by what was
+-- read of it.
 use Prim.Native.Nat.{ℕ, _*_, _≤_, _<_}
 use native.Mathlib.Nat.{mul-le-mul-right}
 use native.Mathlib.Omega.{arith}
@@ -48,20 +49,24 @@ users-within {text} {layout} laid size e =
 -- ---- the answer
 
 module _ {text book : Bytes} {answer : CheckAnswer} where
-  pub refused-for-sheet : {number : ℕ} → number ≡ refusal text → (number ≡ 0 → ⊥) → answer ≡ check-refused number → Checks text book answer
+  pub refused-for-sheet : {number : ℕ} → number ≡ refusal text → (number ≡ 0 → ⊥) → answer ≡ check-refused number
+      → Checks text book answer
   refused-for-sheet {number} e h a =
       record { answers = a ∙ ap check-refused e ∙ sym (refused-by-sheet text book (λ none. h (e ∙ none))) }
 
-  pub refused-too-long : refusal text ≡ 0 → book-limit < length book → answer ≡ check-refused 12 → Checks text book answer
+  pub refused-too-long : refusal text ≡ 0 → book-limit < length book → answer ≡ check-refused 12
+      → Checks text book answer
   refused-too-long e h a = record { answers = a ∙ sym (too-long-book text book e h) }
 
   module _ (stands : So (accepted text)) where
     pub refused-for-form : Unwritten (sheet-of text) book → answer ≡ check-refused 12 → Checks text book answer
     refused-for-form u a = record { answers = a ∙ sym (unwritten-book text book (eqb-true (refusal text) 0 stands) u) }
 
-    pub judged-as-read : {counts : Counts} {gives : List ℕ} {roles third fourth : ℕ} {w : Witness} (has : List ℕ) → length book ≤ book-limit
+    pub judged-as-read : {counts : Counts} {gives : List ℕ} {roles third fourth : ℕ} {w : Witness} (has : List ℕ)
+        → length book ≤ book-limit
         → (front : FrontRead (sheet-of text) book counts gives roles third)
-        → (users : Reads book third (users-part (sheet-of text) roles (cell has)) fourth) → (last : WitnessPart (sheet-of text) book fourth w)
+        → (users : Reads book third (users-part (sheet-of text) roles (cell has)) fourth)
+        → (last : WitnessPart (sheet-of text) book fourth w)
         → JudgedAs (sheet-of text) counts roles has gives w answer → Checks text book answer
     judged-as-read has h front users last judged =
         let sheet = sheet-of text in

@@ -1,6 +1,7 @@
--- What the first best of the three groupings is: a placement of the whole list, with classes numbered by first appearance and only fitting grants in a
--- class. Grants of one permission fit, and so do grants of one user, so all three groupings are such placements. None of the three has fewer
--- classes than the best, so it has no more than there are permissions, and no more than there are users.
+-- What the first best of the three groupings is: a placement of the whole list, with classes numbered by first
+-- appearance and only fitting grants in a class. Grants of one permission fit, and so do grants of one user, so all
+-- three groupings are such placements. None of the three has fewer classes than the best, so it has no more than
+-- there are permissions, and no more than there are users.
 use Prim.Native.Nat.{ℕ, _≤_, _<_}
 use native.Mathlib.Nat.{le-refl, le-trans, le-of-lt, lt-trans}
 use mathlib.Core.Path.{_≡_}
@@ -50,7 +51,8 @@ module _ (sheet : Sheet) (l : List Grant) where
   -- ---- the first best of three
 
   -- what holds of the three groupings holds of the first best
-  pub best-is-one : (P : List ℕ → Type 0) → P (by-fit sheet l) → P (by-permission l) → P (by-user l) → P (best-grouping sheet l)
+  pub best-is-one : (P : List ℕ → Type 0) → P (by-fit sheet l) → P (by-permission l) → P (by-user l)
+      → P (best-grouping sheet l)
   best-is-one P fit permission user =
       fewer-is-one P (fewer (by-fit sheet l) (by-permission l)) (by-user l)
       (fewer-is-one P (by-fit sheet l) (by-permission l) fit permission) user
@@ -67,22 +69,26 @@ module _ (sheet : Sheet) (l : List Grant) where
 
   -- a grouping of held grants in which only fitting grants go together has fitting classes
   grouping-fits : (together : ℕ → ℕ → Bool) → ((g : Grant) → List·Memᴰ g l → Held sheet g)
-      → ((i j : ℕ) → Held sheet (grant-at l i) → Held sheet (grant-at l j) → So (together i j) → So (fit-at sheet l i j))
+      → ((i j : ℕ) → Held sheet (grant-at l i) → Held sheet (grant-at l j) → So (together i j)
+      → So (fit-at sheet l i j))
       → Valid (fit-at sheet l) (grouping together (length l))
   grouping-fits together held fitting =
       valid-mono together (fit-at sheet l) (grouping together (length l))
-      (λ i j k m e. let inside = rw (grouping-length together (length l)) at m in fitting i j (granted i inside) (granted j (lt-trans k inside)) e)
+      (λ i j k m e. let inside = rw (grouping-length together (length l)) at m in fitting i j (granted i inside)
+      (granted j (lt-trans k inside)) e)
       (grouping-valid together (length l))
     where
       granted : (i : ℕ) → i < length l → Held sheet (grant-at l i)
       granted i k = held (grant-at l i) (grant-at-member l i k)
 
   -- held grants of one class fit
-  pub best-grouping-valid : ((g : Grant) → List·Memᴰ g l → Held sheet g) → Valid (fit-at sheet l) (best-grouping sheet l)
+  pub best-grouping-valid : ((g : Grant) → List·Memᴰ g l → Held sheet g) → Valid (fit-at sheet l)
+      (best-grouping sheet l)
   best-grouping-valid held =
       best-is-one (Valid (fit-at sheet l)) (grouping-valid (fit-at sheet l) (length l))
       (grouping-fits (permission-at l) held (λ i j p q e.
-      one-permission-fits sheet (grant-at l i) (grant-at l j) p q (eqb-true (grant-at l i .permission) (grant-at l j .permission) e)))
+      one-permission-fits sheet (grant-at l i) (grant-at l j) p q (eqb-true (grant-at l i .permission)
+      (grant-at l j .permission) e)))
       (grouping-fits (user-at l) held (λ i j p q e.
       one-user-fits sheet (grant-at l i) (grant-at l j) p q (eqb-true (grant-at l i .user) (grant-at l j .user) e)))
 
@@ -102,10 +108,12 @@ module _ (sheet : Sheet) (l : List Grant) where
   best-le-by-user = fewer-le-later (fewer (by-fit sheet l) (by-permission l)) (by-user l)
 
   -- no more classes than permissions, and no more than users
-  pub best-le-permissions : (m : ℕ) → ((g : Grant) → List·Memᴰ g l → g .permission < m) → used (best-grouping sheet l) ≤ m
+  pub best-le-permissions : (m : ℕ) → ((g : Grant) → List·Memᴰ g l → g .permission < m) → used (best-grouping sheet l)
+      ≤ m
   best-le-permissions m below =
       le-trans best-le-by-permission
-      (grouping-used-le (λ i. grant-at l i .permission) (length l) m (λ i k. below (grant-at l i) (grant-at-member l i k)))
+      (grouping-used-le (λ i. grant-at l i .permission) (length l) m
+      (λ i k. below (grant-at l i) (grant-at-member l i k)))
 
   pub best-le-users : (n : ℕ) → ((g : Grant) → List·Memᴰ g l → g .user < n) → used (best-grouping sheet l) ≤ n
   best-le-users n below =

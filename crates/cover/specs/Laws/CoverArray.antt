@@ -1,5 +1,6 @@
--- The groupings of the kernel, from its cells. What the rows say of two cells is what the sheet says of their grants, so each relation of the cells is that of the
--- grants, and the groupings are one. The grouping by user is never the first best, since the grouping by fit never has more classes.
+-- The groupings of the kernel, from its cells. What the rows say of two cells is what the sheet says of their grants,
+-- so each relation of the cells is that of the grants, and the groupings are one. The grouping by user is never the
+-- first best, since the grouping by fit never has more classes.
 use Prim.Native.Nat.{ℕ, _≤_, _<_}
 use native.Mathlib.Nat.{le-refl, le-trans, lt-trans, mod-lt}
 use mathlib.Core.Path.{_≡_, sym, ap, _∙_}
@@ -30,20 +31,26 @@ by-user-no-fewer sheet =
     (kernel-is-held sheet j (lt-trans k l)) e)
     (kernel-users-rise sheet) (length (kernel sheet)) (le-refl (length (kernel sheet)))
 
-without-by-user : (sheet : Sheet) → best-grouping sheet (kernel sheet) ≡ fewer (by-fit sheet (kernel sheet)) (by-permission (kernel sheet))
+without-by-user : (sheet : Sheet) → best-grouping sheet (kernel sheet) ≡ fewer (by-fit sheet (kernel sheet))
+    (by-permission (kernel sheet))
 without-by-user sheet =
-    rw (le-leb (used (fewer (by-fit sheet (kernel sheet)) (by-permission (kernel sheet)))) (used (by-user (kernel sheet)))
+    rw (le-leb (used (fewer (by-fit sheet (kernel sheet)) (by-permission (kernel sheet))))
+    (used (by-user (kernel sheet)))
     (le-trans (fewer-le-earlier (by-fit sheet (kernel sheet)) (by-permission (kernel sheet))) (by-user-no-fewer sheet)))
 
 module _ {rows : List ℕ} {users : ℕ} {sheet : Sheet} (shown : Shown rows users sheet) (cells : List ℕ) where
-  pub fit-at-grants : (i j : ℕ) → i < length cells → j < length cells → fit-at-cells rows cells i j ≡ fit-at sheet (map grant-of cells) i j
+  pub fit-at-grants : (i j : ℕ) → i < length cells → j < length cells → fit-at-cells rows cells i j ≡ fit-at sheet
+      (map grant-of cells) i j
   fit-at-grants i j k l = rw (grant-at-cell cells i k, grant-at-cell cells j l) (fits-in-rows shown _ _)
 
-  grouping-by-fit : grouping (fit-at-cells rows cells) (length cells) ≡ grouping (fit-at sheet (map grant-of cells)) (length cells)
+  grouping-by-fit : grouping (fit-at-cells rows cells) (length cells) ≡ grouping (fit-at sheet (map grant-of cells))
+      (length cells)
   grouping-by-fit =
-      grouping-ext (fit-at-cells rows cells) (fit-at sheet (map grant-of cells)) (length cells) (λ i j k l. fit-at-grants i j l (lt-trans k l))
+      grouping-ext (fit-at-cells rows cells) (fit-at sheet (map grant-of cells)) (length cells)
+      (λ i j k l. fit-at-grants i j l (lt-trans k l))
 
-  grouping-by-permission : by-key (permission-at-cell cells) (length cells) ≡ grouping (permission-at (map grant-of cells)) (length cells)
+  grouping-by-permission : by-key (permission-at-cell cells) (length cells) ≡ grouping
+      (permission-at (map grant-of cells)) (length cells)
   grouping-by-permission =
       grouping-ext (same-key (permission-at-cell cells)) (permission-at (map grant-of cells)) (length cells)
       (λ i j k l. rw (grant-at-cell cells i l, grant-at-cell cells j (lt-trans k l)))
@@ -59,17 +66,21 @@ module _ {rows : List ℕ} {users : ℕ} {sheet : Sheet} (shown : Shown rows use
         held grants e k = rw e (kernel-is-held sheet i (rw e at k))
 
     -- the first best of the two that can be
-    pub best-of-cells : fewer (grouping (fit-at-cells rows cells) (length cells)) (by-key (permission-at-cell cells) (length cells)) ≡ first-best sheet
+    pub best-of-cells : fewer (grouping (fit-at-cells rows cells) (length cells)) (by-key (permission-at-cell cells)
+        (length cells)) ≡ first-best sheet
     unfolding first-best
     best-of-cells =
-        rw (grouping-by-fit, grouping-by-permission, sym (length-map cells grant-of), of-kernel) (sym (without-by-user sheet))
+        rw (grouping-by-fit, grouping-by-permission, sym (length-map cells grant-of), of-kernel)
+        (sym (without-by-user sheet))
 
 -- without grants there is no class
-pub none-to-place : (sheet : Sheet) (classes : List ℕ) → [] ≡ kernel sheet → Placed (first-best sheet) classes (length (kernel sheet)) 0
+pub none-to-place : (sheet : Sheet) (classes : List ℕ) → [] ≡ kernel sheet → Placed (first-best sheet) classes
+    (length (kernel sheet)) 0
 unfolding first-best
 none-to-place sheet classes e = rw (sym e) (none-placed classes)
 
 -- as many as the kernel's
 pub placed-of-kernel : (sheet : Sheet) (cells classes : List ℕ) (count : ℕ) → map grant-of cells ≡ kernel sheet
-    → Placed (first-best sheet) classes (length cells) count → Placed (first-best sheet) classes (length (kernel sheet)) count
+    → Placed (first-best sheet) classes (length cells) count → Placed (first-best sheet) classes
+    (length (kernel sheet)) count
 placed-of-kernel sheet cells classes count e p = rw (sym (length-map cells grant-of) ∙ ap length e) at p

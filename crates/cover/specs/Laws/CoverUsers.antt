@@ -1,5 +1,6 @@
--- Grouping by a test under which numbers of one key go together never has more classes than grouping by that key, where the keys rise: of the numbers of a key that
--- can join no earlier class one opens a class, and the others can join it. So grouping by fit never has more classes than grouping by user.
+-- Grouping by a test under which numbers of one key go together never has more classes than grouping by that key,
+-- where the keys rise: of the numbers of a key that can join no earlier class one opens a class, and the others can
+-- join it. So grouping by fit never has more classes than grouping by user.
 use Prim.Native.Nat.{ℕ, zero, suc, _≤_, _<_}
 use native.Mathlib.Nat.{le-refl, le-of-lt, lt-suc-self}
 use native.Mathlib.Omega.{arith}
@@ -14,7 +15,14 @@ use Rattle.bits.specs.Truth.{passes-or-fails, not-both}
 use Rattle.bits.specs.Laws.Below.{last-or-below, below-or-from, none-below-intro}
 use Rattle.bits.specs.Laws.Lowest.{lowest-below-cases, lowest-below-intro, lowest-le}
 use Rattle.lists.specs.Classing.{class-in}
-use Rattle.lists.specs.PlacementLaws.{class-in-latest, class-in-earlier, class-below-used, joins-intro, earlier-uses-fewer, latest-below-used}
+use Rattle.lists.specs.PlacementLaws.{
+  class-in-latest,
+  class-in-earlier,
+  class-below-used,
+  joins-intro,
+  earlier-uses-fewer,
+  latest-below-used,
+}
 use Rattle.lists.specs.GroupingLaws.{class-taken, grouping-length, grouping-grown}
 use Rattle.lists.specs.KeyLaws.{has-key, by-key}
 use Rattle.lists.specs.KeyStep.{next-class, next-class-new}
@@ -51,10 +59,17 @@ module _ (together : ℕ → ℕ → Bool) (key : ℕ → ℕ) (n : ℕ)
       old : taken d < used (grouping together d) → FewSoFar d
       old k = inl (omega arith)
 
-      fresh : used (grouping together d) ≤ taken d → (i : ℕ) → i < suc d → class-in (grouping together (suc d)) i ≡ taken d → key i ≡ key d
+      fresh : used (grouping together d) ≤ taken d → (i : ℕ) → i < suc d → class-in (grouping together (suc d)) i ≡
+          taken d → key i ≡ key d
       fresh k i m e =
           ⊎-elim (λ (s : i ≡ d). ap key s)
-          (λ (o : i < d). absurd (omega (arith, before d i o, e, class-below-used (grouping together d) {i = i} (rw (grouping-length together d) o))))
+          (λ (o : i < d). absurd (omega (
+            arith,
+            before d i o,
+            e,
+            class-below-used (grouping together d) {i = i}
+                (rw (grouping-length together d) o),
+          )))
           (last-or-below m)
 
       new : used (grouping together d) ≤ taken d → FewSoFar d
@@ -65,7 +80,8 @@ module _ (together : ℕ → ℕ → Bool) (key : ℕ → ℕ) (n : ℕ)
           )
 
   -- the next number has the key of the latest, and can join that key's own class
-  joins-own : (d : ℕ) → suc d < n → key (suc d) ≡ key d → used (grouping together (suc d)) ≤ used (by-key key (suc d)) → OwnClass d
+  joins-own : (d : ℕ) → suc d < n → key (suc d) ≡ key d → used (grouping together (suc d)) ≤ used (by-key key (suc d))
+      → OwnClass d
       → FewSoFar (suc d)
   joins-own d l e few own-class =
       inr (
@@ -81,12 +97,14 @@ module _ (together : ℕ → ℕ → Bool) (key : ℕ → ℕ) (n : ℕ)
       fits-all : So (joins together (suc d) (grouping together (suc d)) (own-class .class))
       fits-all =
           joins-intro together (suc d) (grouping together (suc d)) (own-class .class)
-          (λ i k s. let inside = rw (grouping-length together (suc d)) at k in one-key (suc d) i inside l (e ∙ sym (own-class .own i inside s)))
+          (λ i k s. let inside = rw (grouping-length together (suc d)) at k in one-key (suc d) i
+          inside l (e ∙ sym (own-class .own i inside s)))
 
       lower : taken (suc d) ≤ own-class .class
       lower =
           ⊎-elim
-          (λ w. rw (lowest-below-intro (used (grouping together (suc d))) (joins together (suc d) (grouping together (suc d))) (w .1))
+          (λ w. rw (lowest-below-intro (used (grouping together (suc d)))
+          (joins together (suc d) (grouping together (suc d))) (w .1))
           (lowest-le (w .1) fits-all))
           (λ none. absurd (not-both fits-all (none (own-class .class) (own-class .within))))
           (lowest-below-cases (used (grouping together (suc d))) (joins together (suc d) (grouping together (suc d))))
@@ -95,7 +113,8 @@ module _ (together : ℕ → ℕ → Bool) (key : ℕ → ℕ) (n : ℕ)
   new-key : (d : ℕ) → suc d < n → key (suc d) ≢ key d → used (by-key key (suc d)) < used (by-key key (suc (suc d)))
   new-key d l apart =
       let none : has-key key (suc d) (key (suc d)) ≡ false =
-      none-below-intro (suc d) (λ i. eqb (key i) (key (suc d))) (λ i k. ne-eqb (key i) (key (suc d)) (λ e. differs i k e)) in
+      none-below-intro (suc d) (λ i. eqb (key i) (key (suc d))) (λ i k. ne-eqb (key i) (key (suc d))
+      (λ e. differs i k e)) in
       omega (arith, next-class-new key (suc d) none, latest-below-used (next-class key (suc d)) (by-key key (suc d)))
     where
       differs : (i : ℕ) → i < suc d → key i ≡ key (suc d) → ⊥
@@ -110,9 +129,11 @@ module _ (together : ℕ → ℕ → Bool) (key : ℕ → ℕ) (n : ℕ)
   few-so-far (suc d) l = step (few-so-far d (omega arith)) (passes-or-fails (eqb (key (suc d)) (key d)))
     where
       step : FewSoFar d → So (eqb (key (suc d)) (key d)) ⊎ (eqb (key (suc d)) (key d) ≡ false) → FewSoFar (suc d)
-      step (inl fewer) same = with-room (suc d) (omega (arith, earlier-uses-fewer (next-class key (suc d)) (by-key key (suc d))))
+      step (inl fewer) same = with-room (suc d)
+          (omega (arith, earlier-uses-fewer (next-class key (suc d)) (by-key key (suc d))))
       step (inr (few, own)) (inl same) = joins-own d l (eqb-true (key (suc d)) (key d) same) few own
-      step (inr (few, own)) (inr other) = with-room (suc d) (omega (arith, new-key d l (eqb-false (key (suc d)) (key d) other)))
+      step (inr (few, own)) (inr other) = with-room (suc d)
+          (omega (arith, new-key d l (eqb-false (key (suc d)) (key d) other)))
 
   pub no-more-than-keys : (m : ℕ) → m ≤ n → used (grouping together m) ≤ used (by-key key m)
   no-more-than-keys zero l = le-refl 0

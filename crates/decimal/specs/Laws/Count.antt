@@ -1,5 +1,5 @@
--- A number's decimal is a count of the book's form, and the only count that says the number: a count is `0`, or digits that do not begin with
--- `0`, and each digit read makes the number just as one more digit writes it.
+-- A number's decimal is a count of the book's form, and the only count that says the number: a count is `0`, or
+-- digits that do not begin with `0`, and each digit read makes the number just as one more digit writes it.
 use Prim.Native.Nat.{ℕ, zero, suc, _+_, _-_, _*_, _≤_, _<_}
 use Prim.Native.Char.{code}
 use native.Mathlib.Omega.{arith}
@@ -14,7 +14,16 @@ use Rattle.spec.specs.Vocabulary.{empty, all}
 use Rattle.spec.specs.Text.{Bytes}
 use Rattle.spec.specs.Decimal.{digit, decimal, is-digit, is-count, number-after, number-of}
 use Rattle.bits.specs.Truth.{and-intro, and-left, and-right}
-use Rattle.decimal.specs.Laws.Decimal.{decimal-of-digit, decimal-of-more, decimal-induction, number-of-decimal, is-digit-intro, is-digit-elim, digits-and-one, decimal-digits}
+use Rattle.decimal.specs.Laws.Decimal.{
+  decimal-of-digit,
+  decimal-of-more,
+  decimal-induction,
+  number-of-decimal,
+  is-digit-intro,
+  is-digit-elim,
+  digits-and-one,
+  decimal-digits,
+}
 
 -- ---- a number's decimal is a count
 
@@ -97,7 +106,12 @@ after-is-decimal n (b ∷ a) h e =
     let d = is-digit-elim b (and-left (is-digit b) (all is-digit a) e) in
     let more : 10 * n + (b - code "0") ≡ 10 * n + d .number = omega (arith, d .spelled) in
     after-is-decimal (10 * n + (b - code "0")) a (omega arith) (and-right (is-digit b) (all is-digit a) e)
-    ∙ rw (more, decimal-of-more n (d .number) h (d .small), append-assoc (decimal n) (digit (d .number) ∷ []) a, ← (d .spelled))
+    ∙ rw (
+      more,
+      decimal-of-more n (d .number) h (d .small),
+      append-assoc (decimal n) (digit (d .number) ∷ []) a,
+      ← (d .spelled),
+    )
 
 -- a count is the decimal count of the number that it says
 pub count-is-decimal : (a : Bytes) → So (is-count a) → decimal (number-of a) ≡ a
@@ -109,7 +123,10 @@ count-is-decimal (b ∷ a) e = choose (count-cases b a e)
     choose (inr w) =
         let first : 10 * 0 + (b - code "0") ≡ w .number = omega (arith, w .spelled) in
         rw first
-        (after-is-decimal (w .number) a (w .some-number) (w .digits) ∙ rw (decimal-of-digit (w .number) (w .small), ← (w .spelled)))
+        (after-is-decimal (w .number) a (w .some-number) (w .digits) ∙ rw (
+          decimal-of-digit (w .number) (w .small),
+          ← (w .spelled),
+        ))
 
 pub count-of-number : (a : Bytes) (n : ℕ) → So (is-count a) → number-of a ≡ n → a ≡ decimal n
 count-of-number a n e same = sym (count-is-decimal a e) ∙ ap decimal same

@@ -1,5 +1,6 @@
--- A number in decimal: one digit below ten, and else the decimal of its tenth with one digit behind it. So what holds of one digit, and goes
--- on with one more, holds of every number's decimal: it says the number, is made of digits, and is as short as the number is small.
+-- A number in decimal: one digit below ten, and else the decimal of its tenth with one digit behind it. So what holds
+-- of one digit, and goes on with one more, holds of every number's decimal: it says the number, is made of digits,
+-- and is as short as the number is small.
 use Prim.Native.Nat.{ℕ, zero, suc, _+_, _-_, _*_, _/_, _%_, _^_, _≤_, _<_}
 use Prim.Native.Char.{code}
 use native.Mathlib.Nat.{pow-suc}
@@ -40,7 +41,13 @@ unfolding decimal
 decimal-of-more m d h k =
     let tenth : (10 * m + d) / 10 ≡ m = omega arith in
     let last : (10 * m + d) % 10 ≡ d = omega arith in
-    rw (le-ltb (10 * m + d) 10 (omega arith), tenth, last, decimal-in-enough (10 * m + d) (suc m) m (omega arith) (omega arith))
+    rw (
+      le-ltb (10 * m + d) 10 (omega arith),
+      tenth,
+      last,
+      decimal-in-enough (10 * m + d) (suc m) m (omega arith)
+          (omega arith),
+    )
 
 -- a number from ten on
 pub decimal-of-tens : (n : ℕ) → 10 ≤ n → decimal n ≡ decimal (n / 10) ++ digit (n % 10) ∷ []
@@ -48,7 +55,8 @@ decimal-of-tens n h =
     let whole : n ≡ 10 * (n / 10) + n % 10 = omega arith in
     ap decimal whole ∙ decimal-of-more (n / 10) (n % 10) (omega arith) (omega arith)
 
--- what holds of one digit, and of a digit behind a count of 1 or more where it holds of that count, holds of every number's count
+-- what holds of one digit, and of a digit behind a count of 1 or more where it holds of that count, holds of every
+-- number's count
 pub decimal-induction :
     (P : ℕ → Bytes → Type 0)
     → ((n : ℕ) → n < 10 → P n (digit n ∷ []))
@@ -67,7 +75,8 @@ decimal-induction P one more n = below (suc n) n (omega arith)
             let whole : 10 * (n / 10) + n % 10 ≡ n = omega arith in
             let tenth : 1 ≤ n / 10 = omega arith in
             let last : n % 10 < 10 = omega arith in
-            rw (← whole, decimal-of-more (n / 10) (n % 10) tenth last) (more (n / 10) (n % 10) tenth last (front (omega arith)))
+            rw (← whole, decimal-of-more (n / 10) (n % 10) tenth last) (more (n / 10) (n % 10) tenth last
+            (front (omega arith)))
 
 -- ---- the number that it says
 
@@ -101,7 +110,8 @@ is-digit-elim b e =
 pub digits-and-one : (a : Bytes) (d : ℕ) → d < 10 → So (all is-digit a) → So (all is-digit (a ++ digit d ∷ []))
 digits-and-one a d h e =
     rw (all-append is-digit a (digit d ∷ []))
-    (and-intro (all is-digit a) (is-digit (digit d) && true) e (and-intro (is-digit (digit d)) true (is-digit-intro d h) refl))
+    (and-intro (all is-digit a) (is-digit (digit d) && true) e (and-intro (is-digit (digit d)) true
+    (is-digit-intro d h) refl))
 
 pub decimal-digits : (n : ℕ) → So (all is-digit (decimal n))
 decimal-digits =

@@ -1,4 +1,5 @@
--- `read_open`: what the later reads add lies in the part of the buffer behind the first read's bytes, and the buffer keeps its length.
+-- `read_open`: what the later reads add lies in the part of the buffer behind the first read's bytes, and the buffer
+-- keeps its length.
 use borrow.Author.Needs.{needs}
 use native.Mathlib.Omega.{arith}
 use Rattle.io.proofs.Counting.{counts}
@@ -13,16 +14,6 @@ returns-2 c = counts _ _ (omega (arith, same-length-2 c))
 
 pub read-open-spec : {M : Type 1} → statement M
 read-open-spec =
-    tie.close
-    (tie.spec
-    (λ c κs. search needs)
-    (λ c. search needs)
-    (λ c. search needs)
-    (λ c κs. search needs)
-    (λ c. search needs)
-    (λ c. search needs)
-    (λ c. search needs)
-    (λ c κs. search needs)
-    (λ c. search needs)
-    same-length-2
-    returns-2)
+    tie.close (tie.spec (λ c κs. search needs) (λ c. search needs) (λ c. search needs) (λ c κs. search needs)
+    (λ c. search needs) (λ c. search needs) (λ c. search needs) (λ c κs. search needs) (λ c. search needs)
+    same-length-2 returns-2)

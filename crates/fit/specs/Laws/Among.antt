@@ -7,7 +7,9 @@ use Rattle.lists.specs.TestLaws.{any-intro, any-elim}
 use Rattle.cells.specs.Laws.Grant.{same-grant-refl, same-grant-equal}
 
 pub among-member : (l : List Grant) (g : Grant) → So (among l g) → List·Memᴰ g l
-among-member l g e = let r = any-elim (same-grant g) l e in Memᴰ·cast (same-grant-equal g (r .element) (r .passes)) (r .member)
+among-member l g e =
+    let r = any-elim (same-grant g) l e in
+    Memᴰ·cast (same-grant-equal g (r .element) (r .passes)) (r .member)
 
 pub member-among : (l : List Grant) {g : Grant} → List·Memᴰ g l → So (among l g)
 member-among l {g} m = any-intro (same-grant g) l m (same-grant-refl g)

@@ -1,5 +1,6 @@
--- Counting by columns. The positions of a column's word are taken one after the other, and each adds the cells near the grant in one word. A word that is not in
--- the column of the grant's permission has none, so the words of the column count them all.
+-- Counting by columns. The positions of a column's word are taken one after the other, and each adds the cells near
+-- the grant in one word. A word that is not in the column of the grant's permission has none, so the words of the
+-- column count them all.
 use Prim.Native.Nat.{ℕ, zero, suc, _+_, _*_, _/_, _%_, _≤_, _<_}
 use native.Mathlib.Nat.{add-zero, le-dest, not-suc-le-zero, mod-lt, le-div-iff-mul-le}
 use native.Mathlib.Omega.{arith}
@@ -41,7 +42,8 @@ sum-without zero f g l e = absurd (not-suc-le-zero l)
 sum-without (suc n) f g {p} l e =
     ⊎-elim
     (λ (same : p ≡ n). rw (same, rw same at e, eq-eqb n n refl)
-    (rw (sum-below-ext n (λ i. cond (f i) (g i) 0) (λ i. cond (f i && not (eqb i n)) (g i) 0) (λ i k. rw (ne-eqb i n (omega arith), and-true (f i))))
+    (rw (sum-below-ext n (λ i. cond (f i) (g i) 0) (λ i. cond (f i && not (eqb i n)) (g i) 0)
+    (λ i k. rw (ne-eqb i n (omega arith), and-true (f i))))
     (omega arith)))
     (λ (k : p < n). rw (ne-eqb n p (omega arith), and-true (f n)) (omega (arith, sum-without n f g k e)))
     (last-or-below l)
@@ -50,10 +52,12 @@ sum-without (suc n) f g {p} l e =
 abbrev pub word-sum : (ℕ → ℕ) → ℕ → ℕ
 word-sum g w = sum-below word-bits (λ q. cond (bit w q) (g q) 0)
 
-pub word-sum-dropped : (g : ℕ → ℕ) {w q rest : ℕ} → Lowest word-bits (bit w) q → LowestDropped w rest → word-sum g w ≡ word-sum g rest + g q
+pub word-sum-dropped : (g : ℕ → ℕ) {w q rest : ℕ} → Lowest word-bits (bit w) q → LowestDropped w rest
+    → word-sum g w ≡ word-sum g rest + g q
 word-sum-dropped g {w} {q} {rest} low dropped =
     sum-without word-bits (bit w) g (low .within) (low .holds)
-    ∙ ap (λ k. k + g q) (sum-below-ext word-bits (λ r. cond (bit w r && not (eqb r q)) (g r) 0) (λ r. cond (bit rest r) (g r) 0)
+    ∙ ap (λ k. k + g q) (sum-below-ext word-bits (λ r. cond (bit w r && not (eqb r q)) (g r) 0)
+    (λ r. cond (bit rest r) (g r) 0)
     (λ r l. rw (dropped .others low r)))
 
 pub word-sum-of-none : (g : ℕ → ℕ) → word-sum g 0 ≡ 0
@@ -61,7 +65,8 @@ word-sum-of-none g = sum-below-none word-bits (λ q. cond (bit 0 q) (g q) 0) (λ
 
 -- ---- the positions of a column
 
-pub column-position : (rows columns : List ℕ) → Columns rows columns → (p j q : ℕ) → p < row-bits → j < column-words → q < word-bits
+pub column-position : (rows columns : List ℕ) → Columns rows columns → (p j q : ℕ) → p < row-bits → j < column-words
+    → q < word-bits
     → bit (getD columns (p * column-words + j) 0) q ≡ held-in rows p (j * word-bits + q)
 unfolding user-limit row-words row-bits
 column-position rows columns made p j q k l m =
@@ -77,13 +82,16 @@ module _ (rows left : List ℕ) (it : ℕ) where
   near-if-le true i = count-below-le word-bits (λ q. near rows left it (i * word-bits + q))
   near-if-le false i = omega arith
 
-  pub near-sum-le : (n : ℕ) (taken : ℕ → Bool) (at : ℕ → ℕ) → sum-below n (λ i. near-if (taken i) rows left it (at i)) ≤ n * word-bits
-  near-sum-le n taken at = sum-below-le n word-bits (λ i. near-if (taken i) rows left it (at i)) (λ i l. near-if-le (taken i) (at i))
+  pub near-sum-le : (n : ℕ) (taken : ℕ → Bool) (at : ℕ → ℕ) → sum-below n (λ i. near-if (taken i) rows left it (at i))
+      ≤ n * word-bits
+  near-sum-le n taken at = sum-below-le n word-bits (λ i. near-if (taken i) rows left it (at i))
+      (λ i l. near-if-le (taken i) (at i))
 
   pub near-word-count : (i : ℕ) {word : ℕ} → FittingWord rows it i word
       → count-below word-bits (bit (bitAnd (getD left i 0) word)) ≡ near-in-word rows left it i
   near-word-count i {word} fitting =
-      count-below-ext word-bits (bit (bitAnd (getD left i 0) word)) (λ q. near rows left it (i * word-bits + q)) (near-word rows left it i fitting)
+      count-below-ext word-bits (bit (bitAnd (getD left i 0) word)) (λ q. near rows left it (i * word-bits + q))
+      (near-word rows left it i fitting)
 
   -- the words of a permission below word i
   abbrev pub column-sum : ℕ → ℕ → ℕ
@@ -91,7 +99,8 @@ module _ (rows left : List ℕ) (it : ℕ) where
 
   pub column-next-word : (columns : List ℕ) → Columns rows columns → (p j : ℕ) → p < row-bits → j < column-words
       → column-sum p ((j + 1) * word-bits)
-      ≡ column-sum p (j * word-bits) + word-sum (λ q. near-in-word rows left it (j * word-bits + q)) (getD columns (p * column-words + j) 0)
+      ≡ column-sum p (j * word-bits) + word-sum (λ q. near-in-word rows left it (j * word-bits + q))
+      (getD columns (p * column-words + j) 0)
   column-next-word columns made p j k l =
       let more : (j + 1) * word-bits ≡ j * word-bits + word-bits = omega arith in
       rw (more, sum-below-add (j * word-bits) word-bits (λ i. near-if (held-in rows p i) rows left it i))
@@ -109,10 +118,12 @@ module _ (rows left : List ℕ) (it : ℕ) where
       ∙ and-false (marked left (i * word-bits + q)))
 
   column-or-none : (i : ℕ) → near-if (held-in rows (it % row-bits) i) rows left it i ≡ near-in-word rows left it i
-  column-or-none i = ⊎-elim (λ e. rw e) (λ e. rw e (sym (none-near i e))) (passes-or-fails (held-in rows (it % row-bits) i))
+  column-or-none i = ⊎-elim (λ e. rw e) (λ e. rw e (sym (none-near i e)))
+      (passes-or-fails (held-in rows (it % row-bits) i))
 
 -- a count that goes on where another ended
-pub counted-on : {most whole n r : ℕ} (more : ℕ) → CountedBelow most whole n → CountedBelow most (n + more) r → CountedBelow most (whole + more) r
+pub counted-on : {most whole n r : ℕ} (more : ℕ) → CountedBelow most whole n → CountedBelow most (n + more) r
+    → CountedBelow most (whole + more) r
 counted-on more first then = record {
   below = λ l. let exact = then .below l in omega (arith, exact, first .below (omega (arith, exact)));
   not-more = omega (arith, first .not-more, then .not-more);
@@ -120,7 +131,8 @@ counted-on more first then = record {
 
 -- ---- all words
 
-module _ {rows : List ℕ} {users : ℕ} {sheet : Sheet} (shown : Shown rows users sheet) {left : List ℕ} (part : Part left rows) (it : ℕ) where
+module _ {rows : List ℕ} {users : ℕ} {sheet : Sheet} (shown : Shown rows users sheet) {left : List ℕ}
+    (part : Part left rows) (it : ℕ) where
   -- past the users nobody holds anything
   none-past : (i : ℕ) → users * row-words ≤ i → held-in rows (it % row-bits) i ≡ false
   none-past i l =
@@ -128,20 +140,24 @@ module _ {rows : List ℕ} {users : ℕ} {sheet : Sheet} (shown : Shown rows use
       omega (
         arith,
         le-div-iff-mul-le row-words-pos .1 l,
-        shown .few (i / row-words) (it % row-bits) (sym (shown .cells .shows (i / row-words) (it % row-bits) (mod-lt it row-bits-pos)) ∙ e),
+        shown .few (i / row-words) (it % row-bits)
+            (sym (shown .cells .shows (i / row-words) (it % row-bits) (mod-lt it row-bits-pos)) ∙ e),
       ))
 
   pub column-counts-all : users * row-words ≤ cell-words
-      → column-sum rows left it (it % row-bits) cell-words ≡ length (filter (fits sheet (grant-of it)) (cell-grants sheet left))
+      → column-sum rows left it (it % row-bits) cell-words ≡ length (filter (fits sheet (grant-of it))
+      (cell-grants sheet left))
   column-counts-all few =
       let more = le-dest few in
       ap (column-sum rows left it (it % row-bits)) (sym (more .1))
       ∙ sum-below-add (users * row-words) (more .0) (λ i. near-if (held-in rows (it % row-bits) i) rows left it i)
       ∙ ap (λ n. column-sum rows left it (it % row-bits) (users * row-words) + n)
-      (sum-below-none (more .0) (λ i. near-if (held-in rows (it % row-bits) (users * row-words + i)) rows left it (users * row-words + i))
+      (sum-below-none (more .0) (λ i. near-if (held-in rows (it % row-bits) (users * row-words + i)) rows left it
+      (users * row-words + i))
       (λ i l. rw (none-past (users * row-words + i) (omega arith))))
       ∙ add-zero (column-sum rows left it (it % row-bits) (users * row-words))
-      ∙ sum-below-ext (users * row-words) (λ i. near-if (held-in rows (it % row-bits) i) rows left it i) (near-in-word rows left it)
+      ∙ sum-below-ext (users * row-words) (λ i. near-if (held-in rows (it % row-bits) i) rows left it i)
+      (near-in-word rows left it)
       (λ i l. column-or-none rows left it i)
       ∙ sym (count-below-blocks (users * row-words) word-bits (near rows left it))
       ∙ near-count shown part it

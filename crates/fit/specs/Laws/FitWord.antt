@@ -1,5 +1,6 @@
--- Fit by the words. The rows say of any two cells what the sheet says of their grants. The word i of the cells near a grant is that of left and that of the
--- fitting cells together, so the cells near it are counted word by word; and as many grants of the set fit it.
+-- Fit by the words. The rows say of any two cells what the sheet says of their grants. The word i of the cells near a
+-- grant is that of left and that of the fitting cells together, so the cells near it are counted word by word; and as
+-- many grants of the set fit it.
 use Prim.Native.Nat.{ℕ, _+_, _*_, _/_, _%_, _<_}
 use native.Mathlib.Nat.{mod-lt, mul-assoc}
 use native.Mathlib.Omega.{arith}
@@ -24,13 +25,15 @@ use Rattle.cells.specs.Laws.CellList.{passing-grants-count}
 
 -- ---- a word
 
-pub marked-in-word : (words : List ℕ) (i q : ℕ) → q < word-bits → marked words (i * word-bits + q) ≡ bit (getD words i 0) q
+pub marked-in-word : (words : List ℕ) (i q : ℕ) → q < word-bits → marked words (i * word-bits + q) ≡ bit
+    (getD words i 0) q
 marked-in-word words i q l = rw (digits-div i l, digits-mod i l)
 
 -- the word of left and the fitting word together
 pub near-word : (rows left : List ℕ) (it i : ℕ) {word : ℕ} → FittingWord rows it i word
     → (q : ℕ) → q < word-bits → bit (bitAnd (getD left i 0) word) q ≡ near rows left it (i * word-bits + q)
-near-word rows left it i {word} fitting q l = rw (bit-and (getD left i 0) word q, fitting .bits q l, marked-in-word left i q l)
+near-word rows left it i {word} fitting q l =
+    rw (bit-and (getD left i 0) word q, fitting .bits q l, marked-in-word left i q l)
 
 -- ---- counted word by word
 
@@ -47,14 +50,20 @@ count-next-word f i word says =
 module _ {rows : List ℕ} {users : ℕ} {sheet : Sheet} (shown : Shown rows users sheet) where
   pub fits-in-rows : (m n : ℕ) → fit-in rows (grant-of m) (grant-of n) ≡ fits sheet (grant-of m) (grant-of n)
   fits-in-rows m n =
-      rw (shown .cells .shows (m / row-bits) (n % row-bits) (mod-lt n row-bits-pos), shown .cells .shows (n / row-bits) (m % row-bits) (mod-lt m row-bits-pos))
+      rw (
+        shown .cells .shows (m / row-bits) (n % row-bits) (mod-lt n row-bits-pos),
+        shown .cells .shows
+            (n / row-bits) (m % row-bits) (mod-lt m row-bits-pos),
+      )
 
   -- the grants of left that fit one, counted
   pub near-count : {left : List ℕ} → Part left rows → (it : ℕ)
-      → count-below (users * row-words * word-bits) (near rows left it) ≡ length (filter (fits sheet (grant-of it)) (cell-grants sheet left))
+      → count-below (users * row-words * word-bits) (near rows left it) ≡ length (filter (fits sheet (grant-of it))
+      (cell-grants sheet left))
   unfolding row-bits
   near-count {left} part it =
       rw (mul-assoc users row-words word-bits)
-      (count-below-ext (users * row-bits) (near rows left it) (λ n. marked left n && fits sheet (grant-of it) (grant-of n))
+      (count-below-ext (users * row-bits) (near rows left it) (λ n. marked left n && fits sheet (grant-of it)
+      (grant-of n))
       (λ n l. rw (fits-in-rows it n))
       ∙ sym (passing-grants-count shown part (fits sheet (grant-of it))))

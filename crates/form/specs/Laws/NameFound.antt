@@ -26,14 +26,17 @@ named-at names name i e =
     let l = lowest-below-elim (length names) (λ j. same-name name (getD names j [])) e in
     record { within = l .within; there = sym (same-bytes-equal name (getD names i []) (l .holds)) }
 
-unnamed : (names : List Bytes) (name : Bytes) → name-number names name ≡ none → (i : ℕ) → i < length names → name ≡ getD names i [] → ⊥
+unnamed : (names : List Bytes) (name : Bytes) → name-number names name ≡ none → (i : ℕ) → i < length names
+    → name ≡ getD names i [] → ⊥
 unnamed names name e i h same =
     not-both (equal-same-bytes same) (lowest-below-none-elim (length names) (λ j. same-name name (getD names j [])) e h)
 
-pub user-found : (names : List Bytes) (name : Bytes) (u : ℕ) → user.At (record { 0 = u }) ≡ found-user (name-number names name) → Named names name u
+pub user-found : (names : List Bytes) (name : Bytes) (u : ℕ) → user.At (record { 0 = u }) ≡ found-user
+    (name-number names name) → Named names name u
 user-found names name u e = choose (name-number names name) refl e
   where
-    choose : (o : Option ℕ) → name-number names name ≡ o → user.At (record { 0 = u }) ≡ found-user o → Named names name u
+    choose : (o : Option ℕ) → name-number names name ≡ o → user.At (record { 0 = u }) ≡ found-user o
+        → Named names name u
     choose none p q = absurd (let z : _≡_ {A = ℕ} 0 1 = cc in omega arith)
     choose (some i) p q =
         let same : _≡_ {A = UserNo} (record { 0 = u }) (record { 0 = i }) = cc in
@@ -43,21 +46,25 @@ pub user-unknown : (names : List Bytes) (name : Bytes) → user.Nothing ≡ foun
     → (i : ℕ) → i < length names → name ≡ getD names i [] → ⊥
 user-unknown names name e = choose (name-number names name) refl e
   where
-    choose : (o : Option ℕ) → name-number names name ≡ o → user.Nothing ≡ found-user o → (i : ℕ) → i < length names → name ≡ getD names i [] → ⊥
+    choose : (o : Option ℕ) → name-number names name ≡ o → user.Nothing ≡ found-user o → (i : ℕ) → i < length names
+        → name ≡ getD names i [] → ⊥
     choose none p q = unnamed names name p
     choose (some i) p q = absurd (let z : _≡_ {A = ℕ} 0 1 = cc in omega arith)
 
-pub permission-found : (names : List Bytes) (name : Bytes) (p : ℕ) → permission.At (record { 0 = p }) ≡ found-permission (name-number names name)
+pub permission-found : (names : List Bytes) (name : Bytes) (p : ℕ) → permission.At (record { 0 = p }) ≡
+    found-permission (name-number names name)
     → Named names name p
 permission-found names name p e = choose (name-number names name) refl e
   where
-    choose : (o : Option ℕ) → name-number names name ≡ o → permission.At (record { 0 = p }) ≡ found-permission o → Named names name p
+    choose : (o : Option ℕ) → name-number names name ≡ o → permission.At (record { 0 = p }) ≡ found-permission o
+        → Named names name p
     choose none q r = absurd (let z : _≡_ {A = ℕ} 0 1 = cc in omega arith)
     choose (some i) q r =
         let same : _≡_ {A = PermissionNo} (record { 0 = p }) (record { 0 = i }) = cc in
         rw (ap (λ (n : PermissionNo). n .0) same) (named-at names name i q)
 
-pub permission-unknown : (names : List Bytes) (name : Bytes) → permission.Nothing ≡ found-permission (name-number names name)
+pub permission-unknown : (names : List Bytes) (name : Bytes) → permission.Nothing ≡ found-permission
+    (name-number names name)
     → (i : ℕ) → i < length names → name ≡ getD names i [] → ⊥
 permission-unknown names name e = choose (name-number names name) refl e
   where

@@ -28,5 +28,6 @@ unfolding permission-limit row-bits row-words
 permissions-fit-a-row = omega arith
 
 -- a word of a row that the words have
-pub word-below : (row rows k size : ℕ) → row < rows → k < row-words → rows * row-words ≤ size → row * row-words + k < size
+pub word-below : (row rows k size : ℕ) → row < rows → k < row-words → rows * row-words ≤ size → row * row-words + k <
+    size
 word-below row rows k size h l m = omega (arith, digits-lt h l)

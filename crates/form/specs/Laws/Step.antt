@@ -1,5 +1,5 @@
--- Steps one after the other. Bytes that stand at a place and bytes that stand where it goes on stand there together; and where the first or the
--- second of two parts is missing, both together are. All of it is cancelling in front.
+-- Steps one after the other. Bytes that stand at a place and bytes that stand where it goes on stand there together;
+-- and where the first or the second of two parts is missing, both together are. All of it is cancelling in front.
 use Prim.Native.Nat.{ℕ, suc, _+_, _≤_, _<_}
 use native.Mathlib.Numerals.{add-one}
 use native.Mathlib.Omega.{arith}
@@ -18,7 +18,8 @@ use Rattle.form.specs.Steps.{Reads, Misses, Expects}
 pub reads-nothing : (text : Bytes) (at : ℕ) → at ≤ length text → Reads text at [] at
 reads-nothing text at h = record { forward = omega arith; within = h; reads = refl }
 
-pub reads-then : {text a b : Bytes} {at next last : ℕ} → Reads text at a next → Reads text next b last → Reads text at (a ++ b) last
+pub reads-then : {text a b : Bytes} {at next last : ℕ} → Reads text at a next → Reads text next b last
+    → Reads text at (a ++ b) last
 reads-then {text} {a} {b} {at} {next} {last} p q =
     record {
       forward = omega (arith, p .forward, q .forward);
@@ -27,7 +28,8 @@ reads-then {text} {a} {b} {at} {next} {last} p q =
     }
 
 -- what follows bytes that stand there is what the text goes on with
-pub reads-rest : {text a : Bytes} {at next : ℕ} → Reads text at a next → (rest : Bytes) → drop at text ≡ a ++ rest → rest ≡ drop next text
+pub reads-rest : {text a : Bytes} {at next : ℕ} → Reads text at a next → (rest : Bytes) → drop at text ≡ a ++ rest
+    → rest ≡ drop next text
 reads-rest {text} {a} {at} {next} p rest e = append-cancel-left a rest (drop next text) (sym e ∙ p .reads)
 
 -- the place where it goes on is as far as the bytes are long
@@ -48,12 +50,14 @@ pub misses-first : {text a : Bytes} {at : ℕ} (b : Bytes) → Misses text at a 
 misses-first {text} {a} {at} b m = record { misses = λ rest e. m .misses (b ++ rest) (e ∙ append-assoc a b rest) }
 
 -- the second part is missing
-pub misses-second : {text a : Bytes} {at next : ℕ} (b : Bytes) → Reads text at a next → Misses text next b → Misses text at (a ++ b)
+pub misses-second : {text a : Bytes} {at next : ℕ} (b : Bytes) → Reads text at a next → Misses text next b
+    → Misses text at (a ++ b)
 misses-second {text} {a} {at} {next} b p m =
     record { misses = λ rest e. m .misses rest (sym (reads-rest p (b ++ rest) (e ∙ append-assoc a b rest))) }
 
 -- the second part is missing behind another first part that can only be followed by the same
-pub misses-after : {text a b : Bytes} {at next : ℕ} (c : Bytes) → Reads text at a next → Aligned a b → Misses text next c
+pub misses-after : {text a b : Bytes} {at next : ℕ} (c : Bytes) → Reads text at a next → Aligned a b
+    → Misses text next c
     → Misses text at (b ++ c)
 misses-after {text} {a} {b} {at} {next} c p same m =
     record {
@@ -62,26 +66,31 @@ misses-after {text} {a} {b} {at} {next} c p same m =
     }
 
 -- the next of parts by number is missing
-pub misses-next : {text : Bytes} {at next : ℕ} (j count : ℕ) (f g : ℕ → Bytes) → j < count → ((i : ℕ) → i < j → Aligned (f i) (g i))
+pub misses-next : {text : Bytes} {at next : ℕ} (j count : ℕ) (f g : ℕ → Bytes) → j < count
+    → ((i : ℕ) → i < j → Aligned (f i) (g i))
     → Reads text at (listed j f) next → Misses text next (g j) → Misses text at (listed count g)
 misses-next {text} {at} {next} j count f g h same p m =
     record {
       misses = λ rest e.
-          (let b = listed-next j count f g h same (drop next text) rest (sym (p .reads) ∙ e) in m .misses (b .more) (b .there));
+          (let b = listed-next j count f g h same (drop next text) rest (sym (p .reads) ∙ e) in m .misses (b .more)
+          (b .there));
     }
 
 -- the next of parts that are known is missing
-pub misses-known : {text : Bytes} {at next : ℕ} (j count : ℕ) (f : ℕ → Bytes) → j < count → Reads text at (listed j f) next
+pub misses-known : {text : Bytes} {at next : ℕ} (j count : ℕ) (f : ℕ → Bytes) → j < count → Reads text at (listed j f)
+    next
     → Misses text next (f j) → Misses text at (listed count f)
 misses-known j count f h p m = misses-next j count f f h (λ i l. aligned-same (f i)) p m
 
 -- with the next of parts by number there, one more is
-pub reads-more : {text : Bytes} {at next last : ℕ} (j : ℕ) (f : ℕ → Bytes) → Reads text at (listed j f) next → Reads text next (f j) last
+pub reads-more : {text : Bytes} {at next last : ℕ} (j : ℕ) (f : ℕ → Bytes) → Reads text at (listed j f) next
+    → Reads text next (f j) last
     → Reads text at (listed (j + 1) f) last
 reads-more j f p q = rw (listed-more j f) (reads-then p q)
 
 -- with the first part there, the second decides
-pub expects-then : {text a : Bytes} {at next : ℕ} (b : Bytes) → Reads text at a next → (r : Step) → Expects text next b r
+pub expects-then : {text a : Bytes} {at next : ℕ} (b : Bytes) → Reads text at a next → (r : Step)
+    → Expects text next b r
     → Expects text at (a ++ b) r
 expects-then b p (On last) q = reads-then p q
 expects-then b p Off m = misses-second b p m
@@ -92,11 +101,13 @@ pub reads-byte : (text : Bytes) (at : ℕ) → at < length text → Reads text a
 reads-byte text at h = record { forward = omega arith; within = h; reads = drop-cons text at 0 h }
 
 -- a byte that stands there
-pub reads-this-byte : (text : Bytes) (at b : ℕ) → at < length text → getD text at 0 ≡ b → Reads text at (b ∷ []) (at + 1)
+pub reads-this-byte : (text : Bytes) (at b : ℕ) → at < length text → getD text at 0 ≡ b → Reads text at (b ∷ [])
+    (at + 1)
 reads-this-byte text at b h same = rw (← same, add-one at) (reads-byte text at h)
 
 -- another byte stands there
-pub misses-byte : (text : Bytes) (at b : ℕ) (rest : Bytes) → at < length text → (getD text at 0 ≡ b → ⊥) → Misses text at (b ∷ rest)
+pub misses-byte : (text : Bytes) (at b : ℕ) (rest : Bytes) → at < length text → (getD text at 0 ≡ b → ⊥)
+    → Misses text at (b ∷ rest)
 misses-byte text at b rest h other =
     record { misses = λ more e. other (head-eq-of-cons-eq (sym (drop-cons text at 0 h) ∙ e)) }
 
@@ -107,7 +118,8 @@ misses-at-end text at b rest h = record { misses = λ more e. nil≢cons (sym (d
 -- ---- a word, byte by byte
 
 -- with byte i of a word there, the rest of the word decides
-pub expects-next : (text word : Bytes) (at i : ℕ) → i < length word → at + i < length text → getD text (at + i) 0 ≡ getD word i 0
+pub expects-next : (text word : Bytes) (at i : ℕ) → i < length word → at + i < length text → getD text (at + i) 0 ≡
+    getD word i 0
     → (r : Step) → Expects text (at + (i + 1)) (drop (i + 1) word) r → Expects text (at + i) (drop i word) r
 expects-next text word at i h k same r e =
     let later : at + (i + 1) ≡ suc (at + i) = omega arith in

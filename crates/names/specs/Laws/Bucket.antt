@@ -1,4 +1,5 @@
--- The table of buckets as names are noted one by one, and what a name that meets none of its bucket says of all names before it. Assumes nothing.
+-- The table of buckets as names are noted one by one, and what a name that meets none of its bucket says of all names
+-- before it. Assumes nothing.
 use Prim.Native.Nat.{ℕ, suc, _+_, _*_, _/_, _%_, _≤_, _<_}
 use native.Mathlib.Nat.{not-suc-le-zero}
 use native.Mathlib.Omega.{arith}
@@ -45,28 +46,34 @@ bucket-step h name i l = rw (drop-cons name i 0 l)
 module _ (table : List ℕ) (at p w : ℕ) (l : at < length table)
     (with-bit : (q : ℕ) → bit w q ≡ (bit (getD table at 0) q || eqb q p)) where
   -- a bit of the table with one bit more: one that was there, or the new one
-  pub old-or-new : (x q : ℕ) → So (bit (getD (set table at w) x 0) q) → So (bit (getD table x 0) q) ⊎ ((x ≡ at) × (q ≡ p))
-  old-or-new x q s = ⊎-elim (λ t. here (eqb-true x at t)) (λ f. inl (elsewhere (eqb-false x at f))) (passes-or-fails (eqb x at))
+  pub old-or-new : (x q : ℕ) → So (bit (getD (set table at w) x 0) q) → So (bit (getD table x 0) q) ⊎ ((x ≡ at)
+      × (q ≡ p))
+  old-or-new x q s = ⊎-elim (λ t. here (eqb-true x at t)) (λ f. inl (elsewhere (eqb-false x at f)))
+      (passes-or-fails (eqb x at))
     where
       here : x ≡ at → So (bit (getD table x 0) q) ⊎ ((x ≡ at) × (q ≡ p))
       here e =
-          let now : So (bit (getD table at 0) q || eqb q p) = sym (with-bit q) ∙ rw (e, getD-set-same table at w 0 l) at s in
+          let now : So (bit (getD table at 0) q || eqb q p) = sym (with-bit q)
+          ∙ rw (e, getD-set-same table at w 0 l) at s in
           ⊎-elim (λ o. inl (rw e o)) (λ n. inr (e, eqb-true q p n)) (or-cases (bit (getD table at 0) q) (eqb q p) now)
 
       elsewhere : (x ≡ at → ⊥) → So (bit (getD table x 0) q)
       elsewhere d = rw (getD-set-other table at x w 0 d) at s
 
   pub old-stays : (x q : ℕ) → So (bit (getD table x 0) q) → So (bit (getD (set table at w) x 0) q)
-  old-stays x q s = ⊎-elim (λ t. here (eqb-true x at t)) (λ f. elsewhere (eqb-false x at f)) (passes-or-fails (eqb x at))
+  old-stays x q s = ⊎-elim (λ t. here (eqb-true x at t)) (λ f. elsewhere (eqb-false x at f))
+      (passes-or-fails (eqb x at))
     where
       here : x ≡ at → So (bit (getD (set table at w) x 0) q)
-      here e = rw (e, getD-set-same table at w 0 l, with-bit q) (or-left (bit (getD table at 0) q) (eqb q p) (rw e at s))
+      here e = rw (e, getD-set-same table at w 0 l, with-bit q) (or-left (bit (getD table at 0) q) (eqb q p)
+          (rw e at s))
 
       elsewhere : (x ≡ at → ⊥) → So (bit (getD (set table at w) x 0) q)
       elsewhere d = rw (getD-set-other table at x w 0 d) s
 
   pub new-there : So (bit (getD (set table at w) at 0) p)
-  new-there = rw (getD-set-same table at w 0 l, with-bit p) (or-right (bit (getD table at 0) p) (eqb p p) (eq-eqb p p refl))
+  new-there = rw (getD-set-same table at w 0 l, with-bit p) (or-right (bit (getD table at 0) p) (eqb p p)
+      (eq-eqb p p refl))
 
 -- the word of the name j in its bucket
 abbrev word-of : Bytes → Places → ℕ → ℕ
@@ -84,11 +91,13 @@ none-noted text places =
     clear : (x : ℕ) → getD {A = ℕ} (replicate (bucket-count * bucket-words) 0) x 0 ≡ 0
     clear x =
         ⊎-elim (λ l. getD-replicate (bucket-count * bucket-words) x 0 0 l)
-        (λ l. List·getD-eq-default (replicate (bucket-count * bucket-words) 0) 0 {n = x} (rw (length-replicate {A = ℕ} (bucket-count * bucket-words) 0) l))
+        (λ l. List·getD-eq-default (replicate (bucket-count * bucket-words) 0) 0 {n = x}
+        (rw (length-replicate {A = ℕ} (bucket-count * bucket-words) 0) l))
         (below-or-from x (bucket-count * bucket-words))
 
 -- the name n is noted by its bit in its bucket
-pub one-noted : (table : List ℕ) (text : Bytes) (places : Places) (n w : ℕ) → n / word-bits < bucket-words → Noted table text places n
+pub one-noted : (table : List ℕ) (text : Bytes) (places : Places) (n w : ℕ) → n / word-bits < bucket-words
+    → Noted table text places n
     → ((q : ℕ) → bit w q ≡ (bit (getD table (word-of text places n) 0) q || eqb q (n % word-bits)))
     → Noted (set table (word-of text places n) w) text places (suc n)
 one-noted table text places n w few noted with-bit =
@@ -97,7 +106,9 @@ one-noted table text places n w few noted with-bit =
       below = λ h k p l m s.
           ⊎-elim (λ o. let before = noted .below h k p l m o in omega arith) (λ new. last h k p l (new .0) (new .1))
           (old-or-new table at (n % word-bits) w fits with-bit (h * bucket-words + k) p s);
-      each = λ j l. ⊎-elim (λ e. rw e (new-there table at (n % word-bits) w fits with-bit)) (λ k. old-stays table at (n % word-bits) w fits with-bit (word-of text places j) (j % word-bits) (noted .each j k)) (last-or-below l);
+      each = λ j l. ⊎-elim (λ e. rw e (new-there table at (n % word-bits) w fits with-bit))
+          (λ k. old-stays table at (n % word-bits) w fits with-bit (word-of text places j) (j % word-bits)
+          (noted .each j k)) (last-or-below l);
     }
   where
     at : ℕ
@@ -110,7 +121,11 @@ one-noted table text places n w few noted with-bit =
     last h k p l e f = omega arith
 
 -- names that are noted before number n stand in the text
-pub noted-standing : {table : List ℕ} {text : Bytes} {places : Places} {n count : ℕ} → Noted table text places n → Inside text places count
+pub noted-standing : {table : List ℕ} {text : Bytes} {places : Places} {n count : ℕ} → Noted table text places n
+    → Inside text places count
     → n ≤ count → BitsNamed table text (places .from) (places .to)
 noted-standing noted inside few =
-    record { part = λ h k p l m s. inside-part inside (k * word-bits + p) (let before = noted .below h k p l m s in omega arith) }
+    record {
+      part = λ h k p l m s. inside-part inside (k * word-bits + p) (let before = noted .below h k p l m s
+          in omega arith);
+    }

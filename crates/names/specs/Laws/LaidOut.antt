@@ -1,4 +1,5 @@
--- The layout of an accepted sheet places its users and its permissions, and each of their names is there as a part of the sheet. Assumes nothing.
+-- The layout of an accepted sheet places its users and its permissions, and each of their names is there as a part of
+-- the sheet. Assumes nothing.
 use Prim.Native.Nat.{ℕ, _<_}
 use native.Mathlib.Omega.{arith}
 use mathlib.Core.List.{List}
@@ -18,12 +19,16 @@ module _ (text : Bytes) (layout : Layout) (l : LaidOut text layout) where
   pub permissions-at : PermissionsAt text (layout .«permission_places» .from) (layout .«permission_places» .to)
   permissions-at = record { accepts = l .accepts; names = l .permission-names }
 
-pub user-there : {text : Bytes} {from to : List ℕ} → UsersAt text from to → (u : ℕ) → u < user-count (sheet-of text) → PartThere text from to u
+pub user-there : {text : Bytes} {from to : List ℕ} → UsersAt text from to → (u : ℕ) → u < user-count (sheet-of text)
+    → PartThere text from to u
 user-there {text} at u h =
-    let few = accepted-lawful text (at .accepts) .few-users in (omega arith, at .names .each u h .forward, at .names .each u h .within)
+    let few = accepted-lawful text (at .accepts) .few-users
+    in (omega arith, at .names .each u h .forward, at .names .each u h .within)
 
-pub permission-there : {text : Bytes} {from to : List ℕ} → PermissionsAt text from to → (p : ℕ) → p < permission-count (sheet-of text)
+pub permission-there : {text : Bytes} {from to : List ℕ} → PermissionsAt text from to → (p : ℕ)
+    → p < permission-count (sheet-of text)
     → PartThere text from to p
 unfolding permission-limit user-limit
 permission-there {text} at p h =
-    let few = accepted-lawful text (at .accepts) .few-permissions in (omega arith, at .names .each p h .forward, at .names .each p h .within)
+    let few = accepted-lawful text (at .accepts) .few-permissions
+    in (omega arith, at .names .each p h .forward, at .names .each p h .within)

@@ -1,4 +1,5 @@
--- The names at places of a text, by their numbers; and what a search that passes them one by one finds. Assumes nothing.
+-- The names at places of a text, by their numbers; and what a search that passes them one by one finds. Assumes
+-- nothing.
 use Prim.Native.Nat.{ℕ, _≤_, _<_}
 use native.Mathlib.Omega.{arith}
 use mathlib.Core.Path.{_≡_, _∙_}
@@ -22,12 +23,15 @@ pub name-of : (text : Bytes) (places : Places) (count i : ℕ) → i < count
 name-of text places count i h = getD-list-of count (name-there text places) i [] h
 
 -- names that stand at their places are the names at those places
-pub placed-names : (n : ℕ) (text : Bytes) (places : Places) (names : List Bytes) → PlacedBelow n text places names → n ≡ length names
+pub placed-names : (n : ℕ) (text : Bytes) (places : Places) (names : List Bytes) → PlacedBelow n text places names
+    → n ≡ length names
     → names-at text places n ≡ names
 placed-names n text places names p e =
-    list-of-same n (name-there text places) (λ i. getD names i []) (λ i l. p .each i l .reads) ∙ rw e (list-of-places names [])
+    list-of-same n (name-there text places) (λ i. getD names i []) (λ i l. p .each i l .reads)
+    ∙ rw e (list-of-places names [])
 
-pub placed-inside : (n : ℕ) (text : Bytes) (places : Places) (names : List Bytes) → PlacedBelow n text places names → n ≤ user-limit
+pub placed-inside : (n : ℕ) (text : Bytes) (places : Places) (names : List Bytes) → PlacedBelow n text places names
+    → n ≤ user-limit
     → Inside text places n
 placed-inside n text places names p few =
     record { few = few; forward = λ i l. p .each i l .forward; within = λ i l. p .each i l .within }
@@ -37,7 +41,8 @@ pub inside-part : {text : Bytes} {places : Places} {count : ℕ} → Inside text
 inside-part inside i h = (omega (arith, inside .few), inside .forward i h, inside .within i h)
 
 -- fewer places are parts of the text too
-pub inside-fewer : {text : Bytes} {places : Places} {n count : ℕ} → Inside text places count → n ≤ count → Inside text places n
+pub inside-fewer : {text : Bytes} {places : Places} {n count : ℕ} → Inside text places count → n ≤ count
+    → Inside text places n
 inside-fewer inside h =
     record {
       few = (let few = inside .few in omega arith);
@@ -49,7 +54,8 @@ inside-fewer inside h =
 abbrev pub Unlike : Bytes → Places → ℕ → Bytes → ℕ → Type 0
 Unlike text places count name i = (j : ℕ) → j < i → same-name name (getD (names-at text places count) j []) ≡ false
 
-pub found-at : (text : Bytes) (places : Places) (count : ℕ) (name : Bytes) (i : ℕ) → i < count → Unlike text places count name i
+pub found-at : (text : Bytes) (places : Places) (count : ℕ) (name : Bytes) (i : ℕ) → i < count
+    → Unlike text places count name i
     → So (same-name name (name-there text places i)) → name-number (names-at text places count) name ≡ some i
 found-at text places count name i h before p =
     rw (names-total text places count)

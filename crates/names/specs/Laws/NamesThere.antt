@@ -24,7 +24,8 @@ pub record NamesThere (text : Bytes) (places : Places) (count : ℕ) (names : Li
   pub apart : Apart text places count
   pub same : names-at text places count ≡ names
 
-names-there : (text : Bytes) (places : Places) (names : List Bytes) → NamesPlaced text places names → Names names → length names ≤ user-limit
+names-there : (text : Bytes) (places : Places) (names : List Bytes) → NamesPlaced text places names → Names names
+    → length names ≤ user-limit
     → NamesThere text places (length names) names
 names-there text places names placed lawful few =
     record {
@@ -32,20 +33,25 @@ names-there text places names placed lawful few =
       apart = λ i j h k.
           fails-unless (same-name (name-there text places i) (name-there text places j)) (λ p.
           lawful .distinct i j h k
-          (sym (placed .each i (omega arith) .reads) ∙ same-bytes-equal (name-there text places i) (name-there text places j) p ∙ placed .each j k .reads));
+          (sym (placed .each i (omega arith) .reads) ∙ same-bytes-equal (name-there text places i)
+          (name-there text places j) p ∙ placed .each j k .reads));
       same = placed-names (length names) text places names placed refl;
     }
 
-pub users-there : {text : Bytes} {from to : List ℕ} → UsersAt text from to → (users : ℕ) → users ≡ user-count (sheet-of text)
+pub users-there : {text : Bytes} {from to : List ℕ} → UsersAt text from to → (users : ℕ)
+    → users ≡ user-count (sheet-of text)
     → NamesThere text (places-of from to) users (sheet-of text .users)
 users-there {text} {from} {to} at users e =
     let lawful = accepted-lawful text (at .accepts) in
-    rw e (names-there text (places-of from to) (sheet-of text .users) (at .names) (lawful .user-names) (lawful .few-users))
+    rw e (names-there text (places-of from to) (sheet-of text .users) (at .names) (lawful .user-names)
+    (lawful .few-users))
 
 pub permissions-there : {text : Bytes} {from to : List ℕ} → PermissionsAt text from to → (permissions : ℕ)
-    → permissions ≡ permission-count (sheet-of text) → NamesThere text (places-of from to) permissions (sheet-of text .permissions)
+    → permissions ≡ permission-count (sheet-of text) → NamesThere text (places-of from to) permissions
+    (sheet-of text .permissions)
 unfolding permission-limit user-limit
 permissions-there {text} {from} {to} at permissions e =
     let lawful = accepted-lawful text (at .accepts) in
     let few = lawful .few-permissions in
-    rw e (names-there text (places-of from to) (sheet-of text .permissions) (at .names) (lawful .permission-names) (omega arith))
+    rw e (names-there text (places-of from to) (sheet-of text .permissions) (at .names) (lawful .permission-names)
+    (omega arith))

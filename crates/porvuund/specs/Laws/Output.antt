@@ -1,5 +1,5 @@
--- What the book program prints, by what the call for a book answers: the book that the call left at the front of the buffer, or the number. The
--- program's own buffer is one of zeros; only its length matters. Assumes nothing.
+-- What the book program prints, by what the call for a book answers: the book that the call left at the front of the
+-- buffer, or the number. The program's own buffer is one of zeros; only its length matters. Assumes nothing.
 use Prim.Native.Nat.{ℕ}
 use mathlib.Core.Path.{_≡_, refl, sym, ap, _∙_}
 use mathlib.Core.Bool.{Bool, true, false, cond}
@@ -38,26 +38,31 @@ whole-book session buffer z = choose (eqb number 0) refl z
     text : Bytes
     text = session-book session
 
-    choose : (t : Bool) → t ≡ eqb number 0 → cond t (record { number = 0; count = length text }) (write-refused number) .number ≡ 0
-        → Written text buffer (cond t (text ++ drop (length text) buffer) buffer) (cond t (record { number = 0; count = length text }) (write-refused number) .count)
+    choose : (t : Bool) → t ≡ eqb number 0 → cond t (record { number = 0; count = length text })
+        (write-refused number) .number ≡ 0
+        → Written text buffer (cond t (text ++ drop (length text) buffer) buffer)
+        (cond t (record { number = 0; count = length text }) (write-refused number) .count)
     choose true e z = record { buffer = refl; counted = refl }
     choose false e z = absurd (not-both (eq-eqb number 0 z) (sym e))
 
 -- a refused one leaves every byte
-untouched : (session : Session) (buffer : Bytes) → write-answer session buffer .number ≢ 0 → buffer-after session buffer ≡ buffer
+untouched : (session : Session) (buffer : Bytes) → write-answer session buffer .number ≢ 0
+    → buffer-after session buffer ≡ buffer
 untouched session buffer refuses =
     demand-1 .writes session session buffer (buffer-after session buffer) (write-answer session buffer)
     (record { answers = refl; fills = refl; leaves = refl }) .refused refuses .1
 
 -- ---- what is printed of a writing
 
-printed-book : (session : Session) (buffer : Bytes) → write-answer session buffer .number ≡ 0 → printed session buffer ≡ session-book session
+printed-book : (session : Session) (buffer : Bytes) → write-answer session buffer .number ≡ 0 → printed session buffer
+    ≡ session-book session
 unfolding printed
 printed-book session buffer z =
     let w = whole-book session buffer z in
     rw (eq-eqb (write-answer session buffer .number) 0 z)
     (ap (take (write-answer session buffer .count)) (w .buffer)
-    ∙ take-at (session-book session) (drop (length (session-book session)) buffer) (write-answer session buffer .count) (sym (w .counted)))
+    ∙ take-at (session-book session) (drop (length (session-book session)) buffer)
+    (write-answer session buffer .count) (sym (w .counted)))
 
 printed-number : (session : Session) (buffer : Bytes) → write-answer session buffer .number ≢ 0
     → printed session buffer ≡ number-line (write-answer session buffer .number)
@@ -81,31 +86,39 @@ module _ (text word buffer : Bytes) (room : length buffer ≡ program-buffer) wh
   own-answer = same-answer session zeros buffer (length-replicate program-buffer 0 ∙ sym room)
 
   -- the book is at the front of the buffer
-  pub output-written : {answer : WriteAnswer} {lent : Bytes} → Books text (budget-of (word ∷ [])) buffer answer lent → answer .number ≡ 0
+  pub output-written : {answer : WriteAnswer} {lent : Bytes} → Books text (budget-of (word ∷ [])) buffer answer lent
+      → answer .number ≡ 0
       → Written (program-output text (word ∷ [])) buffer lent (answer .count)
   unfolding book-answer book-buffer program-output
   output-written {answer} {lent} books z = choose (accepted text) refl (books .answers) (books .fills)
     where
-      choose : (t : Bool) → accepted text ≡ t → answer ≡ cond t (write-answer session buffer) (write-refused (refusal text))
-          → lent ≡ cond t (buffer-after session buffer) buffer → Written (cond t (printed session zeros) (number-line (refusal text))) buffer lent (answer .count)
+      choose : (t : Bool) → accepted text ≡ t → answer ≡ cond t (write-answer session buffer)
+          (write-refused (refusal text))
+          → lent ≡ cond t (buffer-after session buffer) buffer
+          → Written (cond t (printed session zeros) (number-line (refusal text))) buffer lent (answer .count)
       choose true e p q =
           let z' : write-answer session buffer .number ≡ 0 = sym (ap (λ (a : WriteAnswer). a .number) p) ∙ z in
-          let own : printed session zeros ≡ session-book session = printed-book session zeros (ap (λ (a : WriteAnswer). a .number) own-answer ∙ z') in
+          let own : printed session zeros ≡ session-book session = printed-book session zeros
+          (ap (λ (a : WriteAnswer). a .number) own-answer ∙ z') in
           rw (p, q, own) (whole-book session buffer z')
-      choose false e p q = absurd (not-both (eq-eqb (refusal text) 0 (sym (ap (λ (a : WriteAnswer). a .number) p) ∙ z)) e)
+      choose false e p q = absurd (not-both (eq-eqb (refusal text) 0 (sym (ap (λ (a : WriteAnswer). a .number) p)
+          ∙ z)) e)
 
   -- the number is printed, and the buffer is as it was
-  pub output-refused : {answer : WriteAnswer} {lent : Bytes} → Books text (budget-of (word ∷ [])) buffer answer lent → answer .number ≢ 0
+  pub output-refused : {answer : WriteAnswer} {lent : Bytes} → Books text (budget-of (word ∷ [])) buffer answer lent
+      → answer .number ≢ 0
       → (program-output text (word ∷ []) ≡ number-line (answer .number)) × (lent ≡ buffer)
   unfolding book-answer book-buffer program-output
   output-refused {answer} {lent} books refuses = choose (accepted text) (books .answers) (books .fills)
     where
       choose : (t : Bool) → answer ≡ cond t (write-answer session buffer) (write-refused (refusal text))
           → lent ≡ cond t (buffer-after session buffer) buffer
-          → (cond t (printed session zeros) (number-line (refusal text)) ≡ number-line (answer .number)) × (lent ≡ buffer)
+          → (cond t (printed session zeros) (number-line (refusal text)) ≡ number-line (answer .number))
+          × (lent ≡ buffer)
       choose true p q =
           let number : answer .number ≡ write-answer session buffer .number = ap (λ (a : WriteAnswer). a .number) p in
-          let own : write-answer session zeros .number ≡ answer .number = ap (λ (a : WriteAnswer). a .number) own-answer ∙ sym number in (
+          let own : write-answer session zeros .number ≡ answer .number = ap (λ (a : WriteAnswer). a .number)
+          own-answer ∙ sym number in (
             printed-number session zeros (λ z. refuses (sym own ∙ z)) ∙ ap number-line own,
             q ∙ untouched session buffer (λ z. refuses (number ∙ z)),
           )

@@ -1,5 +1,6 @@
--- What is owed of what the programs print. The book program prints what one task on a buffer of 65,536 bytes brings out, and no book is longer; so what it prints
--- for an accepted sheet is believed. The check program prints the line of an answer that is owed.
+-- What is owed of what the programs print. The book program prints what one task on a buffer of 65,536 bytes brings
+-- out, and no book is longer; so what it prints for an accepted sheet is believed. The check program prints the line
+-- of an answer that is owed.
 use Prim.Native.Nat.{ℕ}
 use native.Mathlib.Omega.{arith}
 use mathlib.Core.Path.{_≡_, refl, sym, ap, _∙_}
@@ -34,7 +35,11 @@ module _ (text : Bytes) (arguments : List Bytes) where
 
   -- the program's task, on its own buffer
   abbrev task : WriteOutcome
-  task = record { answer = book-answer text (budget-of arguments) zeros; lent = book-buffer text (budget-of arguments) zeros }
+  task = record {
+    answer = book-answer text (budget-of arguments) zeros;
+    lent = book-buffer text (budget-of arguments)
+        zeros;
+  }
 
   own-task : TaskOwed text (budget-of arguments) zeros task
   own-task = task-owed text (budget-of arguments) zeros task (record { answers = refl; fills = refl })
@@ -42,13 +47,15 @@ module _ (text : Bytes) (arguments : List Bytes) where
   -- its buffer takes every book
   answered : So (accepted text) → task .answer .number ≡ 0
   unfolding program-buffer book-limit
-  answered takes = own-task .owed takes .answered text (rw takes) (omega (arith, length-replicate {A = ℕ} program-buffer 0))
+  answered takes = own-task .owed takes .answered text (rw takes)
+      (omega (arith, length-replicate {A = ℕ} program-buffer 0))
 
   -- what it prints is what the task brings out
   prints-the-book : So (accepted text) → program-output text arguments ≡ brought-out task
   unfolding program-output printed book-answer book-buffer
   prints-the-book takes =
-      let z : write-answer (searched-once text (budget-of arguments)) zeros .number ≡ 0 = rw takes at (answered takes) in
+      let z : write-answer (searched-once text (budget-of arguments)) zeros .number ≡ 0 = rw takes at
+      (answered takes) in
       rw (takes, eq-eqb _ 0 z)
 
   -- what the book program prints for an accepted sheet is believed
@@ -67,7 +74,8 @@ pub record BookPrinted (text word before after : Bytes) (count : ℕ) : Type 0 w
   pub believed : So (accepted text) → Believed text (take count after)
   pub refused : accepted text ≡ false → take count after ≡ number-line (refusal text)
 
-pub book-printed : (text word : Bytes) {before after : Bytes} {count : ℕ} → Written (program-output text (word ∷ [])) before after count
+pub book-printed : (text word : Bytes) {before after : Bytes} {count : ℕ} → Written (program-output text (word ∷ []))
+    before after count
     → BookPrinted text word before after count
 book-printed text word w =
     record {
@@ -78,14 +86,20 @@ book-printed text word w =
 
 -- ---- the check program
 
--- what is owed of the check program's output for a sheet and a book, at the front of its buffer: the line of an answer that is owed
+-- what is owed of the check program's output for a sheet and a book, at the front of its buffer: the line of an
+-- answer that is owed
 pub record CheckPrinted (text book before after : Bytes) (count : ℕ) : Type 0 where
   pub answer : CheckAnswer
   pub owed : CheckOwed text book answer
   pub written : Written (check-line answer) before after count
 
-pub check-printed : (text book : Bytes) {before after : Bytes} {count : ℕ} → Written (check-output text book) before after count
+pub check-printed : (text book : Bytes) {before after : Bytes} {count : ℕ} → Written (check-output text book) before
+    after count
     → CheckPrinted text book before after count
 unfolding check-output
 check-printed text book w =
-    record { answer = check text book; owed = check-owed text book (check text book) (record { answers = refl }); written = w }
+    record {
+      answer = check text book;
+      owed = check-owed text book (check text book) (record { answers = refl });
+      written = w;
+    }

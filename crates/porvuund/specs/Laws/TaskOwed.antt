@@ -1,5 +1,6 @@
--- What is owed of a whole task in one call. On an accepted sheet it is a load, a search and a writing on a fresh session, so it is a sequence of demand 3 and its
--- book is believed; a refused sheet has its own number, and nothing is written.
+-- What is owed of a whole task in one call. On an accepted sheet it is a load, a search and a writing on a fresh
+-- session, so it is a sequence of demand 3 and its book is believed; a refused sheet has its own number, and nothing
+-- is written.
 use Prim.Native.Nat.{ℕ}
 use mathlib.Core.Path.{_≡_, refl, sym, ap, _∙_}
 use mathlib.Core.Bool.{Bool, true, false, So, cond}
@@ -10,7 +11,16 @@ use lib.ListN.{take}
 use Rattle.spec.specs.Text.{Bytes}
 use Rattle.spec.specs.Session.{fresh}
 use Rattle.spec.specs.Refusal.{refusal, accepted, write-causes}
-use Rattle.spec.specs.Calls.{load-answer, after-load, search-answer, WriteAnswer, write-refused, write-answer, buffer-after, Writes}
+use Rattle.spec.specs.Calls.{
+  load-answer,
+  after-load,
+  search-answer,
+  WriteAnswer,
+  write-refused,
+  write-answer,
+  buffer-after,
+  Writes,
+}
 use Rattle.spec.specs.Sequence.{load, search, write, Call, Event, WriteOutcome, Led, brought-out}
 use Rattle.spec.specs.Demands.{Judged, Believed, BookOwed, WriteOwed}
 use Rattle.bits.specs.Truth.{not-both}
@@ -33,7 +43,8 @@ task-events text budget buffer written =
 -- what is owed of a task that was answered so and left the lent buffer so
 pub record TaskOwed (text : Bytes) (budget : ℕ) (buffer : Bytes) (written : WriteOutcome) : Type 0 where
   -- a refused sheet: its number with counts 0, and every lent byte untouched
-  pub refused-sheet : accepted text ≡ false → (written .answer ≡ write-refused (refusal text)) × (written .lent ≡ buffer)
+  pub refused-sheet : accepted text ≡ false → (written .answer ≡ write-refused (refusal text))
+      × (written .lent ≡ buffer)
   -- an accepted one: a sequence of demand 3, with all that is owed of its writing
   pub sequence : So (accepted text) → Led (task-events text budget buffer written) (searched-once text budget)
   pub owed : So (accepted text) → WriteOwed buffer written (task-calls text budget)
@@ -67,17 +78,21 @@ module _ (text : Bytes) (budget : ℕ) (buffer : Bytes) (written : WriteOutcome)
     )
 
     write-owed : So (accepted text) → WriteOwed buffer written (task-calls text budget)
-    write-owed takes = demand-3 .owed (task-events text budget buffer written) (searched-once text budget) (led takes) .0
+    write-owed takes = demand-3 .owed (task-events text budget buffer written) (searched-once text budget)
+        (led takes) .0
 
-    write-judged : So (accepted text) → Judged (write-causes (searched-once text budget) buffer) (written .answer .number)
+    write-judged : So (accepted text) → Judged (write-causes (searched-once text budget) buffer)
+        (written .answer .number)
         ((written .answer ≡ write-refused (written .answer .number)) × (written .lent ≡ buffer))
     write-judged takes =
         let j =
-        demand-1 .writes (searched-once text budget) (searched-once text budget) buffer (written .lent) (written .answer) (writes takes) in
+        demand-1 .writes (searched-once text budget) (searched-once text budget) buffer (written .lent)
+        (written .answer) (writes takes) in
         record { lowest = j .lowest; refused = λ n. (j .refused n .0, j .refused n .1) }
 
     -- the last accepted sheet is the task's own
-    own-book : So (accepted text) → BookOwed (brought-out written) (task-calls text budget) → Believed text (brought-out written)
+    own-book : So (accepted text) → BookOwed (brought-out written) (task-calls text budget)
+        → Believed text (brought-out written)
     own-book takes owed =
         let last : some text ≡ some (owed .text) = rw takes at (owed .last) in
         let same : text ≡ owed .text = cc in

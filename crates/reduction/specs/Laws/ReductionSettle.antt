@@ -1,5 +1,6 @@
--- Sweeps until one removes nothing. As many cells remain as grants, so a sweep that logs no removal is one after which as many grants remain, and there the
--- definition's sweeps end. Any other leaves fewer, so the sweeps still allowed stay more than the grants that remain.
+-- Sweeps until one removes nothing. As many cells remain as grants, so a sweep that logs no removal is one after
+-- which as many grants remain, and there the definition's sweeps end. Any other leaves fewer, so the sweeps still
+-- allowed stay more than the grants that remain.
 use Prim.Native.Nat.{ℕ, zero, suc, _+_, _*_, _/_, _%_, _≤_, _<_}
 use native.Mathlib.Nat.{le-refl, le-dest, not-suc-le-zero, div-lt-iff-lt-mul}
 use native.Mathlib.Omega.{arith}
@@ -39,16 +40,19 @@ module _ (sheet : Sheet) (r : Reduction) where
   -- one of the sweeps allowed
   one-sweep : (allowed : ℕ) → length (r .remaining) < allowed → reduction sheet ≡ sweeps sheet allowed r
       → (more : ℕ) × (allowed ≡ suc more) × (reduction sheet
-      ≡ cond (eqb (length (sweep sheet r .remaining)) (length (r .remaining))) (sweep sheet r) (sweeps sheet more (sweep sheet r)))
+      ≡ cond (eqb (length (sweep sheet r .remaining)) (length (r .remaining))) (sweep sheet r)
+      (sweeps sheet more (sweep sheet r)))
   one-sweep zero enough rest = absurd (not-suc-le-zero enough)
   one-sweep (suc more) enough rest = (more, refl, rest)
 
-  pub settled : Pending sheet r → length (sweep sheet r .remaining) ≡ length (r .remaining) → sweep sheet r ≡ reduction sheet
+  pub settled : Pending sheet r → length (sweep sheet r .remaining) ≡ length (r .remaining)
+      → sweep sheet r ≡ reduction sheet
   settled p same =
       let one = one-sweep (p .allowed) (p .enough) (p .rest) in
       sym (one .2 ∙ rw (eq-eqb (length (sweep sheet r .remaining)) (length (r .remaining)) same))
 
-  pub pending-next : Pending sheet r → length (sweep sheet r .remaining) < length (r .remaining) → Pending sheet (sweep sheet r)
+  pub pending-next : Pending sheet r → length (sweep sheet r .remaining) < length (r .remaining)
+      → Pending sheet (sweep sheet r)
   pending-next p fewer =
       let one = one-sweep (p .allowed) (p .enough) (p .rest) in
       record {
@@ -63,22 +67,30 @@ module _ (sheet : Sheet) (r : Reduction) where
 count-until : (m n : ℕ) (f : ℕ → Bool) → m ≤ n → ((i : ℕ) → m ≤ i → f i ≡ false) → count-below n f ≡ count-below m f
 count-until m n f l h =
     let k = le-dest l in
-    rw (← k .1, count-below-add m (k .0) f, count-below-none-intro (k .0) (λ i. f (m + i)) (λ i j. h (m + i) (omega arith))) (omega arith)
+    rw (
+      ← k .1,
+      count-below-add m (k .0) f,
+      count-below-none-intro (k .0) (λ i. f (m + i))
+          (λ i j. h (m + i) (omega arith)),
+    ) (omega arith)
 
 module _ {rows : List ℕ} {users : ℕ} {sheet : Sheet} (shown : Shown rows users sheet) where
   beyond : {left : List ℕ} → Part left rows → (n : ℕ) → users * row-bits ≤ n → marked left n ≡ false
   beyond {left} part n past =
       fails-unless (marked left n) (λ p.
-      let inside = div-lt-iff-lt-mul row-bits-pos .0 (shown .few (n / row-bits) (n % row-bits) (sym (marked-holds shown n) ∙ part .held n p)) in
+      let inside = div-lt-iff-lt-mul row-bits-pos .0 (shown .few (n / row-bits) (n % row-bits)
+      (sym (marked-holds shown n) ∙ part .held n p)) in
       omega arith)
 
   -- as many cells as grants remain
-  pub remaining-count : {left : List ℕ} → users ≤ user-limit → Part left rows → length (cell-grants sheet left) ≡ remaining-cells left
+  pub remaining-count : {left : List ℕ} → users ≤ user-limit → Part left rows → length (cell-grants sheet left) ≡
+      remaining-cells left
   remaining-count {left} few part =
       ap length (cell-grants-by-cell shown part)
       ∙ length-map (passing-below (users * row-bits) (marked left)) grant-of
       ∙ passing-length (users * row-bits) (marked left)
-      ∙ sym (count-until (users * row-bits) cell-limit (marked left) (rw (row-cells users) at (cells-within few)) (beyond part))
+      ∙ sym (count-until (users * row-bits) cell-limit (marked left) (rw (row-cells users) at (cells-within few))
+      (beyond part))
 
   -- at first all grants remain
   pub all-remain : cell-grants sheet rows ≡ grants sheet
@@ -91,9 +103,11 @@ module _ {rows : List ℕ} {users : ℕ} {sheet : Sheet} (shown : Shown rows use
   visited-sweep {before} part visited =
       visited .state sheet shown
       ∙ ap (λ l. visits sheet l (state-of sheet before))
-      (ap (λ n. map grant-of (passing-below n (marked (before .left)))) (row-cells users) ∙ sym (cell-grants-by-cell shown part))
+      (ap (λ n. map grant-of (passing-below n (marked (before .left)))) (row-cells users)
+      ∙ sym (cell-grants-by-cell shown part))
 
-  pub pending-at-first : (removed partner : List ℕ) → Pending sheet (state-of sheet (record { left = rows; removed = removed; partner = partner; count = 0 }))
+  pub pending-at-first : (removed partner : List ℕ)
+      → Pending sheet (state-of sheet (record { left = rows; removed = removed; partner = partner; count = 0 }))
   unfolding reduction
   pending-at-first removed partner =
       record {
@@ -116,9 +130,14 @@ module _ {rows : List ℕ} {users : ℕ} {before after : Work} (settling : Settl
 
   -- as many removals more as grants fewer
   balance : (sheet : Sheet) → Shown rows users sheet
-      → after .count + length (cell-grants sheet (after .left)) ≡ before .count + length (cell-grants sheet (before .left))
+      → after .count + length (cell-grants sheet (after .left)) ≡ before .count + length
+      (cell-grants sheet (before .left))
   balance sheet shown =
-      rw (remaining-count shown (settling .ready .few-users) (after-ready .part), remaining-count shown (settling .ready .few-users) (settling .ready .part))
+      rw (
+        remaining-count shown (settling .ready .few-users) (after-ready .part),
+        remaining-count shown
+            (settling .ready .few-users) (settling .ready .part),
+      )
       (visited .total)
 
   pub settling-done : after .count ≡ before .count → Settled rows users after
@@ -139,5 +158,6 @@ module _ {rows : List ℕ} {users : ℕ} {before after : Work} (settling : Settl
         pending = λ sheet shown.
             let swept = visited-sweep shown (settling .ready .part) visited in
             rw swept (pending-next sheet (state-of sheet before) (settling .pending sheet shown)
-            (rw (ap (λ r. length (r .remaining)) (sym swept)) (omega (arith, balance sheet shown, visited-grows visited))));
+            (rw (ap (λ r. length (r .remaining)) (sym swept))
+            (omega (arith, balance sheet shown, visited-grows visited))));
       }

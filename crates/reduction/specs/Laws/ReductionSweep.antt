@@ -1,5 +1,6 @@
--- A sweep word by word. The cells of a word are visited from the lowest position on; those still to come are the positions of w, and visiting one leaves
--- the others as they were. From word to word the cells visited are those below the next word, so at the end all that remained at first.
+-- A sweep word by word. The cells of a word are visited from the lowest position on; those still to come are the
+-- positions of w, and visiting one leaves the others as they were. From word to word the cells visited are those
+-- below the next word, so at the end all that remained at first.
 use Prim.Native.Nat.{ℕ, _+_, _*_, _<_}
 use native.Mathlib.Omega.{arith}
 use mathlib.Core.Path.{_≡_, sym, ap, _∙_}
@@ -13,7 +14,14 @@ use Rattle.bits.specs.Laws.Bit.{bit-of-zero}
 use Rattle.bits.specs.Truth.{and-left, and-right, not-fails}
 use Rattle.bits.specs.Counting.{Lowest}
 use Rattle.bits.specs.Word.{LowestDropped}
-use Rattle.lists.specs.PassingBelow.{passing-below, passing-ext, passing-only, passing-none, passing-lowest, passing-add}
+use Rattle.lists.specs.PassingBelow.{
+  passing-below,
+  passing-ext,
+  passing-only,
+  passing-none,
+  passing-lowest,
+  passing-add,
+}
 use Rattle.cells.specs.CellPlaces.{marked}
 use Rattle.fit.specs.Laws.FitWord.{marked-in-word}
 use Rattle.verdict.specs.ReductionWork.{Work, word-cells, WorkReady, Visited}
@@ -33,7 +41,8 @@ lowest-cell-first i {w} {q} {rest} low dropped =
 -- ---- within a word
 
 -- a word without cells
-pub swept-empty : {rows : List ℕ} {users : ℕ} {start : Work} (i : ℕ) → WorkReady rows users start → getD (start .left) i 0 ≡ 0
+pub swept-empty : {rows : List ℕ} {users : ℕ} {start : Work} (i : ℕ) → WorkReady rows users start
+    → getD (start .left) i 0 ≡ 0
     → Visited rows users (word-cells i (getD (start .left) i 0)) start start
 swept-empty i ready empty = rw (empty, no-cells i) (none-visited ready)
 
@@ -57,7 +66,8 @@ module _ {rows : List ℕ} {users i : ℕ} where
         ready = visited-ready (s .ready) visited;
         set = λ r l p.
             let both = sym (dropped .others low r) ∙ p in
-            visited .kept (i * word-bits + r) (λ m. eqb-false r q (not-fails (eqb r q) (and-right (bit w r) (not (eqb r q)) both)) (same r m))
+            visited .kept (i * word-bits + r)
+            (λ m. eqb-false r q (not-fails (eqb r q) (and-right (bit w r) (not (eqb r q)) both)) (same r m))
             ∙ s .set r l (and-left (bit w r) (not (eqb r q)) both);
         then = λ end v. s .then end (rw (lowest-cell-first i low dropped) (visited-then visited v));
       }
@@ -65,7 +75,8 @@ module _ {rows : List ℕ} {users i : ℕ} where
       same : (r : ℕ) → List·Memᴰ (i * word-bits + r) ((i * word-bits + q) ∷ []) → r ≡ q
       same r m = omega (arith, List·Memᴰ·eq-of-singleton m)
 
-  pub sweeping-done : {whole : List ℕ} {start now : Work} → Sweeping rows users i whole start now 0 → Visited rows users whole start now
+  pub sweeping-done : {whole : List ℕ} {start now : Work} → Sweeping rows users i whole start now 0
+      → Visited rows users whole start now
   sweeping-done {now} s = s .then now (rw (no-cells i) (none-visited (s .ready)))
 
 -- ---- from word to word
@@ -81,12 +92,17 @@ module _ {rows : List ℕ} {users : ℕ} where
 
   -- the cells of word i are as they were at the start
   same-word : {start now : Work} (i : ℕ) → Swept rows users i start now
-      → word-cells i (getD (now .left) i 0) ≡ map (λ q. i * word-bits + q) (passing-below word-bits (λ q. marked (start .left) (i * word-bits + q)))
+      → word-cells i (getD (now .left) i 0) ≡ map (λ q. i * word-bits + q)
+      (passing-below word-bits (λ q. marked (start .left) (i * word-bits + q)))
   same-word {start} {now} i swept =
       ap (map (λ q. i * word-bits + q))
       (passing-ext word-bits (bit (getD (now .left) i 0)) (λ q. marked (start .left) (i * word-bits + q)) (λ q l.
       sym (marked-in-word (now .left) i q l)
-      ∙ swept .kept (i * word-bits + q) (λ m. omega (arith, passing-only (i * word-bits) (marked (start .left)) m .within))))
+      ∙ swept .kept (i * word-bits + q) (λ m. omega (
+        arith,
+        passing-only (i * word-bits) (marked (start .left))
+            m .within,
+      ))))
 
   pub swept-next : {start now next : Work} (i : ℕ) → Swept rows users i start now
       → Visited rows users (word-cells i (getD (now .left) i 0)) now next → Swept rows users (i + 1) start next

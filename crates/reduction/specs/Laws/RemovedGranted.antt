@@ -1,5 +1,5 @@
--- What the reduction removes, and what it ties to, are grants of the sheet. Each visit is of a grant of the sheet, and a partner is found among what
--- remains; so an induction on the visits, and on the sweeps, keeps both.
+-- What the reduction removes, and what it ties to, are grants of the sheet. Each visit is of a grant of the sheet,
+-- and a partner is found among what remains; so an induction on the visits, and on the sweeps, keeps both.
 use Prim.Native.Nat.{ℕ, zero, suc, _<_}
 use native.Mathlib.Nat.{not-suc-le-zero}
 use mathlib.Core.Path.{_≡_, refl}
@@ -12,7 +12,23 @@ use lib.ListN.{length}
 use Rattle.spec.specs.Vocabulary.{empty}
 use Rattle.spec.specs.Sheet.{Sheet, Grant, grants}
 use Rattle.spec.specs.Fit.{partners}
-use Rattle.spec.specs.Reduction.{Removal, single, tied, Reduction, dominated, is-single, tied-if, carry-out, visit, visits, sweep, sweeps, unreduced, reduction, kernel}
+use Rattle.spec.specs.Reduction.{
+  Removal,
+  single,
+  tied,
+  Reduction,
+  dominated,
+  is-single,
+  tied-if,
+  carry-out,
+  visit,
+  visits,
+  sweep,
+  sweeps,
+  unreduced,
+  reduction,
+  kernel,
+}
 use Rattle.bits.specs.Laws.Below.{last-or-below}
 use Rattle.lists.specs.TestLaws.{first-passes}
 use Rattle.reduction.specs.Laws.Without.{without-member}
@@ -41,7 +57,11 @@ module _ (sheet : Sheet) (l : List Grant) where
       judged : (partnerless : Bool) (found : Option Grant) → dominated sheet (r .remaining) it ≡ found
           → StateOf l (carry-out (cond partnerless is-single (tied-if found)) it r)
       judged true found e =
-          record { remains = λ g n. state .remains g (without-member it (r .remaining) n); removals = (m, state .removals) }
+          record {
+            remains = λ g n. state .remains g (without-member it (r .remaining) n);
+            removals =
+                (m, state .removals);
+          }
       judged false none e = state
       judged false (some g) e =
           record {
@@ -52,17 +72,20 @@ module _ (sheet : Sheet) (l : List Grant) where
             );
           }
 
-  visits-keep : (visited : List Grant) (r : Reduction) → ((g : Grant) → List·Memᴰ g visited → List·Memᴰ g l) → StateOf l r
+  visits-keep : (visited : List Grant) (r : Reduction) → ((g : Grant) → List·Memᴰ g visited → List·Memᴰ g l)
+      → StateOf l r
       → StateOf l (visits sheet visited r)
   visits-keep [] r inside state = state
   visits-keep (it ∷ later) r inside state =
-      visits-keep later (visit sheet it r) (λ g n. inside g (List·Memᴰ·tail n)) (visit-keeps it r (inside it (List·Memᴰ·head refl)) state)
+      visits-keep later (visit sheet it r) (λ g n. inside g (List·Memᴰ·tail n))
+      (visit-keeps it r (inside it (List·Memᴰ·head refl)) state)
 
   sweeps-keep : (fuel : ℕ) (r : Reduction) → StateOf l r → StateOf l (sweeps sheet fuel r)
   sweeps-keep zero r state = state
   sweeps-keep (suc more) r state =
       let after = visits-keep (r .remaining) r (state .remains) state in
-      either (eqb (length (sweep sheet r .remaining)) (length (r .remaining))) after (sweeps-keep more (sweep sheet r) after)
+      either (eqb (length (sweep sheet r .remaining)) (length (r .remaining))) after (sweeps-keep more (sweep sheet r)
+      after)
     where
       either : (settled : Bool) → StateOf l (sweep sheet r) → StateOf l (sweeps sheet more (sweep sheet r))
           → StateOf l (cond settled (sweep sheet r) (sweeps sheet more (sweep sheet r)))
@@ -73,15 +96,18 @@ module _ (sheet : Sheet) (l : List Grant) where
 pub reduction-granted : (sheet : Sheet) → StateOf (grants sheet) (reduction sheet)
 unfolding reduction
 reduction-granted sheet =
-    sweeps-keep sheet (grants sheet) (suc (length (grants sheet))) (unreduced sheet) (record { remains = λ g m. m; removals = tt })
+    sweeps-keep sheet (grants sheet) (suc (length (grants sheet))) (unreduced sheet)
+    (record { remains = λ g m. m; removals = tt })
 
 pub kernel-granted : (sheet : Sheet) (g : Grant) → List·Memᴰ g (kernel sheet) → List·Memᴰ g (grants sheet)
 unfolding kernel
 kernel-granted sheet = reduction-granted sheet .remains
 
 -- a removal of a log, by its number
-pub logged-removal : (l : List Grant) (removed partner : List ℕ) (count : ℕ) → RemovalsOf l (log-of removed partner count)
+pub logged-removal : (l : List Grant) (removed partner : List ℕ) (count : ℕ)
+    → RemovalsOf l (log-of removed partner count)
     → (i : ℕ) → i < count → RemovalOf l (removal-at removed partner i)
 logged-removal l removed partner zero all i k = absurd (not-suc-le-zero k)
 logged-removal l removed partner (suc n) all i k =
-    ⊎-elim (λ (e : i ≡ n). rw e (all .0)) (λ (m : i < n). logged-removal l removed partner n (all .1) i m) (last-or-below k)
+    ⊎-elim (λ (e : i ≡ n). rw e (all .0)) (λ (m : i < n). logged-removal l removed partner n (all .1) i m)
+    (last-or-below k)

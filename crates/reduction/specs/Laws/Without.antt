@@ -18,10 +18,12 @@ without-fails it l {g} m = not-fails (same-grant it g) (filter-kept (λ h. not (
 pub without-differs : (it : Grant) (l : List Grant) {g : Grant} → List·Memᴰ g (without it l) → it ≢ g
 without-differs it l m e = not-both (equal-same-grant e) (without-fails it l m)
 
-pub without-keeps : (it : Grant) (l : List Grant) {g : Grant} → List·Memᴰ g l → same-grant it g ≡ false → List·Memᴰ g (without it l)
+pub without-keeps : (it : Grant) (l : List Grant) {g : Grant} → List·Memᴰ g l → same-grant it g ≡ false
+    → List·Memᴰ g (without it l)
 without-keeps it l {g} m f = filter-member (λ h. not (same-grant it h)) l m (not-passes (same-grant it g) f)
 
 -- a member is the one left out, or stands in the rest
 pub without-cases : (it : Grant) (l : List Grant) {g : Grant} → List·Memᴰ g l → (g ≡ it) ⊎ List·Memᴰ g (without it l)
 without-cases it l {g} m =
-    ⊎-elim (λ e. inl (sym (same-grant-equal it g e))) (λ f. inr (without-keeps it l m f)) (passes-or-fails (same-grant it g))
+    ⊎-elim (λ e. inl (sym (same-grant-equal it g e))) (λ f. inr (without-keeps it l m f))
+    (passes-or-fails (same-grant it g))

@@ -1,4 +1,5 @@
--- Reading the user lines one by one: what the lines read so far say, with those that are still to come, is what all of them say. Assumes nothing.
+-- Reading the user lines one by one: what the lines read so far say, with those that are still to come, is what all
+-- of them say. Assumes nothing.
 use Prim.Native.Nat.{ℕ, suc, _+_, _≤_, _<_}
 use native.Mathlib.Nat.{zero-add}
 use native.Mathlib.Omega.{arith}
@@ -31,13 +32,16 @@ joined-lines width body lines =
       ones = body .ones + others .ones;
     }
 
-same-body : {a b : Body} → a .users ≡ b .users → a .names ≡ b .names → a .even ≡ b .even → a .bits ≡ b .bits → a .ones ≡ b .ones → a ≡ b
+same-body : {a b : Body} → a .users ≡ b .users → a .names ≡ b .names → a .even ≡ b .even → a .bits ≡ b .bits
+    → a .ones ≡ b .ones → a ≡ b
 same-body users names even bits ones =
     λ i. record { users = users i; names = names i; even = even i; bits = bits i; ones = ones i }
 
-add-lines-joined : (width : ℕ) (body : Body) (lines : List Line) → add-lines width body lines ≡ joined-lines width body lines
+add-lines-joined : (width : ℕ) (body : Body) (lines : List Line) → add-lines width body lines ≡ joined-lines width
+    body lines
 add-lines-joined width body [] =
-    same-body (omega arith) (sym (and-true (body .names))) (sym (and-true (body .even))) (sym (and-true (body .bits))) (omega arith)
+    same-body (omega arith) (sym (and-true (body .names))) (sym (and-true (body .even))) (sym (and-true (body .bits)))
+    (omega arith)
 add-lines-joined width body (line ∷ rest) =
     let later : Body = body-of width rest in
     add-lines-joined width (add-line width body line) rest
@@ -48,7 +52,8 @@ add-lines-joined width body (line ∷ rest) =
 -- so lines added to none say what they say
 pub lines-added : (width : ℕ) (lines : List Line) → add-lines width no-lines lines ≡ body-of width lines
 lines-added width lines =
-    add-lines-joined width no-lines lines ∙ same-body (zero-add (length lines)) refl refl refl (zero-add (ones-after-names lines))
+    add-lines-joined width no-lines lines ∙ same-body (zero-add (length lines)) refl refl refl
+    (zero-add (ones-after-names lines))
 
 -- a line that was read is the first of those from its place on, and the others start at the next place
 pub line-read : (text : Bytes) (at : ℕ) (r : LineRead) → at < length text → ReadLine text at r
@@ -58,7 +63,8 @@ line-read text at r h read =
 
 -- the lines from a place on are read up to another
 pub record BodyReading (text : Bytes) (at width : ℕ) (body : Body) (from : ℕ) : Type 0 where
-  pub lines-to-come : add-lines width body (lines-of (drop from text)) ≡ add-lines width no-lines (lines-of (drop at text))
+  pub lines-to-come : add-lines width body (lines-of (drop from text)) ≡ add-lines width no-lines
+      (lines-of (drop at text))
   pub within : from ≤ suc (length text)
   pub users-small : body .users ≤ from
   pub ones-small : body .ones ≤ from
@@ -67,19 +73,23 @@ pub body-starts : (text : Bytes) (at width : ℕ) → at ≤ suc (length text) �
 body-starts text at width h =
     record { lines-to-come = refl; within = h; users-small = omega arith; ones-small = omega arith }
 
-pub body-goes-on : (text : Bytes) (at width : ℕ) (body : Body) (from : ℕ) (r : LineRead) → BodyReading text at width body from
+pub body-goes-on : (text : Bytes) (at width : ℕ) (body : Body) (from : ℕ) (r : LineRead) → BodyReading text at width
+    body from
     → from < length text → ReadLine text from r
-    → BodyReading text at width (add-read-line width body (has-name-length (part from (r .to) text)) (r .cells)) (r .next)
+    → BodyReading text at width (add-read-line width body (has-name-length (part from (r .to) text)) (r .cells))
+    (r .next)
 body-goes-on text at width body from r reading h read =
     record {
-      lines-to-come = rw (read .name .reads, read .cells) (rw (line-read text from r h read) at (reading .lines-to-come));
+      lines-to-come = rw (read .name .reads, read .cells) (rw (line-read text from r h read) at
+          (reading .lines-to-come));
       within = read .within;
       users-small = omega (arith, read .count-small, reading .users-small);
       ones-small = omega (arith, read .count-small, read .ones-small, reading .ones-small);
     }
 
 -- past the last line
-pub body-ends : (text : Bytes) (at width : ℕ) (body : Body) (from : ℕ) → BodyReading text at width body from → length text ≤ from
+pub body-ends : (text : Bytes) (at width : ℕ) (body : Body) (from : ℕ) → BodyReading text at width body from
+    → length text ≤ from
     → body ≡ body-of width (lines-of (drop at text))
 body-ends text at width body from reading h =
     rw (drop-of-length-le text h) at (reading .lines-to-come) ∙ lines-added width (lines-of (drop at text))

@@ -41,4 +41,5 @@ add-cells-joined cells (field ∷ rest) =
 
 -- so fields added to none say what they say
 pub cells-added : (line : Line) → add-cells no-cells line ≡ cells-of line
-cells-added line = add-cells-joined no-cells line ∙ same-cells (zero-add (length line)) refl refl (zero-add (ones-in line))
+cells-added line =
+    add-cells-joined no-cells line ∙ same-cells (zero-add (length line)) refl refl (zero-add (ones-in line))

@@ -1,5 +1,5 @@
--- Counting the fields after the first of a line while a cursor passes them: those still to come are the line's without as many as were counted.
--- Assumes nothing.
+-- Counting the fields after the first of a line while a cursor passes them: those still to come are the line's
+-- without as many as were counted. Assumes nothing.
 use Prim.Native.Nat.{ℕ, suc, _≤_, _<_}
 use native.Mathlib.Omega.{arith}
 use mathlib.Core.Path.{_≡_, refl, sym, ap, _∙_}
@@ -44,7 +44,8 @@ module _ (text : Bytes) (at n next : ℕ) (left : FieldsLeft text at n false nex
   -- while a field is left, fewer were passed than there are
   pub field-below : n < length (fields-after text at)
   field-below =
-      left-below (fields-after text at) n (part (field .from) (field .to) text) (later-fields (field .last) (drop (field .next .at) text))
+      left-below (fields-after text at) n (part (field .from) (field .to) text)
+      (later-fields (field .last) (drop (field .next .at) text))
       first-of-left
 
   -- it is the next of them

@@ -1,5 +1,5 @@
--- The causes 3 to 9 in terms of what reading the first line and the user lines says. A text with some byte is its first line and the lines after it, and
--- every line has a first field. Assumes nothing.
+-- The causes 3 to 9 in terms of what reading the first line and the user lines says. A text with some byte is its
+-- first line and the lines after it, and every line has a first field. Assumes nothing.
 use Prim.Native.Nat.{ℕ, suc, _≤_}
 use native.Mathlib.Omega.{arith}
 use mathlib.Core.Path.{_≡_, refl, sym, ap, ap₂, _∙_}
@@ -10,9 +10,34 @@ use lib.Dec.{eqb, leb, ltb}
 use lib.ListN.{length, take, drop}
 use Rattle.spec.specs.Vocabulary.{all, repeats}
 use Rattle.spec.specs.Limits.{permission-limit, user-limit, grant-limit}
-use Rattle.spec.specs.Text.{ascii, same-bytes, Bytes, Line, comma, line-feed, between, fields, lines, lines-of, same-name}
+use Rattle.spec.specs.Text.{
+  ascii,
+  same-bytes,
+  Bytes,
+  Line,
+  comma,
+  line-feed,
+  between,
+  fields,
+  lines,
+  lines-of,
+  same-name,
+}
 use Rattle.spec.specs.Sheet.{first-field, sheet-of, grants}
-use Rattle.spec.specs.Refusal.{too-long, bad-bytes, bad-first-line, bad-line-count, has-name-length, bad-name, uneven-line, bad-cell, name-twice, too-many-grants, refuse-if, refusal}
+use Rattle.spec.specs.Refusal.{
+  too-long,
+  bad-bytes,
+  bad-first-line,
+  bad-line-count,
+  has-name-length,
+  bad-name,
+  uneven-line,
+  bad-cell,
+  name-twice,
+  too-many-grants,
+  refuse-if,
+  refusal,
+}
 use Rattle.bits.specs.Truth.{same-truth, and-right}
 use Rattle.lists.specs.Span.{span}
 use Rattle.lists.specs.CutLaws.{parted-some}
@@ -77,13 +102,15 @@ within-high low high n p = leb-true n high (and-right (leb low n) (leb n high) p
 
 -- lines with some field have as many fields as asked where they have one less after the first
 even-after-first : (width : ℕ) (parts : List Bytes)
-    → all (λ line. eqb (length line) (suc width)) (map fields parts) ≡ all (λ line. eqb (length (tail line)) width) (map fields parts)
+    → all (λ line. eqb (length line) (suc width)) (map fields parts) ≡ all (λ line. eqb (length (tail line)) width)
+    (map fields parts)
 even-after-first width [] = refl
 even-after-first width (line ∷ rest) = ap₂ _&&_ here (even-after-first width rest)
   where
     here : eqb (length (fields line)) (suc width) ≡ eqb (length (tail (fields line))) width
     here =
-        rw (length-tail (fields line) (parted-some (eqb comma) line)) at (same-after-first (length (tail (fields line))) width)
+        rw (length-tail (fields line) (parted-some (eqb comma) line)) at
+        (same-after-first (length (tail (fields line))) width)
 
 all-map : {A B : Type 0} (test : B → Bool) (f : A → B) (l : List A) → all test (map f l) ≡ all (λ a. test (f a)) l
 all-map test f [] = refl
@@ -105,7 +132,8 @@ lines-read : (text : Bytes) (head : LineRead) → bad-bytes text ≡ false → R
     → lines-of text ≡ line-fields text ∷ lines-after text head
 unfolding bad-bytes
 lines-read [] head e read = absurd (false≢true (sym e))
-lines-read (b ∷ rest) head e read = first-line-read b rest ∙ ap (λ (after : Bytes). line-fields (b ∷ rest) ∷ lines-of after) (read .after)
+lines-read (b ∷ rest) head e read =
+    first-line-read b rest ∙ ap (λ (after : Bytes). line-fields (b ∷ rest) ∷ lines-of after) (read .after)
 
 module _ (text : Bytes) (head : LineRead) (r : HeadRead text head) where
   pub text-lines : lines-of text ≡ line-fields text ∷ lines-after text head
@@ -119,7 +147,12 @@ module _ (text : Bytes) (head : LineRead) (r : HeadRead text head) where
   pub cause-3 : bad-first-line (lines-of text)
       ≡ not (same-bytes (part 0 (head .to) text) (ascii "user") && between 1 permission-limit (head .cells .count))
   unfolding bad-first-line
-  cause-3 = rw (text-lines, first-total, within-after-first 1 permission-limit (head .cells .count), r .first .name .reads)
+  cause-3 = rw (
+    text-lines,
+    first-total,
+    within-after-first 1 permission-limit (head .cells .count),
+    r .first .name .reads,
+  )
 
   pub cause-8 : name-twice (sheet-of text)
       ≡ (repeats same-name (map first-field (lines-after text head)) || repeats same-name (tail (line-fields text)))
@@ -134,7 +167,13 @@ module _ (text : Bytes) (head : LineRead) (r : HeadRead text head) (body : Body)
 
   pub cause-5 : bad-name (sheet-of text) ≡ not (head .cells .names && body .names)
   unfolding bad-name sheet-of
-  cause-5 = rw (text-lines text head r, r .first .cells, others, all-map has-name-length first-field (lines-after text head))
+  cause-5 = rw (
+    text-lines text head r,
+    r .first .cells,
+    others,
+    all-map has-name-length first-field
+        (lines-after text head),
+  )
 
   pub cause-6 : uneven-line (lines-of text) ≡ not (body .even)
   unfolding uneven-line

@@ -1,4 +1,5 @@
--- The grants of a sheet are as many as the fields after the user names that are `1`: each such field adds one grant to those of its row. Assumes nothing.
+-- The grants of a sheet are as many as the fields after the user names that are `1`: each such field adds one grant
+-- to those of its row. Assumes nothing.
 use Prim.Native.Nat.{ℕ, suc, _+_}
 use native.Mathlib.Omega.{arith}
 use mathlib.Core.Path.{_≡_, refl, ap, _∙_}
@@ -26,5 +27,6 @@ pub rows-ones : (u : ℕ) (lines : List Line)
     → length (grants-of-rows u (map (λ line. map is-one (tail line)) lines)) ≡ ones-after-names lines
 rows-ones u [] = refl
 rows-ones u (line ∷ rest) =
-    length-append (grants-of-row u 0 (map is-one (tail line))) (grants-of-rows (suc u) (map (λ next. map is-one (tail next)) rest))
+    length-append (grants-of-row u 0 (map is-one (tail line)))
+    (grants-of-rows (suc u) (map (λ next. map is-one (tail next)) rest))
     ∙ rw (row-ones u 0 (tail line), rows-ones (suc u) rest)

@@ -5,7 +5,15 @@ use mathlib.Core.Bool.{Bool, true, false}
 use lib.ListN.{length}
 use Rattle.spec.specs.Text.{Bytes}
 use Rattle.text.specs.Fields.{field-read}
-use Rattle.refusal.specs.Laws.FieldsLeft.{fields-after, FieldsLeft, fields-start, field-below, field-there, fields-go-on, fields-end}
+use Rattle.refusal.specs.Laws.FieldsLeft.{
+  fields-after,
+  FieldsLeft,
+  fields-start,
+  field-below,
+  field-there,
+  fields-go-on,
+  fields-end,
+}
 use Rattle.names.specs.Places.{PlacedBelow, NamesPlaced}
 use Rattle.names.specs.PlacesLaws.{HasRoom, note-place, note-room-kept, name-noted, none-noted}
 use Rattle.names.specs.declared.places.Places.{Places}
@@ -19,9 +27,15 @@ pub record FieldsNoted (room : ℕ) (text : Bytes) (places : Places) (n : ℕ) (
 pub noting-fields-starts : (room : ℕ) (text : Bytes) (places : Places) → HasRoom room places
     → FieldsNoted room text places 0 (field-read text 0 .last) (field-read text 0 .next .at)
 noting-fields-starts room text places s =
-    record { has-room = s; noted = none-noted text places (fields-after text 0); left = fields-start text 0 (omega arith) }
+    record {
+      has-room = s;
+      noted = none-noted text places (fields-after text 0);
+      left = fields-start text 0
+          (omega arith);
+    }
 
-pub noting-fields-goes-on : (room : ℕ) (text : Bytes) (places : Places) (n next : ℕ) → FieldsNoted room text places n false next
+pub noting-fields-goes-on : (room : ℕ) (text : Bytes) (places : Places) (n next : ℕ) → FieldsNoted room text places n
+    false next
     → length (fields-after text 0) ≤ room
     → FieldsNoted room text (note-place places n (field-read text next .from) (field-read text next .to)) (suc n)
     (field-read text next .last) (field-read text next .next .at)
@@ -30,13 +44,15 @@ noting-fields-goes-on room text places n next noting few =
     record {
       has-room = note-room-kept places n (field-read text next .from) (field-read text next .to) (noting .has-room);
       noted =
-          name-noted room places (noting .has-room) n below (field-read text next .from) (field-read text next .to) text (fields-after text 0)
+          name-noted room places (noting .has-room) n below (field-read text next .from) (field-read text next .to)
+          text (fields-after text 0)
           (noting .noted) (field-there text 0 n next (noting .left));
       left = fields-go-on text 0 n next (noting .left);
     }
 
 -- at the end of the line all fields are noted
-pub noting-fields-ends : (room : ℕ) (text : Bytes) (places : Places) (n next : ℕ) → FieldsNoted room text places n true next
+pub noting-fields-ends : (room : ℕ) (text : Bytes) (places : Places) (n next : ℕ) → FieldsNoted room text places n
+    true next
     → NamesPlaced text places (fields-after text 0)
 noting-fields-ends room text places n next noting =
     let all : length (fields-after text 0) ≤ n = fields-end text 0 n next (noting .left) in

@@ -1,5 +1,5 @@
--- Reading a line field by field: what the fields read so far say, with those that are still to come, is what the fields of the line say. Reading one
--- more field moves it from the second group to the first. Assumes nothing.
+-- Reading a line field by field: what the fields read so far say, with those that are still to come, is what the
+-- fields of the line say. Reading one more field moves it from the second group to the first. Assumes nothing.
 use Prim.Native.Nat.{ℕ, suc, _+_, _≤_, _<_}
 use native.Mathlib.Omega.{arith}
 use mathlib.Core.Path.{_≡_, refl, sym, _∙_}
@@ -17,7 +17,8 @@ use Rattle.refusal.specs.declared.fields.Cells.{Cells}
 
 -- the line at a place is read up to a cursor
 pub record Reading (text : Bytes) (at : ℕ) (cells : Cells) (last : Bool) (next : ℕ) : Type 0 where
-  pub cells-to-come : add-cells cells (later-fields last (drop next text)) ≡ add-cells no-cells (tail (line-fields (drop at text)))
+  pub cells-to-come : add-cells cells (later-fields last (drop next text)) ≡ add-cells no-cells
+      (tail (line-fields (drop at text)))
   pub after : after-field last (drop next text) ≡ after-line (drop at text)
   pub more : last ≡ false → next ≤ length text
   pub within : next ≤ suc (length text)
@@ -44,7 +45,8 @@ reading-starts text at h =
     }
 
 pub reading-goes-on : (text : Bytes) (at : ℕ) (cells : Cells) (next : ℕ) → Reading text at cells false next
-    → Reading text at (add-cell cells (part (field-read text next .from) (field-read text next .to) text)) (field-read text next .last)
+    → Reading text at (add-cell cells (part (field-read text next .from) (field-read text next .to) text))
+    (field-read text next .last)
     (field-read text next .next .at)
 reading-goes-on text at cells next r =
     let f = field-step text next (r .more refl) in
@@ -54,7 +56,11 @@ reading-goes-on text at cells next r =
       more = λ e. omega (arith, f .more e);
       within = omega arith;
       count-small = omega arith;
-      ones-small = omega (arith, one-if-small (is-one (part (field-read text next .from) (field-read text next .to) text)));
+      ones-small = omega (
+        arith,
+        one-if-small (is-one (part (field-read text next .from) (field-read text next .to)
+            text)),
+      );
     }
 
 -- at the end of the line

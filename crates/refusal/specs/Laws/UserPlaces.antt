@@ -1,4 +1,5 @@
--- Noting where the names of user lines stand, line by line: the lines from the next place on are those that no name was noted of. Assumes nothing.
+-- Noting where the names of user lines stand, line by line: the lines from the next place on are those that no name
+-- was noted of. Assumes nothing.
 use Prim.Native.Nat.{ℕ, suc, _≤_, _<_}
 use native.Mathlib.Nat.{not-suc-le-zero}
 use native.Mathlib.Omega.{arith}
@@ -13,7 +14,15 @@ use Rattle.lists.specs.DropLaws.{left-below, left-first, left-rest, none-left}
 use Rattle.refusal.specs.FieldLaws.{line-fields}
 use Rattle.refusal.specs.ReadLine.{ReadLine}
 use Rattle.refusal.specs.Laws.Body.{line-read}
-use Rattle.names.specs.PlacesLaws.{HasRoom, note-place, note-room-kept, noted-from, earlier-from, name-noted, none-noted}
+use Rattle.names.specs.PlacesLaws.{
+  HasRoom,
+  note-place,
+  note-room-kept,
+  noted-from,
+  earlier-from,
+  name-noted,
+  none-noted,
+}
 use Rattle.refusal.specs.UserPlaces.{UserPlacesBelow, UserPlaces}
 use Rattle.refusal.specs.declared.line.LineRead.{LineRead}
 use Rattle.names.specs.declared.places.Places.{Places}
@@ -45,34 +54,41 @@ module _ (room : ℕ) (text : Bytes) (at : ℕ) (places : Places) (n from : ℕ)
 
   -- while a line is left, fewer names are noted than there are lines
   pub noting-below : n < length (lines-of (drop at text))
-  noting-below = left-below (lines-of (drop at text)) n (line-fields (drop from text)) (lines-of (drop (r .next) text)) left
+  noting-below = left-below (lines-of (drop at text)) n (line-fields (drop from text))
+      (lines-of (drop (r .next) text)) left
 
   name-there : getD (map first-field (lines-of (drop at text))) n [] ≡ first-field (line-fields (drop from text))
   name-there =
       List·getD-map first-field (lines-of (drop at text)) n []
-      ∙ ap first-field (left-first (lines-of (drop at text)) n (line-fields (drop from text)) [] (lines-of (drop (r .next) text)) left)
+      ∙ ap first-field (left-first (lines-of (drop at text)) n (line-fields (drop from text)) []
+      (lines-of (drop (r .next) text)) left)
 
-  pub noting-goes-on : length (lines-of (drop at text)) ≤ room → Noting room text at (note-place places n from (r .to)) (suc n) (r .next)
+  pub noting-goes-on : length (lines-of (drop at text)) ≤ room
+      → Noting room text at (note-place places n from (r .to)) (suc n) (r .next)
   noting-goes-on few =
       let below : n < room = omega (arith, noting-below) in
       record {
         has-room = note-room-kept places n from (r .to) (noting .has-room);
         noted = record {
           names =
-              name-noted room places (noting .has-room) n below from (r .to) text (map first-field (lines-of (drop at text)))
+              name-noted room places (noting .has-room) n below from (r .to) text
+              (map first-field (lines-of (drop at text)))
               (noting .noted .names) (rw name-there (read .name));
           starts = λ i l. ⊎-elim (here below i) (earlier below i) (last-or-below l);
         };
-        lines-to-come = sym (left-rest (lines-of (drop at text)) n (line-fields (drop from text)) (lines-of (drop (r .next) text)) left);
+        lines-to-come = sym (left-rest (lines-of (drop at text)) n (line-fields (drop from text))
+            (lines-of (drop (r .next) text)) left);
         within = read .within;
       }
     where
-      here : n < room → (i : ℕ) → i ≡ n → lines-of (drop (getD (set (places .from) n from) i 0) text) ≡ drop i (lines-of (drop at text))
+      here : n < room → (i : ℕ) → i ≡ n → lines-of (drop (getD (set (places .from) n from) i 0) text) ≡ drop i
+          (lines-of (drop at text))
       here below i e = rw (e, noted-from room places (noting .has-room) n below from (r .to)) (noting .lines-to-come)
 
       earlier : n < room → (i : ℕ) → i < n
           → lines-of (drop (getD (set (places .from) n from) i 0) text) ≡ drop i (lines-of (drop at text))
-      earlier below i l = rw (earlier-from room places (noting .has-room) n below from (r .to) i l) (noting .noted .starts i l)
+      earlier below i l = rw (earlier-from room places (noting .has-room) n below from (r .to) i l)
+          (noting .noted .starts i l)
 
 -- past the last line all names are noted
 pub noting-ends : (room : ℕ) (text : Bytes) (at : ℕ) (places : Places) (n from : ℕ) → Noting room text at places n from

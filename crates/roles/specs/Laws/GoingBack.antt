@@ -1,5 +1,6 @@
--- Going back over all removals, the latest first: from the classes so far the removals that are left lead to the classes of all grants. Each removal opens
--- at most one class, so every class number is below the kernel's classes and the removals together.
+-- Going back over all removals, the latest first: from the classes so far the removals that are left lead to the
+-- classes of all grants. Each removal opens at most one class, so every class number is below the kernel's classes
+-- and the removals together.
 use Prim.Native.Nat.{ℕ, zero, suc, _+_, _-_, _<_, _≤_, max}
 use native.Mathlib.Numerals.{sub-one}
 use native.Mathlib.Omega.{arith}
@@ -40,11 +41,13 @@ put-back-counted (single it) classes counted g = either (same-grant g it) (count
     either false later = omega arith
 put-back-counted (tied it partner) classes counted g = either (same-grant g it)
   where
-    either : (b : Bool) → cond b (class-of (classes .members) partner) (class-of (classes .members) g) < max 1 (classes .count)
+    either : (b : Bool) → cond b (class-of (classes .members) partner) (class-of (classes .members) g) < max 1
+        (classes .count)
     either true = counted partner
     either false = counted g
 
-put-all-back-counted : (removed : List Removal) (classes : Classes) → Counted classes → Counted (put-all-back removed classes)
+put-all-back-counted : (removed : List Removal) (classes : Classes) → Counted classes
+    → Counted (put-all-back removed classes)
 put-all-back-counted [] classes counted = counted
 put-all-back-counted (removal ∷ earlier) classes counted =
     put-all-back-counted earlier (put-back removal classes) (put-back-counted removal classes counted)
@@ -54,7 +57,8 @@ put-back-opens : (removal : Removal) (classes : Classes) → put-back removal cl
 put-back-opens (single it) classes = omega arith
 put-back-opens (tied it partner) classes = omega arith
 
-put-all-back-opens : (removed : List Removal) (classes : Classes) → put-all-back removed classes .count ≤ classes .count + length removed
+put-all-back-opens : (removed : List Removal) (classes : Classes) → put-all-back removed classes .count ≤
+    classes .count + length removed
 put-all-back-opens [] classes = omega arith
 put-all-back-opens (removal ∷ earlier) classes =
     omega (arith, put-all-back-opens earlier (put-back removal classes), put-back-opens removal classes)
@@ -72,7 +76,8 @@ class-below kernel size placed removed partner count limit pos l g =
     let start = kernel-classes (listed kernel size) (latest-first placed size) in
     omega (
       arith,
-      put-all-back-counted (log-of removed partner count) start (paired-counted (reverse (listed kernel size)) (latest-first placed size)) g,
+      put-all-back-counted (log-of removed partner count) start (paired-counted (reverse (listed kernel size))
+          (latest-first placed size)) g,
       put-all-back-opens (log-of removed partner count) start,
       log-length removed partner count,
     )
@@ -85,7 +90,8 @@ pub record GoingBack (class : List ℕ) (count : ℕ) (left : List Removal) (who
   pub at : ClassesAt class count classes
   pub leads : put-all-back left classes ≡ whole
 
-pub going-back-starts : {class : List ℕ} {count : ℕ} (kernel : List ℕ) (size : ℕ) (placed removed partner : List ℕ) (removals : ℕ)
+pub going-back-starts : {class : List ℕ} {count : ℕ} (kernel : List ℕ) (size : ℕ) (placed removed partner : List ℕ)
+    (removals : ℕ)
     → ClassAt class (paired-in kernel placed size) → count ≡ used (latest-first placed size)
     → GoingBack class count (log-of removed partner removals) (classes-in kernel size placed removed partner removals)
 unfolding classes-of
@@ -96,13 +102,15 @@ going-back-starts kernel size placed removed partner removals each total =
       leads = refl;
     }
 
-pub going-back-on : {class next : List ℕ} {count more : ℕ} {whole : Classes} (removed partner : List ℕ) (left : ℕ) → 0 < left
+pub going-back-on : {class next : List ℕ} {count more : ℕ} {whole : Classes} (removed partner : List ℕ) (left : ℕ)
+    → 0 < left
     → ((classes : Classes) → ClassesAt class count classes
     → ClassesAt next more (put-back (removal-of (getD removed (left - 1) 0) (getD partner (left - 1) 0)) classes))
     → GoingBack class count (log-of removed partner left) whole
     → GoingBack next more (log-of removed partner (left - 1)) whole × (more ≤ count + 1)
 going-back-on removed partner zero pos step so-far = absurd (omega arith)
-going-back-on {class} {next} {count} {more} {whole} removed partner (suc n) pos step so-far = rw (sub-one (suc n)) one-less
+going-back-on {class} {next} {count} {more} {whole} removed partner (suc n) pos step so-far = rw (sub-one (suc n))
+    one-less
   where
     removal : Removal
     removal = removal-of (getD removed n 0) (getD partner n 0)

@@ -1,5 +1,5 @@
--- What the reduction and the list of the kernel's cells give belongs to the sheet that the rows show: the listed cells are those that the reduction left,
--- and the log is that of the reduction.
+-- What the reduction and the list of the kernel's cells give belongs to the sheet that the rows show: the listed
+-- cells are those that the reduction left, and the log is that of the reduction.
 use Prim.Native.Nat.{ℕ, _≤_}
 use native.Mathlib.Omega.{arith}
 use mathlib.Core.Path.{_≡_, _∙_}
@@ -24,14 +24,16 @@ module _ {rows : List ℕ} {users : ℕ} {sheet : Sheet} (shown : Shown rows use
       → Listed (reduced .left) users (kernel .cells) (kernel .size) → length (kernel .cells) ≡ grant-limit
       → {placement placed : List ℕ} {total : ℕ} → Placed placement placed (kernel .size) total → total ≤ grant-limit
       → roles-of sheet placement .count ≤ row-bits
-      → Belongs rows users (kernel .cells) (kernel .size) placed total (reduced .removed) (reduced .partner) (reduced .count) sheet placement
+      → Belongs rows users (kernel .cells) (kernel .size) placed total (reduced .removed) (reduced .partner)
+      (reduced .count) sheet placement
   reduced-belongs reduced kernel from listed room placement-held few-classes few-roles =
       record {
         shown = shown;
         few-users = few-users;
         few-grants = few-grants;
         kernel-listed =
-            listed-taken (kernel .cells) (kernel .size) (rw room (listed .few)) ∙ listed-grants shown (from .part) listed
+            listed-taken (kernel .cells) (kernel .size) (rw room (listed .few)) ∙ listed-grants shown (from .part)
+            listed
             ∙ from .remaining sheet shown;
         few-cells = listed .few;
         placement-held = placement-held;

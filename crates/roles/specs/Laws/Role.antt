@@ -1,5 +1,6 @@
--- Who has a role and what a role gives, where the roles are the classes of a placement: a user has the role of each of its grants, and a role gives
--- the permission of each of its grants. Both say that some paired grant passes a test, and what is paired are the numbers of the list.
+-- Who has a role and what a role gives, where the roles are the classes of a placement: a user has the role of each
+-- of its grants, and a role gives the permission of each of its grants. Both say that some paired grant passes a
+-- test, and what is paired are the numbers of the list.
 use Prim.Native.Nat.{ℕ, _<_}
 use mathlib.Core.Path.{_≡_, refl, sym, ap, _∙_}
 use mathlib.Core.Bool.{Bool, So, _&&_}
@@ -31,17 +32,22 @@ pub record RoleGrant (part : Grant → ℕ) (grants : List Grant) (placed : List
 
 -- some paired grant has the value and the class
 abbrev some-in-role : (Grant → ℕ) → List Grant → List ℕ → ℕ → ℕ → Bool
-some-in-role part grants placed value r = any (λ x. eqb (part (x .grant)) value && eqb (x .class) r) (paired (reverse grants) placed)
+some-in-role part grants placed value r =
+    any (λ x. eqb (part (x .grant)) value && eqb (x .class) r) (paired (reverse grants) placed)
 
-number-in-role : (part : Grant → ℕ) (grants : List Grant) (placed : List ℕ) → length grants ≡ length placed → (i : ℕ) → i < length placed
+number-in-role : (part : Grant → ℕ) (grants : List Grant) (placed : List ℕ) → length grants ≡ length placed → (i : ℕ)
+    → i < length placed
     → So (some-in-role part grants placed (part (grant-at grants i)) (class-in placed i))
 number-in-role part grants placed e i l =
-    any-intro (λ x. eqb (part (x .grant)) (part (grant-at grants i)) && eqb (x .class) (class-in placed i)) (paired (reverse grants) placed)
+    any-intro (λ x. eqb (part (x .grant)) (part (grant-at grants i)) && eqb (x .class) (class-in placed i))
+    (paired (reverse grants) placed)
     (paired-has grants placed e i l)
     (and-intro (eqb (part (grant-at grants i)) (part (grant-at grants i))) (eqb (class-in placed i) (class-in placed i))
-    (eq-eqb (part (grant-at grants i)) (part (grant-at grants i)) refl) (eq-eqb (class-in placed i) (class-in placed i) refl))
+    (eq-eqb (part (grant-at grants i)) (part (grant-at grants i)) refl)
+    (eq-eqb (class-in placed i) (class-in placed i) refl))
 
-in-role-number : (part : Grant → ℕ) (grants : List Grant) (placed : List ℕ) → length grants ≡ length placed → (value r : ℕ)
+in-role-number : (part : Grant → ℕ) (grants : List Grant) (placed : List ℕ) → length grants ≡ length placed
+    → (value r : ℕ)
     → So (some-in-role part grants placed value r) → RoleGrant part grants placed value r
 in-role-number part grants placed e value r s =
     let found = any-elim (λ x. eqb (part (x .grant)) value && eqb (x .class) r) (paired (reverse grants) placed) s in
@@ -50,17 +56,21 @@ in-role-number part grants placed e value r s =
     record {
       number = here .number;
       within = here .within;
-      valued = ap part (sym (here .grant)) ∙ eqb-true (part (x .grant)) value (and-left (eqb (part (x .grant)) value) (eqb (x .class) r) (found .passes));
-      of-role = sym (here .class) ∙ eqb-true (x .class) r (and-right (eqb (part (x .grant)) value) (eqb (x .class) r) (found .passes));
+      valued = ap part (sym (here .grant)) ∙ eqb-true (part (x .grant)) value (and-left (eqb (part (x .grant)) value)
+          (eqb (x .class) r) (found .passes));
+      of-role = sym (here .class) ∙ eqb-true (x .class) r (and-right (eqb (part (x .grant)) value) (eqb (x .class) r)
+          (found .passes));
     }
 
 module _ (grants : List Grant) (placed : List ℕ) (count : ℕ) (whole : length grants ≡ length placed) where
   -- each grant's user has its role
-  pub user-has-role : (i : ℕ) → i < length placed → So (placed-roles grants placed count .has (grant-at grants i .user) (class-in placed i))
+  pub user-has-role : (i : ℕ) → i < length placed
+      → So (placed-roles grants placed count .has (grant-at grants i .user) (class-in placed i))
   user-has-role = number-in-role (λ g. g .user) grants placed whole
 
   -- a user has only the roles of its grants
-  pub has-role-elim : (u r : ℕ) → So (placed-roles grants placed count .has u r) → RoleGrant (λ g. g .user) grants placed u r
+  pub has-role-elim : (u r : ℕ) → So (placed-roles grants placed count .has u r) → RoleGrant (λ g. g .user) grants
+      placed u r
   has-role-elim = in-role-number (λ g. g .user) grants placed whole
 
   -- each grant's role gives its permission
@@ -69,7 +79,8 @@ module _ (grants : List Grant) (placed : List ℕ) (count : ℕ) (whole : length
   role-gives-permission = number-in-role (λ g. g .permission) grants placed whole
 
   -- a role gives only the permissions of its grants
-  pub gives-permission-elim : (r p : ℕ) → So (placed-roles grants placed count .gives r p) → RoleGrant (λ g. g .permission) grants placed p r
+  pub gives-permission-elim : (r p : ℕ) → So (placed-roles grants placed count .gives r p)
+      → RoleGrant (λ g. g .permission) grants placed p r
   gives-permission-elim r p = in-role-number (λ g. g .permission) grants placed whole p r
 
 -- two numbers of one role: the user of the one and the permission of the other
@@ -90,8 +101,10 @@ module _ (grants : List Grant) (placed : List ℕ) (count : ℕ) (whole : length
       let roles = placed-roles grants placed count in
       let found = some-below-elim count (λ r. roles .has u r && roles .gives r p) e in
       let r = found .place in
-      let a = has-role-elim grants placed count whole u r (and-left (roles .has u r) (roles .gives r p) (found .holds)) in
-      let b = gives-permission-elim grants placed count whole r p (and-right (roles .has u r) (roles .gives r p) (found .holds)) in
+      let a = has-role-elim grants placed count whole u r (and-left (roles .has u r) (roles .gives r p)
+      (found .holds)) in
+      let b = gives-permission-elim grants placed count whole r p (and-right (roles .has u r) (roles .gives r p)
+      (found .holds)) in
       record {
         first = a .number;
         first-within = a .within;
@@ -108,6 +121,8 @@ module _ (grants : List Grant) (placed : List ℕ) (count : ℕ) (whole : length
   unfolding product
   product-intro i l k =
       let roles = placed-roles grants placed count in
-      some-below-intro count (λ r. roles .has (grant-at grants i .user) r && roles .gives r (grant-at grants i .permission)) k
-      (and-intro (roles .has (grant-at grants i .user) (class-in placed i)) (roles .gives (class-in placed i) (grant-at grants i .permission))
+      some-below-intro count (λ r. roles .has (grant-at grants i .user) r
+      && roles .gives r (grant-at grants i .permission)) k
+      (and-intro (roles .has (grant-at grants i .user) (class-in placed i)) (roles .gives (class-in placed i)
+      (grant-at grants i .permission))
       (user-has-role grants placed count whole i l) (role-gives-permission grants placed count whole i l))

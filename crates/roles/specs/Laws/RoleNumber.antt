@@ -1,5 +1,6 @@
--- Roles are numbered by their lowest grant: the table has the role of every class that an earlier grant has, and of no other. So a grant takes the role of its
--- class where an earlier grant has that class, and else the next one, as a grouping by class does.
+-- Roles are numbered by their lowest grant: the table has the role of every class that an earlier grant has, and of
+-- no other. So a grant takes the role of its class where an earlier grant has that class, and else the next one, as a
+-- grouping by class does.
 use Prim.Native.Nat.{ℕ, suc, _+_, _≤_, _<_, max}
 use native.Mathlib.Nat.{le-refl, le-step, lt-suc-self, lt-trans, not-suc-le-zero}
 use native.Mathlib.Numerals.{add-one}
@@ -51,15 +52,19 @@ nothing-numbered key n m room wide =
 
 -- there are no more roles than grants
 keyed-used-le : (key : ℕ → ℕ) (i : ℕ) → used (by-key key i) ≤ i
-keyed-used-le key i = rw (grouping-length (same-key key) i) at (grown-used-le (by-key key i) (grouping-grown (same-key key) i))
+keyed-used-le key i =
+    rw (grouping-length (same-key key) i) at (grown-used-le (by-key key i) (grouping-grown (same-key key) i))
 
-pub numbering-count-le : {key : ℕ → ℕ} {i : ℕ} {table roles : List ℕ} {count : ℕ} → Numbering key i table roles count → count ≤ i
+pub numbering-count-le : {key : ℕ → ℕ} {i : ℕ} {table roles : List ℕ} {count : ℕ} → Numbering key i table roles count
+    → count ≤ i
 numbering-count-le {key} {i} {roles} {count} so-far = few-classes (same-key key) roles i count (so-far .numbers)
 
-module _ {key : ℕ → ℕ} {i : ℕ} {table roles : List ℕ} {count : ℕ} (so-far : Numbering key i table roles count) (room : i < grant-limit)
+module _ {key : ℕ → ℕ} {i : ℕ} {table roles : List ℕ} {count : ℕ} (so-far : Numbering key i table roles count)
+    (room : i < grant-limit)
     (fits : key i < class-limit) where
   -- a class that has a role
-  known-role : (j : ℕ) → j < i → key i ≡ key j → (getD table (key i) 0 ≡ next-class key i) × (next-class key i < no-role)
+  known-role : (j : ℕ) → j < i → key i ≡ key j → (getD table (key i) 0 ≡ next-class key i)
+      × (next-class key i < no-role)
   known-role j l e =
       let known = next-class-known key i j l e in
       let below = class-below-used (by-key key i) {i = j} (rw (grouping-length (same-key key) i) l) in
@@ -77,10 +82,12 @@ module _ {key : ℕ → ℕ} {i : ℕ} {table roles : List ℕ} {count : ℕ} (s
 
       new : has-key key i (key i) ≡ false → role-from table count (key i) ≡ next-class key i
       new f =
-          rw (eq-eqb (getD table (key i) 0) no-role (so-far .unnamed (key i) fits f)) (so-far .numbers .in-use ∙ sym (next-class-new key i f))
+          rw (eq-eqb (getD table (key i) 0) no-role (so-far .unnamed (key i) fits f)) (so-far .numbers .in-use
+          ∙ sym (next-class-new key i f))
 
   -- and the next grant follows
-  pub numbering-step : (r : ℕ) → r ≡ next-class key i → Numbering key (i + 1) (set table (key i) r) (set roles i r) (max (suc r) count)
+  pub numbering-step : (r : ℕ) → r ≡ next-class key i → Numbering key (i + 1) (set table (key i) r) (set roles i r)
+      (max (suc r) count)
   numbering-step r e = rw (add-one i)
       (record {
         room = length-set roles i r ∙ so-far .room;
@@ -90,14 +97,16 @@ module _ {key : ℕ → ℕ} {i : ℕ} {table roles : List ℕ} {count : ℕ} (s
         unnamed = λ c l f. getD-set-other table (key i) c r 0 (unlike c f) ∙ so-far .unnamed c l (earlier-none c f);
       })
     where
-      same : (j : ℕ) → j < suc i → So (eqb (key j) (key i)) → getD (set table (key i) r) (key j) 0 ≡ class-in (by-key key (suc i)) j
+      same : (j : ℕ) → j < suc i → So (eqb (key j) (key i)) → getD (set table (key i) r) (key j) 0 ≡ class-in
+          (by-key key (suc i)) j
       same j l p =
           let k : key j ≡ key i = eqb-true (key j) (key i) p in
           rw k (getD-set-same table (key i) r 0 (rw (so-far .wide) fits)) ∙ e
           ∙ ⊎-elim (λ (q : j ≡ i). rw q (sym (keyed-next key i)))
           (λ (q : j < i). next-class-known key i j q (sym k) ∙ sym (keyed-before key i j q)) (last-or-below l)
 
-      other : (j : ℕ) → j < suc i → eqb (key j) (key i) ≡ false → getD (set table (key i) r) (key j) 0 ≡ class-in (by-key key (suc i)) j
+      other : (j : ℕ) → j < suc i → eqb (key j) (key i) ≡ false → getD (set table (key i) r) (key j) 0 ≡ class-in
+          (by-key key (suc i)) j
       other j l p =
           let apart : key j ≢ key i = eqb-false (key j) (key i) p in
           getD-set-other table (key i) (key j) r 0 apart
@@ -105,15 +114,18 @@ module _ {key : ℕ → ℕ} {i : ℕ} {table roles : List ℕ} {count : ℕ} (s
           (λ (q : j < i). so-far .named j q ∙ sym (keyed-before key i j q)) (last-or-below l)
 
       unlike : (c : ℕ) → has-key key (suc i) c ≡ false → c ≢ key i
-      unlike c f q = not-both (some-below-intro (suc i) (λ j. eqb (key j) c) (lt-suc-self i) (eq-eqb (key i) c (sym q))) f
+      unlike c f q = not-both (some-below-intro (suc i) (λ j. eqb (key j) c) (lt-suc-self i)
+          (eq-eqb (key i) c (sym q))) f
 
       earlier-none : (c : ℕ) → has-key key (suc i) c ≡ false → has-key key i c ≡ false
       earlier-none c f =
-          fails-unless (has-key key i c) (λ p. not-both (some-below-more i (suc i) (λ j. eqb (key j) c) (le-step (le-refl i)) p) f)
+          fails-unless (has-key key i c) (λ p. not-both (some-below-more i (suc i) (λ j. eqb (key j) c)
+          (le-step (le-refl i)) p) f)
 
 -- ---- the role numbers of the grants
 
-module _ {class cells : List ℕ} {members : List Classed} (at : ClassAt class members) (n : ℕ) (below : CellsBelow n cells) where
+module _ {class cells : List ℕ} {members : List Classed} (at : ClassAt class members) (n : ℕ)
+    (below : CellsBelow n cells) where
   -- the class of a grant, by its number
   pub class-of-listed : (i : ℕ) → i < n → class-of members (grant-at (listed cells n) i) ≡ class-key class cells i
   class-of-listed i l =

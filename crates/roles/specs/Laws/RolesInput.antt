@@ -1,5 +1,6 @@
--- What follows for arrays that belong to a sheet: every cell in them is that of a grant, so it lies below the limit; the classes by cell are the classes of
--- all grants; and the roles of the listed grants in these classes are the roles of the sheet.
+-- What follows for arrays that belong to a sheet: every cell in them is that of a grant, so it lies below the limit;
+-- the classes by cell are the classes of all grants; and the roles of the listed grants in these classes are the
+-- roles of the sheet.
 use Prim.Native.Nat.{ℕ, _+_, _*_, _/_, _%_, _≤_, _<_}
 use native.Mathlib.Nat.{mul-assoc, div-lt-iff-lt-mul, lt-of-lt-of-le}
 use native.Mathlib.Omega.{arith}
@@ -38,25 +39,30 @@ use Rattle.roles.specs.RolesInput.{Belongs}
 -- ---- cells of grants
 
 -- a cell whose grant is one of the sheet lies below the limit
-pub granted-cell-below : {rows : List ℕ} {users : ℕ} {sheet : Sheet} → Shown rows users sheet → users ≤ user-limit → (n : ℕ)
+pub granted-cell-below : {rows : List ℕ} {users : ℕ} {sheet : Sheet} → Shown rows users sheet → users ≤ user-limit
+    → (n : ℕ)
     → List·Memᴰ (grant-of n) (grants sheet) → n < cell-limit
 unfolding row-bits
 granted-cell-below {sheet} shown few n m =
     rw (mul-assoc user-limit row-words word-bits)
-    (div-lt-iff-lt-mul row-bits-pos .0 (lt-of-lt-of-le (shown .few (n / row-bits) (n % row-bits) (grant-held sheet m)) few))
+    (div-lt-iff-lt-mul row-bits-pos .0 (lt-of-lt-of-le (shown .few (n / row-bits) (n % row-bits) (grant-held sheet m))
+    few))
 
 -- the first cells of an array, listed and taken
-pub listed-taken : (cells : List ℕ) (size : ℕ) → size ≤ length cells → listed cells size ≡ map grant-of (take size cells)
+pub listed-taken : (cells : List ℕ) (size : ℕ) → size ≤ length cells → listed cells size ≡ map grant-of
+    (take size cells)
 listed-taken cells size l =
     sym (map-list-of grant-of size (λ i. getD cells i 0)) ∙ ap (map grant-of) (taken)
   where
     taken : list-of size (λ i. getD cells i 0) ≡ take size cells
     taken =
-        list-of-same size (λ i. getD cells i 0) (λ i. getD (take size cells) i 0) (λ i k. sym (getD-take size cells i 0 k))
+        list-of-same size (λ i. getD cells i 0) (λ i. getD (take size cells) i 0)
+        (λ i k. sym (getD-take size cells i 0 k))
         ∙ (rw (length-take-le size cells l) at (list-of-places (take size cells) 0))
 
 -- the cells of listed grants
-pub listed-below : {rows : List ℕ} {users : ℕ} {sheet : Sheet} → Shown rows users sheet → users ≤ user-limit → (cells : List ℕ) (size : ℕ)
+pub listed-below : {rows : List ℕ} {users : ℕ} {sheet : Sheet} → Shown rows users sheet → users ≤ user-limit
+    → (cells : List ℕ) (size : ℕ)
     → ((g : Grant) → List·Memᴰ g (listed cells size) → List·Memᴰ g (grants sheet)) → CellsBelow size cells
 listed-below shown few cells size inside =
     record {
@@ -76,7 +82,8 @@ class-limit-pos : 0 < class-limit
 unfolding grant-limit
 class-limit-pos = lit< tt
 
-module _ {rows : List ℕ} {users : ℕ} {cells : List ℕ} {size : ℕ} {placed : List ℕ} {total : ℕ} {removed partner : List ℕ} {count : ℕ}
+module _ {rows : List ℕ} {users : ℕ} {cells : List ℕ} {size : ℕ} {placed : List ℕ} {total : ℕ}
+    {removed partner : List ℕ} {count : ℕ}
     {sheet : Sheet} {placement : List ℕ}
     (belongs : Belongs rows users cells size placed total removed partner count sheet placement) where
   -- there is room for the cells of all grants
@@ -87,7 +94,8 @@ module _ {rows : List ℕ} {users : ℕ} {cells : List ℕ} {size : ℕ} {placed
 
   pub kernel-below : CellsBelow size cells
   kernel-below =
-      listed-below (belongs .shown) (belongs .few-users) cells size (λ g m. kernel-granted sheet g (rw (belongs .kernel-listed) at m))
+      listed-below (belongs .shown) (belongs .few-users) cells size (λ g m. kernel-granted sheet g
+      (rw (belongs .kernel-listed) at m))
 
   removal-granted : (i : ℕ) → i < count → RemovalOf (grants sheet) (removal-at removed partner i)
   removal-granted =
@@ -102,7 +110,8 @@ module _ {rows : List ℕ} {users : ℕ} {cells : List ℕ} {size : ℕ} {placed
       }
     where
       it : (i : ℕ) (b : Bool)
-          → RemovalOf (grants sheet) (cond b (single (grant-of (getD removed i 0))) (tied (grant-of (getD removed i 0)) (grant-of (getD partner i 0))))
+          → RemovalOf (grants sheet) (cond b (single (grant-of (getD removed i 0)))
+          (tied (grant-of (getD removed i 0)) (grant-of (getD partner i 0))))
           → List·Memᴰ (grant-of (getD removed i 0)) (grants sheet)
       it i true m = m
       it i false m = m .0
@@ -116,7 +125,8 @@ module _ {rows : List ℕ} {users : ℕ} {cells : List ℕ} {size : ℕ} {placed
       }
     where
       it : (i : ℕ) (b : Bool) → eqb (getD removed i 0) (getD partner i 0) ≡ b
-          → RemovalOf (grants sheet) (cond b (single (grant-of (getD removed i 0))) (tied (grant-of (getD removed i 0)) (grant-of (getD partner i 0))))
+          → RemovalOf (grants sheet) (cond b (single (grant-of (getD removed i 0)))
+          (tied (grant-of (getD removed i 0)) (grant-of (getD partner i 0))))
           → List·Memᴰ (grant-of (getD partner i 0)) (grants sheet)
       it i true e m = Memᴰ·cast (ap grant-of (sym (eqb-true (getD removed i 0) (getD partner i 0) e))) m
       it i false e m = m .1
@@ -145,10 +155,14 @@ module _ {rows : List ℕ} {users : ℕ} {cells : List ℕ} {size : ℕ} {placed
         }
 
     pub classes-below : KeysBelow n class all
-    classes-below = record { below = λ i l. rw (at .each .shown (getD all i 0) (all-below .below i l)) (few (grant-of (getD all i 0))) }
+    classes-below = record {
+      below = λ i l. rw (at .each .shown (getD all i 0) (all-below .below i l))
+          (few (grant-of (getD all i 0)));
+    }
       where
         counted : used (latest-first placed size) + count ≤ class-limit
-        counted = rw (belongs .placement-held .so-far, ← belongs .placement-held .in-use) (omega (arith, belongs .few-classes, belongs .few-removals))
+        counted = rw (belongs .placement-held .so-far, ← belongs .placement-held .in-use)
+            (omega (arith, belongs .few-classes, belongs .few-removals))
 
         few : (g : Grant) → class-of (classes-in cells size placed removed partner count .members) g < class-limit
         few = class-below cells size placed removed partner count class-limit class-limit-pos counted
@@ -156,7 +170,8 @@ module _ {rows : List ℕ} {users : ℕ} {cells : List ℕ} {size : ℕ} {placed
     pub all-class-at : ClassAt class (classes-of (reduction sheet) placement .members)
     all-class-at = rw classes-belong at (at .each)
 
-    pub roles-belong : roles-of-classes (listed all n) (classes-of (reduction sheet) placement .members) ≡ roles-of sheet placement
+    pub roles-belong : roles-of-classes (listed all n) (classes-of (reduction sheet) placement .members) ≡ roles-of
+        sheet placement
     unfolding roles-of
     roles-belong = rw whole
 

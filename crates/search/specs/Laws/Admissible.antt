@@ -1,6 +1,6 @@
--- Where the machine can stand: the classes of the placed grants are numbered by first appearance, the next try is at most one past the
--- classes in use, and no more grants are placed than there are. The start is so, and each step keeps it.
--- Assumes nothing.
+-- Where the machine can stand: the classes of the placed grants are numbered by first appearance, the next try is at
+-- most one past the classes in use, and no more grants are placed than there are. The start is so, and each step
+-- keeps it. Assumes nothing.
 use Prim.Native.Nat.{ℕ, suc, _≤_, zero-le, suc-le-suc}
 use mathlib.Core.List.{List, _∷_}
 use lib.ListN.{length}
@@ -23,16 +23,28 @@ pub step-admissible : (kernel : Kernel) (st : State) → Admissible kernel st �
 step-admissible kernel st s = by-cases (step-cases kernel st)
   where
     by-cases : {after : State} → Stepped kernel st after → Admissible kernel after
-    by-cases (placing c w not-whole) = record { grown = (w .used-or-next, s .grown); next-le = zero-le; depth-le = w .not-full }
-    by-cases (improving c w whole) = record { grown = (w .used-or-next, s .grown); next-le = zero-le; depth-le = w .not-full }
+    by-cases (placing c w not-whole) = record {
+      grown = (w .used-or-next, s .grown);
+      next-le = zero-le;
+      depth-le =
+          w .not-full;
+    }
+    by-cases (improving c w whole) = record {
+      grown = (w .used-or-next, s .grown);
+      next-le = zero-le;
+      depth-le =
+          w .not-full;
+    }
     by-cases (taking-back a earlier e h) =
         let g : Grown (a ∷ earlier) = rw e at (s .grown) in
         let l : suc (length earlier) ≤ kernel .size = rw e at (s .depth-le) in
         record { grown = g .1; next-le = suc-le-suc (g .0); depth-le = le-of-lt l }
     by-cases (closing e h) = record { grown = tt; next-le = rw e at (s .next-le); depth-le = zero-le }
 
-pub run-admissible : (kernel : Kernel) (budget : ℕ) (st : State) → Admissible kernel st → Admissible kernel (run kernel budget st .state)
+pub run-admissible : (kernel : Kernel) (budget : ℕ) (st : State) → Admissible kernel st
+    → Admissible kernel (run kernel budget st .state)
 run-admissible kernel = run-keeps kernel (Admissible kernel) (λ st e. step-admissible kernel st)
 
-pub search-admissible : (kernel : Kernel) (budget : ℕ) (st : State) → Admissible kernel st → Admissible kernel (search kernel budget st .state)
+pub search-admissible : (kernel : Kernel) (budget : ℕ) (st : State) → Admissible kernel st
+    → Admissible kernel (search kernel budget st .state)
 search-admissible kernel = search-keeps kernel (Admissible kernel) (λ st e. step-admissible kernel st)

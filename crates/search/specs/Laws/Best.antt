@@ -1,6 +1,6 @@
--- The best placement never gets worse. A step changes it only where it fills the placement, and then every class it could use was below
--- the best count; so a step keeps the best or puts one with fewer classes in its place, and so does a run.
--- Assumes nothing.
+-- The best placement never gets worse. A step changes it only where it fills the placement, and then every class it
+-- could use was below the best count; so a step keeps the best or puts one with fewer classes in its place, and so
+-- does a run. Assumes nothing.
 use Prim.Native.Nat.{ℕ, _≤_, _<_}
 use mathlib.Core.Path.{_≡_, refl, ap}
 use mathlib.Core.Logic.{_⊎_, inl, inr, ⊎-elim}
@@ -18,28 +18,35 @@ pub record Improves (kernel : Kernel) (before after : State) : Type 0 where
   pub better : best-count after < best-count before
 
 -- a step keeps the best placement, or improves it
-pub step-keeps-or-improves : (kernel : Kernel) (st : State) → (step kernel st .best ≡ st .best) ⊎ Improves kernel st (step kernel st)
+pub step-keeps-or-improves : (kernel : Kernel) (st : State) → (step kernel st .best ≡ st .best) ⊎ Improves kernel st
+    (step kernel st)
 step-keeps-or-improves kernel st = by-cases (step-cases kernel st)
   where
     by-cases : {after : State} → Stepped kernel st after → (after .best ≡ st .best) ⊎ Improves kernel st after
     by-cases (placing c w not-whole) = inl refl
-    by-cases (improving c w whole) = inr (record { whole = whole; copied = refl; better = omega (arith, w .below-best) })
+    by-cases (improving c w whole) = inr
+        (record { whole = whole; copied = refl; better = omega (arith, w .below-best) })
     by-cases (taking-back a earlier e h) = inl refl
     by-cases (closing e h) = inl refl
 
 -- a step that is no improvement keeps the best placement
-pub no-improvement-keeps : (kernel : Kernel) (st : State) → (Improves kernel st (step kernel st) → ⊥) → step kernel st .best ≡ st .best
+pub no-improvement-keeps : (kernel : Kernel) (st : State) → (Improves kernel st (step kernel st) → ⊥)
+    → step kernel st .best ≡ st .best
 no-improvement-keeps kernel st h = ⊎-elim (λ e. e) (λ i. absurd (h i)) (step-keeps-or-improves kernel st)
 
 pub step-best-le : (kernel : Kernel) (st : State) → best-count (step kernel st) ≤ best-count st
-step-best-le kernel st = ⊎-elim (λ e. le-of-eq (ap used e)) (λ i. le-of-lt (i .better)) (step-keeps-or-improves kernel st)
+step-best-le kernel st =
+    ⊎-elim (λ e. le-of-eq (ap used e)) (λ i. le-of-lt (i .better)) (step-keeps-or-improves kernel st)
 
 pub run-best-le : (kernel : Kernel) (budget : ℕ) (st : State) → best-count (run kernel budget st .state) ≤ best-count st
 run-best-le kernel budget st =
-    run-keeps kernel (λ later. best-count later ≤ best-count st) (λ later e l. le-trans (step-best-le kernel later) l) budget st
+    run-keeps kernel (λ later. best-count later ≤ best-count st) (λ later e l. le-trans (step-best-le kernel later) l)
+    budget st
     (le-refl (best-count st))
 
-pub search-best-le : (kernel : Kernel) (budget : ℕ) (st : State) → best-count (search kernel budget st .state) ≤ best-count st
+pub search-best-le : (kernel : Kernel) (budget : ℕ) (st : State) → best-count (search kernel budget st .state) ≤
+    best-count st
 search-best-le kernel budget st =
-    search-keeps kernel (λ later. best-count later ≤ best-count st) (λ later e l. le-trans (step-best-le kernel later) l) budget st
+    search-keeps kernel (λ later. best-count later ≤ best-count st) (λ later e l. le-trans (step-best-le kernel later)
+    l) budget st
     (le-refl (best-count st))

@@ -1,6 +1,6 @@
--- Any classing can be renumbered by first appearance, with no more classes. The grouping that puts two numbers together where their classes are one
--- is grown, its classes are those of the classing, and there are no more of them than numbers that a class can be.
--- Assumes nothing.
+-- Any classing can be renumbered by first appearance, with no more classes. The grouping that puts two numbers
+-- together where their classes are one is grown, its classes are those of the classing, and there are no more of them
+-- than numbers that a class can be. Assumes nothing.
 use Prim.Native.Nat.{ℕ, _≤_}
 use mathlib.Core.Path.{_≡_}
 use mathlib.Core.Bool.{Bool}
@@ -28,7 +28,8 @@ canonical together n count class classing = record {
   size = grouping-length (same-key class) n;
   valid =
       valid-mono (same-key class) together (grouping (same-key class) n)
-      (λ i j k l e. classing .fitting i j k (rw (grouping-length (same-key class) n) at l) (eqb-true (class i) (class j) e))
+      (λ i j k l e. classing .fitting i j k (rw (grouping-length (same-key class) n) at l)
+      (eqb-true (class i) (class j) e))
       (grouping-valid (same-key class) n);
   grown = grouping-grown (same-key class) n;
   used-le = grouping-used-le class n count (classing .within);

@@ -1,5 +1,5 @@
--- Positions from their start through several searches: the position before the first step stands for the machine's start, and a search that goes on
--- where another came to makes, with it, the search of both budgets.
+-- Positions from their start through several searches: the position before the first step stands for the machine's
+-- start, and a search that goes on where another came to makes, with it, the search of both budgets.
 use Prim.Native.Nat.{ℕ, _+_, _≤_}
 use mathlib.Core.Path.{_≡_}
 use mathlib.Core.List.{List}
@@ -14,7 +14,8 @@ use Rattle.search.specs.Laws.Trail.{trail-none}
 -- the first placement's class count is right
 module _ (first : List ℕ) (size count singles witness : ℕ) (counted : count ≡ used (placed-of first size)) where
   pub started-view : (table : List ℕ)
-      → view (started first count singles witness) size ≡ start (kernel-given table size singles witness) (placed-of first size)
+      → view (started first count singles witness) size ≡ start (kernel-given table size singles witness)
+      (placed-of first size)
   started-view table = rw counted
 
   pub started-stands : size ≤ search-limit → PositionStands size (started first count singles witness)

@@ -1,5 +1,6 @@
--- The classes below `class-end` are those from 0 up to the next one with which fewer classes are in use than the best placement has, so that the
--- machine's choice is the lowest of them that is not below the next try and that the grant can join.
+-- The classes below `class-end` are those from 0 up to the next one with which fewer classes are in use than the best
+-- placement has, so that the machine's choice is the lowest of them that is not below the next try and that the grant
+-- can join.
 use Prim.Native.Nat.{ℕ, zero, suc, _≤_, _<_, max, min, pred}
 use mathlib.Core.Path.{_≡_}
 use mathlib.Core.Logic.{⊎-elim}
@@ -22,7 +23,8 @@ pub record Tried (depth size in-use count c : ℕ) : Type 0 where
   pub used-or-next : c ≤ in-use
   pub below-best : max in-use (suc c) < count
 
-pub below-class-end : (depth size in-use count : ℕ) {c : ℕ} → c < class-end depth size in-use count → Tried depth size in-use count c
+pub below-class-end : (depth size in-use count : ℕ) {c : ℕ} → c < class-end depth size in-use count
+    → Tried depth size in-use count c
 below-class-end depth size in-use count {c} l =
     ⊎-elim
     (λ (d : depth < size).
@@ -30,19 +32,22 @@ below-class-end depth size in-use count {c} l =
     (λ (u : in-use < count).
     let k : c < min (suc in-use) (pred count) = rw (lt-ltb depth size d, lt-ltb in-use count u) at l in
     record { room = d; used-or-next = omega arith; below-best = omega arith })
-    (λ (u : count ≤ in-use). let k : c < 0 = rw (lt-ltb depth size d, le-ltb in-use count u) at l in absurd (omega arith))
+    (λ (u : count ≤ in-use). let k : c < 0 = rw (lt-ltb depth size d, le-ltb in-use count u) at l
+    in absurd (omega arith))
     (below-or-from in-use count))
     (λ (d : size ≤ depth). let k : c < 0 = rw (le-ltb depth size d) at l in absurd (omega arith))
     (below-or-from depth size)
 
-pub within-class-end : (depth size in-use count : ℕ) {c : ℕ} → Tried depth size in-use count c → c < class-end depth size in-use count
+pub within-class-end : (depth size in-use count : ℕ) {c : ℕ} → Tried depth size in-use count c
+    → c < class-end depth size in-use count
 within-class-end depth size in-use count w =
     let less : in-use < count = omega (arith, w .below-best) in
     rw (lt-ltb depth size (w .room), lt-ltb in-use count less) (omega (arith, w .used-or-next, w .below-best))
 
 -- no class past the next one
 pub class-end-le : (depth size in-use count : ℕ) → class-end depth size in-use count ≤ suc in-use
-class-end-le depth size in-use count = from (class-end depth size in-use count) (λ c l. below-class-end depth size in-use count l)
+class-end-le depth size in-use count = from (class-end depth size in-use count)
+    (λ c l. below-class-end depth size in-use count l)
   where
     from : (end : ℕ) → ((c : ℕ) → c < end → Tried depth size in-use count c) → end ≤ suc in-use
     from zero w = omega arith
@@ -60,12 +65,15 @@ possible-tried kernel st c l e =
     }
 
 -- the machine's choice is the lowest class below `class-end` that can be joined
-pub choice-below-end : (table : List ℕ) (size singles witness : ℕ) (classes best : List ℕ) (d next : ℕ) (finished : Bool)
+pub choice-below-end : (table : List ℕ) (size singles witness : ℕ) (classes best : List ℕ) (d next : ℕ)
+    (finished : Bool)
     → choice (kernel-given table size singles witness)
     (record { placed = placed-of classes d; next = next; best = placed-of best size; finished = finished })
-    ≡ lowest-below (class-end d size (used (placed-of classes d)) (used (placed-of best size))) (joinable table classes d next)
+    ≡ lowest-below (class-end d size (used (placed-of classes d)) (used (placed-of best size)))
+    (joinable table classes d next)
 choice-below-end table size singles witness classes best d next finished =
-    lowest-below-cut (suc in-use) end (possible kernel st) (joinable table classes d next) (class-end-le d size in-use count) same later
+    lowest-below-cut (suc in-use) end (possible kernel st) (joinable table classes d next)
+    (class-end-le d size in-use count) same later
   where
     kernel : Kernel
     kernel = kernel-given table size singles witness
@@ -85,7 +93,12 @@ choice-below-end table size singles witness classes best d next finished =
     same : (c : ℕ) → c < end → possible kernel st c ≡ joinable table classes d next c
     same c l =
         let w = below-class-end d size in-use count l in
-        rw (length-placed-of classes d, lt-ltb d size (w .room), lt-ltb (max in-use (suc c)) count (w .below-best), and-true)
+        rw (
+          length-placed-of classes d,
+          lt-ltb d size (w .room),
+          lt-ltb (max in-use (suc c)) count (w .below-best),
+          and-true,
+        )
 
     later : (c : ℕ) → end ≤ c → c < suc in-use → possible kernel st c ≡ false
     later c l k =

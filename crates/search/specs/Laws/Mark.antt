@@ -1,5 +1,5 @@
--- What the words of a set of marks say: a number below the first word's width is marked by that word, any other by the second. So a law
--- holds of every number once it holds of each word's positions.
+-- What the words of a set of marks say: a number below the first word's width is marked by that word, any other by
+-- the second. So a law holds of every number once it holds of each word's positions.
 use Prim.Native.Nat.{ℕ, _+_, _-_, _≤_, _<_}
 use mathlib.Core.Path.{_≡_, ap, _∙_}
 use mathlib.Core.Logic.{⊎-elim}
@@ -51,7 +51,8 @@ module _ (change : Bool → Bool → Bool) (keeps : (b : Bool) → change b fals
       (λ q. rw (marked-later m q, ne-eqb (word-bits + q) p (λ e. omega arith), keeps, same))
 
   pub changed-high :
-      word-bits ≤ p → after .low ≡ m .low → ((q : ℕ) → bit (after .high) q ≡ change (bit (m .high) q) (eqb q (p - word-bits)))
+      word-bits ≤ p → after .low ≡ m .low → ((q : ℕ) → bit (after .high) q ≡ change (bit (m .high) q)
+      (eqb q (p - word-bits)))
       → (q : ℕ) → marked after q ≡ change (marked m q) (eqb q p)
   changed-high l same high =
       by-words after (λ q. change (marked m q) (eqb q p))
@@ -68,7 +69,8 @@ pub within-words : (m other : Marks)
 within-words m other =
     every-below-add word-bits word-bits (λ p. implies (marked m p) (marked other p))
     ∙ rw (
-      every-below-ext word-bits (λ p. implies (marked m p) (marked other p)) (λ p. implies (bit (m .low) p) (bit (other .low) p))
+      every-below-ext word-bits (λ p. implies (marked m p) (marked other p)) (λ p. implies (bit (m .low) p)
+          (bit (other .low) p))
           (λ p l. rw (marked-low m l, marked-low other l)),
       every-below-ext word-bits (λ p. implies (marked m (word-bits + p)) (marked other (word-bits + p)))
           (λ p. implies (bit (m .high) p) (bit (other .high) p)) (λ p l. rw (marked-later m p, marked-later other p)),

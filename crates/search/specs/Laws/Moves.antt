@@ -1,5 +1,6 @@
--- Where a position leads in one step: with a class found the next grant is placed, and with all placed the placement is the best one; with none found
--- the latest grant is taken back, or the search is closed. In each case the view moves as the machine does, and the position still stands.
+-- Where a position leads in one step: with a class found the next grant is placed, and with all placed the placement
+-- is the best one; with none found the latest grant is taken back, or the search is closed. In each case the view
+-- moves as the machine does, and the position still stands.
 use Prim.Native.Nat.{ℕ, zero, suc, _+_, _-_, _≤_, _<_, max}
 use mathlib.Core.Path.{_≡_, refl, sym, ap, _∙_}
 use mathlib.Core.Bool.{Bool, true}
@@ -17,7 +18,17 @@ use Rattle.spec.specs.Machine.{State, choice, place, take-back-or-close, move, 
 use Rattle.search.specs.declared.machine.Cursor.{Cursor}
 use Rattle.search.specs.declared.machine.Position.{Position}
 use Rattle.search.specs.Marks.{mark-limit}
-use Rattle.search.specs.View.{placed-of, kernel-given, view, Trail, PositionStands, class-end, joinable, CursorPlaced, taken-back}
+use Rattle.search.specs.View.{
+  placed-of,
+  kernel-given,
+  view,
+  Trail,
+  PositionStands,
+  class-end,
+  joinable,
+  CursorPlaced,
+  taken-back,
+}
 use Rattle.search.specs.Laws.Placed.{length-placed-of, placed-of-next, grown-class-le}
 use Rattle.search.specs.Laws.Trail.{trail-used-le, trail-placed, trail-taken-back}
 use Rattle.search.specs.Laws.ClassEnd.{Tried, below-class-end, choice-below-end}
@@ -32,11 +43,13 @@ Follows table size singles witness before after =
 pub record Looked (table : List ℕ) (size : ℕ) (position : Position) (end class : ℕ) : Type 0 where
   pub ends : end ≡ class-end (position .cursor .depth) size (position .cursor .used) (position .cursor .count)
   pub finds :
-      class ≡ Option·getD (lowest-below end (joinable table (position .classes) (position .cursor .depth) (position .cursor .next))) end
+      class ≡ Option·getD (lowest-below end (joinable table (position .classes) (position .cursor .depth)
+      (position .cursor .next))) end
 
 -- a state is its four parts
 same-state : {a b : List ℕ} {m n : ℕ} {c d : List ℕ} {f g : Bool} → a ≡ b → m ≡ n → c ≡ d → f ≡ g
-    → _≡_ {A = State} (record { placed = a; next = m; best = c; finished = f }) (record { placed = b; next = n; best = d; finished = g })
+    → _≡_ {A = State} (record { placed = a; next = m; best = c; finished = f })
+    (record { placed = b; next = n; best = d; finished = g })
 same-state p q r s i = record { placed = p i; next = q i; best = r i; finished = s i }
 
 -- ---- how many there can be
@@ -45,7 +58,8 @@ pub depth-le-limit : {size : ℕ} {p : Position} → PositionStands size p → p
 unfolding search-limit
 depth-le-limit s = omega (arith, s .size-within, s .trail .depth-within)
 
-pub class-below-limit : {size : ℕ} {p : Position} → PositionStands size p → (i : ℕ) → i < p .cursor .depth → getD (p .classes) i 0 < mark-limit
+pub class-below-limit : {size : ℕ} {p : Position} → PositionStands size p → (i : ℕ) → i < p .cursor .depth
+    → getD (p .classes) i 0 < mark-limit
 class-below-limit {size} {p} s i l =
     omega (arith, depth-le-limit s, grown-class-le (p .classes) (p .cursor .depth) (s .trail .grown) l)
 
@@ -55,38 +69,45 @@ module _ {size : ℕ} {p : Position} (s : PositionStands size p) where
       → Tried (p .cursor .depth) size (p .cursor .used) (p .cursor .count) c
   tried e l = below-class-end (p .cursor .depth) size (p .cursor .used) (p .cursor .count) (rw e at l)
 
-  pub end-within-limit : (end : ℕ) → end ≡ class-end (p .cursor .depth) size (p .cursor .used) (p .cursor .count) → end ≤ mark-limit
+  pub end-within-limit : (end : ℕ) → end ≡ class-end (p .cursor .depth) size (p .cursor .used) (p .cursor .count)
+      → end ≤ mark-limit
   unfolding search-limit
   end-within-limit zero e = omega arith
   end-within-limit (suc c) e =
       let w = tried {c = c} e (omega arith) in
       omega (arith, w .room, w .used-or-next, trail-used-le (s .trail), s .size-within)
 
-  pub room-below-limit : (end : ℕ) → end ≡ class-end (p .cursor .depth) size (p .cursor .used) (p .cursor .count) → 0 < end
+  pub room-below-limit : (end : ℕ) → end ≡ class-end (p .cursor .depth) size (p .cursor .used) (p .cursor .count)
+      → 0 < end
       → p .cursor .depth < mark-limit
   unfolding search-limit
   room-below-limit end e l = omega (arith, tried e l .room, s .size-within)
 
 -- ---- what the machine chooses
 
-module _ (table : List ℕ) (size singles witness : ℕ) (p : Position) (s : PositionStands size p) {end class : ℕ} (w : Looked table size p end class) where
+module _ (table : List ℕ) (size singles witness : ℕ) (p : Position) (s : PositionStands size p) {end class : ℕ}
+    (w : Looked table size p end class) where
   -- the machine's choice is what was looked for
   choice-looked : choice (kernel-given table size singles witness) (view p size)
       ≡ lowest-below end (joinable table (p .classes) (p .cursor .depth) (p .cursor .next))
   choice-looked =
-      choice-below-end table size singles witness (p .classes) (p .best) (p .cursor .depth) (p .cursor .next) (p .cursor .finished)
+      choice-below-end table size singles witness (p .classes) (p .best) (p .cursor .depth) (p .cursor .next)
+      (p .cursor .finished)
       ∙ rw (← s .trail .used-counted, ← s .best-counted, ← w .ends)
 
   steps-by-placing : class < end
-      → step (kernel-given table size singles witness) (view p size) ≡ place (kernel-given table size singles witness) (view p size) class
+      → step (kernel-given table size singles witness) (view p size) ≡ place (kernel-given table size singles witness)
+      (view p size) class
   unfolding step
   steps-by-placing l =
       ap (move (kernel-given table size singles witness) (view p size))
       (choice-looked
-      ∙ getD-found (lowest-below end (joinable table (p .classes) (p .cursor .depth) (p .cursor .next))) end (w .finds) l)
+      ∙ getD-found (lowest-below end (joinable table (p .classes) (p .cursor .depth) (p .cursor .next))) end
+      (w .finds) l)
 
   steps-by-taking-back : end ≤ class
-      → step (kernel-given table size singles witness) (view p size) ≡ take-back-or-close (view p size) (placed-of (p .classes) (p .cursor .depth))
+      → step (kernel-given table size singles witness) (view p size) ≡ take-back-or-close (view p size)
+      (placed-of (p .classes) (p .cursor .depth))
   unfolding step
   steps-by-taking-back l =
       ap (move (kernel-given table size singles witness) (view p size))
@@ -133,22 +154,31 @@ module _ (table : List ℕ) (size singles witness : ℕ) (p : Position) (s : Pos
       latest = omega arith
 
   -- the next grant is placed in the class found
-  module _ (l : class < end) (stored : p .cursor .depth < length (p .classes)) (after : Cursor) (placed : CursorPlaced (p .cursor) class after) where
-    placed-next : placed-of (set (p .classes) (p .cursor .depth) class) (after .depth) ≡ class ∷ placed-of (p .classes) (p .cursor .depth)
+  module _ (l : class < end) (stored : p .cursor .depth < length (p .classes)) (after : Cursor)
+      (placed : CursorPlaced (p .cursor) class after) where
+    placed-next : placed-of (set (p .classes) (p .cursor .depth) class) (after .depth) ≡ class ∷ placed-of
+        (p .classes) (p .cursor .depth)
     placed-next =
-        ap (placed-of (set (p .classes) (p .cursor .depth) class)) (placed .depth) ∙ placed-of-next (p .classes) (p .cursor .depth) class stored
+        ap (placed-of (set (p .classes) (p .cursor .depth) class)) (placed .depth) ∙ placed-of-next (p .classes)
+        (p .cursor .depth) class stored
 
     trail-after : Trail size (after .depth) (after .used) (after .opened) (set (p .classes) (p .cursor .depth) class)
     trail-after =
         let t = tried s (w .ends) l in
         rw (placed .depth)
-        (trail-placed (s .trail) class (after .used) (after .opened) stored (t .room) (t .used-or-next) (placed .in-use) (placed .opened))
+        (trail-placed (s .trail) class (after .used) (after .opened) stored (t .room) (t .used-or-next)
+        (placed .in-use) (placed .opened))
 
     pub places : (suc (p .cursor .depth) ≡ size → ⊥)
         → Follows table size singles witness p
         (record { cursor = after; classes = set (p .classes) (p .cursor .depth) class; best = p .best })
     places not-whole = (
-      rw (steps-by-placing l, length-placed-of (p .classes) (p .cursor .depth), ne-eqb (suc (p .cursor .depth)) size not-whole)
+      rw (
+        steps-by-placing l,
+        length-placed-of (p .classes) (p .cursor .depth),
+        ne-eqb (suc (p .cursor .depth)) size
+            not-whole,
+      )
           (same-state placed-next (placed .next) refl (placed .finished)),
       record { size-within = s .size-within; trail = trail-after; best-counted = placed .count ∙ s .best-counted },
     )
@@ -170,12 +200,18 @@ module _ (table : List ℕ) (size singles witness : ℕ) (p : Position) (s : Pos
           best = set (p .classes) (p .cursor .depth) class;
         })
     improves whole finished e = (
-      rw (steps-by-placing l, length-placed-of (p .classes) (p .cursor .depth), eq-eqb (suc (p .cursor .depth)) size whole)
+      rw (
+        steps-by-placing l,
+        length-placed-of (p .classes) (p .cursor .depth),
+        eq-eqb (suc (p .cursor .depth)) size
+            whole,
+      )
           (same-state placed-next (placed .next) best-is (e ∙ rw counted)),
       record { size-within = s .size-within; trail = trail-after; best-counted = counted ∙ ap used (sym best-is) },
     )
       where
-        best-is : placed-of (set (p .classes) (p .cursor .depth) class) size ≡ class ∷ placed-of (p .classes) (p .cursor .depth)
+        best-is : placed-of (set (p .classes) (p .cursor .depth) class) size ≡ class ∷ placed-of (p .classes)
+            (p .cursor .depth)
         best-is = rw (← whole) (placed-of-next (p .classes) (p .cursor .depth) class stored)
 
         counted : after .used ≡ max (suc class) (used (placed-of (p .classes) (p .cursor .depth)))

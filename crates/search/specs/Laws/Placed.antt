@@ -1,5 +1,5 @@
--- The placement that an array of class numbers holds: it has as many members as grants counted, a grant stored past them changes nothing, and a grant
--- can join a class just where no member of the class is apart from it.
+-- The placement that an array of class numbers holds: it has as many members as grants counted, a grant stored past
+-- them changes nothing, and a grant can join a class just where no member of the class is apart from it.
 use Prim.Native.Nat.{ℕ, zero, suc, _≤_, _<_}
 use mathlib.Core.Path.{_≡_, refl, ap}
 use mathlib.Core.Bool.{Bool, true, false, not, _&&_, _||_}
@@ -28,7 +28,8 @@ placed-of-set classes (suc n) d c l =
     rw (getD-set-other classes d n c 0 (λ e. omega arith), placed-of-set classes n d c (omega arith))
 
 -- the next grant's class is stored
-pub placed-of-next : (classes : List ℕ) (d c : ℕ) → d < length classes → placed-of (set classes d c) (suc d) ≡ c ∷ placed-of classes d
+pub placed-of-next : (classes : List ℕ) (d c : ℕ) → d < length classes → placed-of (set classes d c) (suc d) ≡ c ∷
+    placed-of classes d
 placed-of-next classes d c l = rw (getD-set-same classes d c 0 l, placed-of-set classes d d c (le-refl d))
 
 -- in a placement numbered by first appearance a class number is at most the grant's own number
@@ -37,19 +38,22 @@ grown-class-le classes zero g l = absurd (not-suc-le-zero l)
 grown-class-le classes (suc n) g {i} l =
     ⊎-elim
     (λ e.
-    let within : used (placed-of classes n) ≤ length (placed-of classes n) = grown-used-le (placed-of classes n) (g .1) in
+    let within : used (placed-of classes n) ≤ length (placed-of classes n) = grown-used-le (placed-of classes n)
+    (g .1) in
     let least : getD classes n 0 ≤ n = omega (arith, g .0, length-placed-of classes n) in
     rw e least)
     (λ k. grown-class-le classes n (g .1) k) (last-or-below l)
 
 -- each placed grant of class c goes with grant d, or one of them is apart from it
 pub joins-unless-apart : (together : ℕ → ℕ → Bool) (classes : List ℕ) (d n c : ℕ)
-    → joins together d (placed-of classes n) c ≡ not (some-below n (λ i. not (together d i) && eqb (getD classes i 0) c))
+    → joins together d (placed-of classes n) c ≡ not (some-below n (λ i. not (together d i) && eqb (getD classes i 0)
+    c))
 unfolding some-below
 joins-unless-apart together classes d zero c = refl
 joins-unless-apart together classes d (suc n) c =
     rw (length-placed-of classes n, joins-unless-apart together classes d n c)
-    (both (eqb (getD classes n 0) c) (together d n) (some-below n (λ i. not (together d i) && eqb (getD classes i 0) c)))
+    (both (eqb (getD classes n 0) c) (together d n) (some-below n (λ i. not (together d i) && eqb (getD classes i 0)
+    c)))
   where
     both : (same fits others : Bool) → ((not same || fits) && not others) ≡ not (not fits && same || others)
     both true true others = refl

@@ -1,7 +1,6 @@
--- A number that bounds the steps left at a position of the machine: two for each placing that can still come, one for each grant to be taken
--- back, and one to close. At the start it is the sum of factorials that the budget must reach; one turn of the recurrence of factorials
--- is one level of the search.
--- Assumes nothing.
+-- A number that bounds the steps left at a position of the machine: two for each placing that can still come, one for
+-- each grant to be taken back, and one to close. At the start it is the sum of factorials that the budget must reach;
+-- one turn of the recurrence of factorials is one level of the search. Assumes nothing.
 use Prim.Native.Nat.{ℕ, zero, suc, _+_, _-_, _*_, _≤_, _<_}
 use mathlib.Core.Path.{_≡_, refl, ap, _∙_}
 use mathlib.Core.List.{List, [], _∷_}
@@ -46,9 +45,11 @@ pub placings-factorials : (d rest : ℕ) → factorial d * placings d rest + fac
 placings-factorials d zero = rw (mul-zero, zero-add, add-zero)
 placings-factorials d (suc rest) =
     let same : suc d + rest ≡ d + suc rest = omega arith in
-    one-level (factorial d) (factorials d) (placings (suc d) rest) ∙ placings-factorials (suc d) rest ∙ ap factorials same
+    one-level (factorial d) (factorials d) (placings (suc d) rest) ∙ placings-factorials (suc d) rest
+    ∙ ap factorials same
   where
-    one-level : (product sum below : ℕ) → product * (suc d * suc below) + sum ≡ suc d * product * below + (sum + suc d * product)
+    one-level : (product sum below : ℕ) → product * (suc d * suc below) + sum ≡ suc d * product * below +
+        (sum + suc d * product)
     one-level product sum below = omega arith
 
 -- the potential at the start is the budget that is enough

@@ -1,7 +1,6 @@
--- A budget of 2 · (1! + .. + k!) + 1 ends the search of every kernel of k grants, whatever the first cover. The potential is that number at
--- the start and at least 1 at every position, and each step that does not close the search lowers it: so the budget is not used up before
--- the machine is finished.
--- Assumes nothing.
+-- A budget of 2 · (1! + .. + k!) + 1 ends the search of every kernel of k grants, whatever the first cover. The
+-- potential is that number at the start and at least 1 at every position, and each step that does not close the
+-- search lowers it: so the budget is not used up before the machine is finished. Assumes nothing.
 use Prim.Native.Nat.{ℕ, zero, suc, _-_, _≤_, _<_}
 use mathlib.Core.Path.{_≡_, refl}
 use mathlib.Core.Logic.{_⊎_, inl, inr, ⊎-elim}
@@ -19,7 +18,14 @@ use Rattle.lists.specs.GrownLaws.{grown-used-le}
 use Rattle.search.specs.Laws.Steps.{Chosen, Stepped, placing, improving, taking-back, closing, step-cases}
 use Rattle.search.specs.Laws.Runs.{run-finished, run-step, run-steps-le, run-settles, search-within}
 use Rattle.search.specs.Laws.Admissible.{Admissible, start-admissible, step-admissible}
-use Rattle.search.specs.Laws.Potential.{potential, potential-of, potential-start, potential-positive, placing-lowers, taking-back-lowers}
+use Rattle.search.specs.Laws.Potential.{
+  potential,
+  potential-of,
+  potential-start,
+  potential-positive,
+  placing-lowers,
+  taking-back-lowers,
+}
 
 -- where grant d is not placed, one more is left than after it
 one-more-left : (size d : ℕ) → d < size → size - d ≡ suc (size - suc d)
@@ -30,13 +36,15 @@ pub step-closes-or-lowers : (kernel : Kernel) (st : State) → Admissible kernel
     → So (step kernel st .finished) ⊎ (potential kernel (step kernel st) < potential kernel st)
 step-closes-or-lowers kernel st s = by-cases (step-cases kernel st)
   where
-    by-placing : (c : ℕ) → Chosen kernel st c → potential-of (kernel .size - suc (depth st)) (c ∷ st .placed) 0 < potential kernel st
+    by-placing : (c : ℕ) → Chosen kernel st c → potential-of (kernel .size - suc (depth st)) (c ∷ st .placed) 0 <
+        potential kernel st
     by-placing c w =
         rw (one-more-left (kernel .size) (depth st) (w .not-full))
         (placing-lowers (kernel .size - suc (depth st)) (st .placed) (st .next) c (w .not-tried)
         (le-trans (w .used-or-next) (grown-used-le (st .placed) (s .grown))))
 
-    by-cases : {after : State} → Stepped kernel st after → So (after .finished) ⊎ (potential kernel after < potential kernel st)
+    by-cases : {after : State} → Stepped kernel st after → So (after .finished) ⊎ (potential kernel after < potential
+        kernel st)
     by-cases (placing c w not-whole) = inr (by-placing c w)
     by-cases (improving c w whole) = inr (by-placing c w)
     by-cases (taking-back a earlier e h) =
@@ -55,7 +63,8 @@ potential-ends kernel (suc budget) st s l =
     ⊎-elim (λ e. rw (run-finished kernel (suc budget) st e) e)
     (λ u.
     rw (run-step kernel budget st u)
-    (after-step (step-closes-or-lowers kernel st s) (potential-ends kernel budget (step kernel st) (step-admissible kernel st s))))
+    (after-step (step-closes-or-lowers kernel st s) (potential-ends kernel budget (step kernel st)
+    (step-admissible kernel st s))))
     (passes-or-fails (st .finished))
   where
     after-step :
@@ -73,12 +82,15 @@ enough-ends kernel first budget l =
     (le-trans (le-of-eq (potential-start kernel first)) l)
 
 -- the same of one search, where the kernel is searched
-pub enough-ends-search : (kernel : Kernel) (first : List ℕ) (budget : ℕ) → kernel .size ≤ search-limit → enough (kernel .size) ≤ budget
+pub enough-ends-search : (kernel : Kernel) (first : List ℕ) (budget : ℕ) → kernel .size ≤ search-limit
+    → enough (kernel .size) ≤ budget
     → So (search kernel budget (start kernel first) .state .finished)
-enough-ends-search kernel first budget s l = rw (search-within kernel budget (start kernel first) s) (enough-ends kernel first budget l)
+enough-ends-search kernel first budget s l =
+    rw (search-within kernel budget (start kernel first) s) (enough-ends kernel first budget l)
 
 -- no budget leads to more steps
-pub steps-le-enough : (kernel : Kernel) (first : List ℕ) (budget : ℕ) → run kernel budget (start kernel first) .steps ≤ enough (kernel .size)
+pub steps-le-enough : (kernel : Kernel) (first : List ℕ) (budget : ℕ) → run kernel budget (start kernel first) .steps
+    ≤ enough (kernel .size)
 steps-le-enough kernel first budget =
     let bound = enough (kernel .size) in
     ⊎-elim (λ l. le-trans (run-steps-le kernel budget (start kernel first)) (le-of-lt l))

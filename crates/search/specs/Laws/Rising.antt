@@ -1,7 +1,7 @@
--- No list of classes is placed twice. Written in grant order with the next try at its end, the position rises in lexicographic order at every
--- step that does not close the search: a placing goes on from the class it tried, or from a later one, and a taking back goes to the class
--- after it. After a placing the next try is 0, so the placed lists rise too.
--- Assumes nothing.
+-- No list of classes is placed twice. Written in grant order with the next try at its end, the position rises in
+-- lexicographic order at every step that does not close the search: a placing goes on from the class it tried, or
+-- from a later one, and a taking back goes to the class after it. After a placing the next try is 0, so the placed
+-- lists rise too. Assumes nothing.
 use Prim.Native.Nat.{ℕ, zero, suc, _-_, _≤_, _<_}
 use mathlib.Core.Path.{_≡_, refl, ap}
 use mathlib.Core.Logic.{_⊎_, inl, inr, ⊎-elim}
@@ -43,14 +43,16 @@ step-closes-or-rises kernel st = by-cases (step-cases kernel st)
     by-cases (closing e h) = inl refl
 
 -- what stands after the position that an unfinished run came to, stands after its first
-pub run-rises : (kernel : Kernel) (count : ℕ) (st : State) (later : List ℕ) → run kernel count st .state .finished ≡ false
+pub run-rises : (kernel : Kernel) (count : ℕ) (st : State) (later : List ℕ) → run kernel count st .state .finished ≡
+    false
     → Before (position (run kernel count st .state)) later → Before (position st) later
 run-rises kernel zero st later u b = rw run-none at b
 run-rises kernel (suc count) st later u b =
     ⊎-elim (λ e. rw (run-finished kernel (suc count) st e) at b)
     (λ e.
     after-step (step-closes-or-rises kernel st) (rw (run-step kernel count st e) at u)
-    (run-rises kernel count (step kernel st) later (rw (run-step kernel count st e) at u) (rw (run-step kernel count st e) at b)))
+    (run-rises kernel count (step kernel st) later (rw (run-step kernel count st e) at u)
+    (rw (run-step kernel count st e) at b)))
     (passes-or-fails (st .finished))
   where
     after-step :
@@ -66,7 +68,8 @@ run-rises kernel (suc count) st later u b =
 abbrev pub Places : Kernel → State → ℕ → Type 0
 Places kernel st count = depth (run kernel (suc count) st .state) ≡ suc (depth (run kernel count st .state))
 
-places-unfinished : (kernel : Kernel) (st : State) (count : ℕ) → Places kernel st count → run kernel count st .state .finished ≡ false
+places-unfinished : (kernel : Kernel) (st : State) (count : ℕ) → Places kernel st count
+    → run kernel count st .state .finished ≡ false
 places-unfinished kernel st count p =
     fails-unless (run kernel count st .state .finished) (λ f.
     omega (arith, ap (λ ran. depth (ran .state)) (run-settles kernel count (suc count) st (le-step (le-refl count)) f)))
@@ -80,8 +83,15 @@ placing-raises : (kernel : Kernel) (st : State) → depth (step kernel st) ≡ s
 placing-raises kernel st = by-cases (step-cases kernel st)
   where
     by-cases : {after : State} → Stepped kernel st after → depth after ≡ suc (depth st) → Raised st after
-    by-cases (placing c w not-whole) g = record { rises = placing-rises (st .placed) (st .next) c (w .not-tried); anew = refl }
-    by-cases (improving c w whole) g = record { rises = placing-rises (st .placed) (st .next) c (w .not-tried); anew = refl }
+    by-cases (placing c w not-whole) g = record {
+      rises = placing-rises (st .placed) (st .next) c (w .not-tried);
+      anew = refl;
+    }
+    by-cases (improving c w whole) g = record {
+      rises = placing-rises (st .placed) (st .next) c (w .not-tried);
+      anew =
+          refl;
+    }
     by-cases (taking-back a earlier e h) g = absurd (omega (arith, ap length e))
     by-cases (closing e h) g = absurd (omega (arith, ap length e))
 
@@ -101,16 +111,19 @@ pub placed-lists-rise : (kernel : Kernel) (st : State) (m n : ℕ) → m < n →
 placed-lists-rise kernel st m n l p q =
     let mid : State = run kernel (suc m) st .state in
     let last : State = run kernel (suc n) st .state in
-    let same : run kernel n st .state ≡ run kernel (n - suc m) mid .state = ap (λ ran. ran .state) (run-goes-on kernel (suc m) n st l) in
+    let same : run kernel n st .state ≡ run kernel (n - suc m) mid .state = ap (λ ran. ran .state)
+    (run-goes-on kernel (suc m) n st l) in
     let v = places-raises kernel st m p in
     let w = places-raises kernel st n q in
     before-last (mid .placed) (last .placed) (rw (v .anew, w .anew) at
-    (run-rises kernel (n - suc m) mid (position last) (rw same at (places-unfinished kernel st n q)) (rw same at (w .rises))))
+    (run-rises kernel (n - suc m) mid (position last) (rw same at (places-unfinished kernel st n q))
+    (rw same at (w .rises))))
 
 -- no list of classes is placed twice
 pub placed-once : (kernel : Kernel) (first : List ℕ) (m n : ℕ) → m < n → Places kernel (start kernel first) m
     → Places kernel (start kernel first) n
-    → run kernel (suc m) (start kernel first) .state .placed ≡ run kernel (suc n) (start kernel first) .state .placed → ⊥
+    → run kernel (suc m) (start kernel first) .state .placed ≡ run kernel (suc n) (start kernel first) .state .placed
+    → ⊥
 placed-once kernel first m n l p q e =
     before-irreflexive (in-order (run kernel (suc n) (start kernel first) .state))
     (rw e at (placed-lists-rise kernel (start kernel first) m n l p q))

@@ -1,5 +1,5 @@
--- Where a run stands after some of its steps: the whole run is those steps and the run of the budget left. It begins so with no step made, one step
--- more keeps it, and with no budget left, or once finished, nothing is left to run.
+-- Where a run stands after some of its steps: the whole run is those steps and the run of the budget left. It begins
+-- so with no step made, one step more keeps it, and with no budget left, or once finished, nothing is left to run.
 use Prim.Native.Nat.{ℕ, suc, _+_, _-_, _≤_, _<_}
 use mathlib.Core.Path.{_≡_, sym, _∙_}
 use mathlib.Core.Bool.{false, So}
@@ -17,10 +17,12 @@ pub record Running (kernel : Kernel) (budget : ℕ) (from : State) (position : P
   pub stands : PositionStands (kernel .size) position
   pub rest :
       run kernel budget from
-      ≡ followed-by (record { state = view position (kernel .size); steps = steps }) (run kernel (budget - steps) (view position (kernel .size)))
+      ≡ followed-by (record { state = view position (kernel .size); steps = steps })
+      (run kernel (budget - steps) (view position (kernel .size)))
 
 module _ (kernel : Kernel) (budget : ℕ) where
-  pub running-none : (position : Position) → PositionStands (kernel .size) position → Running kernel budget (view position (kernel .size)) position 0
+  pub running-none : (position : Position) → PositionStands (kernel .size) position → Running kernel budget
+      (view position (kernel .size)) position 0
   running-none position s =
       record { within = omega arith; stands = s; rest = rw (sub-zero, zero-add) }
 
@@ -33,15 +35,31 @@ module _ (kernel : Kernel) (budget : ℕ) where
         record {
           within = omega arith;
           stands = s;
-          rest = running .rest ∙ rw (left, run-step kernel (budget - (steps + 1)) (view position (kernel .size)) u, moved, add-one, suc-add, add-suc);
+          rest = running .rest ∙ rw (
+            left,
+            run-step kernel (budget - (steps + 1)) (view position (kernel .size)) u,
+            moved,
+            add-one,
+            suc-add,
+            add-suc,
+          );
         }
 
     -- no budget is left
-    pub running-spent : budget ≤ steps → record { state = view position (kernel .size); steps = steps } ≡ run kernel budget from
+    pub running-spent : budget ≤ steps → record { state = view position (kernel .size); steps = steps } ≡ run kernel
+        budget from
     running-spent l =
         let none-left : budget - steps ≡ 0 = omega arith in
         sym (running .rest ∙ rw (none-left, run-none, add-zero))
 
     -- the position is finished
-    pub running-finished : So (position .cursor .finished) → record { state = view position (kernel .size); steps = steps } ≡ run kernel budget from
-    running-finished f = sym (running .rest ∙ rw (run-finished kernel (budget - steps) (view position (kernel .size)) f, add-zero))
+    pub running-finished : So (position .cursor .finished) → record {
+      state = view position (kernel .size);
+      steps =
+          steps;
+    } ≡ run kernel budget from
+    running-finished f = sym (running .rest ∙ rw (
+      run-finished kernel (budget - steps) (view position (kernel .size))
+          f,
+      add-zero,
+    ))

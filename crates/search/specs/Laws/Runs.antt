@@ -1,6 +1,6 @@
--- What holds of every run and every search: a finished state stays, two runs are one, no run makes more steps than its budget or stops
--- early unfinished, and what each step keeps every run keeps. Each law is an induction on the budget by `run-finished` and `run-step`.
--- Assumes nothing.
+-- What holds of every run and every search: a finished state stays, two runs are one, no run makes more steps than
+-- its budget or stops early unfinished, and what each step keeps every run keeps. Each law is an induction on the
+-- budget by `run-finished` and `run-step`. Assumes nothing.
 use Prim.Native.Nat.{ℕ, zero, suc, _+_, _-_, _≤_, _<_, zero-le, suc-le-suc}
 use mathlib.Core.Path.{_≡_, refl, ap, _∙_}
 use mathlib.Core.Logic.{⊎-elim}
@@ -40,7 +40,13 @@ run-add kernel zero n st = rw (zero-add, run-none, zero-add)
 run-add kernel (suc m) n st =
     ⊎-elim
     (λ e. rw (run-finished kernel (suc m + n) st e, run-finished kernel (suc m) st e, run-finished kernel n st e))
-    (λ e. rw (suc-add, run-step kernel (m + n) st e, run-step kernel m st e, run-add kernel m n (step kernel st), suc-add))
+    (λ e. rw (
+      suc-add,
+      run-step kernel (m + n) st e,
+      run-step kernel m st e,
+      run-add kernel m n (step kernel st),
+      suc-add,
+    ))
     (passes-or-fails (st .finished))
 
 -- no more steps than the budget
@@ -48,7 +54,8 @@ pub run-steps-le : (kernel : Kernel) (budget : ℕ) (st : State) → run kernel 
 run-steps-le kernel zero st = rw run-none zero-le
 run-steps-le kernel (suc budget) st =
     ⊎-elim (λ e. rw (run-finished kernel (suc budget) st e) zero-le)
-    (λ e. rw (run-step kernel budget st e) (suc-le-suc (run-steps-le kernel budget (step kernel st)))) (passes-or-fails (st .finished))
+    (λ e. rw (run-step kernel budget st e) (suc-le-suc (run-steps-le kernel budget (step kernel st))))
+    (passes-or-fails (st .finished))
 
 -- as many as the budget where the state after them is not finished
 pub run-steps-all : (kernel : Kernel) (budget : ℕ) (st : State) → run kernel budget st .state .finished ≡ false
@@ -56,7 +63,8 @@ pub run-steps-all : (kernel : Kernel) (budget : ℕ) (st : State) → run kernel
 run-steps-all kernel zero st u = rw run-none
 run-steps-all kernel (suc budget) st u =
     ⊎-elim (λ e. absurd (not-both e (rw (run-finished kernel (suc budget) st e) at u)))
-    (λ e. rw (run-step kernel budget st e) (ap suc (run-steps-all kernel budget (step kernel st) (rw (run-step kernel budget st e) at u))))
+    (λ e. rw (run-step kernel budget st e)
+    (ap suc (run-steps-all kernel budget (step kernel st) (rw (run-step kernel budget st e) at u))))
     (passes-or-fails (st .finished))
 
 -- a run goes on where a shorter one came to
@@ -67,7 +75,8 @@ run-goes-on kernel m n st l = rw (add-sub-of-le l) at (run-add kernel m (n - m) 
 -- once finished, a greater budget changes nothing: the steps are those that were left
 pub run-settles : (kernel : Kernel) (m n : ℕ) (st : State) → m ≤ n → So (run kernel m st .state .finished)
     → run kernel n st ≡ run kernel m st
-run-settles kernel m n st l f = rw (run-goes-on kernel m n st l, run-finished kernel (n - m) (run kernel m st .state) f, add-zero)
+run-settles kernel m n st l f =
+    rw (run-goes-on kernel m n st l, run-finished kernel (n - m) (run kernel m st .state) f, add-zero)
 
 -- the last step of a run whose state before it is not finished
 pub run-last : (kernel : Kernel) (budget : ℕ) (st : State) → run kernel budget st .state .finished ≡ false
@@ -76,7 +85,8 @@ run-last kernel budget st u =
     rw (← add-one budget, run-add kernel budget 1 st, run-step kernel 0 (run kernel budget st .state) u, run-none)
 
 -- what each step from an unfinished state keeps every run keeps
-pub run-keeps : (kernel : Kernel) (P : State → Type 0) → ((st : State) → st .finished ≡ false → P st → P (step kernel st))
+pub run-keeps : (kernel : Kernel) (P : State → Type 0) → ((st : State) → st .finished ≡ false → P st
+    → P (step kernel st))
     → (budget : ℕ) (st : State) → P st → P (run kernel budget st .state)
 run-keeps kernel P keeps zero st p = rw run-none p
 run-keeps kernel P keeps (suc budget) st p =
@@ -86,17 +96,21 @@ run-keeps kernel P keeps (suc budget) st p =
 
 -- ---- a search is a run, or above the limit makes no step
 
-pub search-within : (kernel : Kernel) (budget : ℕ) (st : State) → kernel .size ≤ search-limit → search kernel budget st ≡ run kernel budget st
+pub search-within : (kernel : Kernel) (budget : ℕ) (st : State) → kernel .size ≤ search-limit
+    → search kernel budget st ≡ run kernel budget st
 unfolding search
 search-within kernel budget st l = rw (le-ltb search-limit (kernel .size) l)
 
-pub search-above : (kernel : Kernel) (budget : ℕ) (st : State) → search-limit < kernel .size → search kernel budget st ≡ no-step st
+pub search-above : (kernel : Kernel) (budget : ℕ) (st : State) → search-limit < kernel .size → search kernel budget st
+    ≡ no-step st
 unfolding search
 search-above kernel budget st l = rw (lt-ltb search-limit (kernel .size) l)
 
-pub search-finished : (kernel : Kernel) (budget : ℕ) (st : State) → So (st .finished) → search kernel budget st ≡ no-step st
+pub search-finished : (kernel : Kernel) (budget : ℕ) (st : State) → So (st .finished) → search kernel budget st ≡
+    no-step st
 search-finished kernel budget st e =
-    ⊎-elim (λ l. search-above kernel budget st l) (λ l. search-within kernel budget st l ∙ run-finished kernel budget st e)
+    ⊎-elim (λ l. search-above kernel budget st l) (λ l. search-within kernel budget st l ∙ run-finished kernel budget
+    st e)
     (below-or-from search-limit (kernel .size))
 
 pub search-add : (kernel : Kernel) (m n : ℕ) (st : State)
@@ -105,16 +119,24 @@ search-add kernel m n st =
     ⊎-elim
     (λ l. rw (search-above kernel (m + n) st l, search-above kernel m st l, search-above kernel n st l))
     (λ l.
-    rw (search-within kernel (m + n) st l, search-within kernel m st l, search-within kernel n (run kernel m st .state) l) (run-add kernel m n st))
+    rw (
+      search-within kernel (m + n) st l,
+      search-within kernel m st l,
+      search-within kernel n
+          (run kernel m st .state) l,
+    ) (run-add kernel m n st))
     (below-or-from search-limit (kernel .size))
 
 pub search-steps-le : (kernel : Kernel) (budget : ℕ) (st : State) → search kernel budget st .steps ≤ budget
 search-steps-le kernel budget st =
-    ⊎-elim (λ l. rw (search-above kernel budget st l) zero-le) (λ l. rw (search-within kernel budget st l) (run-steps-le kernel budget st))
+    ⊎-elim (λ l. rw (search-above kernel budget st l) zero-le) (λ l. rw (search-within kernel budget st l)
+    (run-steps-le kernel budget st))
     (below-or-from search-limit (kernel .size))
 
-pub search-keeps : (kernel : Kernel) (P : State → Type 0) → ((st : State) → st .finished ≡ false → P st → P (step kernel st))
+pub search-keeps : (kernel : Kernel) (P : State → Type 0) → ((st : State) → st .finished ≡ false → P st
+    → P (step kernel st))
     → (budget : ℕ) (st : State) → P st → P (search kernel budget st .state)
 search-keeps kernel P keeps budget st p =
-    ⊎-elim (λ l. rw (search-above kernel budget st l) p) (λ l. rw (search-within kernel budget st l) (run-keeps kernel P keeps budget st p))
+    ⊎-elim (λ l. rw (search-above kernel budget st l) p) (λ l. rw (search-within kernel budget st l)
+    (run-keeps kernel P keeps budget st p))
     (below-or-from search-limit (kernel .size))

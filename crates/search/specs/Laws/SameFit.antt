@@ -1,5 +1,6 @@
--- A search asks only of grants of the kernel whether they fit: two kernels of one size, with the same fit below it and the same counts,
--- are searched alike. A step asks of grant d below the size and of earlier ones, and of nothing else.
+-- A search asks only of grants of the kernel whether they fit: two kernels of one size, with the same fit below it
+-- and the same counts, are searched alike. A step asks of grant d below the size and of earlier ones, and of nothing
+-- else.
 use Prim.Native.Nat.{ℕ, zero, suc, _<_}
 use native.Mathlib.Nat.{le-step, le-refl}
 use native.Mathlib.Omega.{arith}
@@ -39,13 +40,18 @@ module _ (one other : Kernel) (same : SameKernel one other) where
     where
       inside : depth st < one .size → possible one st c ≡ possible other st c
       inside l =
-          rw (joins-same (one .fit) (other .fit) (depth st) (st .placed) c (λ j k. same .fit (depth st) j l (omega arith)), same .size)
+          rw (
+            joins-same (one .fit) (other .fit) (depth st) (st .placed) c (λ j k. same .fit (depth st) j l
+                (omega arith)),
+            same .size,
+          )
 
       outside : ltb (depth st) (one .size) ≡ false → possible one st c ≡ possible other st c
       outside f = let g : ltb (depth st) (other .size) ≡ false = rw (same .size) at f in rw (f, g)
 
   choice-same : (st : State) → choice one st ≡ choice other st
-  choice-same st = lowest-below-ext (suc (used (st .placed))) (possible one st) (possible other st) (λ c l. possible-same st c)
+  choice-same st = lowest-below-ext (suc (used (st .placed))) (possible one st) (possible other st)
+      (λ c l. possible-same st c)
 
   move-same : (st : State) (chosen : Option ℕ) → move one st chosen ≡ move other st chosen
   move-same st none = refl

@@ -1,6 +1,6 @@
--- Every state that a search comes to is sound: what is placed is valid, and the best placement is a whole one, valid and grown. A step joins a grant
--- only to a class that takes it, takes grants back from the end, and copies a placement as the best one only when it is whole.
--- Assumes nothing.
+-- Every state that a search comes to is sound: what is placed is valid, and the best placement is a whole one, valid
+-- and grown. A step joins a grant only to a class that takes it, takes grants back from the end, and copies a
+-- placement as the best one only when it is whole. Assumes nothing.
 use Prim.Native.Nat.{ℕ, suc, _≤_}
 use mathlib.Core.Path.{_≡_}
 use mathlib.Core.List.{List, _∷_}
@@ -42,7 +42,13 @@ sound-step kernel st s = by-cases (step-cases kernel st) (step-admissible kernel
   where
     by-cases : {after : State} → Stepped kernel st after → Admissible kernel after → SoundState kernel after
     by-cases (placing c w unfilled) m =
-        record { admissible = m; valid = (w .joining, s .valid); best-whole = s .best-whole; whole-no-better = λ e. absurd (unfilled e) }
+        record {
+          admissible = m;
+          valid = (w .joining, s .valid);
+          best-whole = s .best-whole;
+          whole-no-better = λ e.
+              absurd (unfilled e);
+        }
     by-cases (improving c w full) m =
         let v : Valid (kernel .fit) (c ∷ st .placed) = (w .joining, s .valid) in
         record {
@@ -54,14 +60,28 @@ sound-step kernel st s = by-cases (step-cases kernel st) (step-admissible kernel
     by-cases (taking-back a earlier e h) m =
         let v : Valid (kernel .fit) (a ∷ earlier) = rw e at (s .valid) in
         let l : suc (length earlier) ≤ kernel .size = rw e at (s .admissible .depth-le) in
-        record { admissible = m; valid = v .1; best-whole = s .best-whole; whole-no-better = λ f. absurd (omega (arith, f)) }
+        record {
+          admissible = m;
+          valid = v .1;
+          best-whole = s .best-whole;
+          whole-no-better = λ f. absurd
+              (omega (arith, f));
+        }
     by-cases (closing e h) m =
-        record { admissible = m; valid = tt; best-whole = s .best-whole; whole-no-better = rw e at (s .whole-no-better) }
+        record {
+          admissible = m;
+          valid = tt;
+          best-whole = s .best-whole;
+          whole-no-better = rw e at
+              (s .whole-no-better);
+        }
 
-pub sound-run : (kernel : Kernel) (budget : ℕ) (st : State) → SoundState kernel st → SoundState kernel (run kernel budget st .state)
+pub sound-run : (kernel : Kernel) (budget : ℕ) (st : State) → SoundState kernel st
+    → SoundState kernel (run kernel budget st .state)
 sound-run kernel = run-keeps kernel (SoundState kernel) (λ st e. sound-step kernel st)
 
-pub sound-search : (kernel : Kernel) (budget : ℕ) (st : State) → SoundState kernel st → SoundState kernel (search kernel budget st .state)
+pub sound-search : (kernel : Kernel) (budget : ℕ) (st : State) → SoundState kernel st
+    → SoundState kernel (search kernel budget st .state)
 sound-search kernel = search-keeps kernel (SoundState kernel) (λ st e. sound-step kernel st)
 
 -- the best placement classes the kernel

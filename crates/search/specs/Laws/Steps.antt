@@ -1,7 +1,6 @@
--- What one step does, by cases: it places a grant in the lowest possible class, with or without filling the placement; or no class is
--- possible and it takes the latest grant back, or closes the search where there is none. The cases come from what the lowest
--- passing number below a bound is.
--- Assumes nothing.
+-- What one step does, by cases: it places a grant in the lowest possible class, with or without filling the
+-- placement; or no class is possible and it takes the latest grant back, or closes the search where there is none.
+-- The cases come from what the lowest passing number below a bound is. Assumes nothing.
 use Prim.Native.Nat.{ℕ, suc, max, _≤_, _<_}
 use mathlib.Core.Path.{_≡_, refl}
 use mathlib.Core.Bool.{Bool, true, false, So, cond, and-eq-true-iff}
@@ -11,7 +10,20 @@ use lib.Dec.{eqb}
 use native.Mathlib.Omega.{arith}
 use borrow.Author.Tests.{ltb-true, leb-true, eqb-true, eqb-false}
 use Rattle.spec.specs.Cover.{used, joins}
-use Rattle.spec.specs.Machine.{Kernel, State, depth, best-count, possible, choice, improved, placed-in, place, take-back-or-close, move, step}
+use Rattle.spec.specs.Machine.{
+  Kernel,
+  State,
+  depth,
+  best-count,
+  possible,
+  choice,
+  improved,
+  placed-in,
+  place,
+  take-back-or-close,
+  move,
+  step,
+}
 use Rattle.bits.specs.Laws.Lowest.{lowest-below-elim, lowest-below-none-elim}
 
 -- class c is the one in which grant d is placed
@@ -30,8 +42,10 @@ NoneChosen kernel st = (c : ℕ) → c ≤ used (st .placed) → possible kernel
 -- the state that one step leads to
 pub data Stepped (kernel : Kernel) (st : State) : State → Type 0 where
   placing : (c : ℕ) → Chosen kernel st c → (suc (depth st) ≡ kernel .size → ⊥) → Stepped kernel st (placed-in st c)
-  improving : (c : ℕ) → Chosen kernel st c → suc (depth st) ≡ kernel .size → Stepped kernel st (improved kernel (placed-in st c))
-  taking-back : (a : ℕ) (earlier : List ℕ) → st .placed ≡ a ∷ earlier → NoneChosen kernel st → Stepped kernel st (take-back-or-close st (a ∷ earlier))
+  improving : (c : ℕ) → Chosen kernel st c → suc (depth st) ≡ kernel .size
+      → Stepped kernel st (improved kernel (placed-in st c))
+  taking-back : (a : ℕ) (earlier : List ℕ) → st .placed ≡ a ∷ earlier → NoneChosen kernel st
+      → Stepped kernel st (take-back-or-close st (a ∷ earlier))
   closing : st .placed ≡ [] → NoneChosen kernel st → Stepped kernel st (take-back-or-close st [])
 
 -- what the choice of a class says of it
@@ -60,7 +74,8 @@ stepped-by-placing kernel st c w = by-size (eqb (suc (depth st)) (kernel .size))
     by-size true e = improving c w (eqb-true (suc (depth st)) (kernel .size) e)
     by-size false e = placing c w (eqb-false (suc (depth st)) (kernel .size) e)
 
-stepped-by-taking-back : (kernel : Kernel) (st : State) → NoneChosen kernel st → Stepped kernel st (take-back-or-close st (st .placed))
+stepped-by-taking-back : (kernel : Kernel) (st : State) → NoneChosen kernel st
+    → Stepped kernel st (take-back-or-close st (st .placed))
 stepped-by-taking-back kernel st h = latest (st .placed) refl
   where
     latest : (l : List ℕ) → st .placed ≡ l → Stepped kernel st (take-back-or-close st l)

@@ -1,5 +1,5 @@
--- The grants placed, once one more is placed or the latest is taken back: a grant that opens a class is one class more and is marked, so that
--- taking it back is one class fewer; any other leaves the classes in use.
+-- The grants placed, once one more is placed or the latest is taken back: a grant that opens a class is one class
+-- more and is marked, so that taking it back is one class fewer; any other leaves the classes in use.
 use Prim.Native.Nat.{ℕ, suc, _-_, _≤_, _<_, max}
 use mathlib.Core.Path.{_≡_, refl, _∙_}
 use mathlib.Core.Logic.{⊎-elim}
@@ -27,13 +27,15 @@ trail-none size opened classes =
     record { depth-within = omega arith; grown = tt; used-counted = refl; opened-marked = λ i l. absurd (omega arith) }
 
 -- at most as many classes as grants
-pub trail-used-le : {size depth in-use : ℕ} {opened : Marks} {classes : List ℕ} → Trail size depth in-use opened classes → in-use ≤ depth
+pub trail-used-le : {size depth in-use : ℕ} {opened : Marks} {classes : List ℕ} → Trail size depth in-use opened
+    classes → in-use ≤ depth
 trail-used-le {depth} {in-use} {classes} s =
     omega (arith, s .used-counted, grown-used-le (placed-of classes depth) (s .grown), length-placed-of classes depth)
 
 -- grant d placed in a class that is in use or the next one
 pub trail-placed : {size d in-use : ℕ} {opened : Marks} {classes : List ℕ} → Trail size d in-use opened classes
-    → (class in-use′ : ℕ) (opened′ : Marks) → d < length classes → d < size → class ≤ in-use → in-use′ ≡ max (suc class) in-use
+    → (class in-use′ : ℕ) (opened′ : Marks) → d < length classes → d < size → class ≤ in-use
+    → in-use′ ≡ max (suc class) in-use
     → ((i : ℕ) → marked opened′ i ≡ cond (eqb i d) (eqb class in-use) (marked opened i))
     → Trail size (suc d) in-use′ opened′ (set classes d class)
 trail-placed {size} {d} {in-use} {opened} {classes} s class in-use′ opened′ stored room l more marks =
@@ -50,18 +52,25 @@ trail-placed {size} {d} {in-use} {opened} {classes} s class in-use′ opened′ 
     earlier : placed-of (set classes d class) d ≡ placed-of classes d
     earlier = placed-of-set classes d d class (le-refl d)
 
-    opens : (i : ℕ) → i < suc d → marked opened′ i ≡ eqb (getD (set classes d class) i 0) (used (placed-of (set classes d class) i))
+    opens : (i : ℕ) → i < suc d → marked opened′ i ≡ eqb (getD (set classes d class) i 0)
+        (used (placed-of (set classes d class) i))
     opens i k =
         ⊎-elim
         (λ (e : i ≡ d). marks i ∙ rw (e, eq-eqb d d refl, here, earlier, s .used-counted))
         (λ (h : i < d).
         marks i
-        ∙ rw (ne-eqb i d (λ e. omega arith), getD-set-other classes d i class 0 (λ e. omega arith), placed-of-set classes i d class (omega arith))
+        ∙ rw (
+          ne-eqb i d (λ e. omega arith),
+          getD-set-other classes d i class 0 (λ e. omega arith),
+          placed-of-set
+              classes i d class (omega arith),
+        )
         (s .opened-marked i h))
         (last-or-below k)
 
 -- the latest grant taken back
-pub trail-taken-back : {size in-use : ℕ} (d : ℕ) {opened : Marks} {classes : List ℕ} → Trail size (suc d) in-use opened classes
+pub trail-taken-back : {size in-use : ℕ} (d : ℕ) {opened : Marks} {classes : List ℕ} → Trail size (suc d) in-use
+    opened classes
     → Trail size d (in-use - one-if (marked opened d)) opened classes
 trail-taken-back {size} {in-use} d {opened} {classes} s =
     record {
@@ -75,7 +84,8 @@ trail-taken-back {size} {in-use} d {opened} {classes} s =
     counted =
         ⊎-elim
         (λ e.
-        let opened-it : getD classes d 0 ≡ used (placed-of classes d) = eqb-true (getD classes d 0) (used (placed-of classes d)) e in
+        let opened-it : getD classes d 0 ≡ used (placed-of classes d) = eqb-true (getD classes d 0)
+        (used (placed-of classes d)) e in
         rw (s .opened-marked d (le-refl (suc d)), e) (omega (arith, s .used-counted)))
         (λ e.
         let joined-it = eqb-false (getD classes d 0) (used (placed-of classes d)) e in
@@ -83,5 +93,6 @@ trail-taken-back {size} {in-use} d {opened} {classes} s =
         (passes-or-fails (eqb (getD classes d 0) (used (placed-of classes d))))
 
 -- a class is in use where a grant is placed
-pub trail-used-pos : {size in-use : ℕ} (d : ℕ) {opened : Marks} {classes : List ℕ} → Trail size (suc d) in-use opened classes → 0 < in-use
+pub trail-used-pos : {size in-use : ℕ} (d : ℕ) {opened : Marks} {classes : List ℕ} → Trail size (suc d) in-use opened
+    classes → 0 < in-use
 trail-used-pos d s = omega (arith, s .used-counted)

@@ -1,5 +1,5 @@
--- `many_searches`: each search keeps the position standing and makes at most its budget of steps, so that their sum fits. The measure is the
--- number of searches left.
+-- `many_searches`: each search keeps the position standing and makes at most its budget of steps, so that their sum
+-- fits. The measure is the number of searches left.
 use Prim.Native.Nat.{_*_, _-_, _≤_}
 use native.Mathlib.Omega.{arith}
 use borrow.Author.Needs.{needs}
@@ -15,7 +15,8 @@ unfolding search-limit
 few = omega arith
 
 abbrev Inv-loop : tie.InvT-loop
-Inv-loop fit position₀ steps₀ searches₀ position steps searches = PositionStands grants position × (steps ≤ part * searches) × (searches ≤ most)
+Inv-loop fit position₀ steps₀ searches₀ position steps searches =
+    PositionStands grants position × (steps ≤ part * searches) × (searches ≤ most)
 
 abbrev μ-loop : tie.MeasureT-loop
 μ-loop fit position₀ steps₀ searches₀ position steps searches = most - searches
@@ -28,8 +29,11 @@ search-requires c κs = λ l. c .before .before .before .loop .inv .0
 
 few-steps : (c : tie.After-search Inv-loop μ-loop) → c .search .result .steps ≤ part
 few-steps c =
-    let fit = c .before .before .before .before .before .before .args .fit .now in
-    searched-steps-le (kernel-given fit grants 0 3) part grants (view (c .before .before .before .before .loop .position) grants) (c .search .result)
+    let at-loop = c .before .before .before .before in
+    let start = at-loop .before .before in
+    let fit = start .args .fit .now in
+    searched-steps-le (kernel-given fit grants 0 3) part grants (view (at-loop .loop .position) grants)
+    (c .search .result)
     (c .search .ensures .0)
 
 add-steps : tie.Need-add-steps Inv-loop μ-loop
@@ -42,16 +46,5 @@ loop-again c =
 
 pub many-searches-spec : {M : Type 1} → statement M
 many-searches-spec =
-    tie.close
-    (tie.spec
-    Inv-loop
-    μ-loop
-    (λ c κs. search needs)
-    loop-holds
-    search-requires
-    add-steps
-    (λ c. omega arith)
-    (λ c. omega arith)
-    loop-again
-    (λ c κs. search needs)
-    (λ c. search needs))
+    tie.close (tie.spec Inv-loop μ-loop (λ c κs. search needs) loop-holds search-requires add-steps (λ c. omega arith)
+    (λ c. omega arith) loop-again (λ c κs. search needs) (λ c. search needs))

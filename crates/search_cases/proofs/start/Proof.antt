@@ -13,7 +13,10 @@ unfolding search-limit
 few = omega arith
 
 returns : tie.Need-returns
-returns c = rw (c .start .ensures) (started-stands (c .before .by-user .result) grants users 0 3 (c .before .by-user .ensures) few)
+returns c =
+    rw (c .start .ensures) (started-stands (c .before .by-user .result) grants users 0 3 (c .before .by-user .ensures)
+    few)
 
 pub start-spec : {M : Type 1} → statement M
-start-spec = tie.close (tie.spec (λ c κs. search needs) (λ c κs. search needs) returns)
+start-spec =
+    tie.close (tie.spec (λ c κs. search needs) (λ c κs. search needs) returns)

@@ -1,5 +1,6 @@
--- A session made anew from an accepted sheet: it keeps the sheet's bytes, what was found of them, and the position before the first step with the first
--- cover as its best placement. So it stands for that sheet where the machine starts, and is one with an accepted sheet.
+-- A session made anew from an accepted sheet: it keeps the sheet's bytes, what was found of them, and the position
+-- before the first step with the first cover as its best placement. So it stands for that sheet where the machine
+-- starts, and is one with an accepted sheet.
 use Prim.Native.Nat.{ℕ, _+_, _≤_, _<_}
 use native.Mathlib.Omega.{arith}
 use mathlib.Core.Path.{_≡_, refl, sym, ap, _∙_}
@@ -38,7 +39,8 @@ module _ {text : Bytes} {p : Prepared} (found : PreparedFor text p) where
       omega (
         arith,
         rw (latest-first-class (p .first .classes) (p .kernel .size) l, found .first .so-far) at
-            (class-below-used (latest-first (p .first .classes) (p .kernel .size)) {i = i} (rw (latest-first-length (p .first .classes) (p .kernel .size)) l)),
+            (class-below-used (latest-first (p .first .classes) (p .kernel .size)) {i = i}
+            (rw (latest-first-length (p .first .classes) (p .kernel .size)) l)),
         grown-used-le (first-best (sheet-of text)) (first-best-whole (sheet-of text) .grown),
         ap length (found .first .so-far),
         latest-first-length (p .first .classes) (p .kernel .size),
@@ -52,11 +54,16 @@ module _ {text : Bytes} {p : Prepared} (found : PreparedFor text p) where
   -- and finishes the search where the machine's start is finished
   first-finishes : eqb (p .first .used + p .reduced .singles) (p .witness .count) ≡ start-of (sheet-of text) .finished
   unfolding start-of kernel-of
-  first-finishes = rw (found .first .in-use, found .reduced .single-count (sheet-of text) (found .shown), found .witness .counted)
+  first-finishes = rw (
+    found .first .in-use,
+    found .reduced .single-count (sheet-of text) (found .shown),
+    found .witness .counted,
+  )
 
   -- the position before the first step, with the first cover as its best placement
   started-at : (first : List ℕ) → placed-of first (p .kernel .size) ≡ latest-first (p .first .classes) (p .kernel .size)
-      → position.view (started first (p .first .used) (p .reduced .singles) (p .witness .count)) (p .kernel .size) ≡ start-of (sheet-of text)
+      → position.view (started first (p .first .used) (p .reduced .singles) (p .witness .count)) (p .kernel .size) ≡
+      start-of (sheet-of text)
   unfolding start-of
   started-at first e = rw (e, found .first .so-far, first-finishes)
 
@@ -64,7 +71,8 @@ module _ {text : Bytes} {p : Prepared} (found : PreparedFor text p) where
 
 -- the session of a text, from a copy of its bytes, what was found of them, and a position
 abbrev pub held-of : Bytes → List ℕ → Prepared → Position → CodeSession
-held-of text copy found at = record { loaded = true; length = length text; text = copy; prepared = found; position = at }
+held-of text copy found at =
+    record { loaded = true; length = length text; text = copy; prepared = found; position = at }
 
 -- the session was made anew from this text
 pub record Anew (text : Bytes) (s : CodeSession) : Type 0 where
@@ -73,8 +81,10 @@ pub record Anew (text : Bytes) (s : CodeSession) : Type 0 where
   pub kept : text-in s ≡ text
   pub found : PreparedFor text (s .prepared)
   pub first : List ℕ
-  pub same : size-in s ≤ search-limit → placed-of first (size-in s) ≡ latest-first (s .prepared .first .classes) (size-in s)
-  pub starts : s .position ≡ started first (s .prepared .first .used) (s .prepared .reduced .singles) (s .prepared .witness .count)
+  pub same : size-in s ≤ search-limit → placed-of first (size-in s) ≡ latest-first (s .prepared .first .classes)
+      (size-in s)
+  pub starts : s .position ≡ started first (s .prepared .first .used) (s .prepared .reduced .singles)
+      (s .prepared .witness .count)
 
 module _ {text : Bytes} {s : CodeSession} (anew : Anew text s) where
   -- its machine is at the start
@@ -82,7 +92,8 @@ module _ {text : Bytes} {s : CodeSession} (anew : Anew text s) where
   state-anew = by-size (leb (size-in s) search-limit) refl
     where
       by-size : (searched : Bool) → leb (size-in s) search-limit ≡ searched
-          → cond searched (position.view (s .position) (size-in s)) (start-of (sheet-of (text-in s))) ≡ start-of (sheet-of text)
+          → cond searched (position.view (s .position) (size-in s)) (start-of (sheet-of (text-in s))) ≡ start-of
+          (sheet-of text)
       by-size true e =
           ap (λ (at : Position). position.view at (size-in s)) (anew .starts)
           ∙ started-at (anew .found) (anew .first) (anew .same (leb-true (size-in s) search-limit e))
@@ -94,7 +105,8 @@ module _ {text : Bytes} {s : CodeSession} (anew : Anew text s) where
   stands-anew : size-in s ≤ search-limit → PositionStands (size-in s) (s .position)
   stands-anew l =
       rw (anew .starts)
-      (started-stands (anew .first) (size-in s) (s .prepared .first .used) (s .prepared .reduced .singles) (s .prepared .witness .count)
+      (started-stands (anew .first) (size-in s) (s .prepared .first .used) (s .prepared .reduced .singles)
+      (s .prepared .witness .count)
       (anew .found .first .in-use ∙ ap used (sym (anew .found .first .so-far) ∙ sym (anew .same l))) l)
 
   pub holds-anew : Holds s
@@ -104,7 +116,8 @@ module _ {text : Bytes} {s : CodeSession} (anew : Anew text s) where
         prepared = rw (anew .kept) (anew .found);
         stands = stands-anew;
         searching = rw (state-anew, anew .kept) (searching-start (sheet-of text));
-        counted = ap (λ (at : Position). at .cursor .count) (anew .starts) ∙ first-counted (anew .found) ∙ ap best-count (sym state-anew);
+        counted = ap (λ (at : Position). at .cursor .count) (anew .starts) ∙ first-counted (anew .found)
+            ∙ ap best-count (sym state-anew);
         finished =
             ap (λ (at : Position). at .cursor .finished) (anew .starts) ∙ first-finishes (anew .found)
             ∙ ap (λ (st : State). st .finished) (sym state-anew);

@@ -1,5 +1,6 @@
--- The best placement of a session with a sheet: where the kernel can be searched it is the position's, and else the first cover, which no search changes.
--- Its classes are counted in the position, and with it the arrays that the session keeps are what the sheet's roles are found from.
+-- The best placement of a session with a sheet: where the kernel can be searched it is the position's, and else the
+-- first cover, which no search changes. Its classes are counted in the position, and with it the arrays that the
+-- session keeps are what the sheet's roles are found from.
 use Prim.Native.Nat.{ℕ, _≤_, _<_}
 use native.Mathlib.Omega.{arith}
 use mathlib.Core.Path.{_≡_, sym, ap, _∙_}
@@ -38,21 +39,29 @@ BestIn s classes = Placed (state-in s .best) classes (size-in s) (s .position .c
 -- the sheet's roles are found from these arrays and that one
 abbrev pub BelongsIn : CodeSession → List ℕ → Type 0
 BelongsIn s classes =
-    Belongs (s .prepared .rows) (s .prepared .layout .users) (s .prepared .kernel .cells) (size-in s) classes (s .position .cursor .count)
-    (s .prepared .reduced .removed) (s .prepared .reduced .partner) (s .prepared .reduced .count) (sheet-of (text-in s)) (state-in s .best)
+    Belongs (s .prepared .rows) (s .prepared .layout .users) (s .prepared .kernel .cells) (size-in s) classes
+    (s .position .cursor .count)
+    (s .prepared .reduced .removed) (s .prepared .reduced .partner) (s .prepared .reduced .count)
+    (sheet-of (text-in s)) (state-in s .best)
 
 module _ {s : CodeSession} (h : Holds s) where
   -- the first cover, or the position's
-  pub best-held : {classes : List ℕ} → BestOf (s .prepared .first .classes) (s .position .best) (size-in s) classes → BestIn s classes
+  pub best-held : {classes : List ℕ} → BestOf (s .prepared .first .classes) (s .position .best) (size-in s) classes
+      → BestIn s classes
   best-held {classes} b =
       ⊎-elim
       (λ (l : search-limit < size-in s).
       record {
-        so-far = ap (λ (c : List ℕ). latest-first c (size-in s)) (b .above l) ∙ h .prepared .first .so-far ∙ sym (best-above s l);
+        so-far = ap (λ (c : List ℕ). latest-first c (size-in s)) (b .above l) ∙ h .prepared .first .so-far
+            ∙ sym (best-above s l);
         in-use = h .counted;
       })
       (λ (l : size-in s ≤ search-limit).
-      record { so-far = b .within l (size-in s) l ∙ sym (ap (λ (st : State). st .best) (state-within s l)); in-use = h .counted })
+      record {
+        so-far = b .within l (size-in s) l ∙ sym (ap (λ (st : State). st .best) (state-within s l));
+        in-use =
+            h .counted;
+      })
       (below-or-from search-limit (size-in s))
 
   -- no more classes than roles
@@ -67,5 +76,7 @@ module _ {s : CodeSession} (h : Holds s) where
   pub best-belongs : {classes : List ℕ} → BestIn s classes → BelongsIn s classes
   best-belongs placed =
       let found = h .prepared in
-      reduced-belongs (found .shown) (few-users (found .laid)) (accepted-lawful (text-in s) (found .laid .accepts) .few-grants)
-      (s .prepared .reduced) (s .prepared .kernel) (found .reduced) (found .listed) (found .room) placed few-classes few-roles
+      reduced-belongs (found .shown) (few-users (found .laid))
+      (accepted-lawful (text-in s) (found .laid .accepts) .few-grants)
+      (s .prepared .reduced) (s .prepared .kernel) (found .reduced) (found .listed) (found .room) placed few-classes
+      few-roles

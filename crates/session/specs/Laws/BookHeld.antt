@@ -1,5 +1,6 @@
--- The book of a session with a sheet, from what the session keeps: the witness's cells are cells of grants, its roles have places in the rows of words, and
--- what is written of its counts, its roles and its witness is the book of the sheet where the search stands.
+-- The book of a session with a sheet, from what the session keeps: the witness's cells are cells of grants, its roles
+-- have places in the rows of words, and what is written of its counts, its roles and its witness is the book of the
+-- sheet where the search stands.
 use Prim.Native.Nat.{ℕ, _≤_, _<_}
 use native.Mathlib.Omega.{arith}
 use mathlib.Core.Path.{_≡_, sym, ap, _∙_}
@@ -29,14 +30,16 @@ cell-by-number : (words : List ℕ) (g : Grant) → g .permission < row-bits →
 cell-by-number words g l = ap (in-cells words) (sym (grant-of-cell g l)) ∙ cell-marked words (cell-of g)
 
 -- cells of the rows are cells of grants
-pub part-granted : {rows words : List ℕ} {users : ℕ} {sheet : Sheet} → Shown rows users sheet → permission-count sheet ≤ row-bits → Part words rows
+pub part-granted : {rows words : List ℕ} {users : ℕ} {sheet : Sheet} → Shown rows users sheet → permission-count sheet
+    ≤ row-bits → Part words rows
     → GrantCells words sheet
 part-granted {rows} {words} {sheet = sheet} shown fit part = record { held = λ u p k l e. granted u p (omega arith) e }
   where
     granted : (u p : ℕ) → p < row-bits → So (cell words u p) → So (holds sheet u p)
     granted u p l e =
         let g : Grant = record { user = u; permission = p } in
-        sym (shown .cells .shows u p l) ∙ cell-by-number rows g l ∙ part .held (cell-of g) (sym (cell-by-number words g l) ∙ e)
+        sym (shown .cells .shows u p l) ∙ cell-by-number rows g l ∙ part .held (cell-of g)
+        (sym (cell-by-number words g l) ∙ e)
 
 module _ {s : CodeSession} (h : Holds s) where
   room-for-permissions : permission-count (sheet-of (text-in s)) ≤ row-bits
@@ -54,7 +57,8 @@ module _ {s : CodeSession} (h : Holds s) where
     -- what is written is the book
     pub book-held : {has gives : List ℕ} {count : ℕ}
         → RolesAt has gives count (s .prepared .layout .users) (roles-of (sheet-of (text-in s)) (state-in s .best))
-        → rows-book (text-in s) has gives (s .prepared .witness .cells) counts ≡ book (sheet-of (text-in s)) (state-in s)
+        → rows-book (text-in s) has gives (s .prepared .witness .cells) counts ≡ book (sheet-of (text-in s))
+        (state-in s)
     unfolding role-count
     book-held at =
         rows-book-in (text-in s) (s .prepared .witness .cells) counts (state-in s)

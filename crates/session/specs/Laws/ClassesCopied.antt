@@ -1,5 +1,5 @@
--- Class numbers copied one after another from an array into another: of as many as were copied, both hold the same placement. The session's two arrays of
--- classes, of two bytes and of one byte each, are copied so. Assumes nothing.
+-- Class numbers copied one after another from an array into another: of as many as were copied, both hold the same
+-- placement. The session's two arrays of classes, of two bytes and of one byte each, are copied so. Assumes nothing.
 use Prim.Native.Nat.{ℕ, zero, suc, _≤_, _<_}
 use mathlib.Core.Path.{_≡_, refl, ap, _∙_}
 use mathlib.Core.Logic.{⊎-elim}
@@ -21,7 +21,8 @@ pub none-copied : (from to : List ℕ) → ClassesCopied from to 0
 none-copied from to = record { same = λ l. absurd (not-suc-le-zero l) }
 
 -- one more
-pub one-copied : {from to : List ℕ} {n : ℕ} → ClassesCopied from to n → n < length to → ClassesCopied from (set to n (getD from n 0)) (suc n)
+pub one-copied : {from to : List ℕ} {n : ℕ} → ClassesCopied from to n → n < length to
+    → ClassesCopied from (set to n (getD from n 0)) (suc n)
 one-copied {from} {to} {n} c l =
     record {
       same = λ {i} k.
@@ -32,7 +33,8 @@ one-copied {from} {to} {n} c l =
     }
 
 -- both hold the same placement of as many as were copied, or of fewer
-pub copied-placement : {from to : List ℕ} {n : ℕ} → ClassesCopied from to n → (m : ℕ) → m ≤ n → latest-first to m ≡ latest-first from m
+pub copied-placement : {from to : List ℕ} {n : ℕ} → ClassesCopied from to n → (m : ℕ) → m ≤ n
+    → latest-first to m ≡ latest-first from m
 copied-placement c zero l = refl
 copied-placement c (suc m) l = rw (c .same l, copied-placement c m (le-of-lt l))
 

@@ -1,5 +1,6 @@
--- Sequences of calls of the code: each is made on the value after the call before. Whatever way calls are made, if their contracts give what is said here (`Tied`),
--- each call is a step of a sequence of demand 3, between the sessions that the two values stand for; so the demands hold of every sequence of calls of the code.
+-- Sequences of calls of the code: each is made on the value after the call before. Whatever way calls are made, if
+-- their contracts give what is said here (`Tied`), each call is a step of a sequence of demand 3, between the
+-- sessions that the two values stand for; so the demands hold of every sequence of calls of the code.
 use Prim.Native.Nat.{ℕ}
 use mathlib.Core.Path.{_≡_, refl, sym, ap, _∙_}
 use mathlib.Core.List.{List, [], _∷_}
@@ -13,7 +14,20 @@ use Rattle.spec.specs.Right.{Right}
 use Rattle.spec.specs.Session.{Session, fresh}
 use Rattle.spec.specs.Refusal.{Cause, sheet-causes, search-causes, write-causes}
 use Rattle.spec.specs.Calls.{LoadAnswer, load-refused, search-refused, write-refused}
-use Rattle.spec.specs.Sequence.{Call, load, search, write, WriteOutcome, Outcome, Event, Happens, Led, calls, last-accepted, brought-out}
+use Rattle.spec.specs.Sequence.{
+  Call,
+  load,
+  search,
+  write,
+  WriteOutcome,
+  Outcome,
+  Event,
+  Happens,
+  Led,
+  calls,
+  last-accepted,
+  brought-out,
+}
 use Rattle.spec.specs.Demands.{Judged, OwedOfAll}
 use Rattle.demands.specs.Demand1.{demand-1}
 use Rattle.demands.specs.Demand2.{demand-2}
@@ -27,8 +41,8 @@ answered (load text) answer = answer .number
 answered (search budget) answer = answer .number
 answered (write buffer) written = written .answer .number
 
--- what the contract of a call ensures, of the value that it was made on and the value after it: the one that a load or a search handed back; a writing
--- hands none back, and the value that it was made on is the one after it
+-- what the contract of a call ensures, of the value that it was made on and the value after it: the one that a load
+-- or a search handed back; a writing hands none back, and the value that it was made on is the one after it
 pub record Ensured (call : Call) (outcome : Outcome call) (before after : CodeSession) : Type 0 where
   pub happens : Happens call outcome (view before) (view after)
   pub sound : Sound after
@@ -39,7 +53,8 @@ pub record Fresh (s : CodeSession) : Type 0 where
   pub stands : view s ≡ fresh
   pub sound : Sound s
 
--- a way to make calls: which values are made fresh, and between which values a call with its outcome is made, as its contract has it
+-- a way to make calls: which values are made fresh, and between which values a call with its outcome is made, as its
+-- contract has it
 pub record Calling : Type 2 where
   pub Made : CodeSession → Type 1
   pub Step : (call : Call) → Outcome call → CodeSession → CodeSession → Type 1
@@ -53,7 +68,8 @@ Ran calling (event ∷ earlier) s =
 -- the contracts give what the demands need; each may require that its value came from the calls
 pub record Tied (calling : Calling) : Type 1 where
   pub fresh : (s : CodeSession) → calling .Made s → Fresh s
-  pub step : (call : Call) (outcome : Outcome call) (before after : CodeSession) → calling .Step call outcome before after → Sound before
+  pub step : (call : Call) (outcome : Outcome call) (before after : CodeSession) → calling .Step call outcome before
+      after → Sound before
       → Ensured call outcome before after
 
 -- ---- the demands of calls of the code
@@ -71,21 +87,24 @@ Refused (search budget) answer before after = (answer ≡ search-refused (answer
 Refused (write buffer) written before after =
     (written .answer ≡ write-refused (written .answer .number)) × (written .lent ≡ buffer) × (after ≡ before)
 
--- demand 1: a call on any value that the calls led to is answered by the lowest number that applies, and a refusal changes nothing
+-- demand 1: a call on any value that the calls led to is answered by the lowest number that applies, and a refusal
+-- changes nothing
 abbrev pub Demand1Of : Calling → Type 1
 Demand1Of calling =
     (earlier : List Event) (before : CodeSession) → Ran calling earlier before
     → (call : Call) (outcome : Outcome call) (after : CodeSession) → calling .Step call outcome before after
     → Judged (causes call (view before)) (answered call outcome) (Refused call outcome before after)
 
--- demand 2: a load is answered by 0 exactly where its bytes keep the rules, and then by the counts of the sheet that they are; each book that a writing brings
--- out is right for the sheet of the last accepted load
+-- demand 2: a load is answered by 0 exactly where its bytes keep the rules, and then by the counts of the sheet that
+-- they are; each book that a writing brings out is right for the sheet of the last accepted load
 pub record Demand2Of (calling : Calling) : Type 1 where
-  pub accepts-sheets : (earlier : List Event) (before after : CodeSession) (text : Bytes) (answer : LoadAnswer) → Ran calling earlier before
+  pub accepts-sheets : (earlier : List Event) (before after : CodeSession) (text : Bytes) (answer : LoadAnswer)
+      → Ran calling earlier before
       → calling .Step (load text) answer before after → (answer .number ≡ 0) ↔ ((sheet : Sheet) × Keeps text sheet)
   pub own-books : (earlier : List Event) (s : CodeSession) (buffer : Bytes) (written : WriteOutcome)
       → Ran calling (record { call = write buffer; outcome = written } ∷ earlier) s → written .answer .number ≡ 0
-      → (text : Bytes) × (says : Said) × (last-accepted (calls earlier) ≡ some text) × Right (sheet-of text) (brought-out written) says
+      → (text : Bytes) × (says : Said) × (last-accepted (calls earlier) ≡ some text) × Right (sheet-of text)
+      (brought-out written) says
 
 -- demand 3: all that is owed of every sequence is owed of the calls of the code
 abbrev pub Demand3Of : Calling → Type 1
@@ -135,7 +154,8 @@ module _ {calling : Calling} (tied : Tied calling) where
             let exact = demand-2 .accepts-sheets text in
             (λ z. exact .0 (sym same ∙ z), λ keeps. same ∙ exact .1 keeps);
         own-books = λ earlier s buffer written ran accepts.
-            demand-2 .own-books buffer written earlier (view s) (ran-led (record { call = write buffer; outcome = written } ∷ earlier) s ran) accepts;
+            demand-2 .own-books buffer written earlier (view s)
+            (ran-led (record { call = write buffer; outcome = written } ∷ earlier) s ran) accepts;
       }
 
   pub tied-demand-3 : Demand3Of calling

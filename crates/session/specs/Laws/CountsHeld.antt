@@ -1,5 +1,6 @@
--- The counts where a session's search stands: the best placement's classes and the singles together are the roles, which are no more than permissions; with
--- the witness's count beside them, state and bound are what the definitions say.
+-- The counts where a session's search stands: the best placement's classes and the singles together are the roles,
+-- which are no more than permissions; with the witness's count beside them, state and bound are what the definitions
+-- say.
 use Prim.Native.Nat.{ℕ, _+_, _≤_}
 use native.Mathlib.Omega.{arith}
 use mathlib.Core.Path.{_≡_, ap, _∙_}
@@ -44,7 +45,8 @@ module _ {s : CodeSession} (h : Holds s) where
   standing-held =
       let sheet = sheet-of (text-in s) in
       ap (λ (n : ℕ). standing-of n (s .prepared .witness .count) (s .position .cursor .finished)) roles-held
-      ∙ ap (λ (w : ℕ). standing-of (role-count sheet (state-in s)) w (s .position .cursor .finished)) (h .prepared .witness .counted)
+      ∙ ap (λ (w : ℕ). standing-of (role-count sheet (state-in s)) w (s .position .cursor .finished))
+      (h .prepared .witness .counted)
       ∙ ap (λ (b : Bool). standing-of (role-count sheet (state-in s)) (length (witness sheet)) b) (h .finished)
 
   pub bound-held : bound-of (standing (sheet-of (text-in s)) (state-in s)) (roles-in s) (s .prepared .witness .count)

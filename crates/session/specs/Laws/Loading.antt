@@ -1,5 +1,5 @@
--- What a load comes to: a sheet to which a cause applies is answered by the lowest such number and changes nothing; any other is answered by its counts
--- and started anew.
+-- What a load comes to: a sheet to which a cause applies is answered by the lowest such number and changes nothing;
+-- any other is answered by its counts and started anew.
 use Prim.Native.Nat.{ℕ, _≤_}
 use native.Mathlib.Omega.{arith}
 use mathlib.Core.Path.{_≡_, _∙_}
@@ -21,7 +21,8 @@ use Rattle.session.specs.declared.Session.{Session as CodeSession}
 
 module _ (before : Session) (text : Bytes) where
   -- refused
-  pub refused-loads : {number : ℕ} {answer : LoadAnswer} → number ≡ refusal text → number ≢ 0 → answer ≡ load-refused number
+  pub refused-loads : {number : ℕ} {answer : LoadAnswer} → number ≡ refusal text → number ≢ 0 → answer ≡ load-refused
+      number
       → Loads before text answer before
   unfolding load-answer after-load
   refused-loads {number} e refused said =
@@ -44,6 +45,7 @@ unrefused-short text none-applies = accepted-short text (eq-eqb (refusal text) 0
 pub text-loaded : (s : CodeSession) (text : Bytes) (st : State) → view s ≡ loaded text st → text-in s ≡ text
 text-loaded s text st e = by-case (s .loaded) (text-in s) (state-in s) e
   where
-    by-case : (accepts : Bool) (own : Bytes) (at : State) → cond accepts (loaded own at) no-sheet ≡ loaded text st → own ≡ text
+    by-case : (accepts : Bool) (own : Bytes) (at : State) → cond accepts (loaded own at) no-sheet ≡ loaded text st
+        → own ≡ text
     by-case true own at e = cc
     by-case false own at e = let z : _≡_ {A = ℕ} 0 1 = cc in absurd (omega arith)

@@ -1,5 +1,6 @@
--- A session whose position a search moved on holds what it held: the table's kernel is searched as the sheet's is, so the position stands where the
--- machine comes to, which is a state that searches come to. Above the limit neither the machine nor the position moves.
+-- A session whose position a search moved on holds what it held: the table's kernel is searched as the sheet's is, so
+-- the position stands where the machine comes to, which is a state that searches come to. Above the limit neither the
+-- machine nor the position moves.
 use Prim.Native.Nat.{ℕ, _≤_, _<_}
 use mathlib.Core.Path.{_≡_, sym, ap, _∙_}
 use mathlib.Core.Logic.{⊎-elim}
@@ -55,7 +56,8 @@ module _ {s : CodeSession} (h : Holds s) (budget : ℕ) (ran : Ran)
     as-the-machine : size-in s ≤ search-limit → view-ran ran (size-in s) ≡ ran-on s budget
     as-the-machine l =
         searched
-        ∙ search-same (table-kernel (s .prepared)) (kernel-of (sheet-of (text-in s))) (same-kernel (h .prepared) l) budget
+        ∙ search-same (table-kernel (s .prepared)) (kernel-of (sheet-of (text-in s))) (same-kernel (h .prepared) l)
+        budget
         (view (s .position) (size-in s))
         ∙ ap (search (kernel-of (sheet-of (text-in s))) budget) (sym (state-within s l))
 
@@ -69,19 +71,25 @@ module _ {s : CodeSession} (h : Holds s) (budget : ℕ) (ran : Ran)
     -- above the limit the machine makes no step
     no-step-above : search-limit < size-in s → ran-on s budget ≡ no-step (state-in s)
     unfolding kernel-of
-    no-step-above l = search-above (kernel-of (sheet-of (text-in s))) budget (state-in s) (rw (h .prepared .kernel-size) at l)
+    no-step-above l = search-above (kernel-of (sheet-of (text-in s))) budget (state-in s)
+        (rw (h .prepared .kernel-size) at l)
 
-    ran-above : search-limit < size-in s → (size-in s ≤ search-limit → PositionStands (size-in s) (ran .position)) → ran .position ≡ s .position
+    ran-above : search-limit < size-in s → (size-in s ≤ search-limit → PositionStands (size-in s) (ran .position))
+        → ran .position ≡ s .position
         → RanIn s budget ran
     ran-above l stands kept =
-        let same : state-in (moved-to s (ran .position)) ≡ state-in s = ap (λ (at : Position). state-in (moved-to s at)) kept in
+        let same : state-in (moved-to s (ran .position)) ≡ state-in s = ap
+        (λ (at : Position). state-in (moved-to s at)) kept in
         let none = search-above (table-kernel (s .prepared)) budget (view (s .position) (size-in s)) l in
         on-position stands (same ∙ sym (ap (λ (r : machine.Ran). r .state) (no-step-above l)))
-        (ap (λ (r : machine.Ran). r .steps) (searched ∙ none) ∙ sym (ap (λ (r : machine.Ran). r .steps) (no-step-above l)))
+        (ap (λ (r : machine.Ran). r .steps) (searched ∙ none)
+        ∙ sym (ap (λ (r : machine.Ran). r .steps) (no-step-above l)))
         (ap (λ (at : Position). at .cursor .count) kept ∙ h .counted ∙ ap best-count (sym same))
         (ap (λ (at : Position). at .cursor .finished) kept ∙ h .finished ∙ ap (λ (st : State). st .finished) (sym same))
 
-    pub ran-in : (size-in s ≤ search-limit → PositionStands (size-in s) (ran .position)) → (search-limit < size-in s → ran .position ≡ s .position)
+    pub ran-in : (size-in s ≤ search-limit → PositionStands (size-in s) (ran .position))
+        → (search-limit < size-in s → ran .position ≡ s .position)
         → RanIn s budget ran
     ran-in stands kept =
-        ⊎-elim (λ l. ran-above l stands (kept l)) (λ l. ran-within l (stands l)) (below-or-from search-limit (size-in s))
+        ⊎-elim (λ l. ran-above l stands (kept l)) (λ l. ran-within l (stands l))
+        (below-or-from search-limit (size-in s))

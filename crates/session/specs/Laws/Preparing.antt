@@ -1,5 +1,5 @@
--- How a load finds what there is to find of an accepted sheet: its rows show it, the cells that the reduction left are those of its
--- kernel, and the cells logged as single are those of its singles.
+-- How a load finds what there is to find of an accepted sheet: its rows show it, the cells that the reduction left
+-- are those of its kernel, and the cells logged as single are those of its singles.
 use Prim.Native.Nat.{ℕ, _*_, _≤_}
 use mathlib.Core.Path.{_≡_, sym, ap, _∙_}
 use mathlib.Core.List.{List, map}
@@ -40,28 +40,34 @@ module _ {text : Bytes} {layout : Layout} (laid : LaidOut text layout) where
     laid-shows = rw (laid .user-total) (lawful-shows laid-lawful (read .rows))
 
 -- what the reduction of the grants that the rows show left and logged
-module _ {rows : List ℕ} {users : ℕ} {reduced : Reduced} (from : ReducedFrom rows users reduced) {sheet : Sheet} (shown : Shown rows users sheet)
+module _ {rows : List ℕ} {users : ℕ} {reduced : Reduced} (from : ReducedFrom rows users reduced) {sheet : Sheet}
+    (shown : Shown rows users sheet)
     (few : length (grants sheet) ≤ grant-limit) where
   -- there is room for the cells that are left
   pub kernel-roomy : Roomy (reduced .left) (users * row-bits)
   kernel-roomy = shown-roomy shown (from .part) few
 
   -- they are, in order, the kernel's
-  pub kernel-cells : {cells : List ℕ} {size : ℕ} → Listed (reduced .left) users cells size → map grant-of (take size cells) ≡ kernel sheet
+  pub kernel-cells : {cells : List ℕ} {size : ℕ} → Listed (reduced .left) users cells size
+      → map grant-of (take size cells) ≡ kernel sheet
   kernel-cells listed = listed-grants shown (from .part) listed ∙ from .remaining sheet shown
 
-  pub kernel-listed : {cells : List ℕ} {size : ℕ} → Listed (reduced .left) users cells size → KernelListed rows cells size
+  pub kernel-listed : {cells : List ℕ} {size : ℕ} → Listed (reduced .left) users cells size → KernelListed rows cells
+      size
   kernel-listed listed =
       record { users = users; sheet = sheet; shown = shown; kernel-cells = kernel-cells listed; few = listed .few }
 
-  pub kernel-counted : {cells : List ℕ} {size : ℕ} → Listed (reduced .left) users cells size → length cells ≡ grant-limit
+  pub kernel-counted : {cells : List ℕ} {size : ℕ} → Listed (reduced .left) users cells size
+      → length cells ≡ grant-limit
       → size ≡ length (kernel sheet)
   kernel-counted {cells} {size} listed room =
-      sym (length-take-le size cells (rw room (listed .few))) ∙ sym (length-map (take size cells) grant-of) ∙ ap length (kernel-cells listed)
+      sym (length-take-le size cells (rw room (listed .few))) ∙ sym (length-map (take size cells) grant-of)
+      ∙ ap length (kernel-cells listed)
 
   -- so a placement of the kernel is one of the cells in the array
   pub kernel-placed : {cells : List ℕ} {size : ℕ} → Listed (reduced .left) users cells size → length cells ≡ grant-limit
-      → {placement classes : List ℕ} {count : ℕ} → Placed placement classes (length (kernel sheet)) count → Placed placement classes size count
+      → {placement classes : List ℕ} {count : ℕ} → Placed placement classes (length (kernel sheet)) count
+      → Placed placement classes size count
   kernel-placed listed room placed = rw (kernel-counted listed room) placed
 
   -- the cells logged as single are the singles'
@@ -69,7 +75,8 @@ module _ {rows : List ℕ} {users : ℕ} {reduced : Reduced} (from : ReducedFrom
   unfolding singles
   single-cells logged = rw (from .removals sheet shown) at logged
 
-  pub reduced-to : {cells : List ℕ} → CellsOf cells (singles-of (log-in reduced)) → ReducedTo sheet rows (reduced .left) cells
+  pub reduced-to : {cells : List ℕ} → CellsOf cells (singles-of (log-in reduced))
+      → ReducedTo sheet rows (reduced .left) cells
   reduced-to logged =
       record {
         kernel-part = from .part;
@@ -80,7 +87,8 @@ module _ {rows : List ℕ} {users : ℕ} {reduced : Reduced} (from : ReducedFrom
       }
 
 -- so the rows, with the cells of the kernel and of the singles, are those of a sheet
-pub reduced-rows : {rows : List ℕ} {users : ℕ} {reduced : Reduced} (given : Shows rows users) → ReducedFrom rows users reduced
+pub reduced-rows : {rows : List ℕ} {users : ℕ} {reduced : Reduced} (given : Shows rows users) → ReducedFrom rows users
+    reduced
     → {cells : List ℕ} → CellsOf cells (singles-of (log-in reduced)) → ReducedRows rows users (reduced .left) cells
 reduced-rows given from logged =
     record {

@@ -1,5 +1,6 @@
--- A search of a session that holds a sheet does what the definition of a search says: its answer has the steps made and the counts where the search then
--- stands, and the session after it has the state that the machine came to. Without a sheet it is refused, and the session stays.
+-- A search of a session that holds a sheet does what the definition of a search says: its answer has the steps made
+-- and the counts where the search then stands, and the session after it has the state that the machine came to.
+-- Without a sheet it is refused, and the session stays.
 use Prim.Native.Nat.{ℕ}
 use mathlib.Core.Path.{_≡_, refl, ap, _∙_}
 use mathlib.Core.Bool.{So, false}
@@ -21,7 +22,8 @@ pub view-no-sheet : (s : CodeSession) → s .loaded ≡ false → view s ≡ no-
 view-no-sheet s f = rw f
 
 -- without a sheet
-pub searches-nothing : (s : CodeSession) → s .loaded ≡ false → (budget : ℕ) (answer : SearchAnswer) → answer ≡ search-refused 10
+pub searches-nothing : (s : CodeSession) → s .loaded ≡ false → (budget : ℕ) (answer : SearchAnswer)
+    → answer ≡ search-refused 10
     → Searches (view s) budget answer (view s)
 unfolding search-answer after-search
 searches-nothing s f budget answer e = rw (view-no-sheet s f) (record { answers = e; leaves = refl })
@@ -43,12 +45,14 @@ module _ {s : CodeSession} {budget : ℕ} {ran : Ran} (on : RanIn s budget ran) 
   unfolding search-answer searched-on
   found-answers c = rw (on .steps, c .roles, c .bound, c .standing, on .state)
 
-  moved-leaves : loaded (text-in s) (state-in (moved-to s (ran .position))) ≡ after-search (loaded (text-in s) (state-in s)) budget
+  moved-leaves : loaded (text-in s) (state-in (moved-to s (ran .position))) ≡ after-search
+      (loaded (text-in s) (state-in s)) budget
   unfolding after-search searched-on
   moved-leaves = ap (λ (st : State). loaded (text-in s) st) (on .state)
 
   -- with one
-  pub searches-held : So (s .loaded) → {counts : Counts} → CountsIn (moved-to s (ran .position)) counts → (answer : SearchAnswer)
+  pub searches-held : So (s .loaded) → {counts : Counts} → CountsIn (moved-to s (ran .position)) counts
+      → (answer : SearchAnswer)
       → answer ≡ found-answer (ran .steps) counts → Searches (view s) budget answer (view (moved-to s (ran .position)))
   searches-held p c answer e =
       rw (view-loaded s p, view-loaded (moved-to s (ran .position)) p)

@@ -1,5 +1,6 @@
--- The kernel that a session searches, given by its fit table and its counts, is that of its sheet as far as a search asks: of one size, with the same
--- singles and witness, and the table says of each two of its grants whether they fit.
+-- The kernel that a session searches, given by its fit table and its counts, is that of its sheet as far as a search
+-- asks: of one size, with the same singles and witness, and the table says of each two of its grants whether they
+-- fit.
 use Prim.Native.Nat.{ℕ, _≤_, _<_}
 use native.Mathlib.Omega.{arith}
 use mathlib.Core.Path.{_≡_, refl, _∙_}
@@ -41,8 +42,10 @@ module _ {text : Bytes} {p : Prepared} (found : PreparedFor text p) where
       → fit-in (p .table) i j ≡ fit-at (sheet-of text) (kernel (sheet-of text)) i j
   table-fit l i j h k =
       let size = found .kernel-size in
-      let first : So (ltb i (length (kernel (sheet-of text)))) = lt-ltb i (length (kernel (sheet-of text))) (omega arith) in
-      let second : So (ltb j (length (kernel (sheet-of text)))) = lt-ltb j (length (kernel (sheet-of text))) (omega arith) in
+      let first : So (ltb i (length (kernel (sheet-of text)))) = lt-ltb i (length (kernel (sheet-of text)))
+      (omega arith) in
+      let second : So (ltb j (length (kernel (sheet-of text)))) = lt-ltb j (length (kernel (sheet-of text)))
+      (omega arith) in
       read-alike (p .table) i j
       ∙ found .table .entry i j (within-table i (p .kernel .size) l h) (within-table j (p .kernel .size) l k)
       ∙ rw (first, second)

@@ -1,5 +1,6 @@
--- A writing of a session that holds a sheet does what the definition of a writing says: its answer and the lent buffer are those of the book where the
--- search stands. Without a sheet it is refused with 10, be the buffer short or long, and session and buffer stay.
+-- A writing of a session that holds a sheet does what the definition of a writing says: its answer and the lent
+-- buffer are those of the book where the search stands. Without a sheet it is refused with 10, be the buffer short or
+-- long, and session and buffer stay.
 use mathlib.Core.Path.{_≡_, refl, _∙_}
 use mathlib.Core.Logic.{⊎-elim}
 use mathlib.Core.Bool.{Bool, false, So}
@@ -20,7 +21,8 @@ use Rattle.session.specs.Laws.SearchedHeld.{view-loaded, view-no-sheet}
 use Rattle.session.specs.declared.Session.{Session as CodeSession}
 
 -- without a sheet
-pub writes-nothing : (s : CodeSession) → s .loaded ≡ false → (buffer : Bytes) (answer : WriteAnswer) → answer ≡ write-refused 10
+pub writes-nothing : (s : CodeSession) → s .loaded ≡ false → (buffer : Bytes) (answer : WriteAnswer)
+    → answer ≡ write-refused 10
     → Writes (view s) buffer answer buffer (view s)
 unfolding write-answer buffer-after write-causes
 writes-nothing s f buffer answer e = rw (view-no-sheet s f) (record { answers = e; fills = refl; leaves = refl })
@@ -40,7 +42,8 @@ module _ (text : Bytes) (st : State) (buffer : Bytes) where
 
 -- with one
 pub writes-held : (s : CodeSession) → So (s .loaded) → {buffer after : Bytes} {said : WriteAnswer}
-    → writing.Writes (book (sheet-of (text-in s)) (state-in s)) buffer said after → (answer : WriteAnswer) → answer ≡ said
+    → writing.Writes (book (sheet-of (text-in s)) (state-in s)) buffer said after → (answer : WriteAnswer)
+    → answer ≡ said
     → Writes (view s) buffer answer after (view s)
 writes-held s p {buffer} written answer e =
     rw (view-loaded s p)

@@ -24,7 +24,8 @@ pub cell-is-byte : (b : Bool) → cell-text b ≡ cell-byte b ∷ []
 cell-is-byte true = refl
 cell-is-byte false = refl
 
-fewer : (text : Bytes) (at count : ℕ) (ones : ℕ → Bool) → CellsStand text at (suc count) ones → CellsStand text at count ones
+fewer : (text : Bytes) (at count : ℕ) (ones : ℕ → Bool) → CellsStand text at (suc count) ones
+    → CellsStand text at count ones
 fewer text at count ones c =
     record {
       within = omega (arith, c .within);
@@ -41,8 +42,10 @@ stands-cells text at zero ones c =
 stands-cells text at (suc count) ones c =
     let last : at + 2 * suc count ≡ suc (suc (at + 2 * count)) = omega arith in
     let next : at + 2 * count + 1 ≡ suc (at + 2 * count) = omega arith in
-    let bytes = stands-then (stands-byte text (at + 2 * count) comma (omega (arith, c .within)) (c .commas count (omega arith)))
-    (stands-byte text (suc (at + 2 * count)) (cell-byte (ones count)) (omega (arith, c .within)) (rw next at (c .cells count (omega arith)))) in
+    let bytes = stands-then (stands-byte text (at + 2 * count) comma (omega (arith, c .within))
+    (c .commas count (omega arith)))
+    (stands-byte text (suc (at + 2 * count)) (cell-byte (ones count)) (omega (arith, c .within))
+    (rw next at (c .cells count (omega arith)))) in
     rw (last, listed-suc count (λ i. comma ∷ cell-text (ones i)))
     (stands-then (stands-cells text at count ones (fewer text at count ones c)) (rw (cell-is-byte (ones count)) bytes))
 
@@ -55,7 +58,8 @@ module _ (text : Bytes) (at count : ℕ) (ones : ℕ → Bool) (rest : Bytes)
   comma-there : getD text (at + 2 * count) 0 ≡ comma
   comma-there =
       sym (getD-drop at text (2 * count) 0) ∙ ap (λ (l : Bytes). getD l (2 * count) 0) there
-      ∙ getD-at (cells-text count ones) comma (cell-byte (ones count) ∷ rest) 0 (2 * count) (omega (arith, cells-length count ones))
+      ∙ getD-at (cells-text count ones) comma (cell-byte (ones count) ∷ rest) 0 (2 * count)
+      (omega (arith, cells-length count ones))
 
   cell-there : getD text (at + 2 * count + 1) 0 ≡ cell-byte (ones count)
   cell-there =

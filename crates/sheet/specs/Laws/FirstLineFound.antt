@@ -1,5 +1,5 @@
--- The first line that a sheet starts with is found: behind `user` the names are read one by one, while a comma stands there a name is left, and
--- behind the last name stands the line feed. Assumes nothing.
+-- The first line that a sheet starts with is found: behind `user` the names are read one by one, while a comma stands
+-- there a name is left, and behind the last name stands the line feed. Assumes nothing.
 use Prim.Native.Nat.{ℕ, suc, _+_, _≤_, _<_}
 use native.Mathlib.Omega.{arith}
 use mathlib.Core.Path.{_≡_, refl, sym, ap, _∙_}
@@ -42,29 +42,43 @@ first-in-parts : (names : List Bytes) (rest : Bytes)
     → line-text (ascii "user" ∷ names) ++ rest ≡ ascii "user" ++ (behind-commas names ++ line-feed ∷ rest)
 first-in-parts names rest =
     ap (λ (l : Bytes). (l ++ line-feed ∷ []) ++ rest) (joined-in-parts (ascii "user") names)
-    ∙ append-assoc (ascii "user" ++ behind-commas names) (line-feed ∷ []) rest ∙ append-assoc (ascii "user") (behind-commas names) (line-feed ∷ rest)
+    ∙ append-assoc (ascii "user" ++ behind-commas names) (line-feed ∷ []) rest ∙ append-assoc (ascii "user")
+    (behind-commas names) (line-feed ∷ rest)
 
 -- the text starts with `user`
-pub user-found : (text : Bytes) (names : List Bytes) (rest : Bytes) → text ≡ line-text (ascii "user" ∷ names) ++ rest → So (says-user text)
+pub user-found : (text : Bytes) (names : List Bytes) (rest : Bytes) → text ≡ line-text (ascii "user" ∷ names) ++ rest
+    → So (says-user text)
 unfolding says-user
 user-found text names rest e =
     let whole : text ≡ ascii "user" ++ (behind-commas names ++ line-feed ∷ rest) = e ∙ first-in-parts names rest in
-    let long : 4 ≤ length text = omega (arith, ap length whole, length-append (ascii "user") (behind-commas names ++ line-feed ∷ rest)) in
-    and-intro (not (ltb (length text) 4)) (same-bytes (part 0 4 text) (ascii "user")) (ap not (le-ltb (length text) 4 long))
+    let long : 4 ≤ length text = omega (
+      arith,
+      ap length whole,
+      length-append (ascii "user")
+          (behind-commas names ++ line-feed ∷ rest),
+    ) in
+    and-intro (not (ltb (length text) 4)) (same-bytes (part 0 4 text) (ascii "user"))
+    (ap not (le-ltb (length text) 4 long))
     (ap (λ (l : Bytes). same-bytes (part 0 4 l) (ascii "user")) whole)
 
 -- no name is read yet
 pub names-left-start : (text : Bytes) → NamesLeft text 0 4
-names-left-start text names rest fit e =
-    (omega arith, behind text 0 (ascii "user") (behind-commas names ++ line-feed ∷ rest) (e ∙ first-in-parts names rest))
+names-left-start text names rest fit e = (
+  omega arith,
+  behind text 0 (ascii "user") (behind-commas names ++ line-feed ∷ rest)
+      (e ∙ first-in-parts names rest),
+)
 
 -- a byte is one
-one-byte : (text : Bytes) (at b c : ℕ) (rest : Bytes) → So (ltb at (length text) && eqb (getD text at 0) b) → drop at text ≡ c ∷ rest → c ≡ b
+one-byte : (text : Bytes) (at b c : ℕ) (rest : Bytes) → So (ltb at (length text) && eqb (getD text at 0) b)
+    → drop at text ≡ c ∷ rest → c ≡ b
 one-byte text at b c rest found e =
-    sym (eqb-true (getD text at 0) c (and-right (ltb at (length text)) (eqb (getD text at 0) c) (byte-found text at c rest e)))
+    sym (eqb-true (getD text at 0) c (and-right (ltb at (length text)) (eqb (getD text at 0) c)
+    (byte-found text at c rest e)))
     ∙ eqb-true (getD text at 0) b (and-right (ltb at (length text)) (eqb (getD text at 0) b) found)
 
-module _ (text : Bytes) (n at : ℕ) (left : NamesLeft text n at) (names : List Bytes) (rest : Bytes) (fit : NamesFit names)
+module _ (text : Bytes) (n at : ℕ) (left : NamesLeft text n at) (names : List Bytes) (rest : Bytes)
+    (fit : NamesFit names)
     (e : text ≡ line-text (ascii "user" ∷ names) ++ rest) where
   -- past the last name the line feed stands
   past-names : length names ≤ n → drop at text ≡ line-feed ∷ rest
@@ -76,24 +90,31 @@ module _ (text : Bytes) (n at : ℕ) (left : NamesLeft text n at) (names : List 
   before-name l =
       left names rest fit e .1
       ∙ rw (drop-cons names n [] l)
-      (ap (λ (t : Bytes). comma ∷ t) (append-assoc (getD names n []) (behind-commas (drop (suc n) names)) (line-feed ∷ rest)))
+      (ap (λ (t : Bytes). comma ∷ t) (append-assoc (getD names n []) (behind-commas (drop (suc n) names))
+      (line-feed ∷ rest)))
 
   -- while a comma stands there, a name is left
   pub name-below : So (ltb at (length text) && eqb (getD text at 0) comma) → n < length names
   name-below found = ⊎-elim (λ l. l) past (below-or-from n (length names))
     where
       past : length names ≤ n → n < length names
-      past l = let same : line-feed ≡ comma = one-byte text at comma line-feed rest found (past-names l) in absurd (omega arith)
+      past l = let same : line-feed ≡ comma = one-byte text at comma line-feed rest found (past-names l)
+          in absurd (omega arith)
 
   pub next-name : So (ltb at (length text) && eqb (getD text at 0) comma) → (r : NameRead) → NameReads text (at + 1) r
       → So (r .good) × (drop (r .to) text ≡ behind-commas (drop (suc n) names) ++ line-feed ∷ rest)
   next-name found r read =
       let below = name-below found in
-      let there = behind text at (comma ∷ []) (getD names n [] ++ (behind-commas (drop (suc n) names) ++ line-feed ∷ rest)) (before-name below) in
+      let there = behind text at (comma ∷ []) (getD names n [] ++ (behind-commas (drop (suc n) names) ++ line-feed ∷
+      rest)) (before-name below) in
       let b = names-behind (drop (suc n) names) rest in
-      let name = name-found text (at + 1) r (getD names n []) (b .byte) (b .rest) read (fit .each (getD names n []) (member-at names n [] below))
-      (b .ends) (there ∙ ap (λ (l : Bytes). getD names n [] ++ l) (b .starts)) in
-      (name .0, rw (name .1) (behind text (at + 1) (getD names n []) (behind-commas (drop (suc n) names) ++ line-feed ∷ rest) there))
+      let name = name-found text (at + 1) r (getD names n []) (b .byte) (b .rest) read
+      (fit .each (getD names n []) (member-at names n [] below))
+      (b .ends) (there ∙ ap (λ (l : Bytes). getD names n [] ++ l) (b .starts)) in (
+        name .0,
+        rw (name .1) (behind text (at + 1) (getD names n []) (behind-commas (drop (suc n) names) ++ line-feed
+            ∷ rest) there),
+      )
 
   -- where no comma stands, none is left
   pub all-read : (ltb at (length text) && eqb (getD text at 0) comma) ≡ false → n ≡ length names
@@ -101,13 +122,15 @@ module _ (text : Bytes) (n at : ℕ) (left : NamesLeft text n at) (names : List 
     where
       before : n < length names → n ≡ length names
       before l =
-          absurd (not-both (byte-found text at comma (getD names n [] ++ (behind-commas (drop (suc n) names) ++ line-feed ∷ rest)) (before-name l)) f)
+          absurd (not-both (byte-found text at comma
+          (getD names n [] ++ (behind-commas (drop (suc n) names) ++ line-feed ∷ rest)) (before-name l)) f)
 
   pub feed-left : n ≡ length names → drop at text ≡ line-feed ∷ rest
   feed-left q = past-names (omega arith)
 
 -- a name that was read leaves the others
-pub names-left-next : (text : Bytes) (n at : ℕ) → NamesLeft text n at → So (ltb at (length text) && eqb (getD text at 0) comma)
+pub names-left-next : (text : Bytes) (n at : ℕ) → NamesLeft text n at
+    → So (ltb at (length text) && eqb (getD text at 0) comma)
     → (r : NameRead) → NameReads text (at + 1) r → NamesLeft text (suc n) (r .to)
 names-left-next text n at left found r read names rest fit e =
     (name-below text n at left names rest fit e found, next-name text n at left names rest fit e found r read .1)

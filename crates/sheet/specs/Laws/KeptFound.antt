@@ -21,7 +21,17 @@ use Rattle.rules.specs.Accepted.{accepted-keeps}
 use Rattle.rules.specs.AcceptedFacts.{accepted-lawful}
 use Rattle.sheet.specs.FirstLine.{NamesFit}
 use Rattle.sheet.specs.UserLines.{Fit}
-use Rattle.sheet.specs.KeptSheet.{Notes, noted, LinesStand, SheetLines, users-are-inside, permissions-are-inside, noted-grants, noted-users, noted-said}
+use Rattle.sheet.specs.KeptSheet.{
+  Notes,
+  noted,
+  LinesStand,
+  SheetLines,
+  users-are-inside,
+  permissions-are-inside,
+  noted-grants,
+  noted-users,
+  noted-said,
+}
 use Rattle.sheet.specs.Laws.KeptRead.{apart, layout-of, KeptAs, kept-read}
 
 module _ (text : Bytes) (p : So (accepted text)) where
@@ -31,7 +41,8 @@ module _ (text : Bytes) (p : So (accepted text)) where
       let k = accepted-keeps text p in
       record { some-name = k .some-permission; few = k .few-permissions; each = k .permission-names .each }
 
-  pub accepted-text : text ≡ line-text (ascii "user" ∷ sheet-of text .permissions) ++ text-of (user-lines (sheet-of text .users) (sheet-of text .rows))
+  pub accepted-text : text ≡ line-text (ascii "user" ∷ sheet-of text .permissions) ++ text-of
+      (user-lines (sheet-of text .users) (sheet-of text .rows))
   accepted-text = accepted-keeps text p .written ∙ sheet-text-lines (sheet-of text)
 
   pub accepted-fit : Fit (length (sheet-of text .permissions)) (sheet-of text .users) (sheet-of text .rows)
@@ -43,24 +54,40 @@ module _ (text : Bytes) (p : So (accepted text)) where
   -- what was noted is within the limits
   pub accepted-users : (n : Notes) → LinesStand text n → 1 ≤ n .users
   accepted-users n s =
-      omega (arith, accepted-lawful text p .some-user, ap (λ sheet. length (sheet .users)) (noted-said text n s), noted-users text n s)
+      omega (
+        arith,
+        accepted-lawful text p .some-user,
+        ap (λ sheet. length (sheet .users)) (noted-said text n s),
+        noted-users text n s,
+      )
 
   pub accepted-grants : (n : Notes) → LinesStand text n → n .total ≤ grant-limit
-  accepted-grants n s = omega (arith, rw (noted-said text n s) at (accepted-lawful text p .few-grants), noted-grants text n s)
+  accepted-grants n s = omega (
+    arith,
+    rw (noted-said text n s) at (accepted-lawful text p .few-grants),
+    noted-grants text n s,
+  )
 
   -- and has no name twice
   pub accepted-apart : (n : Notes) → LinesStand text n → So (apart text n)
   accepted-apart n s =
       let k = accepted-lawful text p in
       and-intro (not (repeats same-name (noted text n .users))) (not (repeats same-name (noted text n .permissions)))
-      (ap not (rw (noted-said text n s) at (no-repeats same-name same-bytes-equal [] (sheet-of text .users) (k .user-names .distinct))))
-      (ap not (rw (noted-said text n s) at (no-repeats same-name same-bytes-equal [] (sheet-of text .permissions) (k .permission-names .distinct))))
+      (ap not (rw (noted-said text n s) at (no-repeats same-name same-bytes-equal [] (sheet-of text .users)
+      (k .user-names .distinct))))
+      (ap not (rw (noted-said text n s) at (no-repeats same-name same-bytes-equal [] (sheet-of text .permissions)
+      (k .permission-names .distinct))))
 
 -- so a sheet is accepted exactly where its lines are found and no name stands twice
 module _ (text : Bytes) (n : Notes) (good : Bool) (read : SheetLines text n good) where
   pub kept-inside : So good
-      → Inside text (places-of (n .user-from) (n .user-to)) (n .users) × Inside text (places-of (n .permission-from) (n .permission-to)) (n .permissions)
-  kept-inside p = (users-are-inside text n (read .stands p .stand), permissions-are-inside text n (read .stands p .stand))
+      → Inside text (places-of (n .user-from) (n .user-to)) (n .users)
+      × Inside text (places-of (n .permission-from) (n .permission-to)) (n .permissions)
+  kept-inside p = (
+    users-are-inside text n (read .stands p .stand),
+    permissions-are-inside text n
+        (read .stands p .stand),
+  )
 
   pub kept-as : So (good && apart text n) → KeptAs text (layout-of n) (n .words)
   kept-as p = kept-read text n (read .stands (and-left good (apart text n) p)) (and-right good (apart text n) p)

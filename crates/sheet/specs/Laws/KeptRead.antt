@@ -1,5 +1,5 @@
--- A sheet whose lines were read in one pass, within all limits and with no name twice, is accepted, and what was noted is its layout and its rows.
--- Assumes nothing.
+-- A sheet whose lines were read in one pass, within all limits and with no name twice, is accepted, and what was
+-- noted is its layout and its rows. Assumes nothing.
 use Prim.Native.Nat.{ℕ, zero, suc, _<_}
 use native.Mathlib.Omega.{arith}
 use mathlib.Core.Path.{_≡_, refl, sym, ap, _∙_}
@@ -26,7 +26,19 @@ use Rattle.sheet.specs.Spelled.{NameAt}
 use Rattle.sheet.specs.UserLines.{lines-at}
 use Rattle.sheet.specs.OnlyNames.{OnlyNames}
 use Rattle.cells.specs.Laws.WordRows.{word-rows-read}
-use Rattle.sheet.specs.KeptSheet.{Notes, noted, LinesStand, SheetStands, noted-lines, noted-grants, noted-users, noted-permissions, noted-written, noted-said, noted-keeps}
+use Rattle.sheet.specs.KeptSheet.{
+  Notes,
+  noted,
+  LinesStand,
+  SheetStands,
+  noted-lines,
+  noted-grants,
+  noted-users,
+  noted-permissions,
+  noted-written,
+  noted-said,
+  noted-keeps,
+}
 use Rattle.names.specs.declared.layout.Layout.{Layout}
 
 -- what is left of a list are elements of it
@@ -42,26 +54,37 @@ placed-at text from to n each =
       each = λ i l.
           (let below : i < n = omega (arith, names-total text (places-of from to) n) in
           let name = each i below in
-          record { forward = omega (arith, name .forward); within = name .within; reads = sym (name-of text (places-of from to) n i below) });
+          record {
+            forward = omega (arith, name .forward);
+            within = name .within;
+            reads = sym
+                (name-of text (places-of from to) n i below);
+          });
     }
 
 -- ---- where the lines of users start
 
 module _ (text : Bytes) (n : Notes) (s : LinesStand text n) where
   later-lines : (u : ℕ)
-      → drop (suc u) (lines-of text) ≡ drop u (lines-at text (n .permissions) (n .user-from) (n .user-to) (n .words) (n .users))
-  later-lines u = ap (drop (suc u)) (written-lines text (noted text n) (noted-written text n s)) ∙ ap (drop u) (noted-lines text n s)
+      → drop (suc u) (lines-of text) ≡ drop u (lines-at text (n .permissions) (n .user-from) (n .user-to) (n .words)
+      (n .users))
+  later-lines u = ap (drop (suc u)) (written-lines text (noted text n) (noted-written text n s))
+      ∙ ap (drop u) (noted-lines text n s)
 
-  lines-there : (u : ℕ) → Lines (drop u (lines-at text (n .permissions) (n .user-from) (n .user-to) (n .words) (n .users)))
+  lines-there : (u : ℕ) → Lines (drop u (lines-at text (n .permissions) (n .user-from) (n .user-to) (n .words)
+      (n .users)))
   lines-there u line m = read-lines text line (left-member (suc u) (lines-of text) (rw (later-lines u) m))
 
   from-line : (u : ℕ) → u < n .users → lines-of (drop (getD (n .user-from) u 0) text) ≡ drop (suc u) (lines-of text)
   from-line u h =
       ap (λ (t : Bytes). lines-of t)
       (s .lines .starts u h
-      ∙ ap (λ (l : Bytes). text-of (drop u (lines-at text (n .permissions) (n .user-from) (n .user-to) (n .words) (n .users))) ++ l) (drop-length text)
-      ∙ append-nil (text-of (drop u (lines-at text (n .permissions) (n .user-from) (n .user-to) (n .words) (n .users)))))
-      ∙ read-as-written (drop u (lines-at text (n .permissions) (n .user-from) (n .user-to) (n .words) (n .users))) (lines-there u)
+      ∙ ap (λ (l : Bytes). text-of (drop u (lines-at text (n .permissions) (n .user-from) (n .user-to) (n .words)
+      (n .users))) ++ l) (drop-length text)
+      ∙ append-nil (text-of (drop u (lines-at text (n .permissions) (n .user-from) (n .user-to) (n .words)
+      (n .users)))))
+      ∙ read-as-written (drop u (lines-at text (n .permissions) (n .user-from) (n .user-to) (n .words) (n .users)))
+      (lines-there u)
       ∙ sym (later-lines u)
 
 -- ---- what was read
@@ -88,12 +111,18 @@ pub record KeptAs (text : Bytes) (layout : Layout) (words : List ℕ) : Type 0 w
 abbrev pub apart : Bytes → Notes → Bool
 apart text n = not (repeats same-name (noted text n .users)) && not (repeats same-name (noted text n .permissions))
 
-keeps-as : (text : Bytes) (n : Notes) → LinesStand text n → Keeps text (noted text n) → KeptAs text (layout-of n) (n .words)
+keeps-as : (text : Bytes) (n : Notes) → LinesStand text n → Keeps text (noted text n) → KeptAs text (layout-of n)
+    (n .words)
 keeps-as text n s keeps =
     record {
       unrefused = eqb-true (refusal text) 0 accepts;
       laid-out = laid-out;
-      only-names = record { users-end = s .lines .unnoted; permissions-end = s .first .unnoted; permissions-run = s .first .run };
+      only-names = record {
+        users-end = s .lines .unnoted;
+        permissions-end = s .first .unnoted;
+        permissions-run =
+            s .first .run;
+      };
       rows = rows;
     }
   where
@@ -103,7 +132,8 @@ keeps-as text n s keeps =
     rows : RowsRead (n .words) (sheet-of text)
     rows =
         rw (noted-said text n s)
-        (word-rows-read (n .users) (n .permissions) (n .words) (λ u l. s .lines .each u l .narrow) (s .lines .beyond) (noted text n) refl
+        (word-rows-read (n .users) (n .permissions) (n .words) (λ u l. s .lines .each u l .narrow) (s .lines .beyond)
+        (noted text n) refl
         (noted-users text n s))
 
     laid-out : LaidOut text (layout-of n)
@@ -113,14 +143,18 @@ keeps-as text n s keeps =
           user-total = rw (noted-said text n s) (sym (noted-users text n s));
           permission-total = rw (noted-said text n s) (sym (noted-permissions text n s));
           grant-total = rw (noted-said text n s) (sym (noted-grants text n s));
-          user-names = rw (noted-said text n s) (placed-at text (n .user-from) (n .user-to) (n .users) (λ u l. s .lines .each u l .name));
-          permission-names = rw (noted-said text n s) (placed-at text (n .permission-from) (n .permission-to) (n .permissions) (s .first .each));
+          user-names = rw (noted-said text n s) (placed-at text (n .user-from) (n .user-to) (n .users)
+              (λ u l. s .lines .each u l .name));
+          permission-names = rw (noted-said text n s) (placed-at text (n .permission-from) (n .permission-to)
+              (n .permissions) (s .first .each));
           user-lines = λ u l. from-line text n s u (omega (arith, rw (noted-said text n s) at l, noted-users text n s));
         }
 
-pub kept-read : (text : Bytes) (n : Notes) → SheetStands text n → So (apart text n) → KeptAs text (layout-of n) (n .words)
+pub kept-read : (text : Bytes) (n : Notes) → SheetStands text n → So (apart text n) → KeptAs text (layout-of n)
+    (n .words)
 kept-read text n s p =
     let again : Bool = repeats same-name (noted text n .users) in
     let twice : Bool = repeats same-name (noted text n .permissions) in
     keeps-as text n (s .stand)
-    (noted-keeps text n s (not-true again (and-left (not again) (not twice) p)) (not-true twice (and-right (not again) (not twice) p)))
+    (noted-keeps text n s (not-true again (and-left (not again) (not twice) p))
+    (not-true twice (and-right (not again) (not twice) p)))

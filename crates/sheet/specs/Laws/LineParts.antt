@@ -1,4 +1,5 @@
--- A line in the order in which it is read: a field, each further field behind a comma, and the line feed. Assumes nothing.
+-- A line in the order in which it is read: a field, each further field behind a comma, and the line feed. Assumes
+-- nothing.
 use Prim.Native.Nat.{ℕ}
 use mathlib.Core.Path.{_≡_, sym, ap, _∙_}
 use mathlib.Core.List.{List, [], _∷_, _++_, map, append-nil}
@@ -11,7 +12,8 @@ use Rattle.lists.specs.Listed.{listed}
 abbrev pub fields-text : ℕ → (ℕ → Bytes) → Bytes
 fields-text count field = listed count (λ i. comma ∷ field i)
 
-pub joined-in-parts : (first : Bytes) (later : List Bytes) → joined comma (first ∷ later) ≡ first ++ concat (map (λ (field : Bytes). comma ∷ field) later)
+pub joined-in-parts : (first : Bytes) (later : List Bytes) → joined comma (first ∷ later) ≡ first ++ concat
+    (map (λ (field : Bytes). comma ∷ field) later)
 joined-in-parts first [] = sym (append-nil first)
 joined-in-parts first (next ∷ later) = ap (λ (l : Bytes). first ++ comma ∷ l) (joined-in-parts next later)
 

@@ -1,4 +1,5 @@
--- Bytes that stand in a text from one place up to another: one after the other they stand there together. Assumes nothing.
+-- Bytes that stand in a text from one place up to another: one after the other they stand there together. Assumes
+-- nothing.
 use Prim.Native.Nat.{ℕ, suc, _+_, _-_, _≤_, _<_}
 use native.Mathlib.Omega.{arith}
 use mathlib.Core.Path.{_≡_, refl, sym, ap, _∙_}
@@ -21,7 +22,8 @@ pub record Stands (text : Bytes) (at : ℕ) (bytes : Bytes) (next : ℕ) : Type 
 pub stands-nothing : (text : Bytes) (at : ℕ) → at ≤ length text → Stands text at [] at
 stands-nothing text at h = record { forward = omega arith; within = h; reads = refl }
 
-pub stands-then : {text a b : Bytes} {at next last : ℕ} → Stands text at a next → Stands text next b last → Stands text at (a ++ b) last
+pub stands-then : {text a b : Bytes} {at next last : ℕ} → Stands text at a next → Stands text next b last
+    → Stands text at (a ++ b) last
 stands-then {text} {a} {b} {at} {next} {last} p q =
     record {
       forward = omega (arith, p .forward, q .forward);
@@ -34,7 +36,8 @@ pub stands-byte : (text : Bytes) (at b : ℕ) → at < length text → getD text
 stands-byte text at b h e = record { forward = omega arith; within = h; reads = rw (← e) (drop-cons text at 0 h) }
 
 -- a byte that a test found
-pub stands-found : (text : Bytes) (at b : ℕ) → So (ltb at (length text) && eqb (getD text at 0) b) → Stands text at (b ∷ []) (suc at)
+pub stands-found : (text : Bytes) (at b : ℕ) → So (ltb at (length text) && eqb (getD text at 0) b)
+    → Stands text at (b ∷ []) (suc at)
 stands-found text at b p =
     stands-byte text at b (ltb-true at (length text) (and-left (ltb at (length text)) (eqb (getD text at 0) b) p))
     (eqb-true (getD text at 0) b (and-right (ltb at (length text)) (eqb (getD text at 0) b) p))

@@ -27,35 +27,46 @@ pub record Behind (text : Bytes) : Type 0 where
   pub starts : text ≡ byte ∷ rest
   pub ends : So (separator byte)
 
-pub fields-behind : (count : ℕ) (field : ℕ → Bytes) (rest : Bytes) → Behind (fields-text count field ++ line-feed ∷ rest)
+pub fields-behind : (count : ℕ) (field : ℕ → Bytes) (rest : Bytes)
+    → Behind (fields-text count field ++ line-feed ∷ rest)
 fields-behind zero field rest = record { byte = line-feed; rest = rest; starts = refl; ends = refl }
 fields-behind (suc count) field rest = record { byte = comma; rest = _; starts = refl; ends = refl }
 
 -- a byte at the head of what is left of a text is found
-pub byte-found : (text : Bytes) (at b : ℕ) (rest : Bytes) → drop at text ≡ b ∷ rest → So (ltb at (length text) && eqb (getD text at 0) b)
+pub byte-found : (text : Bytes) (at b : ℕ) (rest : Bytes) → drop at text ≡ b ∷ rest
+    → So (ltb at (length text) && eqb (getD text at 0) b)
 byte-found text at b rest e =
     let long : at < length text = omega (arith, ap length e, length-drop at text) in
     let there : getD text at 0 ≡ b =
     ap (λ (k : ℕ). getD text k 0) (omega arith) ∙ sym (getD-drop at text 0 0) ∙ ap (λ (l : Bytes). getD l 0 0) e in
-    and-intro (ltb at (length text)) (eqb (getD text at 0) b) (lt-ltb at (length text) long) (eq-eqb (getD text at 0) b there)
+    and-intro (ltb at (length text)) (eqb (getD text at 0) b) (lt-ltb at (length text) long)
+    (eq-eqb (getD text at 0) b there)
 
 module _ (text : Bytes) (at width : ℕ) (name : Bytes) (ones : ℕ → Bool) (rest : Bytes)
     (line : Spells text at width name ones rest) where
   in-parts : drop at text ≡ name ++ (cells-text width ones ++ line-feed ∷ rest)
   in-parts =
       line .spelled ∙ ap (λ (l : Bytes). l ++ rest) (line-in-parts name width (λ i. cell-text (ones i)))
-      ∙ append-assoc (name ++ cells-text width ones) (line-feed ∷ []) rest ∙ append-assoc name (cells-text width ones) (line-feed ∷ rest)
+      ∙ append-assoc (name ++ cells-text width ones) (line-feed ∷ []) rest ∙ append-assoc name (cells-text width ones)
+      (line-feed ∷ rest)
 
   pub line-name-found : (r : NameRead) → NameReads text at r → So (r .good) × (r .to ≡ at + length name)
   line-name-found r read =
       let b = fields-behind width (λ i. cell-text (ones i)) rest in
-      name-found text at r name (b .byte) (b .rest) read (line .named) (b .ends) (in-parts ∙ ap (λ (l : Bytes). name ++ l) (b .starts))
+      name-found text at r name (b .byte) (b .rest) read (line .named) (b .ends) (in-parts
+      ∙ ap (λ (l : Bytes). name ++ l) (b .starts))
 
   behind-name : drop (at + length name) text ≡ cells-text width ones ++ line-feed ∷ rest
   behind-name = behind text at name (cells-text width ones ++ line-feed ∷ rest) in-parts
 
   name-within : at + length name ≤ length text
-  name-within = omega (arith, ap length in-parts, length-append name (cells-text width ones ++ line-feed ∷ rest), length-drop at text, line .within)
+  name-within = omega (
+    arith,
+    ap length in-parts,
+    length-append name (cells-text width ones ++ line-feed ∷ rest),
+    length-drop at text,
+    line .within,
+  )
 
   pub line-cells-stand : CellsStand text (at + length name) width ones
   line-cells-stand = cells-stand text (at + length name) width ones (line-feed ∷ rest) name-within behind-name
@@ -65,7 +76,8 @@ module _ (text : Bytes) (at width : ℕ) (name : Bytes) (ones : ℕ → Bool) (r
       let two : length (cells-text width ones) ≡ 2 * width = omega (arith, cells-length width ones) in
       rw two at (behind text (at + length name) (cells-text width ones) (line-feed ∷ rest) behind-name)
 
-  pub line-feed-found : So (ltb (at + length name + 2 * width) (length text) && eqb (getD text (at + length name + 2 * width) 0) line-feed)
+  pub line-feed-found : So (ltb (at + length name + 2 * width) (length text)
+      && eqb (getD text (at + length name + 2 * width) 0) line-feed)
   line-feed-found = byte-found text (at + length name + 2 * width) line-feed rest behind-cells
 
   pub behind-line : drop (at + length name + 2 * width + 1) text ≡ rest

@@ -1,4 +1,5 @@
--- Reading the lines of users one by one: one more line stands behind those read so far, and what was noted of them stays. Assumes nothing.
+-- Reading the lines of users one by one: one more line stands behind those read so far, and what was noted of them
+-- stays. Assumes nothing.
 use Prim.Native.Nat.{ℕ, suc, _+_, _*_, _≤_, _<_}
 use native.Mathlib.Nat.{not-suc-le-zero, ne-of-lt}
 use native.Mathlib.Omega.{arith}
@@ -54,11 +55,15 @@ lines-start text start width from to words h room =
 
 -- there are few cells
 pub few-ones : (words : List ℕ) (n : ℕ) → ones-at words n ≤ n * word-bits
-few-ones words n = sum-below-le n word-bits (λ u. count-below word-bits (bit (getD words u 0))) (λ u l. count-below-le word-bits (bit (getD words u 0)))
+few-ones words n =
+    sum-below-le n word-bits (λ u. count-below word-bits (bit (getD words u 0))) (λ u l. count-below-le word-bits
+    (bit (getD words u 0)))
 
 -- one line more
-module _ (text : Bytes) (start width : ℕ) (from to words : List ℕ) (n ones at : ℕ) (read : LinesRead text start width from to words n ones at)
-    (sizes : Sizes from to words) (h : n < user-limit) (end word next : ℕ) (line : LineStands text at width end word next) where
+module _ (text : Bytes) (start width : ℕ) (from to words : List ℕ) (n ones at : ℕ) (read : LinesRead text start width
+    from to words n ones at)
+    (sizes : Sizes from to words) (h : n < user-limit) (end word next : ℕ) (line : LineStands text at width end word
+    next) where
   here-from : getD (set from n at) n 0 ≡ at
   here-from = getD-set-same from n at 0 (omega (arith, sizes .from-room))
 
@@ -83,12 +88,17 @@ module _ (text : Bytes) (start width : ℕ) (from to words : List ℕ) (n ones a
       ≡ lines-at text width from to words n ++ line-of text width at end word ∷ []
   lines-grow =
       list-of-last n (line-at text width (set from n at) (set to n end) (set words n word))
-      ∙ rw (list-of-same n (line-at text width (set from n at) (set to n end) (set words n word)) (line-at text width from to words) same-line, new-line)
+      ∙ rw (
+        list-of-same n (line-at text width (set from n at) (set to n end) (set words n word))
+            (line-at text width from to words) same-line,
+        new-line,
+      )
 
   before-length : length (lines-at text width from to words n) ≡ n
   before-length = length-list-of n (line-at text width from to words)
 
-  starts-here : drop at text ≡ text-of (drop n (lines-at text width from to words n ++ line-of text width at end word ∷ [])) ++ drop next text
+  starts-here : drop at text ≡ text-of (drop n (lines-at text width from to words n ++ line-of text width at end word
+      ∷ [])) ++ drop next text
   starts-here =
       rw (
         drop-at (lines-at text width from to words n) (line-of text width at end word ∷ []) n before-length,
@@ -96,21 +106,26 @@ module _ (text : Bytes) (start width : ℕ) (from to words : List ℕ) (n ones a
       ) (line .stands .reads)
 
   starts-before : (u : ℕ) → u < n
-      → drop (getD from u 0) text ≡ text-of (drop u (lines-at text width from to words n ++ line-of text width at end word ∷ [])) ++ drop next text
+      → drop (getD from u 0) text ≡ text-of (drop u (lines-at text width from to words n ++ line-of text width at end
+      word ∷ [])) ++ drop next text
   starts-before u k =
       read .starts u k
       ∙ ap (λ (l : Bytes). text-of (drop u (lines-at text width from to words n)) ++ l) (line .stands .reads)
-      ∙ sym (append-assoc (text-of (drop u (lines-at text width from to words n))) (line-text (line-of text width at end word)) (drop next text))
+      ∙ sym (append-assoc (text-of (drop u (lines-at text width from to words n)))
+      (line-text (line-of text width at end word)) (drop next text))
       ∙ rw (
-        drop-append-le u (lines-at text width from to words n) (line-of text width at end word ∷ []) (omega (arith, before-length)),
+        drop-append-le u (lines-at text width from to words n) (line-of text width at end word ∷ [])
+            (omega (arith, before-length)),
         text-more (drop u (lines-at text width from to words n)) (line-of text width at end word),
       )
 
-  user-here : (u : ℕ) → u ≡ n → UserAt text width (getD (set from n at) u 0) (getD (set to n end) u 0) (getD (set words n word) u 0)
+  user-here : (u : ℕ) → u ≡ n → UserAt text width (getD (set from n at) u 0) (getD (set to n end) u 0)
+      (getD (set words n word) u 0)
   user-here u e = rw (e, here-from, here-to, here-word) (line .user)
 
   line-here : (u : ℕ) → u ≡ n
-      → drop (getD (set from n at) u 0) text ≡ text-of (drop u (lines-at text width from to words n ++ line-of text width at end word ∷ [])) ++ drop next text
+      → drop (getD (set from n at) u 0) text ≡ text-of
+      (drop u (lines-at text width from to words n ++ line-of text width at end word ∷ [])) ++ drop next text
   line-here u e = rw (e, here-from) starts-here
 
   counted-more : ones + count-below word-bits (bit word) ≡ ones-at (set words n word) (suc n)
@@ -120,7 +135,8 @@ module _ (text : Bytes) (start width : ℕ) (from to words : List ℕ) (n ones a
         sum-below-step n (λ u. count-below word-bits (bit (getD (set words n word) u 0))),
         here-word,
         read .counted,
-        sum-below-ext n (λ u. count-below word-bits (bit (getD (set words n word) u 0))) (λ u. count-below word-bits (bit (getD words u 0)))
+        sum-below-ext n (λ u. count-below word-bits (bit (getD (set words n word) u 0)))
+            (λ u. count-below word-bits (bit (getD words u 0)))
             (λ u k. rw (earlier words word u k)),
       )
 
@@ -131,11 +147,14 @@ module _ (text : Bytes) (start width : ℕ) (from to words : List ℕ) (n ones a
         few = h;
         each = λ u l.
             ⊎-elim (user-here u)
-            (λ k. rw (earlier from at u k, earlier to end u k, earlier words word u k) (read .each u k)) (last-or-below l);
+            (λ k. rw (earlier from at u k, earlier to end u k, earlier words word u k) (read .each u k))
+            (last-or-below l);
         stands = subst (λ (l : List Line). Stands text start (text-of l) next) (sym lines-grow)
-            (rw (text-more (lines-at text width from to words n) (line-of text width at end word)) (stands-then (read .stands) (line .stands)));
+            (rw (text-more (lines-at text width from to words n) (line-of text width at end word))
+            (stands-then (read .stands) (line .stands)));
         starts = λ u l.
-            subst (λ (l : List Line). drop (getD (set from n at) u 0) text ≡ text-of (drop u l) ++ drop next text) (sym lines-grow)
+            subst (λ (l : List Line). drop (getD (set from n at) u 0) text ≡ text-of (drop u l) ++ drop next text)
+            (sym lines-grow)
             (⊎-elim (line-here u) (λ k. rw (earlier from at u k) (starts-before u k)) (last-or-below l));
         unnoted = blank-kept n from to at end (read .unnoted);
         beyond = λ i l. getD-set-other words n i word 0 (λ e. omega arith) ∙ read .beyond i (omega arith);

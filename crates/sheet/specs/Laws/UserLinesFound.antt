@@ -1,4 +1,5 @@
--- The lines of users that a text is made of are found one by one: while bytes are left a line is left, and it is read. Assumes nothing.
+-- The lines of users that a text is made of are found one by one: while bytes are left a line is left, and it is
+-- read. Assumes nothing.
 use Prim.Native.Nat.{ℕ, suc, _≤_, _<_}
 use native.Mathlib.Omega.{arith}
 use mathlib.Core.Path.{_≡_, sym, ap, _∙_}
@@ -22,16 +23,19 @@ use Rattle.sheet.specs.declared.user_line.UserLine.{UserLine}
 -- of any lines that the text is made of from `start` on, all but the first n are left from `at` on
 abbrev pub LinesLeft : Bytes → ℕ → ℕ → ℕ → ℕ → Type 0
 LinesLeft text start width n at =
-    (names : List Bytes) (rows : List (List Bool)) → Fit width names rows → drop start text ≡ text-of (user-lines names rows)
+    (names : List Bytes) (rows : List (List Bool)) → Fit width names rows → drop start text ≡ text-of
+    (user-lines names rows)
     → drop at text ≡ text-of (user-lines (drop n names) (drop n rows))
 
 -- a row as its cells by number
-row-by-number : (row : List Bool) (width : ℕ) → length row ≡ width → map cell-text row ≡ list-of width (λ i. cell-text (getD row i false))
+row-by-number : (row : List Bool) (width : ℕ) → length row ≡ width → map cell-text row ≡ list-of width
+    (λ i. cell-text (getD row i false))
 row-by-number row width e =
     ap (map cell-text) (sym (list-of-places row false)) ∙ map-list-of cell-text (length row) (λ i. getD row i false)
     ∙ ap (λ (k : ℕ). list-of k (λ i. cell-text (getD row i false))) e
 
-module _ (text : Bytes) (start width n at : ℕ) (left : LinesLeft text start width n at) (h : at < length text) (names : List Bytes)
+module _ (text : Bytes) (start width n at : ℕ) (left : LinesLeft text start width n at) (h : at < length text)
+    (names : List Bytes)
     (rows : List (List Bool)) (fit : Fit width names rows) (e : drop start text ≡ text-of (user-lines names rows)) where
   -- while bytes are left, a line is
   line-below : n < length names
@@ -64,16 +68,20 @@ module _ (text : Bytes) (start width n at : ℕ) (left : LinesLeft text start wi
       }
 
 -- a line that was read leaves the others
-pub left-next : (text : Bytes) (start width n at : ℕ) → LinesLeft text start width n at → at < length text → (line : UserLine)
+pub left-next : (text : Bytes) (start width n at : ℕ) → LinesLeft text start width n at → at < length text
+    → (line : UserLine)
     → UserLineReads text at width line → LinesLeft text start width (suc n) (line .next)
 left-next text start width n at left h line read names rows fit e =
-    read .found (getD names n []) (λ i. getD (getD rows n []) i false) (text-of (user-lines (drop (suc n) names) (drop (suc n) rows)))
+    read .found (getD names n []) (λ i. getD (getD rows n []) i false)
+    (text-of (user-lines (drop (suc n) names) (drop (suc n) rows)))
     (next-spells text start width n at left h names rows fit e) .1
 
 -- and while bytes are left one is read
-pub line-found : (text : Bytes) (start width n at : ℕ) → LinesLeft text start width n at → at < length text → (line : UserLine)
+pub line-found : (text : Bytes) (start width n at : ℕ) → LinesLeft text start width n at → at < length text
+    → (line : UserLine)
     → UserLineReads text at width line → (names : List Bytes) (rows : List (List Bool)) → Fit width names rows
     → drop start text ≡ text-of (user-lines names rows) → So (line .good)
 line-found text start width n at left h line read names rows fit e =
-    read .found (getD names n []) (λ i. getD (getD rows n []) i false) (text-of (user-lines (drop (suc n) names) (drop (suc n) rows)))
+    read .found (getD names n []) (λ i. getD (getD rows n []) i false)
+    (text-of (user-lines (drop (suc n) names) (drop (suc n) rows)))
     (next-spells text start width n at left h names rows fit e) .0

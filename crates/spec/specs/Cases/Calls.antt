@@ -10,7 +10,16 @@ use Rattle.spec.specs.Decimal.{decimal}
 use Rattle.spec.specs.Book.{book}
 use Rattle.spec.specs.Session.{Session, fresh, session-book}
 use Rattle.spec.specs.Refusal.{refusal, write-causes}
-use Rattle.spec.specs.Calls.{after-load, SearchAnswer, search-answer, searched-on, after-search, WriteAnswer, write-answer, buffer-after}
+use Rattle.spec.specs.Calls.{
+  after-load,
+  SearchAnswer,
+  search-answer,
+  searched-on,
+  after-search,
+  WriteAnswer,
+  write-answer,
+  buffer-after,
+}
 use Rattle.spec.specs.Program.{is-budget, budget-of, program-buffer, printed, program-output}
 use Rattle.spec.specs.Sequence.{Call, load, search as searching, write, last-accepted, budgets-given, enough}
 
@@ -32,7 +41,8 @@ record Wrote : Type 0 where
 
 wrote : Session → ℕ → Wrote
 unfolding write-answer write-causes buffer-after session-book book sheet-of decimal
-wrote session room = record { answer = write-answer session (replicate room 7); lent = buffer-after session (replicate room 7) }
+wrote session room =
+    record { answer = write-answer session (replicate room 7); lent = buffer-after session (replicate room 7) }
 
 wrote-worked : ℕ → Wrote
 unfolding wrote worked after-load refusal sheet-of start-of kernel-of
@@ -68,7 +78,8 @@ steps-of session = search-answer session 100 .steps
 
 -- a second search goes on where the first ended, also after a refused load; an accepted load of the same sheet starts
 -- anew
-goes-on : steps-of moved ∷ steps-of (after-load moved []) ∷ steps-of (after-load moved improves) ∷ [] ≡ 28 ∷ 28 ∷ 45 ∷ []
+goes-on : steps-of moved ∷ steps-of (after-load moved []) ∷ steps-of (after-load moved improves) ∷ [] ≡ 28 ∷ 28 ∷ 45 ∷
+    []
 unfolding moved improves steps-of after-load refusal sheet-of start-of kernel-of lowest-below
 goes-on = refl
 
@@ -76,23 +87,29 @@ goes-on = refl
 
 -- a role has the users of its own grants and no others: x holds all that R2 holds, and has R1 alone
 narrow : program-output (ascii "user,a,b\nx,1,1\ny,0,1\n") []
-    ≡ ascii "roles,bound,state\n2,2,witnessed\n\nrole,a,b\nR1,1,1\nR2,0,1\n\nuser,R1,R2\nx,1,0\ny,0,1\n\nuser,permission\nx,a\ny,b\n"
-unfolding program-output printed program-buffer book-limit write-answer write-causes buffer-after budget-of is-budget budget-limit after-load after-search
+    ≡ ascii
+    "roles,bound,state\n2,2,witnessed\n\nrole,a,b\nR1,1,1\nR2,0,1\n\nuser,R1,R2\nx,1,0\ny,0,1\n\nuser,permission\nx,a\ny,b\n"
+unfolding program-output printed program-buffer book-limit write-answer write-causes buffer-after budget-of is-budget
+    budget-limit after-load after-search
     searched-on session-book refusal sheet-of kernel-of start-of search book decimal lowest-below
 narrow = refl
 
 -- a kernel whose first two groupings have six classes each: the earlier named is taken
 first-of-two : program-output improves []
     ≡ ascii "roles,bound,state\n6,4,open\n\nrole,a,b,c,d,e,f,g\nR1,1,1,0,1,0,1,0\nR2,0,1,0,1,0,1,1\nR3,0,1,0,0,1,0,0\n"
-    ++ ascii "R4,0,0,1,0,0,1,1\nR5,1,0,0,0,0,1,0\nR6,0,0,0,0,1,0,0\n\nuser,R1,R2,R3,R4,R5,R6\nq,1,1,0,0,0,0\nr,1,1,1,0,0,0\n"
-    ++ ascii "s,0,1,1,1,0,0\nt,1,0,0,0,0,0\nu,0,0,0,1,1,0\nv,0,0,1,1,1,1\nw,0,0,0,1,1,1\n\nuser,permission\nq,g\nr,e\ns,c\nt,d\n"
-unfolding improves program-output printed program-buffer book-limit write-answer write-causes buffer-after budget-of is-budget budget-limit after-load
+    ++ ascii
+    "R4,0,0,1,0,0,1,1\nR5,1,0,0,0,0,1,0\nR6,0,0,0,0,1,0,0\n\nuser,R1,R2,R3,R4,R5,R6\nq,1,1,0,0,0,0\nr,1,1,1,0,0,0\n"
+    ++ ascii
+    "s,0,1,1,1,0,0\nt,1,0,0,0,0,0\nu,0,0,0,1,1,0\nv,0,0,1,1,1,1\nw,0,0,0,1,1,1\n\nuser,permission\nq,g\nr,e\ns,c\nt,d\n"
+unfolding improves program-output printed program-buffer book-limit write-answer write-causes buffer-after budget-of
+    is-budget budget-limit after-load
     after-search searched-on session-book refusal sheet-of kernel-of start-of search book decimal lowest-below
 first-of-two = refl
 
 -- the budget is searched: 45 steps close the search
 searches : take 31 (program-output improves (ascii "45" ∷ [])) ≡ ascii "roles,bound,state\n5,5,searched\n"
-unfolding improves program-output printed program-buffer book-limit write-answer write-causes buffer-after budget-of is-budget budget-limit after-load
+unfolding improves program-output printed program-buffer book-limit write-answer write-causes buffer-after budget-of
+    is-budget budget-limit after-load
     after-search searched-on session-book refusal sheet-of kernel-of start-of search book decimal lowest-below
 searches = refl
 
@@ -103,7 +120,8 @@ refused = refl
 
 -- the greatest budget, and one beyond; no word, no digits, a sign, leading zeros; others are ignored
 budgets : map budget-of
-    ((ascii "4294967295" ∷ []) ∷ (ascii "4294967296" ∷ []) ∷ (ascii "" ∷ []) ∷ (ascii "1x" ∷ []) ∷ (ascii "-1" ∷ []) ∷ (ascii "007" ∷ [])
+    ((ascii "4294967295" ∷ []) ∷ (ascii "4294967296" ∷ []) ∷ (ascii "" ∷ []) ∷ (ascii "1x" ∷ []) ∷ (ascii "-1" ∷ []) ∷
+    (ascii "007" ∷ [])
     ∷ (ascii "5" ∷ ascii "6" ∷ []) ∷ [] ∷ [])
     ≡ 4_294_967_295 ∷ 0 ∷ 0 ∷ 0 ∷ 0 ∷ 7 ∷ 5 ∷ 0 ∷ []
 unfolding budget-of is-budget budget-limit

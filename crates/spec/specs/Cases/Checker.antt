@@ -2,7 +2,22 @@
 -- the form.
 use Prim.Native.String.{String}
 use mathlib.Core.Path.{refl}
-use Rattle.spec.specs.Vocabulary.{ℕ, _≡_, Bool, true, false, List, [], _∷_, _++_, map, some-below, every-below, lowest-below, list-of}
+use Rattle.spec.specs.Vocabulary.{
+  ℕ,
+  _≡_,
+  Bool,
+  true,
+  false,
+  List,
+  [],
+  _∷_,
+  _++_,
+  map,
+  some-below,
+  every-below,
+  lowest-below,
+  list-of,
+}
 use Rattle.spec.specs.Limits.{permission-limit, role-limit}
 use Rattle.spec.specs.Text.{Bytes, ascii}
 use Rattle.spec.specs.Sheet.{Sheet}
@@ -25,7 +40,8 @@ checked : Parts → CheckAnswer
 unfolding worked check
 checked parts =
     check worked
-    (ascii (parts .heading) ++ ascii "\n" ++ ascii (parts .counts) ++ ascii "\n\n" ++ ascii (parts .roles) ++ ascii "\n\n"
+    (ascii (parts .heading) ++ ascii "\n" ++ ascii (parts .counts) ++ ascii "\n\n" ++ ascii (parts .roles) ++ ascii
+    "\n\n"
     ++ ascii (parts .users) ++ ascii "\n\n" ++ ascii (parts .witness))
 
 -- the book that the program writes, and others with another block in its place
@@ -67,7 +83,8 @@ numbers books = map (λ parts. checked parts .number) books
 
 -- as the program writes it, witness lines in another order, `searched` and `open` with fewer lines than roles
 good : map checked
-    (with-counts "2,2,witnessed" two ∷ with-witness "user,permission\nbo,map\nann,rec\n" ∷ with-counts "2,2,searched" one
+    (with-counts "2,2,witnessed" two ∷ with-witness "user,permission\nbo,map\nann,rec\n" ∷ with-counts "2,2,searched"
+    one
     ∷ with-counts "2,1,open" one ∷ [])
     ≡ record { number = 0; roles = 2; witness-lines = 2 } ∷ record { number = 0; roles = 2; witness-lines = 2 }
     ∷ record { number = 0; roles = 2; witness-lines = 1 } ∷ record { number = 0; roles = 2; witness-lines = 1 } ∷ []
@@ -76,16 +93,19 @@ good = refl
 
 with-heading : String → Parts
 unfolding roles users two
-with-heading heading = record { heading = heading; counts = "2,2,witnessed"; roles = roles; users = users; witness = two }
+with-heading heading =
+    record { heading = heading; counts = "2,2,witnessed"; roles = roles; users = users; witness = two }
 
 -- block 1: another heading
-heading-off : numbers (with-heading "roles,bound,state" ∷ with-heading "role,bound,state" ∷ with-heading "roles,bound" ∷ []) ≡ 0 ∷ 12 ∷ 12 ∷ []
+heading-off : numbers (with-heading "roles,bound,state" ∷ with-heading "role,bound,state" ∷ with-heading "roles,bound"
+    ∷ []) ≡ 0 ∷ 12 ∷ 12 ∷ []
 unfolding numbers with-heading some-below every-below lowest-below
 heading-off = refl
 
 -- block 1: a leading zero in either count, no state word, a field too few and one too many, a line more
 counts-off : numbers
-    (with-counts "02,2,witnessed" two ∷ with-counts "2,02,witnessed" two ∷ with-counts "2,2,closed" two ∷ with-counts "2,2" two
+    (with-counts "02,2,witnessed" two ∷ with-counts "2,02,witnessed" two ∷ with-counts "2,2,closed" two ∷ with-counts
+    "2,2" two
     ∷ with-counts "2,2,witnessed,2" two ∷ with-counts "2,2,witnessed\n2" two ∷ [])
     ≡ 12 ∷ 12 ∷ 12 ∷ 12 ∷ 12 ∷ 12 ∷ []
 unfolding numbers with-counts two some-below every-below lowest-below
@@ -105,7 +125,8 @@ roles-off = refl
 many-roles : ℕ → Bool
 unfolding roles-form
 many-roles count =
-    roles-form (record { users = []; permissions = []; rows = [] }) ((ascii "role" ∷ []) ∷ list-of count (λ r. role-name r ∷ []))
+    roles-form (record { users = []; permissions = []; rows = [] }) ((ascii "role" ∷ []) ∷ list-of count
+    (λ r. role-name r ∷ []))
 
 role-limits : map many-roles (64 ∷ 65 ∷ []) ≡ true ∷ false ∷ []
 unfolding many-roles role-limit permission-limit role-name every-below
@@ -136,7 +157,8 @@ witness-off = refl
 -- counts that disagree: another number of roles; `witnessed` with another bound, and with fewer lines; `searched` with
 -- as many lines as roles, and with another bound; `open` with another bound, and with as many lines as roles
 counts-disagree : numbers
-    (with-counts "3,2,witnessed" two ∷ with-counts "2,1,witnessed" two ∷ with-counts "2,2,witnessed" one ∷ with-counts "2,2,searched" two
+    (with-counts "3,2,witnessed" two ∷ with-counts "2,1,witnessed" two ∷ with-counts "2,2,witnessed" one ∷ with-counts
+    "2,2,searched" two
     ∷ with-counts "2,1,searched" one ∷ with-counts "2,2,open" one ∷ with-counts "2,2,open" two ∷ [])
     ≡ 13 ∷ 13 ∷ 13 ∷ 13 ∷ 13 ∷ 13 ∷ 13 ∷ []
 unfolding numbers with-counts two one some-below every-below lowest-below
@@ -144,7 +166,8 @@ counts-disagree = refl
 
 -- a permission too many, and one too few
 product-differs : numbers
-    (with-roles "role,rec,id,map\nR1,1,1,1\nR2,0,1,1" ∷ with-roles "role,rec,id,map\nR1,1,0,0\nR2,0,1,1" ∷ []) ≡ 14 ∷ 14 ∷ []
+    (with-roles "role,rec,id,map\nR1,1,1,1\nR2,0,1,1" ∷ with-roles "role,rec,id,map\nR1,1,0,0\nR2,0,1,1" ∷ []) ≡ 14 ∷
+    14 ∷ []
 unfolding numbers with-roles some-below every-below lowest-below
 product-differs = refl
 

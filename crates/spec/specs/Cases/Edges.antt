@@ -7,12 +7,34 @@ use Rattle.spec.specs.Sheet.{Grant, sheet-of}
 use Rattle.spec.specs.Reduction.{kernel}
 use Rattle.spec.specs.Witness.{witness}
 use Rattle.spec.specs.Machine.{depth, search}
-use Rattle.spec.specs.Roles.{Standing, witnessed, searched, unsettled, kernel-of, start-of, role-count, bound, standing}
+use Rattle.spec.specs.Roles.{
+  Standing,
+  witnessed,
+  searched,
+  unsettled,
+  kernel-of,
+  start-of,
+  role-count,
+  bound,
+  standing,
+}
 use Rattle.spec.specs.Decimal.{decimal}
 use Rattle.spec.specs.Book.{book}
 use Rattle.spec.specs.Session.{Session, no-sheet, loaded, fresh, session-book}
 use Rattle.spec.specs.Refusal.{refusal, write-causes}
-use Rattle.spec.specs.Calls.{LoadAnswer, load-answer, load-refused, after-load, SearchAnswer, search-answer, search-refused, searched-on, after-search, write-answer, buffer-after}
+use Rattle.spec.specs.Calls.{
+  LoadAnswer,
+  load-answer,
+  load-refused,
+  after-load,
+  SearchAnswer,
+  search-answer,
+  search-refused,
+  searched-on,
+  after-search,
+  write-answer,
+  buffer-after,
+}
 use Rattle.spec.specs.Program.{is-budget, budget-of, program-buffer, printed, program-output}
 
 -- a sheet to load into a fresh session, and the budget of one search after it
@@ -37,7 +59,8 @@ session-witness no-sheet = []
 session-witness (loaded text st) = witness (sheet-of text)
 
 finding : Trial → Finding
-unfolding load-answer search-answer after-load after-search placed-in-session session-witness searched-on refusal sheet-of kernel witness start-of kernel-of search role-count bound standing
+unfolding load-answer search-answer after-load after-search placed-in-session session-witness searched-on refusal
+    sheet-of kernel witness start-of kernel-of search role-count bound standing
 finding trial =
     let session : Session = after-load fresh (trial .sheet) in
     record {
@@ -62,7 +85,8 @@ crown-of-four = ascii "user,a,b,c,d\nw,0,1,1,1\nx,1,0,1,1\ny,1,1,0,1\nz,1,1,1,0\
 -- below the new class count, step 17 would go another way; were class number b - 1 opened, step 20
 improves : Bytes
 improves =
-    ascii "user,a,b,c,d,e,f,g\nq,1,1,0,1,0,1,1\nr,1,1,0,1,1,1,1\ns,0,1,1,1,1,1,1\nt,1,1,0,1,0,1,0\nu,1,0,1,0,0,1,1\nv,1,1,1,0,1,1,1\nw,1,0,1,0,1,1,1\n"
+    ascii
+    "user,a,b,c,d,e,f,g\nq,1,1,0,1,0,1,1\nr,1,1,0,1,1,1,1\ns,0,1,1,1,1,1,1\nt,1,1,0,1,0,1,0\nu,1,0,1,0,0,1,1\nv,1,1,1,0,1,1,1\nw,1,0,1,0,1,1,1\n"
 
 -- a sheet with a kernel and a single, whose search reaches w in step 21: a machine that does not look for w then, or
 -- leaves out the single, goes on
@@ -79,7 +103,8 @@ counts users permissions grants kernel witness =
 
 -- figures of an accepted search
 figures : ℕ → ℕ → ℕ → Standing → SearchAnswer
-figures steps roles bound standing = record { number = 0; steps = steps; roles = roles; bound = bound; standing = some standing }
+figures steps roles bound standing =
+    record { number = 0; steps = steps; roles = roles; bound = bound; standing = some standing }
 
 trials : List Trial
 unfolding trial worked crown-of-three crown-of-four improves reaches
@@ -147,6 +172,9 @@ edges = refl
 
 -- the worked example's whole book from the sheet's bytes
 worked-book : program-output worked [] ≡
-    ascii "roles,bound,state\n2,2,witnessed\n\nrole,rec,id,map\nR1,1,1,0\nR2,0,1,1\n\nuser,R1,R2\nann,1,0\nbo,0,1\ncy,1,1\n\nuser,permission\nann,rec\nbo,map\n"
-unfolding program-output printed program-buffer book-limit write-answer write-causes buffer-after worked lowest-below budget-of is-budget budget-limit after-load after-search searched-on session-book refusal sheet-of kernel-of start-of search book decimal
+    ascii
+    "roles,bound,state\n2,2,witnessed\n\nrole,rec,id,map\nR1,1,1,0\nR2,0,1,1\n\nuser,R1,R2\nann,1,0\nbo,0,1\ncy,1,1\n\nuser,permission\nann,rec\nbo,map\n"
+unfolding program-output printed program-buffer book-limit write-answer write-causes buffer-after worked lowest-below
+    budget-of is-budget budget-limit after-load after-search searched-on session-book refusal sheet-of kernel-of
+    start-of search book decimal
 worked-book = refl

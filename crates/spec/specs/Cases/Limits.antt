@@ -1,9 +1,20 @@
 -- The limits, beside the paper's numbers.
 use Rattle.spec.specs.Vocabulary.{ℕ, List, [], _∷_}
 use mathlib.Core.Path.{_≡_, refl}
-use Rattle.spec.specs.Limits.{sheet-limit, permission-limit, user-limit, name-limit, grant-limit, search-limit, budget-limit, role-limit, book-limit}
+use Rattle.spec.specs.Limits.{
+  sheet-limit,
+  permission-limit,
+  user-limit,
+  name-limit,
+  grant-limit,
+  search-limit,
+  budget-limit,
+  role-limit,
+  book-limit,
+}
 
-limits : sheet-limit ∷ permission-limit ∷ user-limit ∷ name-limit ∷ grant-limit ∷ search-limit ∷ budget-limit ∷ role-limit ∷ book-limit ∷ []
+limits : sheet-limit ∷ permission-limit ∷ user-limit ∷ name-limit ∷ grant-limit ∷ search-limit ∷ budget-limit ∷
+    role-limit ∷ book-limit ∷ []
     ≡ 40_960 ∷ 64 ∷ 256 ∷ 16 ∷ 2_048 ∷ 128 ∷ 4_294_967_295 ∷ 64 ∷ 65_536 ∷ []
 unfolding sheet-limit permission-limit user-limit name-limit grant-limit search-limit budget-limit role-limit book-limit
 limits = refl

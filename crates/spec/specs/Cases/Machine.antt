@@ -70,7 +70,12 @@ stand-of : Ran → Stand
 stand-of ran =
     record { steps = ran .steps; placed = depth (ran .state); best = ran .state .best; finished = ran .state .finished }
 
-finishes : stand-of (search (pair 2) 10 (start (pair 2) apart)) ≡ record { steps = 2; placed = 2; best = 0 ∷ 0 ∷ []; finished = true }
+finishes : stand-of (search (pair 2) 10 (start (pair 2) apart)) ≡ record {
+  steps = 2;
+  placed = 2;
+  best = 0 ∷ 0 ∷ [];
+  finished = true;
+}
 unfolding search pair apart stand-of lowest-below
 finishes = refl
 

@@ -1,11 +1,34 @@
 -- "The sheet" and causes 1 to 9: which bytes are allowed, a sheet for each cause and its neighbours, and both sides of
 -- each limit, computed from the definitions.
 use mathlib.Core.Path.{refl}
-use Rattle.spec.specs.Vocabulary.{ℕ, suc, _≡_, Bool, true, false, List, [], _∷_, _++_, map, length, replicate, filter, list-of}
+use Rattle.spec.specs.Vocabulary.{
+  ℕ,
+  suc,
+  _≡_,
+  Bool,
+  true,
+  false,
+  List,
+  [],
+  _∷_,
+  _++_,
+  map,
+  length,
+  replicate,
+  filter,
+  list-of,
+}
 use Rattle.spec.specs.Limits.{sheet-limit, permission-limit, user-limit, name-limit, grant-limit}
 use Rattle.spec.specs.Text.{Bytes, ascii, allowed-byte}
 use Rattle.spec.specs.Sheet.{Sheet}
-use Rattle.spec.specs.Refusal.{too-long, bad-first-line, bad-line-count, has-name-length, too-many-grants, refusal}
+use Rattle.spec.specs.Refusal.{
+  too-long,
+  bad-first-line,
+  bad-line-count,
+  has-name-length,
+  too-many-grants,
+  refusal,
+}
 
 -- of all 256 bytes these are allowed
 bytes : filter allowed-byte (list-of 256 (λ b. b))
@@ -34,7 +57,8 @@ refusals = refl
 
 -- a sheet of so many full rows of 64, and a last row of so many ones
 full : ℕ → ℕ → Sheet
-full rows ones = record { users = []; permissions = []; rows = replicate rows (replicate 64 true) ++ replicate ones true ∷ [] }
+full rows ones =
+    record { users = []; permissions = []; rows = replicate rows (replicate 64 true) ++ replicate ones true ∷ [] }
 
 -- whether each limit is passed at the limit and one beyond: 64 permissions, 256 users, 16 bytes of a name, 2,048
 -- grants

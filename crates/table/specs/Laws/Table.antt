@@ -1,5 +1,6 @@
--- How the fit table comes about: a word position by position, the table word by word. Word t has the positions of grant t / table-row that its place in the
--- row says, so position j of grant i's words is in the word i * table-row + j / word-bits.
+-- How the fit table comes about: a word position by position, the table word by word. Word t has the positions of
+-- grant t / table-row that its place in the row says, so position j of grant i's words is in the word i * table-row +
+-- j / word-bits.
 use Prim.Native.Nat.{ℕ, _+_, _*_, _/_, _%_, _<_, _≤_}
 use native.Mathlib.Nat.{mod-lt, div-add-mod', div-lt-iff-lt-mul}
 use native.Mathlib.Omega.{arith}
@@ -27,27 +28,37 @@ no-bits test = record { bits = λ q l. rw (le-ltb q 0 (omega arith)) (bit-of-zer
 
 module _ (test : ℕ → Bool) (count word : ℕ) (first : FirstBits test count word) where
   -- past the position count nothing changes, and before it neither
-  one-more : (q : ℕ) (b : Bool) → test count ≡ b → q < word-bits → (bit word q || (eqb q count && b)) ≡ (ltb q (count + 1) && test q)
+  one-more : (q : ℕ) (b : Bool) → test count ≡ b → q < word-bits → (bit word q || (eqb q count && b)) ≡
+      (ltb q (count + 1) && test q)
   one-more q b e l =
       rw (first .bits q l)
       (⊎-elim
-      (λ (k : q < count). rw (lt-ltb q count k, lt-ltb q (count + 1) (omega arith), ne-eqb q count (omega arith)) (or-false (test q)))
+      (λ (k : q < count). rw (lt-ltb q count k, lt-ltb q (count + 1) (omega arith), ne-eqb q count (omega arith))
+      (or-false (test q)))
       (λ (k : count ≤ q). rw (le-ltb q count k) (at-least k))
       (below-or-from q count))
     where
       at-least : count ≤ q → (eqb q count && b) ≡ (ltb q (count + 1) && test q)
       at-least k =
           ⊎-elim
-          (λ (m : q < count + 1). let same : q ≡ count = omega arith in rw (eq-eqb q count same, lt-ltb q (count + 1) m, same) (sym e))
+          (λ (m : q < count + 1). let same : q ≡ count = omega arith
+          in rw (eq-eqb q count same, lt-ltb q (count + 1) m, same) (sym e))
           (λ (m : count + 1 ≤ q). rw (ne-eqb q count (omega arith), le-ltb q (count + 1) m))
           (below-or-from q (count + 1))
 
-  pub bit-put-in : (with : ℕ) → So (test count) → ((q : ℕ) → bit with q ≡ (bit word q || eqb q count)) → FirstBits test (count + 1) with
-  bit-put-in with p says = record { bits = λ q l. says q ∙ ap (λ b. bit word q || b) (sym (and-true (eqb q count))) ∙ one-more q true p l }
+  pub bit-put-in : (with : ℕ) → So (test count) → ((q : ℕ) → bit with q ≡ (bit word q || eqb q count))
+      → FirstBits test (count + 1) with
+  bit-put-in with p says = record {
+    bits = λ q l. says q ∙ ap (λ b. bit word q || b) (sym (and-true (eqb q count)))
+        ∙ one-more q true p l;
+  }
 
   pub bit-left-out : test count ≡ false → FirstBits test (count + 1) word
   bit-left-out f =
-      record { bits = λ q l. sym (or-false (bit word q)) ∙ ap (λ b. bit word q || b) (sym (and-false (eqb q count))) ∙ one-more q false f l }
+      record {
+        bits = λ q l. sym (or-false (bit word q)) ∙ ap (λ b. bit word q || b) (sym (and-false (eqb q count)))
+            ∙ one-more q false f l;
+      }
 
 -- ---- the words
 
@@ -55,9 +66,13 @@ module _ (test : ℕ → Bool) (count word : ℕ) (first : FirstBits test count 
 pub record FirstWords (rows cells : List ℕ) (t : ℕ) (words : List ℕ) : Type 0 where
   pub word : (s : ℕ) → s < t → FirstBits (table-word rows cells s) word-bits (getD words s 0)
 
-pub word-put-in : (rows cells : List ℕ) (t : ℕ) (words : List ℕ) (w : ℕ) → FirstWords rows cells t words → t < length words
+pub word-put-in : (rows cells : List ℕ) (t : ℕ) (words : List ℕ) (w : ℕ) → FirstWords rows cells t words
+    → t < length words
     → FirstBits (table-word rows cells t) word-bits w → FirstWords rows cells (t + 1) (set words t w)
-word-put-in rows cells t words w first inside here = record { word = λ s l. ⊎-elim (earlier s) (latest s l) (below-or-from s t) }
+word-put-in rows cells t words w first inside here = record {
+  word = λ s l. ⊎-elim (earlier s) (latest s l)
+      (below-or-from s t);
+}
   where
     earlier : (s : ℕ) → s < t → FirstBits (table-word rows cells s) word-bits (getD (set words t w) s 0)
     earlier s l = rw (getD-set-other words t s w 0 (omega arith)) (first .word s l)
@@ -79,7 +94,13 @@ module _ (rows cells words : List ℕ) (first : FirstWords rows cells (table-lim
       let inside : j / word-bits < table-row = div-lt-iff-lt-mul (lit< tt) .1 l in
       let position : j % word-bits < word-bits = mod-lt j (lit< tt) in
       first .word (i * table-row + j / word-bits) (digits-lt k inside) .bits (j % word-bits) position
-      ∙ rw (lt-ltb (j % word-bits) word-bits position, digits-div i inside, digits-mod i inside, div-add-mod' j word-bits)
+      ∙ rw (
+        lt-ltb (j % word-bits) word-bits position,
+        digits-div i inside,
+        digits-mod i inside,
+        div-add-mod' j
+            word-bits,
+      )
 
   -- the cells of the kernel give its table
   pub table-of : {users : ℕ} {sheet : Sheet} → Shown rows users sheet → Table sheet (map grant-of cells) words

@@ -1,5 +1,5 @@
--- How the fit table comes about from its parts: a word of the cells that are there, the word of a grant from its user's and its permission's, and the table
--- grant by grant. Past the last grant its words stay 0.
+-- How the fit table comes about from its parts: a word of the cells that are there, the word of a grant from its
+-- user's and its permission's, and the table grant by grant. Past the last grant its words stay 0.
 use Prim.Native.Nat.{ℕ, _+_, _*_, _/_, _%_, _<_, _≤_}
 use native.Mathlib.Omega.{arith}
 use mathlib.Core.Path.{_≡_, refl, sym, _∙_}
@@ -17,11 +17,19 @@ use Rattle.bits.specs.Bit.{bit, word-bits}
 use Rattle.bits.specs.Laws.Bit.{bit-of-zero, bit-and}
 use Rattle.cells.specs.Rows.{row-bits}
 use Rattle.table.specs.TableWords.{table-row, table-limit, table-word, FirstBits}
-use Rattle.table.specs.TableParts.{CellsFrom, user-holds-at, user-holds, permission-held-at, permission-held, ColumnsOf}
+use Rattle.table.specs.TableParts.{
+  CellsFrom,
+  user-holds-at,
+  user-holds,
+  permission-held-at,
+  permission-held,
+  ColumnsOf,
+}
 use Rattle.table.specs.Laws.Table.{FirstWords, word-put-in}
 
 -- a word of the cells that are there has no other
-pub all-cells : {size from count : ℕ} → CellsFrom size from count → (test : ℕ → Bool) {word : ℕ} → FirstBits test count word
+pub all-cells : {size from count : ℕ} → CellsFrom size from count → (test : ℕ → Bool) {word : ℕ}
+    → FirstBits test count word
     → FirstBits (λ q. ltb (from + q) size && test q) word-bits word
 all-cells {size} {from} {count} there test first = record {
   bits = λ q l. first .bits q l ∙ rw (lt-ltb q word-bits l) (⊎-elim (inside q) (outside q l) (below-or-from q count));
@@ -34,8 +42,10 @@ all-cells {size} {from} {count} there test first = record {
     outside q l k = rw (le-ltb q count k, le-ltb (from + q) size (there .all q l k))
 
 -- the permission of one more cell
-pub permission-put-in : (cells : List ℕ) (i word with p : ℕ) → p ≡ getD cells i 0 % row-bits → ((q : ℕ) → bit with q ≡ (bit word q || eqb q p))
-    → ((j : ℕ) → j < i → So (bit word (getD cells j 0 % row-bits))) → (j : ℕ) → j < i + 1 → So (bit with (getD cells j 0 % row-bits))
+pub permission-put-in : (cells : List ℕ) (i word with p : ℕ) → p ≡ getD cells i 0 % row-bits
+    → ((q : ℕ) → bit with q ≡ (bit word q || eqb q p))
+    → ((j : ℕ) → j < i → So (bit word (getD cells j 0 % row-bits))) → (j : ℕ) → j < i + 1
+    → So (bit with (getD cells j 0 % row-bits))
 permission-put-in cells i word with p e says earlier j l =
     says (getD cells j 0 % row-bits) ∙ ⊎-elim (λ k. rw (earlier j k)) latest (below-or-from j i)
   where
@@ -45,22 +55,28 @@ permission-put-in cells i word with p e says earlier j l =
         rw (same, eq-eqb (getD cells i 0 % row-bits) p (sym e)) (or-true (bit word (getD cells i 0 % row-bits)))
 
 -- the columns of the permissions below p + 1
-module _ {rows cells : List ℕ} {from some p : ℕ} {words : List ℕ} (so-far : ColumnsOf rows cells from some p words) where
-  pub column-put-in : (w : ℕ) → p < length words → FirstBits (user-holds rows cells from p) word-bits w
-      → ColumnsOf rows cells from some (p + 1) (set words p w)
-  column-put-in w inside here = record { column = λ q l m. ⊎-elim (earlier q m) (latest q l) (below-or-from q p) }
-    where
-      earlier : (q : ℕ) → So (bit some q) → q < p → FirstBits (user-holds rows cells from q) word-bits (getD (set words p w) q 0)
-      earlier q m k = rw (getD-set-other words p q w 0 (omega arith)) (so-far .column q k m)
+module _ {rows cells : List ℕ} {from some p : ℕ} {words : List ℕ} (so-far : ColumnsOf rows cells from some p words)
+  where
+    pub column-put-in : (w : ℕ) → p < length words → FirstBits (user-holds rows cells from p) word-bits w
+        → ColumnsOf rows cells from some (p + 1) (set words p w)
+    column-put-in w inside here = record { column = λ q l m. ⊎-elim (earlier q m) (latest q l) (below-or-from q p) }
+      where
+        earlier : (q : ℕ) → So (bit some q) → q < p → FirstBits (user-holds rows cells from q) word-bits
+            (getD (set words p w) q 0)
+        earlier q m k = rw (getD-set-other words p q w 0 (omega arith)) (so-far .column q k m)
 
-      latest : (q : ℕ) → q < p + 1 → p ≤ q → FirstBits (user-holds rows cells from q) word-bits (getD (set words p w) q 0)
-      latest q l k = let same : q ≡ p = omega arith in rw (same, getD-set-same words p w 0 inside) here
+        latest : (q : ℕ) → q < p + 1 → p ≤ q → FirstBits (user-holds rows cells from q) word-bits
+            (getD (set words p w) q 0)
+        latest q l k = let same : q ≡ p = omega arith in rw (same, getD-set-same words p w 0 inside) here
 
-  pub column-left-out : bit some p ≡ false → ColumnsOf rows cells from some (p + 1) words
-  column-left-out f = record { column = λ q l m. ⊎-elim (λ k. so-far .column q k m) (λ k. absurd (latest q l m k)) (below-or-from q p) }
-    where
-      latest : (q : ℕ) → q < p + 1 → So (bit some q) → p ≤ q → ⊥
-      latest q l m k = let same : q ≡ p = omega arith in false≢true (sym f ∙ rw same at m)
+    pub column-left-out : bit some p ≡ false → ColumnsOf rows cells from some (p + 1) words
+    column-left-out f = record {
+      column = λ q l m. ⊎-elim (λ k. so-far .column q k m) (λ k. absurd (latest q l m k))
+          (below-or-from q p);
+    }
+      where
+        latest : (q : ℕ) → q < p + 1 → So (bit some q) → p ≤ q → ⊥
+        latest q l m k = let same : q ≡ p = omega arith in false≢true (sym f ∙ rw same at m)
 
 -- two tests of cells that are there
 both-there : (there a b : Bool) → ((there && a) && (there && b)) ≡ (there && (a && b))
@@ -72,13 +88,25 @@ both-there false a b = refl
 module _ (rows cells : List ℕ) (i half : ℕ) (there : i < length cells) (inside : half < table-row) where
   fit-word : {t p mine theirs : ℕ} → t ≡ i * table-row + half → p ≡ getD cells i 0 % row-bits
       → FirstBits (permission-held rows cells (half * word-bits) (getD cells i 0 / row-bits)) word-bits mine
-      → FirstBits (user-holds rows cells (half * word-bits) p) word-bits theirs → FirstBits (table-word rows cells t) word-bits (bitAnd mine theirs)
+      → FirstBits (user-holds rows cells (half * word-bits) p) word-bits theirs → FirstBits (table-word rows cells t)
+      word-bits (bitAnd mine theirs)
   fit-word {t} {p} {mine} {theirs} e same held holds =
       record {
         bits = λ q l.
             bit-and mine theirs q
-            ∙ rw (held .bits q l, holds .bits q l, lt-ltb q word-bits l, e, same, digits-div i inside, digits-mod i inside, lt-ltb i (length cells) there)
-            (both-there (ltb (half * word-bits + q) (length cells)) (permission-held-at rows cells (half * word-bits) (getD cells i 0 / row-bits) q)
+            ∙ rw (
+              held .bits q l,
+              holds .bits q l,
+              lt-ltb q word-bits l,
+              e,
+              same,
+              digits-div i inside,
+              digits-mod i
+                  inside,
+              lt-ltb i (length cells) there,
+            )
+            (both-there (ltb (half * word-bits + q) (length cells)) (permission-held-at rows cells (half * word-bits)
+            (getD cells i 0 / row-bits) q)
             (user-holds-at rows cells (half * word-bits) (getD cells i 0 % row-bits) q));
       }
 
@@ -96,7 +124,8 @@ nothing-filled rows cells =
 
 module _ {rows cells : List ℕ} {i : ℕ} {words : List ℕ} (filled : Filled rows cells i words) where
   row-filled : {a b : ℕ} → i < table-limit → length words ≡ table-limit * table-row
-      → FirstBits (table-word rows cells (i * table-row)) word-bits a → FirstBits (table-word rows cells (i * table-row + 1)) word-bits b
+      → FirstBits (table-word rows cells (i * table-row)) word-bits a
+      → FirstBits (table-word rows cells (i * table-row + 1)) word-bits b
       → Filled rows cells (i + 1) (set (set words (i * table-row) a) (i * table-row + 1) b)
   unfolding table-row
   row-filled {a} {b} inside size low high =
@@ -111,11 +140,15 @@ module _ {rows cells : List ℕ} {i : ℕ} {words : List ℕ} (filled : Filled r
       }
 
   -- the two words of a grant
-  pub grant-filled : {p mine-low mine-high low high : ℕ} → i < table-limit → i < length cells → length words ≡ table-limit * table-row
-      → p ≡ getD cells i 0 % row-bits → FirstBits (permission-held rows cells 0 (getD cells i 0 / row-bits)) word-bits mine-low
+  pub grant-filled : {p mine-low mine-high low high : ℕ} → i < table-limit → i < length cells
+      → length words ≡ table-limit * table-row
+      → p ≡ getD cells i 0 % row-bits → FirstBits (permission-held rows cells 0 (getD cells i 0 / row-bits)) word-bits
+      mine-low
       → FirstBits (permission-held rows cells word-bits (getD cells i 0 / row-bits)) word-bits mine-high
-      → FirstBits (user-holds rows cells 0 p) word-bits low → FirstBits (user-holds rows cells word-bits p) word-bits high
-      → Filled rows cells (i + 1) (set (set words (i * table-row) (bitAnd mine-low low)) (i * table-row + 1) (bitAnd mine-high high))
+      → FirstBits (user-holds rows cells 0 p) word-bits low → FirstBits (user-holds rows cells word-bits p) word-bits
+      high
+      → Filled rows cells (i + 1) (set (set words (i * table-row) (bitAnd mine-low low)) (i * table-row + 1)
+      (bitAnd mine-high high))
   unfolding table-row
   grant-filled inside there size same mine-low mine-high low high =
       row-filled inside size (fit-word rows cells i 0 there (omega arith) (omega arith) same mine-low low)
@@ -130,5 +163,11 @@ module _ {rows cells : List ℕ} {i : ℕ} {words : List ℕ} (filled : Filled r
       past s l k =
           record {
             bits = λ q m.
-                rw (filled .rest s k l, bit-of-zero q, lt-ltb q word-bits m, le-ltb (s / 2) (length cells) (omega (arith, last (omega arith))));
+                rw (
+                  filled .rest s k l,
+                  bit-of-zero q,
+                  lt-ltb q word-bits m,
+                  le-ltb (s / 2) (length cells)
+                      (omega (arith, last (omega arith))),
+                );
           }

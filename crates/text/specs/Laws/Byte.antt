@@ -1,5 +1,5 @@
--- Which bytes a name can have, and which a sheet: a byte of a name is neither comma nor line feed, and any other allowed byte is a byte of a
--- name. Assumes nothing.
+-- Which bytes a name can have, and which a sheet: a byte of a name is neither comma nor line feed, and any other
+-- allowed byte is a byte of a name. Assumes nothing.
 use Prim.Native.Nat.{ℕ, _≤_}
 use mathlib.Core.Path.{_≡_, refl, sym, subst}
 use mathlib.Core.Logic.{⊎-elim}
@@ -21,7 +21,8 @@ between-high low high n p = leb-true n high (and-right (leb low n) (leb n high) 
 
 -- a byte of a name differs from every byte that is none
 other-byte : (b c : ℕ) → So (name-byte b) → name-byte c ≡ false → eqb c b ≡ false
-other-byte b c p f = fails-unless (eqb c b) (λ e. not-both p (subst (λ (d : ℕ). name-byte d ≡ false) (eqb-true c b e) f))
+other-byte b c p f =
+    fails-unless (eqb c b) (λ e. not-both p (subst (λ (d : ℕ). name-byte d ≡ false) (eqb-true c b e) f))
 
 pub name-byte-no-comma : (b : ℕ) → So (name-byte b) → eqb comma b ≡ false
 unfolding name-byte
@@ -52,5 +53,6 @@ swapped b c e = eq-eqb c b (sym (eqb-true b c e))
 pub allowed-name-byte : (b : ℕ) → So (allowed-byte b) → eqb comma b ≡ false → eqb line-feed b ≡ false → So (name-byte b)
 unfolding allowed-byte
 allowed-name-byte b p c f =
-    ⊎-elim (λ q. ⊎-elim (λ r. r) (λ r. absurd (not-both (swapped b comma r) c)) (or-cases (name-byte b) (eqb b comma) q))
+    ⊎-elim (λ q. ⊎-elim (λ r. r) (λ r. absurd (not-both (swapped b comma r) c)) (or-cases (name-byte b) (eqb b comma)
+    q))
     (λ q. absurd (not-both (swapped b line-feed q) f)) (or-cases (name-byte b || eqb b comma) (eqb b line-feed) p)

@@ -1,4 +1,5 @@
--- Cause 2 on a text that is taken by numbers: an empty text is of it, and any other has its last byte at one less than its length. Assumes nothing.
+-- Cause 2 on a text that is taken by numbers: an empty text is of it, and any other has its last byte at one less
+-- than its length. Assumes nothing.
 use Prim.Native.Nat.{ℕ, suc, _-_}
 use native.Mathlib.Omega.{arith}
 use mathlib.Core.Path.{_≡_, refl}

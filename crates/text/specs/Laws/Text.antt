@@ -1,5 +1,6 @@
--- Reading lines and fields undoes writing them, and writing undoes reading. Lines are cut at line feeds and fields at commas, so both
--- follow from the laws of cutting, first for the fields of each line and then for the lines of the text. Assumes nothing.
+-- Reading lines and fields undoes writing them, and writing undoes reading. Lines are cut at line feeds and fields at
+-- commas, so both follow from the laws of cutting, first for the fields of each line and then for the lines of the
+-- text. Assumes nothing.
 use Prim.Native.Nat.{ℕ, _≤_}
 use mathlib.Core.Path.{_≡_, refl, sym, ap, _∙_}
 use mathlib.Core.Logic.{⊎-elim}
@@ -11,7 +12,19 @@ use lib.ListN.{length}
 use Rattle.spec.specs.Vocabulary.{joined, concat}
 use Rattle.spec.specs.Text.{last-byte, Bytes, Line, comma, line-feed, lines, fields, lines-of, text-of}
 use Rattle.lists.specs.JoinLaws.{joined-element, map-fixed}
-use Rattle.lists.specs.CutLaws.{Free, Parts, closed, ending, parted-joined, joined-parted, parted-some, ended-concat, concat-ended, parted-element, ended-element}
+use Rattle.lists.specs.CutLaws.{
+  Free,
+  Parts,
+  closed,
+  ending,
+  parted-joined,
+  joined-parted,
+  parted-some,
+  ended-concat,
+  concat-ended,
+  parted-element,
+  ended-element,
+}
 
 -- a field that a line can hold: neither comma nor line feed stands in it
 pub record Field (field : Bytes) : Type 0 where
@@ -42,7 +55,8 @@ pub line-without-feed : (line : Line) → Fields line → Free (eqb line-feed) (
 line-without-feed line h b m =
     ⊎-elim (λ e. rw e) (λ r. h .each (r .part) (r .member) .no-line-feed b (r .element)) (joined-element comma line m)
 
-text-of-joined : (all-lines : List Line) → text-of all-lines ≡ concat (map (ending line-feed) (map (joined comma) all-lines))
+text-of-joined : (all-lines : List Line) → text-of all-lines ≡ concat
+    (map (ending line-feed) (map (joined comma) all-lines))
 text-of-joined all-lines = ap concat (sym (map-map (ending line-feed) (joined comma) all-lines))
 
 -- lines that were written are read as they were
@@ -66,7 +80,8 @@ written-as-read text e =
     text-of-joined (lines-of text)
     ∙ ap (λ (parts : List Bytes). concat (map (ending line-feed) parts))
     (map-map (joined comma) fields (lines text)
-    ∙ map-fixed (λ line. joined comma (fields line)) (lines text) (λ line m. joined-parted (eqb comma) comma (only comma) line))
+    ∙ map-fixed (λ line. joined comma (fields line)) (lines text) (λ line m. joined-parted (eqb comma) comma
+    (only comma) line))
     ∙ concat-ended (eqb line-feed) line-feed (only line-feed) text e
 
 -- a text that ends in a line feed has nothing after the last line

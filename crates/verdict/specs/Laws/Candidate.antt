@@ -1,5 +1,6 @@
--- The candidates of a word for a tie: cells of left but the judged one itself, and none unless all cells of left in the word are in its row. A misfit of the lowest
--- one fails it, and with it all others whose permissions the misfit's user holds.
+-- The candidates of a word for a tie: cells of left but the judged one itself, and none unless all cells of left in
+-- the word are in its row. A misfit of the lowest one fails it, and with it all others whose permissions the misfit's
+-- user holds.
 use Prim.Native.Nat.{ℕ, _+_, _*_, _/_, _%_, _≤_, _<_}
 use native.Mathlib.Omega.{arith}
 use mathlib.Core.Path.{_≡_, sym, ap, _∙_}
@@ -22,17 +23,21 @@ use Rattle.verdict.specs.Laws.Misfit.{misfit-fails, misfit-of-others, mi
 
 module _ (rows left : List ℕ) (users it i : ℕ) where
   -- all cells of the judged one's own word but itself
-  pub all-but-itself : (w : ℕ) → i ≡ it / word-bits → ((q : ℕ) → bit w q ≡ (bit (getD left i 0) q && not (eqb q (it % word-bits))))
+  pub all-but-itself : (w : ℕ) → i ≡ it / word-bits
+      → ((q : ℕ) → bit w q ≡ (bit (getD left i 0) q && not (eqb q (it % word-bits))))
       → Untried rows left users it i w
   all-but-itself w own says =
       record {
-        set = λ q l p. marked-in-word left i q l ∙ and-left (bit (getD left i 0) q) (not (eqb q (it % word-bits))) (sym (says q) ∙ p);
+        set = λ q l p. marked-in-word left i q l ∙ and-left (bit (getD left i 0) q) (not (eqb q (it % word-bits)))
+            (sym (says q) ∙ p);
         other = λ q l p. not-passes (eqb (i * word-bits + q) it) (fails-unless (eqb (i * word-bits + q) it) (λ e.
             not-both (eq-eqb q (it % word-bits) (omega (arith, eqb-true (i * word-bits + q) it e, l)))
-            (not-fails (eqb q (it % word-bits)) (and-right (bit (getD left i 0) q) (not (eqb q (it % word-bits))) (sym (says q) ∙ p)))));
+            (not-fails (eqb q (it % word-bits)) (and-right (bit (getD left i 0) q) (not (eqb q (it % word-bits)))
+            (sym (says q) ∙ p)))));
         tried = λ q l e. ⊎-elim (λ same. itself q (eqb-true q (it % word-bits) same))
             (λ other. let unset : marked left (i * word-bits + q) ≡ false =
-            marked-in-word left i q l ∙ sym (and-true (bit (getD left i 0) q)) ∙ (rw other at (sym (says q) ∙ e)) in rw unset)
+            marked-in-word left i q l ∙ sym (and-true (bit (getD left i 0) q)) ∙ (rw other at (sym (says q) ∙ e))
+            in rw unset)
             (passes-or-fails (eqb q (it % word-bits)));
       }
     where
@@ -42,22 +47,27 @@ module _ (rows left : List ℕ) (users it i : ℕ) where
           rw (eq-eqb (i * word-bits + q) it same) (and-false (marked left (i * word-bits + q)))
 
   -- a misfit of the lowest candidate
-  module _ (w q j rest : ℕ) (low : Lowest word-bits (bit w) q) (misfit : So (misfit-at rows left it (i * word-bits + q) j))
+  module _ (w q j rest : ℕ) (low : Lowest word-bits (bit w) q)
+      (misfit : So (misfit-at rows left it (i * word-bits + q) j))
       (says : (r : ℕ) → bit rest r ≡ (bit w r && not (bit (row-word rows (j / row-words) i) r))) where
     pub misfit-tried : j < users * row-words → Untried rows left users it i w → Untried rows left users it i rest
     misfit-tried inside u =
         record {
-          set = λ r l p. u .set r l (and-left (bit w r) (not (bit (row-word rows (j / row-words) i) r)) (sym (says r) ∙ p));
-          other = λ r l p. u .other r l (and-left (bit w r) (not (bit (row-word rows (j / row-words) i) r)) (sym (says r) ∙ p));
+          set = λ r l p. u .set r l (and-left (bit w r) (not (bit (row-word rows (j / row-words) i) r)) (sym (says r)
+              ∙ p));
+          other = λ r l p. u .other r l (and-left (bit w r) (not (bit (row-word rows (j / row-words) i) r))
+              (sym (says r) ∙ p));
           tried = λ r l e. ⊎-elim (λ held. fails r l held)
               (λ other. u .tried r l (sym (and-true (bit w r)) ∙ (rw other at (sym (says r) ∙ e))))
               (passes-or-fails (bit (row-word rows (j / row-words) i) r));
         }
       where
-        fails : (r : ℕ) → r < word-bits → So (bit (row-word rows (j / row-words) i) r) → tie-at rows left users it (i * word-bits + r) ≡ false
+        fails : (r : ℕ) → r < word-bits → So (bit (row-word rows (j / row-words) i) r) → tie-at rows left users it
+            (i * word-bits + r) ≡ false
         fails r l held =
             rw (
-              misfit-fails rows left it (i * word-bits + r) users inside (misfit-of-others rows left it i j q r (low .within) l misfit held),
+              misfit-fails rows left it (i * word-bits + r) users
+                  inside (misfit-of-others rows left it i j q r (low .within) l misfit held),
               and-false (not (eqb (i * word-bits + r) it)),
             )
             (and-false (marked left (i * word-bits + r)))

@@ -1,4 +1,5 @@
--- How the words that a word's grants can be tied to are found, that they stay the same while its own grants are removed, and that no other word has a tie.
+-- How the words that a word's grants can be tied to are found, that they stay the same while its own grants are
+-- removed, and that no other word has a tie.
 use Prim.Native.Nat.{ℕ, _+_, _*_, _/_, _%_, _≤_, _<_}
 use native.Mathlib.Nat.{mod-lt, div-add-mod'}
 use native.Mathlib.Omega.{arith}
@@ -12,7 +13,14 @@ use lib.ListN.{getD}
 use Rattle.spec.specs.Vocabulary.{some-below, every-below}
 use Rattle.bits.specs.Bit.{bit, word-bits}
 use Rattle.bits.specs.Truth.{implies, implies-intro, passes-or-fails, not-both, and-intro}
-use Rattle.bits.specs.Laws.Below.{below-or-from, some-below-intro, some-below-ext, none-below-elim, every-below-intro, every-below-ext}
+use Rattle.bits.specs.Laws.Below.{
+  below-or-from,
+  some-below-intro,
+  some-below-ext,
+  none-below-elim,
+  every-below-intro,
+  every-below-ext,
+}
 use Rattle.cells.specs.Rows.{row-words, row-bits}
 use Rattle.cells.specs.CellPlaces.{marked, Part}
 use Rattle.cells.specs.Laws.CellPlace.{user-of-cell}
@@ -49,19 +57,24 @@ module _ (test : ℕ → Bool) (k : ℕ) (words : List ℕ) (below : PassedBelow
           (λ (n : k + 1 ≤ m). rw (ne-eqb m k (omega arith), le-ltb m (k + 1) n))
           (below-or-from m (k + 1))
 
-  pub passed-put-in : (more : List ℕ) → So (test k) → ((m : ℕ) → marked more m ≡ (marked words m || eqb m k)) → PassedBelow test (k + 1) more
+  pub passed-put-in : (more : List ℕ) → So (test k) → ((m : ℕ) → marked more m ≡ (marked words m || eqb m k))
+      → PassedBelow test (k + 1) more
   passed-put-in more p says m = says m ∙ ap (λ b. marked words m || b) (sym (and-true (eqb m k))) ∙ next-below m true p
 
   pub passed-left-out : test k ≡ false → PassedBelow test (k + 1) words
-  passed-left-out f m = sym (or-false (marked words m)) ∙ ap (λ b. marked words m || b) (sym (and-false (eqb m k))) ∙ next-below m false f
+  passed-left-out f m = sym (or-false (marked words m)) ∙ ap (λ b. marked words m || b) (sym (and-false (eqb m k)))
+      ∙ next-below m false f
 
 -- the test of a word is that of its cells
 pub may-tie-by-word : (rows left : List ℕ) (u k : ℕ)
-    → (some-below word-bits (bit (getD left k 0)) && every-below word-bits (λ q. implies (bit (getD left k 0) q) (bit (row-word rows u k) q))) ≡ may-tie rows left u k
+    → (some-below word-bits (bit (getD left k 0)) && every-below word-bits (λ q. implies (bit (getD left k 0) q)
+    (bit (row-word rows u k) q))) ≡ may-tie rows left u k
 may-tie-by-word rows left u k =
     rw (
-      some-below-ext word-bits (λ q. marked left (k * word-bits + q)) (bit (getD left k 0)) (λ q l. marked-in-word left k q l),
-      every-below-ext word-bits (λ q. implies (marked left (k * word-bits + q)) (bit (row-word rows u k) q)) (λ q. implies (bit (getD left k 0) q) (bit (row-word rows u k) q))
+      some-below-ext word-bits (λ q. marked left (k * word-bits + q)) (bit (getD left k 0))
+          (λ q l. marked-in-word left k q l),
+      every-below-ext word-bits (λ q. implies (marked left (k * word-bits + q)) (bit (row-word rows u k) q))
+          (λ q. implies (bit (getD left k 0) q) (bit (row-word rows u k) q))
           (λ q l. rw (marked-in-word left k q l)),
     )
 
@@ -72,17 +85,22 @@ insides-found {rows} {left} users i inside part within found =
     record {
       others = λ k l other. found k ∙ rw (lt-ltb k (users * row-words) l);
       own = λ q l p. found i ∙ rw (lt-ltb i (users * row-words) within)
-          (and-intro (has-cells left i) (in-row rows left (i / row-words) i) (some-below-intro word-bits (λ r. marked left (i * word-bits + r)) l p)
-          (every-below-intro word-bits (λ r. implies (marked left (i * word-bits + r)) (bit (row-word rows (i / row-words) i) r)) (λ r k.
-          implies-intro (marked left (i * word-bits + r)) (bit (row-word rows (i / row-words) i) r) (λ m. in-own r k m))));
+          (and-intro (has-cells left i) (in-row rows left (i / row-words) i)
+          (some-below-intro word-bits (λ r. marked left (i * word-bits + r)) l p)
+          (every-below-intro word-bits (λ r. implies (marked left (i * word-bits + r))
+          (bit (row-word rows (i / row-words) i) r)) (λ r k.
+          implies-intro (marked left (i * word-bits + r)) (bit (row-word rows (i / row-words) i) r)
+          (λ m. in-own r k m))));
     }
   where
-    in-own : (r : ℕ) → r < word-bits → So (marked left (i * word-bits + r)) → So (bit (row-word rows (i / row-words) i) r)
+    in-own : (r : ℕ) → r < word-bits → So (marked left (i * word-bits + r))
+        → So (bit (row-word rows (i / row-words) i) r)
     in-own r k m = rw (div-add-mod' i row-words) (sym (marked-in-word rows i r k) ∙ part .held (i * word-bits + r) m)
 
 -- ---- while grants of the word are removed
 
-pub insides-kept : {rows : List ℕ} {users i q : ℕ} {inside : List ℕ} {now next : Work} → q < word-bits → Insides rows (now .left) users i inside
+pub insides-kept : {rows : List ℕ} {users i q : ℕ} {inside : List ℕ} {now next : Work} → q < word-bits
+    → Insides rows (now .left) users i inside
     → Visited rows users ((i * word-bits + q) ∷ []) now next → Insides rows (next .left) users i inside
 insides-kept {rows} {users} {i} {q} {inside} {now} {next} within found visited =
     record {
@@ -90,15 +108,21 @@ insides-kept {rows} {users} {i} {q} {inside} {now} {next} within found visited =
       own = λ r l p. found .own r l (visited .part .held (i * word-bits + r) p);
     }
   where
-    same-cell : (k r : ℕ) → (k ≡ i → ⊥) → r < word-bits → marked (next .left) (k * word-bits + r) ≡ marked (now .left) (k * word-bits + r)
-    same-cell k r other l = visited .kept (k * word-bits + r) (λ m. other (omega (arith, List·Memᴰ·eq-of-singleton m, within, l)))
+    same-cell : (k r : ℕ) → (k ≡ i → ⊥) → r < word-bits → marked (next .left) (k * word-bits + r) ≡ marked (now .left)
+        (k * word-bits + r)
+    same-cell k r other l = visited .kept (k * word-bits + r)
+        (λ m. other (omega (arith, List·Memᴰ·eq-of-singleton m, within, l)))
 
-    same-test : (k : ℕ) → (k ≡ i → ⊥) → may-tie rows (next .left) (i / row-words) k ≡ may-tie rows (now .left) (i / row-words) k
+    same-test : (k : ℕ) → (k ≡ i → ⊥) → may-tie rows (next .left) (i / row-words) k ≡ may-tie rows (now .left)
+        (i / row-words) k
     same-test k other =
         rw (
-          some-below-ext word-bits (λ r. marked (next .left) (k * word-bits + r)) (λ r. marked (now .left) (k * word-bits + r)) (λ r l. same-cell k r other l),
-          every-below-ext word-bits (λ r. implies (marked (next .left) (k * word-bits + r)) (bit (row-word rows (i / row-words) k) r))
-              (λ r. implies (marked (now .left) (k * word-bits + r)) (bit (row-word rows (i / row-words) k) r)) (λ r l. rw (same-cell k r other l)),
+          some-below-ext word-bits (λ r. marked (next .left) (k * word-bits + r))
+              (λ r. marked (now .left) (k * word-bits + r)) (λ r l. same-cell k r other l),
+          every-below-ext word-bits (λ r. implies (marked (next .left) (k * word-bits + r))
+              (bit (row-word rows (i / row-words) k) r))
+              (λ r. implies (marked (now .left) (k * word-bits + r)) (bit (row-word rows (i / row-words) k) r))
+              (λ r l. rw (same-cell k r other l)),
         )
 
 -- ---- no other word has a tie
@@ -109,26 +133,35 @@ module _ (rows left : List ℕ) (users it : ℕ) (part : Part left rows) where
   unless-may-tie k inside fails q l =
       ⊎-elim
       (λ (some : So (has-cells left k)). unless-in-own-row rows left users it k part inside
-      (sym (every-below-ext word-bits (λ r. implies (marked left (k * word-bits + r)) (bit (row-word rows (it / row-bits) k) r))
-      (λ r. implies (bit (getD left k 0) r) (bit (row-word rows (it / row-bits) k) r)) (λ r m. rw (marked-in-word left k r m))) ∙ (rw some at fails)) q l)
-      (λ (none : has-cells left k ≡ false). rw (none-below-elim word-bits (λ r. marked left (k * word-bits + r)) none l))
+      (sym (every-below-ext word-bits (λ r. implies (marked left (k * word-bits + r))
+      (bit (row-word rows (it / row-bits) k) r))
+      (λ r. implies (bit (getD left k 0) r) (bit (row-word rows (it / row-bits) k) r))
+      (λ r m. rw (marked-in-word left k r m))) ∙ (rw some at fails)) q l)
+      (λ (none : has-cells left k ≡ false). rw (none-below-elim word-bits (λ r. marked left (k * word-bits + r)) none
+      l))
       (passes-or-fails (has-cells left k))
 
-  pub insides-untried : (j held word : ℕ) (inside : List ℕ) → HoldersWord rows users (it % row-bits) j held → Insides rows left users (it / word-bits) inside
-      → So (marked left it) → ((q : ℕ) → bit word q ≡ (bit held q && bit (getD inside j 0) q)) → Walk word (NoneAt (tie-at rows left users it) users j) word
+  pub insides-untried : (j held word : ℕ) (inside : List ℕ) → HoldersWord rows users (it % row-bits) j held
+      → Insides rows left users (it / word-bits) inside
+      → So (marked left it) → ((q : ℕ) → bit word q ≡ (bit held q && bit (getD inside j 0) q))
+      → Walk word (NoneAt (tie-at rows left users it) users j) word
   insides-untried j held word inside holders found set says =
       walk-begun (λ q l e within. none-in-word (j * word-bits + q) (tie-at rows left users it)
       (⊎-elim
-      (λ (p : So (bit held q)). unless-may-tie (j * word-bits + q) within (not-inside q l within (rw p at (sym (says q) ∙ e))))
-      (λ (p : bit held q ≡ false). unless-held rows left users it (j * word-bits + q) part within (no-holder holders l p within))
+      (λ (p : So (bit held q)). unless-may-tie (j * word-bits + q) within
+      (not-inside q l within (rw p at (sym (says q) ∙ e))))
+      (λ (p : bit held q ≡ false). unless-held rows left users it (j * word-bits + q) part within
+      (no-holder holders l p within))
       (passes-or-fails (bit held q))))
     where
       own-word : So (marked inside (it / word-bits))
-      own-word = found .own (it % word-bits) (mod-lt it (lit< tt)) (subst (λ n. So (marked left n)) (sym (div-add-mod' it word-bits)) set)
+      own-word = found .own (it % word-bits) (mod-lt it (lit< tt)) (subst (λ n. So (marked left n))
+          (sym (div-add-mod' it word-bits)) set)
 
       not-inside : (q : ℕ) → q < word-bits → j * word-bits + q < users * row-words → bit (getD inside j 0) q ≡ false
           → may-tie rows left (it / row-bits) (j * word-bits + q) ≡ false
       not-inside q l within e =
           let unset : marked inside (j * word-bits + q) ≡ false = marked-in-word inside j q l ∙ e in
           subst (λ u. may-tie rows left u (j * word-bits + q) ≡ false) (sym (user-of-cell it))
-          (sym (found .others (j * word-bits + q) within (λ same. not-both own-word (subst (λ k. marked inside k ≡ false) same unset))) ∙ unset)
+          (sym (found .others (j * word-bits + q) within
+          (λ same. not-both own-word (subst (λ k. marked inside k ≡ false) same unset))) ∙ unset)

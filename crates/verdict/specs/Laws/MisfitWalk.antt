@@ -1,4 +1,5 @@
--- The search for the first misfit by the words of a column: only the words at the positions of some can be misfits, and of them those are whose cells do not all fit.
+-- The search for the first misfit by the words of a column: only the words at the positions of some can be misfits,
+-- and of them those are whose cells do not all fit.
 use Prim.Native.Nat.{ℕ, _+_, _-_, _*_, _/_, _%_, _≤_, _<_}
 use native.Mathlib.Nat.{add-sub-of-le}
 use native.Mathlib.Omega.{arith}
@@ -17,16 +18,19 @@ use Rattle.verdict.specs.Misfits.{row-fits, misfit-at, words-before, Sus
 abbrev pub NoMisfitBefore : List ℕ → List ℕ → ℕ → ℕ → ℕ → ℕ → Type 0
 NoMisfitBefore rows left users it g j = (n : ℕ) → n < words-before users j → misfit-at rows left it g n ≡ false
 
-module _ (rows left : List ℕ) (users it g j word q : ℕ) (inside : j * word-bits < users * row-words) (suspects : SuspectsWord rows left users it g j word)
+module _ (rows left : List ℕ) (users it g j word q : ℕ) (inside : j * word-bits < users * row-words)
+    (suspects : SuspectsWord rows left users it g j word)
     (tried : FirstBelow (λ r. bit word r && not (row-fits rows left it (g / row-bits) (j * word-bits + r))) word-bits q)
     (before : NoMisfitBefore rows left users it g j) where
   not-misfit : (r : ℕ) → r < word-bits → j * word-bits + r < users * row-words
-      → (bit word r && not (row-fits rows left it (g / row-bits) (j * word-bits + r))) ≡ false → misfit-at rows left it g (j * word-bits + r) ≡ false
+      → (bit word r && not (row-fits rows left it (g / row-bits) (j * word-bits + r))) ≡ false
+      → misfit-at rows left it g (j * word-bits + r) ≡ false
   not-misfit r l k fails =
       ⊎-elim (λ (p : So (bit word r)). rw (rw p at fails) (and-false (held-in rows (g % row-bits) (j * word-bits + r))))
       (λ (p : bit word r ≡ false). suspects .others r l p k) (passes-or-fails (bit word r))
 
-  none-below : (n : ℕ) → n < j * word-bits + q → n < j * word-bits + word-bits → n < users * row-words → misfit-at rows left it g n ≡ false
+  none-below : (n : ℕ) → n < j * word-bits + q → n < j * word-bits + word-bits → n < users * row-words
+      → misfit-at rows left it g n ≡ false
   none-below n l k few =
       ⊎-elim (λ (earlier : n < j * word-bits). before n (omega arith))
       (λ (from : j * word-bits ≤ n). subst (λ m. misfit-at rows left it g m ≡ false) (add-sub-of-le from)
@@ -40,7 +44,8 @@ module _ (rows left : List ℕ) (users it g j word q : ℕ) (inside : j * word-b
       let few = suspects .within q l set in
       record {
         within = omega (arith, few);
-        passes = λ k. and-intro (held-in rows (g % row-bits) (j * word-bits + q)) unfit (suspects .holds q l set) (and-right (bit word q) unfit (tried .passes l));
+        passes = λ k. and-intro (held-in rows (g % row-bits) (j * word-bits + q)) unfit (suspects .holds q l set)
+            (and-right (bit word q) unfit (tried .passes l));
         earlier = λ n k. none-below n k (omega arith) (omega (arith, few));
       }
 
@@ -48,7 +53,8 @@ module _ (rows left : List ℕ) (users it g j word q : ℕ) (inside : j * word-b
   no-misfit-then l n k = none-below n (omega arith) (omega arith) (omega arith)
 
 -- none at all
-pub no-misfit-first : (rows left : List ℕ) (users it g j : ℕ) → users * row-words ≤ j * word-bits → NoMisfitBefore rows left users it g j
+pub no-misfit-first : (rows left : List ℕ) (users it g j : ℕ) → users * row-words ≤ j * word-bits
+    → NoMisfitBefore rows left users it g j
     → FirstBelow (misfit-at rows left it g) (users * row-words) (users * row-words)
 no-misfit-first rows left users it g j end before =
     record { within = omega arith; passes = λ l. absurd (omega arith); earlier = λ n l. before n (omega arith) }

@@ -1,5 +1,6 @@
--- What the cells near a grant say of the sheet's grants: the partners of a grant are the others near it, so there is one fewer; domination among the cells is
--- domination among the grants; and the grant that a judged one is tied to is at the lowest cell that it dominates.
+-- What the cells near a grant say of the sheet's grants: the partners of a grant are the others near it, so there is
+-- one fewer; domination among the cells is domination among the grants; and the grant that a judged one is tied to is
+-- at the lowest cell that it dominates.
 use Prim.Native.Nat.{ℕ, _+_, _*_, _<_}
 use native.Mathlib.Nat.{mul-assoc}
 use mathlib.Core.Path.{_≡_, refl, sym, ap, subst, _∙_}
@@ -36,14 +37,16 @@ use Rattle.verdict.specs.NearCells.{cells-of, dominates-in, tie-at}
 pub same-cell : (m n : ℕ) → same-grant (grant-of m) (grant-of n) ≡ eqb n m
 same-cell m n =
     same-truth (same-grant (grant-of m) (grant-of n)) (eqb n m)
-    (λ e. eq-eqb n m (sym (cell-of-grant n) ∙ ap cell-of (sym (same-grant-equal (grant-of m) (grant-of n) e)) ∙ cell-of-grant m))
+    (λ e. eq-eqb n m (sym (cell-of-grant n) ∙ ap cell-of (sym (same-grant-equal (grant-of m) (grant-of n) e))
+    ∙ cell-of-grant m))
     (λ e. equal-same-grant (ap grant-of (sym (eqb-true n m e))))
 
 pub row-cells : (users : ℕ) → cells-of users ≡ users * row-bits
 unfolding row-bits
 row-cells users = mul-assoc users row-words word-bits
 
-module _ {rows : List ℕ} {users : ℕ} {sheet : Sheet} (shown : Shown rows users sheet) {left : List ℕ} (part : Part left rows) where
+module _ {rows : List ℕ} {users : ℕ} {sheet : Sheet} (shown : Shown rows users sheet) {left : List ℕ}
+    (part : Part left rows) where
   -- a cell of left is a held grant, which fits itself
   left-fits-itself : (n : ℕ) → So (marked left n) → So (fits sheet (grant-of n) (grant-of n))
   left-fits-itself n p = fits-itself sheet (grant-of n) (sym (marked-holds shown n) ∙ part .held n p)
@@ -52,7 +55,8 @@ module _ {rows : List ℕ} {users : ℕ} {sheet : Sheet} (shown : Shown rows use
 
   -- a grant of left is among those that fit it, and the others are its partners
   pub partners-one-fewer : (it : ℕ) → it < users * row-bits → So (marked left it)
-      → length (filter (fits sheet (grant-of it)) (cell-grants sheet left)) ≡ length (partners sheet (cell-grants sheet left) (grant-of it)) + 1
+      → length (filter (fits sheet (grant-of it)) (cell-grants sheet left)) ≡ length
+      (partners sheet (cell-grants sheet left) (grant-of it)) + 1
   partners-one-fewer it inside p =
       rw (
         passing-grants-count shown part (fits sheet (grant-of it)),
@@ -60,7 +64,8 @@ module _ {rows : List ℕ} {users : ℕ} {sheet : Sheet} (shown : Shown rows use
       )
       (count-below-without (users * row-bits) (λ n. marked left n && fits sheet (grant-of it) (grant-of n)) inside
       (and-intro (marked left it) (fits sheet (grant-of it) (grant-of it)) p (left-fits-itself it p))
-      ∙ ap (λ k. k + 1) (count-below-ext (users * row-bits) (λ n. (marked left n && fits sheet (grant-of it) (grant-of n)) && not (eqb n it))
+      ∙ ap (λ k. k + 1) (count-below-ext (users * row-bits)
+      (λ n. (marked left n && fits sheet (grant-of it) (grant-of n)) && not (eqb n it))
       (λ n. marked left n && (not (same-grant (grant-of it) (grant-of n)) && fits sheet (grant-of it) (grant-of n)))
       (λ n l. rw (same-cell it n) (regroup (marked left n) (fits sheet (grant-of it) (grant-of n)) (not (eqb n it))))))
     where
@@ -77,27 +82,33 @@ module _ {rows : List ℕ} {users : ℕ} {sheet : Sheet} (shown : Shown rows use
       (every-below-ext (users * row-bits) (λ n. implies (near rows left g n) (fit-in rows (grant-of it) (grant-of n)))
       (λ n. implies (marked left n) (tested n)) (λ n l. rw (fits-in-rows shown g n, fits-in-rows shown it n)
       (simpler (marked left n) (fits sheet (grant-of g) (grant-of n)) (fits sheet (grant-of it) (grant-of n))
-      (same-grant (grant-of g) (grant-of n)) (same-grant (grant-of it) (grant-of n)) (same-fits g q n) (same-fits it p n)))
+      (same-grant (grant-of g) (grant-of n)) (same-grant (grant-of it) (grant-of n)) (same-fits g q n)
+      (same-fits it p n)))
       ∙ sym (rw (cell-grants-by-cell shown part)
-      (all-map covers grant-of (passing-below (users * row-bits) (marked left)) ∙ passing-all (users * row-bits) (marked left) tested)))
+      (all-map covers grant-of (passing-below (users * row-bits) (marked left)) ∙ passing-all (users * row-bits)
+      (marked left) tested)))
     where
       covers : Grant → Bool
       covers h =
-          not (same-grant (grant-of g) h || fits sheet (grant-of g) h) || (same-grant (grant-of it) h || fits sheet (grant-of it) h)
+          not (same-grant (grant-of g) h || fits sheet (grant-of g) h) || (same-grant (grant-of it) h
+          || fits sheet (grant-of it) h)
 
       tested : ℕ → Bool
       tested n = covers (grant-of n)
 
-      same-fits : (m : ℕ) → So (marked left m) → (n : ℕ) → So (same-grant (grant-of m) (grant-of n)) → So (fits sheet (grant-of m) (grant-of n))
+      same-fits : (m : ℕ) → So (marked left m) → (n : ℕ) → So (same-grant (grant-of m) (grant-of n))
+          → So (fits sheet (grant-of m) (grant-of n))
       same-fits m r n e =
-          subst (λ h. So (fits sheet (grant-of m) h)) (same-grant-equal (grant-of m) (grant-of n) e) (left-fits-itself m r)
+          subst (λ h. So (fits sheet (grant-of m) h)) (same-grant-equal (grant-of m) (grant-of n) e)
+          (left-fits-itself m r)
 
       -- what implies c adds nothing to it
       absorbed : (t c : Bool) → (So t → So c) → c ≡ (t || c)
       absorbed true c k = k refl
       absorbed false c k = refl
 
-      simpler : (a b c s t : Bool) → (So s → So b) → (So t → So c) → implies (a && b) c ≡ implies a (not (s || b) || (t || c))
+      simpler : (a b c s t : Bool) → (So s → So b) → (So t → So c) → implies (a && b) c ≡ implies a (not (s || b)
+          || (t || c))
       simpler false b c s t h k = refl
       simpler true b c s t h k = rw (← absorbed s b h, ← absorbed t c k)
 
@@ -107,7 +118,8 @@ module _ {rows : List ℕ} {users : ℕ} {sheet : Sheet} (shown : Shown rows use
   tied-test : ℕ → Grant → Bool
   tied-test it g = not (same-grant (grant-of it) g) && dominates sheet (cell-grants sheet left) (grant-of it) g
 
-  tied-test-at : (it : ℕ) → So (marked left it) → (n : ℕ) → tie-at rows left users it n ≡ (marked left n && tied-test it (grant-of n))
+  tied-test-at : (it : ℕ) → So (marked left it) → (n : ℕ) → tie-at rows left users it n ≡ (marked left n
+      && tied-test it (grant-of n))
   unfolding tied-test
   tied-test-at it p n = where-marked (marked left n) (λ q. rw (same-cell it n, dominates-by-cell it n p q))
     where
@@ -124,7 +136,8 @@ module _ {rows : List ℕ} {users : ℕ} {sheet : Sheet} (shown : Shown rows use
       ∙ ap (found-map grant-of) (passing-first (users * row-bits) (marked left) (λ n. tied-test it (grant-of n))
       (rw (row-cells users) at (lowest-ext (λ n l. tied-test-at it p n) lowest)))
 
-  pub untied-by-cell : (it : ℕ) → So (marked left it) → ((n : ℕ) → n < cells-of users → tie-at rows left users it n ≡ false)
+  pub untied-by-cell : (it : ℕ) → So (marked left it) → ((n : ℕ) → n < cells-of users → tie-at rows left users it n ≡
+      false)
       → dominated sheet (cell-grants sheet left) (grant-of it) ≡ none
   unfolding tied-test
   untied-by-cell it p none-tied =

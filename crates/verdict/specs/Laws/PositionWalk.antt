@@ -1,4 +1,5 @@
--- The positions of a word, one after the other: those not yet passed are the positions of a word w, of which the lowest is the next.
+-- The positions of a word, one after the other: those not yet passed are the positions of a word w, of which the
+-- lowest is the next.
 use Prim.Native.Nat.{ℕ, _<_}
 use native.Mathlib.Omega.{arith}
 use mathlib.Core.Path.{_≡_, sym, _∙_}
@@ -24,11 +25,13 @@ module _ {some : ℕ} {known : ℕ → Type 0} where
   pub walk-before : {w q : ℕ} → Walk some known w → Lowest word-bits (bit w) q → (r : ℕ) → r < q → known r
   walk-before walk low r l = walk .passed r (omega (arith, low .within)) (low .first r l)
 
-  pub walk-next : {w q rest : ℕ} → Walk some known w → Lowest word-bits (bit w) q → known q → LowestDropped w rest → Walk some known rest
+  pub walk-next : {w q rest : ℕ} → Walk some known w → Lowest word-bits (bit w) q → known q → LowestDropped w rest
+      → Walk some known rest
   walk-next {w} {q} {rest} walk low here dropped =
       record {
         kept = λ r p. walk .kept r (and-left (bit w r) (not (eqb r q)) (sym (dropped .others low r) ∙ p));
-        passed = λ r l e. ⊎-elim (λ same. rw (eqb-true r q same) here) (λ other. walk .passed r l (without r other e)) (passes-or-fails (eqb r q));
+        passed = λ r l e. ⊎-elim (λ same. rw (eqb-true r q same) here) (λ other. walk .passed r l (without r other e))
+            (passes-or-fails (eqb r q));
       }
     where
       without : (r : ℕ) → eqb r q ≡ false → bit rest r ≡ false → bit w r ≡ false

@@ -1,5 +1,5 @@
--- The verdict from what the code finds: a grant of left that only it itself fits is single; else it is tied to the grant at the lowest cell that it dominates, and
--- stays where there is none.
+-- The verdict from what the code finds: a grant of left that only it itself fits is single; else it is tied to the
+-- grant at the lowest cell that it dominates, and stays where there is none.
 use Prim.Native.Nat.{ℕ, _+_, _<_}
 use native.Mathlib.Omega.{arith}
 use mathlib.Core.Path.{_≡_, refl, sym, _∙_}
@@ -28,7 +28,8 @@ not-empty-if-some : {A : Type 0} (l : List A) → (length l ≡ 0 → ⊥) → e
 not-empty-if-some [] e = absurd (e refl)
 not-empty-if-some (a ∷ l) e = refl
 
-module _ {rows : List ℕ} {users : ℕ} {sheet : Sheet} (shown : Shown rows users sheet) {left : List ℕ} (part : Part left rows)
+module _ {rows : List ℕ} {users : ℕ} {sheet : Sheet} (shown : Shown rows users sheet) {left : List ℕ}
+    (part : Part left rows)
     {it count : ℕ} (inside : it < cells-of users) (set : So (marked left it))
     (counted : count ≡ length (filter (fits sheet (grant-of it)) (cell-grants sheet left))) where
   others : count ≡ length (partners sheet (cell-grants sheet left) (grant-of it)) + 1
@@ -42,7 +43,12 @@ module _ {rows : List ℕ} {users : ℕ} {sheet : Sheet} (shown : Shown rows use
   tie-found more low =
       rw (
         not-empty-if-some (partners sheet (cell-grants sheet left) (grant-of it)) (λ e. more (omega (arith, others))),
-        tied-by-cell shown part it set (record { within = low .within; holds = low .holds; first = λ m l. low .first m (omega arith) l }),
+        tied-by-cell shown part it set (record {
+          within = low .within;
+          holds = low .holds;
+          first = λ m l. low .first m
+              (omega arith) l;
+        }),
       )
 
   pub no-tie-found : (count ≡ 1 → ⊥) → NoneIn (tie-at rows left users it) 0 (cells-of users)
@@ -54,7 +60,8 @@ module _ {rows : List ℕ} {users : ℕ} {sheet : Sheet} (shown : Shown rows use
       )
 
 -- the cell that a grant is tied to is another one
-pub tie-is-other : (rows left : List ℕ) (users it : ℕ) {from to n : ℕ} → LowestIn (tie-at rows left users it) from to n → it ≢ n
+pub tie-is-other : (rows left : List ℕ) (users it : ℕ) {from to n : ℕ} → LowestIn (tie-at rows left users it) from to
+    n → it ≢ n
 tie-is-other rows left users it {n = n} low e =
     not-both (eq-eqb n it (sym e))
     (not-fails (eqb n it) (and-left (not (eqb n it)) (dominates-in rows left users it n)

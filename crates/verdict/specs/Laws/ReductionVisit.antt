@@ -1,4 +1,5 @@
--- The visit of one cell: a grant that stays leaves the work as it is, and one that is removed, as single or tied, leaves what the definition's visit leaves.
+-- The visit of one cell: a grant that stays leaves the work as it is, and one that is removed, as single or tied,
+-- leaves what the definition's visit leaves.
 use Prim.Native.Nat.{ℕ, _≤_, _<_}
 use native.Mathlib.Nat.{mul-le-mul-right, lt-of-lt-of-le}
 use native.Mathlib.Omega.{arith}
@@ -31,7 +32,8 @@ pub cells-within : {users : ℕ} → users ≤ user-limit → cells-of users ≤
 cells-within {users} h = mul-le-mul-right word-bits (mul-le-mul-right row-words h)
 
 -- a cell that remains can be removed: the log has room for it
-pub removable : {rows : List ℕ} {users it other : ℕ} {work : Work} → WorkReady rows users work → it < cells-of users → So (marked (work .left) it)
+pub removable : {rows : List ℕ} {users it other : ℕ} {work : Work} → WorkReady rows users work → it < cells-of users
+    → So (marked (work .left) it)
     → other < cells-of users → Removable it other work
 removable {it} {work} ready inside set below =
     record {
@@ -66,20 +68,26 @@ module _ {rows : List ℕ} {users it : ℕ} {before : Work} (ready : WorkReady r
 
   module _ (inside : it < cells-of users) (set : So (marked (before .left) it)) {after : Work} where
     part-less : {other : ℕ} → Removed it other before after → Part (after .left) (before .left)
-    part-less removed = record { held = λ n p. and-left (marked (before .left) n) (not (eqb n it)) (sym (removed .left n) ∙ p) }
+    part-less removed = record {
+      held = λ n p. and-left (marked (before .left) n) (not (eqb n it))
+          (sym (removed .left n) ∙ p);
+    }
 
     removed-visited : {other : ℕ} → Removed it other before after → other < cell-limit
-        → ((sheet : Sheet) → Shown rows users sheet → without-it sheet before it other ≡ visit sheet (grant-of it) (state-of sheet before))
+        → ((sheet : Sheet) → Shown rows users sheet → without-it sheet before it other ≡ visit sheet (grant-of it)
+        (state-of sheet before))
         → Visited rows users (it ∷ []) before after
     removed-visited {other} removed below right =
         record {
           part = part-less removed;
-          kept = λ n out. removed .left n ∙ rw (ne-eqb n it (λ e. out (List·Memᴰ·head e))) (and-true (marked (before .left) n));
+          kept = λ n out. removed .left n ∙ rw (ne-eqb n it (λ e. out (List·Memᴰ·head e)))
+              (and-true (marked (before .left) n));
           total = omega (arith, removed .one-more, one-fewer removed at-it set);
           logged = logged-grown removed at-it below (ready .logged);
           state = λ sheet shown.
               (λ i. record {
-                remaining = without-cell shown it (ready .part) (part-of-part (part-less removed) (ready .part)) (removed .left) i;
+                remaining = without-cell shown it (ready .part) (part-of-part (part-less removed) (ready .part))
+                    (removed .left) i;
                 removed = log-grown removed i;
               }) ∙ right sheet shown;
         }
@@ -87,13 +95,17 @@ module _ {rows : List ℕ} {users it : ℕ} {before : Work} (ready : WorkReady r
         at-it : it < cell-limit
         at-it = lt-of-lt-of-le inside (cells-within (ready .few-users))
 
-    pub visit-single : GrantJudged rows (before .left) users it Single → Removed it it before after → Visited rows users (it ∷ []) before after
+    pub visit-single : GrantJudged rows (before .left) users it Single → Removed it it before after
+        → Visited rows users (it ∷ []) before after
     visit-single judged removed =
         removed-visited removed (lt-of-lt-of-le inside (cells-within (ready .few-users)))
-        (λ sheet shown. rw (eq-eqb it it refl) (ap (λ v. carry-out v (grant-of it) (state-of sheet before)) (judged .right sheet shown)))
+        (λ sheet shown. rw (eq-eqb it it refl) (ap (λ v. carry-out v (grant-of it) (state-of sheet before))
+        (judged .right sheet shown)))
 
-    pub visit-tied : {other : CellNo} → GrantJudged rows (before .left) users it (Tied other) → Removed it (other .0) before after
+    pub visit-tied : {other : CellNo} → GrantJudged rows (before .left) users it (Tied other) → Removed it (other .0)
+        before after
         → Visited rows users (it ∷ []) before after
     visit-tied {other} judged removed =
         removed-visited removed (lt-of-lt-of-le (judged .named .0) (cells-within (ready .few-users)))
-        (λ sheet shown. rw (ne-eqb it (other .0) (judged .named .1)) (ap (λ v. carry-out v (grant-of it) (state-of sheet before)) (judged .right sheet shown)))
+        (λ sheet shown. rw (ne-eqb it (other .0) (judged .named .1))
+        (ap (λ v. carry-out v (grant-of it) (state-of sheet before)) (judged .right sheet shown)))

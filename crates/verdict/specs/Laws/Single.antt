@@ -1,5 +1,5 @@
--- Singles by the words. All cells of left in one word fit each other, so a single is the only one of its word; and a count of the fitting grants that ends at 2 tells
--- whether there is one.
+-- Singles by the words. All cells of left in one word fit each other, so a single is the only one of its word; and a
+-- count of the fitting grants that ends at 2 tells whether there is one.
 use Prim.Native.Nat.{ℕ, _+_, _*_, _/_, _%_, _^_, _≤_, _<_}
 use native.Mathlib.Nat.{mod-lt, div-add-mod', lt-trans}
 use native.Mathlib.Omega.{arith}
@@ -31,16 +31,23 @@ use Rattle.verdict.specs.Laws.NearWord.{one-row-fits}
 -- ---- one position
 
 -- a word has one position if nothing is left of it without the lowest
-pub one-position : (w rest : ℕ) → 0 < w → w < 2 ^ word-bits → LowestDropped w rest → eqb rest 0 ≡ eqb (count-below word-bits (bit w)) 1
+pub one-position : (w rest : ℕ) → 0 < w → w < 2 ^ word-bits → LowestDropped w rest
+    → eqb rest 0 ≡ eqb (count-below word-bits (bit w)) 1
 one-position w rest pos fits dropped =
     ⊎-elim
     (λ (e : rest < 1). let nothing : rest ≡ 0 = omega arith in
     let none = count-below-none-intro word-bits (bit 0) (λ q l. bit-of-zero q) in
-    let one : count-below word-bits (bit w) ≡ 1 = omega (arith, rw nothing at (dropped-count w rest pos fits dropped), none) in
+    let one : count-below word-bits (bit w) ≡ 1 = omega (
+      arith,
+      rw nothing at (dropped-count w rest pos fits dropped),
+      none,
+    ) in
     eq-eqb rest 0 nothing ∙ sym (eq-eqb (count-below word-bits (bit w)) 1 one))
-    (λ (e : 1 ≤ rest). let other = some-below-elim word-bits (bit rest) (some-bit word-bits rest e (lt-trans (dropped .less) fits)) in
+    (λ (e : 1 ≤ rest). let other = some-below-elim word-bits (bit rest)
+    (some-bit word-bits rest e (lt-trans (dropped .less) fits)) in
     let some = count-below-pos word-bits (bit rest) (other .within) (other .holds) in
-    ne-eqb rest 0 (omega arith) ∙ sym (ne-eqb (count-below word-bits (bit w)) 1 (omega (arith, dropped-count w rest pos fits dropped, some))))
+    ne-eqb rest 0 (omega arith) ∙ sym (ne-eqb (count-below word-bits (bit w)) 1
+    (omega (arith, dropped-count w rest pos fits dropped, some))))
     (below-or-from rest 1)
 
 -- ---- singles
@@ -52,26 +59,33 @@ one-of-two {whole} {count} counted =
     (λ (l : 2 ≤ count). ne-eqb count 1 (omega arith) ∙ sym (ne-eqb whole 1 (omega (arith, counted .not-more))))
     (below-or-from count 2)
 
-module _ {rows : List ℕ} {users : ℕ} {sheet : Sheet} (shown : Shown rows users sheet) {left : List ℕ} (part : Part left rows) where
+module _ {rows : List ℕ} {users : ℕ} {sheet : Sheet} (shown : Shown rows users sheet) {left : List ℕ}
+    (part : Part left rows) where
   -- the others of its word would fit it
   alone-at : (i q : ℕ) → q < word-bits → i * word-bits + q < cells-of users → So (marked left (i * word-bits + q))
-      → length (filter (fits sheet (grant-of (i * word-bits + q))) (cell-grants sheet left)) ≡ 1 → count-below word-bits (bit (getD left i 0)) ≡ 1
+      → length (filter (fits sheet (grant-of (i * word-bits + q))) (cell-grants sheet left)) ≡ 1
+      → count-below word-bits (bit (getD left i 0)) ≡ 1
   alone-at i q l inside set one =
       count-below-one-intro word-bits (bit (getD left i 0)) l (sym (marked-in-word left i q l) ∙ set) (λ r k p.
       omega (
         arith,
-        count-below-one-elim (cells-of users) (near rows left (i * word-bits + q)) (near-count shown part (i * word-bits + q) ∙ one)
+        count-below-one-elim (cells-of users) (near rows left (i * word-bits + q))
+            (near-count shown part (i * word-bits + q) ∙ one)
             inside (near-to q l set) (omega arith) (near-to r k (marked-in-word left i r k ∙ p)),
       ))
     where
-      near-to : (r : ℕ) → r < word-bits → So (marked left (i * word-bits + r)) → So (near rows left (i * word-bits + q) (i * word-bits + r))
+      near-to : (r : ℕ) → r < word-bits → So (marked left (i * word-bits + r))
+          → So (near rows left (i * word-bits + q) (i * word-bits + r))
       near-to r k p =
-          and-intro (marked left (i * word-bits + r)) (fit-in rows (grant-of (i * word-bits + q)) (grant-of (i * word-bits + r))) p
+          and-intro (marked left (i * word-bits + r)) (fit-in rows (grant-of (i * word-bits + q))
+          (grant-of (i * word-bits + r))) p
           (one-row-fits rows i q r l k (part .held (i * word-bits + q) set) (part .held (i * word-bits + r) p))
 
   pub alone-in-word : (it : ℕ) → it < cells-of users → So (marked left it)
-      → length (filter (fits sheet (grant-of it)) (cell-grants sheet left)) ≡ 1 → count-below word-bits (bit (getD left (it / word-bits) 0)) ≡ 1
+      → length (filter (fits sheet (grant-of it)) (cell-grants sheet left)) ≡ 1 → count-below word-bits
+      (bit (getD left (it / word-bits) 0)) ≡ 1
   alone-in-word it =
-      subst (λ n. n < cells-of users → So (marked left n) → length (filter (fits sheet (grant-of n)) (cell-grants sheet left)) ≡ 1
+      subst (λ n. n < cells-of users → So (marked left n)
+      → length (filter (fits sheet (grant-of n)) (cell-grants sheet left)) ≡ 1
       → count-below word-bits (bit (getD left (it / word-bits) 0)) ≡ 1)
       (div-add-mod' it word-bits) (alone-at (it / word-bits) (it % word-bits) (mod-lt it (lit< tt)))

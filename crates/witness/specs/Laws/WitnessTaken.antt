@@ -1,4 +1,5 @@
--- The greedy choice with more choices than grants takes no other grants: each choice drops at least the grant taken, so the choices end with the grants.
+-- The greedy choice with more choices than grants takes no other grants: each choice drops at least the grant taken,
+-- so the choices end with the grants.
 use Prim.Native.Nat.{ℕ, zero, suc, _≤_, _<_}
 use native.Mathlib.Omega.{arith}
 use mathlib.Core.Path.{_≡_, refl, ap}
@@ -16,7 +17,8 @@ use Rattle.lists.specs.LeastLaws.{least-member}
 use Rattle.cells.specs.Laws.Grant.{same-grant-refl}
 
 -- as many choices as there are grants are enough
-pub taken-enough : (sheet : Sheet) (m n : ℕ) (l : List Grant) → length l ≤ m → length l ≤ n → taken sheet m l ≡ taken sheet n l
+pub taken-enough : (sheet : Sheet) (m n : ℕ) (l : List Grant) → length l ≤ m → length l ≤ n → taken sheet m l ≡ taken
+    sheet n l
 taken-enough sheet zero zero l h k = refl
 taken-enough sheet zero (suc n) [] h k = refl
 taken-enough sheet zero (suc n) (g ∷ rest) h k = absurd (omega arith)

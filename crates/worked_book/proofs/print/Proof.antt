@@ -8,7 +8,9 @@ use Rattle.book.specs.Writing.{bytes-within}
 use Rattle.worked_book.proofs.print.Statement.{statement}
 use Rattle.worked_book.proofs.print.Tie as tie
 
-within : (c : tie.After-known-told) → c .before .written .given .0 .0 ≤ length (c .before .before .before .before .write-if-room .last .0)
+within : (c : tie.After-known-told)
+    → let at-write-if-room = c .before .before .before .before in
+    c .before .written .given .0 .0 ≤ length (at-write-if-room .write-if-room .last .0)
 within c = bytes-within _ _ (c .before .before .before .before .write-if-room .ensures) (c .before .written .given .1)
 
 write-if-room-requires : tie.Need-write-if-room-requires
@@ -24,16 +26,6 @@ slice-aggregate-write-all c = sym (length-take-le _ _ (within (c .before)))
 
 pub print-spec : {M : Type 1} → statement M
 print-spec =
-    tie.close
-    (tie.spec
-    (λ c κs. search needs)
-    (λ c. search needs)
-    (λ c. search needs)
-    write-if-room-requires
-    (λ c. search needs)
-    (λ c. search needs)
-    (λ c. search needs)
-    array-share-prefix-out
-    slice-aggregate-write-all
-    (λ c κs. search needs)
-    (λ c. search needs))
+    tie.close (tie.spec (λ c κs. search needs) (λ c. search needs) (λ c. search needs) write-if-room-requires
+    (λ c. search needs) (λ c. search needs) (λ c. search needs) array-share-prefix-out slice-aggregate-write-all
+    (λ c κs. search needs) (λ c. search needs))

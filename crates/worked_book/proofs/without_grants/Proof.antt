@@ -15,4 +15,5 @@ unfolding row-words row-bits every-below bit sheet-of sheet-of-lines
 print-requires c κs = (omega arith, grant-cells-elim _ _ refl)
 
 pub without-grants-spec : {M : Type 1} → statement M
-without-grants-spec = tie.close (tie.spec (λ c. search needs) print-requires (λ c. search needs))
+without-grants-spec =
+    tie.close (tie.spec (λ c. search needs) print-requires (λ c. search needs))

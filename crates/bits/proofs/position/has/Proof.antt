@@ -10,4 +10,5 @@ unfolding bit
 returns c = refl
 
 pub has-spec : {M : Type 1} → statement M
-has-spec = tie.close (tie.spec (λ c. search needs) returns)
+has-spec =
+    tie.close (tie.spec (λ c. search needs) returns)

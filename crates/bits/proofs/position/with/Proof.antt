@@ -12,4 +12,5 @@ returns c q =
     rw (one-shifted word-bits (c .pre)) (bit-or (c .args .w) (2 ^ c .args .p) q ∙ rw (bit-one-shifted (c .args .p) q))
 
 pub with-spec : {M : Type 1} → statement M
-with-spec = tie.close (tie.spec (λ c. search needs) returns)
+with-spec =
+    tie.close (tie.spec (λ c. search needs) returns)

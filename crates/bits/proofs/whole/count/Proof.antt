@@ -13,4 +13,5 @@ returns : tie.Need-returns
 returns c = ones-count word-bits (c .args .w) (c .fits .w .fits)
 
 pub count-spec : {M : Type 1} → statement M
-count-spec = tie.close (tie.spec cast-result returns)
+count-spec =
+    tie.close (tie.spec cast-result returns)

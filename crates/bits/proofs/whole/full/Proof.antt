@@ -21,4 +21,5 @@ returns-2 : tie.Need-returns-2
 returns-2 c q = rw (one-shifted word-bits (short c)) (bit-full (c .before .args .n) q)
 
 pub full-spec : {M : Type 1} → statement M
-full-spec = tie.close (tie.spec (λ c. search needs) sub-result returns returns-2)
+full-spec =
+    tie.close (tie.spec (λ c. search needs) sub-result returns returns-2)

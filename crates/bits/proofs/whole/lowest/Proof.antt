@@ -13,4 +13,5 @@ returns : tie.Need-returns
 returns c = lowest-trailing word-bits (c .args .w) (c .pre) (c .fits .w .fits)
 
 pub lowest-spec : {M : Type 1} → statement M
-lowest-spec = tie.close (tie.spec cast-result returns)
+lowest-spec =
+    tie.close (tie.spec cast-result returns)

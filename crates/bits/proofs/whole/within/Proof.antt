@@ -8,4 +8,5 @@ returns : tie.Need-returns
 returns c = within-test word-bits (c .args .a) (c .args .b) (c .fits .a .fits)
 
 pub within-spec : {M : Type 1} → statement M
-within-spec = tie.close (tie.spec returns)
+within-spec =
+    tie.close (tie.spec returns)

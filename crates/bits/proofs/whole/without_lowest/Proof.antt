@@ -1,4 +1,5 @@
--- `bits::without_lowest`: w - 1 has no longer the lowest position of w, has those below it, which w has not, and agrees above it.
+-- `bits::without_lowest`: w - 1 has no longer the lowest position of w, has those below it, which w has not, and
+-- agrees above it.
 use borrow.Author.Needs.{needs}
 use Rattle.bits.specs.Bit.{word-bits}
 use Rattle.bits.specs.Laws.Word.{bit-drop-lowest, drop-lowest-less}
@@ -14,4 +15,5 @@ returns c =
     }
 
 pub without-lowest-spec : {M : Type 1} → statement M
-without-lowest-spec = tie.close (tie.spec (λ c. search needs) returns)
+without-lowest-spec =
+    tie.close (tie.spec (λ c. search needs) returns)

@@ -25,19 +25,12 @@ add-result-2 c =
 
 returns : tie.Need-returns
 returns c =
-    counts-measured (c .before .before .before .before .before .args .counts) _ _ _ (c .before .before .before .decimal-length .ensures)
+    let start = c .before .before .before .before .before in
+    counts-measured (start .args .counts) _ _ _ (c .before .before .before .decimal-length .ensures)
     (c .before .decimal-length2 .ensures)
     (c .standing-length .ensures)
 
 pub counts-length-spec : {M : Type 1} → statement M
 counts-length-spec =
-    tie.close
-    (tie.spec
-    (λ c κs. search needs)
-    add-roles
-    (λ c κs. search needs)
-    add-bound
-    add-result
-    (λ c κs. search needs)
-    add-result-2
-    returns)
+    tie.close (tie.spec (λ c κs. search needs) add-roles (λ c κs. search needs) add-bound add-result
+    (λ c κs. search needs) add-result-2 returns)

@@ -10,7 +10,19 @@ use Rattle.spec.specs.Decimal.{decimal}
 use Rattle.roles.specs.StandingCases.{standing-case}
 use Rattle.blocks.specs.Laws.Counts.{counts-parts}
 use Rattle.blocks.specs.CountsText.{standing-text}
-use Rattle.text.specs.Written.{WrittenSoFar, end-within, fits-as, front-fits, place-within, room-behind, then-same-length, then-written, with-rest, within-buffer, written-as}
+use Rattle.text.specs.Written.{
+  WrittenSoFar,
+  end-within,
+  fits-as,
+  front-fits,
+  place-within,
+  room-behind,
+  then-same-length,
+  then-written,
+  with-rest,
+  within-buffer,
+  written-as,
+}
 use Rattle.blocks.proofs.counts.put_counts.Statement.{statement}
 use Rattle.blocks.proofs.counts.put_counts.Tie as tie
 
@@ -36,14 +48,21 @@ abbrev first : tie.After-put-counted2 → tie.After-put-counted
 first c = c .before .before .before .before .before
 
 behind-roles : (c : tie.After-put-counted)
-    → WrittenSoFar (front (start c)) (bound (start c)) (start c .args .out .now) (c .put-counted .last .0) (c .put-counted .result)
+    → WrittenSoFar (front (start c)) (bound (start c)) (start c .args .out .now) (c .put-counted .last .0)
+    (c .put-counted .result)
 behind-roles c = record { written = c .put-counted .ensures; fits = front-room (start c) }
 
 behind-bound : (c : tie.After-put-counted2)
     → let a = first c in
     WrittenSoFar (front (start a) ++ bound (start a)) (state (start a)) (start a .args .out .now)
-    (with-rest (a .put-counted .result) (a .put-counted .last .0) (c .put-counted2 .last .0)) (a .put-counted .result + c .put-counted2 .result)
-behind-bound c = record { written = then-written (behind-roles (first c)) (c .put-counted2 .ensures); fits = room (start (first c)) }
+    (with-rest (a .put-counted .result) (a .put-counted .last .0) (c .put-counted2 .last .0))
+    (a .put-counted .result + c .put-counted2 .result)
+behind-bound c =
+    record {
+      written = then-written (behind-roles (first c)) (c .put-counted2 .ensures);
+      fits = room
+          (start (first c));
+    }
 
 put-counted-requires : tie.Need-put-counted-requires
 put-counted-requires c κs =
@@ -73,32 +92,23 @@ put-standing-requires c κs = room-behind (behind-bound (c .before .before .befo
 
 add-result : tie.Need-add-result
 add-result c =
-    omega (arith, end-within (behind-bound (c .before .before .before .before .before .before)) (c .before .before .put-standing .ensures))
+    let earlier = c .before .before .before .before .before .before in
+    omega (arith, end-within (behind-bound earlier) (c .before .before .put-standing .ensures))
 
 same-length : tie.Need-same-length
-same-length c = then-same-length (behind-bound (c .before .before .before .before .before .before)) (c .before .before .put-standing .ensures)
+same-length c =
+    let earlier = c .before .before .before .before .before .before in
+    then-same-length (behind-bound earlier) (c .before .before .put-standing .ensures)
 
 returns : tie.Need-returns
 returns c =
-    let a = (c .before .before .before .before .before .before) in
-    written-as (sym (counts-parts (start (first a) .args .counts))) (then-written (behind-bound a) (c .before .before .put-standing .ensures))
+    let earlier = c .before .before .before .before .before .before in
+    let a = earlier in
+    written-as (sym (counts-parts (start (first a) .args .counts)))
+    (then-written (behind-bound a) (c .before .before .put-standing .ensures))
 
 pub put-counts-spec : {M : Type 1} → statement M
 put-counts-spec =
-    tie.close
-    (tie.spec
-    (λ c. search needs)
-    put-counted-requires
-    sub-put-counted
-    part-put-counted-start
-    (λ c. search needs)
-    (λ c. search needs)
-    put-counted-requires-2
-    add-bound
-    sub-put-standing
-    part-put-standing-start
-    (λ c. search needs)
-    put-standing-requires
-    add-result
-    same-length
-    returns)
+    tie.close (tie.spec (λ c. search needs) put-counted-requires sub-put-counted part-put-counted-start
+    (λ c. search needs) (λ c. search needs) put-counted-requires-2 add-bound sub-put-standing part-put-standing-start
+    (λ c. search needs) put-standing-requires add-result same-length returns)

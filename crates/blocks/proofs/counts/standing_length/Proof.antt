@@ -14,13 +14,16 @@ abbrev text : StandingValue → Bytes
 text standing = standing-text (standing-case standing)
 
 returns : tie.Need-returns
-returns c = measured-as (sym (ap text (c .before .enum-told .given .1))) (record { counted = refl; small = omega arith })
+returns c =
+    measured-as (sym (ap text (c .before .enum-told .given .1))) (record { counted = refl; small = omega arith })
 
 returns-2 : tie.Need-returns-2
-returns-2 c = measured-as (sym (ap text (c .before .enum-told2 .given .1))) (record { counted = refl; small = omega arith })
+returns-2 c =
+    measured-as (sym (ap text (c .before .enum-told2 .given .1))) (record { counted = refl; small = omega arith })
 
 returns-3 : tie.Need-returns-3
-returns-3 c = measured-as (sym (ap text (c .before .enum-told3 .given .1))) (record { counted = refl; small = omega arith })
+returns-3 c =
+    measured-as (sym (ap text (c .before .enum-told3 .given .1))) (record { counted = refl; small = omega arith })
 
 pub standing-length-spec : {M : Type 1} → statement M
 standing-length-spec =

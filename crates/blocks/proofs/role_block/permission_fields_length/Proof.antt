@@ -16,34 +16,45 @@ use Rattle.blocks.proofs.role_block.permission_fields_length.Statement.
 use Rattle.blocks.proofs.role_block.permission_fields_length.Tie as tie
 
 abbrev Inv-loop : tie.InvT-loop
-Inv-loop s permissions from to total₀ i₀ total i = Adding permissions (λ p. behind-comma (permission-name (sheet-of s) p)) piece-most i total
+Inv-loop s permissions from to total₀ i₀ total i =
+    Adding permissions (λ p. behind-comma (permission-name (sheet-of s) p)) piece-most i total
 
 abbrev μ-loop : tie.MeasureT-loop
 μ-loop s permissions from to total₀ i₀ total i = permissions - i
 
-short : (c : tie.After-permission-name-in Inv-loop μ-loop) → length (c .permission-name-in .result .now) ≤ role-name-most
+short : (c : tie.After-permission-name-in Inv-loop μ-loop) → length (c .permission-name-in .result .now) ≤
+    role-name-most
 unfolding name-limit
 short c =
+    let start = c .before .before .before .before .before .before .before .before .before in
     fits-as (sym (c .permission-name-in .ensures))
-    (omega (arith, permission-name-short (c .before .before .before .before .before .before .before .before .before .pre) _ (c .before .before .before .loop-test .taken)))
+    (omega (arith, permission-name-short (start .pre) _ (c .before .before .before .loop-test .taken)))
 
 loop-holds : tie.Need-loop-holds Inv-loop μ-loop
 loop-holds c = adding-starts _ _ _
 
 permission-name-in-requires : tie.Need-permission-name-in-requires Inv-loop μ-loop
 permission-name-in-requires c κs =
-    let s = c .before .before .before .before .before .before .before .before in
-    (permissions-at (s .args .s .now) (s .args .layout) (s .pre), permission-counted (s .pre) (c .before .before .loop-test .taken))
+    let s = c .before .before .before .before .before .before .before .before in (
+      permissions-at (s .args .s .now) (s .args .layout) (s .pre),
+      permission-counted (s .pre)
+          (c .before .before .loop-test .taken),
+    )
 
 add-total : tie.Need-add-total Inv-loop μ-loop
 add-total c = omega (arith, short c)
 
 add-total-2 : tie.Need-add-total-2 Inv-loop μ-loop
 unfolding row-bits row-words
-add-total-2 c = omega (arith, short c, c .before .before .before .before .loop .inv .small, permissions-fit (c .before .before .before .before .before .before .before .before .before .pre))
+add-total-2 c =
+    let at-loop = c .before .before .before .before in
+    let start = at-loop .before .before .before .before .before in
+    omega (arith, short c, at-loop .loop .inv .small, permissions-fit (start .pre))
 
 add-i : tie.Need-add-i Inv-loop μ-loop
-add-i c = omega (arith, permissions-fit (c .before .before .before .before .before .before .before .before .before .pre))
+add-i c =
+    let start = c .before .before .before .before .before .before .before .before .before in
+    omega (arith, permissions-fit (start .pre))
 
 loop-again : tie.Need-loop-again Inv-loop μ-loop
 loop-again c =
@@ -54,19 +65,11 @@ loop-again c =
 returns : tie.Need-returns Inv-loop μ-loop
 unfolding row-bits row-words
 returns c =
-    measured-within (adding-ends (c .before .loop .inv) (c .loop-test .left)) (omega (arith, permissions-fit (c .before .before .before .before .before .before .pre)))
+    let start = c .before .before .before .before .before .before in
+    measured-within (adding-ends (c .before .loop .inv) (c .loop-test .left))
+    (omega (arith, permissions-fit (start .pre)))
 
 pub permission-fields-length-spec : {M : Type 1} → statement M
 permission-fields-length-spec =
-    tie.close
-    (tie.spec
-    Inv-loop
-    μ-loop
-    loop-holds
-    permission-name-in-requires
-    add-total
-    add-total-2
-    add-i
-    (λ c. omega arith)
-    loop-again
-    returns)
+    tie.close (tie.spec Inv-loop μ-loop loop-holds permission-name-in-requires add-total add-total-2 add-i
+    (λ c. omega arith) loop-again returns)

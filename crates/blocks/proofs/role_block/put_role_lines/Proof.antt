@@ -4,14 +4,22 @@ use Prim.Native.Nat.{_-_}
 use native.Mathlib.Omega.{arith}
 use Rattle.spec.specs.Text.{line-text}
 use Rattle.cells.specs.Rows.{row-words}
-use Rattle.cell_text.specs.Laws.ListedWritten.{Listing, listing-ends, listing-starts, part-ready, part-within, part-written}
+use Rattle.cell_text.specs.Laws.ListedWritten.{
+  Listing,
+  listing-ends,
+  listing-starts,
+  part-ready,
+  part-within,
+  part-written,
+}
 use Rattle.blocks.specs.RowsSaid.{role-line}
 use Rattle.text.specs.Written.{room-behind, within-buffer}
 use Rattle.blocks.proofs.role_block.put_role_lines.Statement.{statement}
 use Rattle.blocks.proofs.role_block.put_role_lines.Tie as tie
 
 abbrev Inv-loop : tie.InvT-loop
-Inv-loop out₀ gives roles permissions at₀ i₀ out at i = Listing roles (λ r. line-text (role-line gives permissions r)) i out₀ out at
+Inv-loop out₀ gives roles permissions at₀ i₀ out at i =
+    Listing roles (λ r. line-text (role-line gives permissions r)) i out₀ out at
 
 abbrev μ-loop : tie.MeasureT-loop
 μ-loop out₀ gives roles permissions at₀ i₀ out at i = roles - i
@@ -27,8 +35,11 @@ part-put-role-line-start c = within-buffer (part-ready (c .before .loop .inv) (c
 
 put-role-line-requires : tie.Need-put-role-line-requires Inv-loop μ-loop
 unfolding row-words
-put-role-line-requires c κs =
-    ((omega arith, omega arith, omega arith), room-behind (part-ready (c .before .before .loop .inv) (c .before .loop-test .taken)))
+put-role-line-requires c κs = (
+  (omega arith, omega arith, omega arith),
+  room-behind (part-ready (c .before .before .loop .inv)
+      (c .before .loop-test .taken)),
+)
 
 add-at : tie.Need-add-at Inv-loop μ-loop
 add-at c =
@@ -48,18 +59,5 @@ returns c = listing-ends (c .before .loop .inv) (c .loop-test .left)
 
 pub put-role-lines-spec : {M : Type 1} → statement M
 put-role-lines-spec =
-    tie.close
-    (tie.spec
-    Inv-loop
-    μ-loop
-    loop-holds
-    sub-put-role-line
-    part-put-role-line-start
-    (λ c. search needs)
-    put-role-line-requires
-    add-at
-    (λ c. omega arith)
-    (λ c. omega arith)
-    loop-again
-    same-length
-    returns)
+    tie.close (tie.spec Inv-loop μ-loop loop-holds sub-put-role-line part-put-role-line-start (λ c. search needs)
+    put-role-line-requires add-at (λ c. omega arith) (λ c. omega arith) loop-again same-length returns)

@@ -8,7 +8,17 @@ use Rattle.spec.specs.Sheet.{sheet-of, permission-name}
 use Rattle.lists.specs.Listed.{listed}
 use Rattle.text.specs.LineLaws.{behind-comma, line-end}
 use Rattle.blocks.specs.Laws.LineWritten.{LineRoom, behind-fields, behind-name, name-fits}
-use Rattle.text.specs.Written.{WrittenSoFar, Written, byte-same-length, byte-within, place-within, room-behind, then-byte, with-rest, within-buffer}
+use Rattle.text.specs.Written.{
+  WrittenSoFar,
+  Written,
+  byte-same-length,
+  byte-within,
+  place-within,
+  room-behind,
+  then-byte,
+  with-rest,
+  within-buffer,
+}
 use Rattle.blocks.proofs.role_block.put_roles_heading.Statement.{statement}
 use Rattle.blocks.proofs.role_block.put_roles_heading.Tie as tie
 
@@ -25,11 +35,13 @@ room s = record { fits = s .pre .1 }
 abbrev start : tie.After-put-bytes → tie.Start
 start c = c .before .before .before .before .before
 
-written : (c : tie.After-put-bytes) → Written (name (start c)) (start c .args .out .now) (c .put-bytes .last .0) (c .put-bytes .result)
+written : (c : tie.After-put-bytes) → Written (name (start c)) (start c .args .out .now) (c .put-bytes .last .0)
+    (c .put-bytes .result)
 written c = c .put-bytes .ensures
 
 behind-first : (c : tie.After-put-bytes)
-    → WrittenSoFar (name (start c)) (fields (start c)) (start c .args .out .now) (c .put-bytes .last .0) (c .put-bytes .result)
+    → WrittenSoFar (name (start c)) (fields (start c)) (start c .args .out .now) (c .put-bytes .last .0)
+    (c .put-bytes .result)
 behind-first c = behind-name (room (start c)) (written c)
 
 behind-second : (c : tie.After-put-permission-fields)
@@ -52,7 +64,8 @@ part-put-permission-fields-start c = within-buffer (behind-first (c .before .bef
 
 put-permission-fields-requires : tie.Need-put-permission-fields-requires
 put-permission-fields-requires c κs =
-    (c .before .before .before .before .before .before .before .before .pre .0, room-behind (behind-first (c .before .before .before)))
+    let still-start = c .before .before .before .before .before .before .before .before in
+    (still-start .pre .0, room-behind (behind-first (c .before .before .before)))
 
 add-end : tie.Need-add-end
 add-end c = omega (arith, place-within (behind-second (c .before .before)))
@@ -61,7 +74,8 @@ slice-write-out : tie.Need-slice-write-out
 slice-write-out c = byte-within (behind-second (c .before .before))
 
 add-result : tie.Need-add-result
-add-result c = omega (arith, byte-within (behind-second (c .before .before)), place-within (behind-second (c .before .before)))
+add-result c =
+    omega (arith, byte-within (behind-second (c .before .before)), place-within (behind-second (c .before .before)))
 
 same-length : tie.Need-same-length
 same-length c = byte-same-length (behind-second (c .before .before))
@@ -71,16 +85,6 @@ returns c = then-byte (behind-second (c .before .before))
 
 pub put-roles-heading-spec : {M : Type 1} → statement M
 put-roles-heading-spec =
-    tie.close
-    (tie.spec
-    (λ c. search needs)
-    put-bytes-requires
-    sub-put-permission-fields
-    part-put-permission-fields-start
-    (λ c. search needs)
-    put-permission-fields-requires
-    add-end
-    slice-write-out
-    add-result
-    same-length
-    returns)
+    tie.close (tie.spec (λ c. search needs) put-bytes-requires sub-put-permission-fields
+    part-put-permission-fields-start (λ c. search needs) put-permission-fields-requires add-end slice-write-out
+    add-result same-length returns)

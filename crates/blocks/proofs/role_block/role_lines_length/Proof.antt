@@ -11,7 +11,8 @@ use Rattle.blocks.proofs.role_block.role_lines_length.Statement.{statem
 use Rattle.blocks.proofs.role_block.role_lines_length.Tie as tie
 
 abbrev Inv-loop : tie.InvT-loop
-Inv-loop roles permissions total₀ i₀ total i = ((gives : List ℕ) → Adding roles (λ r. line-text (role-line gives permissions r)) line-most i total)
+Inv-loop roles permissions total₀ i₀ total i =
+    ((gives : List ℕ) → Adding roles (λ r. line-text (role-line gives permissions r)) line-most i total)
 
 abbrev μ-loop : tie.MeasureT-loop
 μ-loop roles permissions total₀ i₀ total i = roles - i
@@ -42,7 +43,8 @@ loop-again : tie.Need-loop-again Inv-loop μ-loop
 loop-again c =
     let a = (c .before) in
     λ gives. part-added (a .before .loop .inv gives) (a .loop-test .taken)
-    (role-line-measured gives (c .before .before .before .args .permissions) _ (c .role-name-length .result) (c .before .before .before .pre .1)
+    (role-line-measured gives (c .before .before .before .args .permissions) _ (c .role-name-length .result)
+    (c .before .before .before .pre .1)
     (c .role-name-length .ensures))
 
 returns : tie.Need-returns Inv-loop μ-loop
@@ -51,17 +53,5 @@ returns c = λ gives. measured-within (adding-ends (c .before .loop .inv gives) 
 
 pub role-lines-length-spec : {M : Type 1} → statement M
 role-lines-length-spec =
-    tie.close
-    (tie.spec
-    Inv-loop
-    μ-loop
-    loop-holds
-    role-name-length-requires
-    mul-total
-    add-total
-    add-total-2
-    add-total-3
-    (λ c. omega arith)
-    (λ c. omega arith)
-    loop-again
-    returns)
+    tie.close (tie.spec Inv-loop μ-loop loop-holds role-name-length-requires mul-total add-total add-total-2
+    add-total-3 (λ c. omega arith) (λ c. omega arith) loop-again returns)

@@ -18,22 +18,20 @@ role-lines-length-requires c κs =
     (s .pre .1, permissions-fit (s .pre .0))
 
 add-result : tie.Need-add-result
-add-result c = omega (arith, c .before .permission-fields-length .ensures .small, c .role-lines-length .ensures [] .small)
+add-result c =
+    omega (arith, c .before .permission-fields-length .ensures .small, c .role-lines-length .ensures [] .small)
 
 returns : tie.Need-returns
 returns c =
-    let s = (c .before .before .before .before) in
-    λ gives. measured-as (sym (roles-parts (sheet-of (s .args .s .now)) gives (s .args .roles) (s .pre .0 .permission-total)))
-    (block-measured (ascii "role") _ _ 4 _ _ refl (c .before .permission-fields-length .ensures) (c .role-lines-length .ensures gives)
+    let earlier = c .before .before .before .before in
+    let s = earlier in
+    λ gives. measured-as (sym (roles-parts (sheet-of (s .args .s .now)) gives (s .args .roles)
+    (s .pre .0 .permission-total)))
+    (block-measured (ascii "role") _ _ 4 _ _ refl (c .before .permission-fields-length .ensures)
+    (c .role-lines-length .ensures gives)
     (omega arith))
 
 pub roles-length-spec : {M : Type 1} → statement M
 roles-length-spec =
-    tie.close
-    (tie.spec
-    (λ c κs. search needs)
-    (λ c. search needs)
-    (λ c. search needs)
-    role-lines-length-requires
-    add-result
-    returns)
+    tie.close (tie.spec (λ c κs. search needs) (λ c. search needs) (λ c. search needs) role-lines-length-requires
+    add-result returns)

@@ -19,10 +19,10 @@ put-counted-requires c κs =
 
 returns : tie.Need-returns
 returns c =
-    written-as (sym (role-field-parts (c .before .before .before .before .before .before .before .args .role .0)))
+    let start = c .before .before .before .before .before .before .before in
+    written-as (sym (role-field-parts (start .args .role .0)))
     (c .before .before .put-counted .ensures)
 
 pub put-role-field-spec : {M : Type 1} → statement M
 put-role-field-spec =
-    tie.close
-    (tie.spec (λ c. search needs) add-put-counted put-counted-requires (λ c. search needs) returns)
+    tie.close (tie.spec (λ c. search needs) add-put-counted put-counted-requires (λ c. search needs) returns)

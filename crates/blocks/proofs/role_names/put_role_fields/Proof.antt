@@ -4,7 +4,14 @@ use Prim.Native.Nat.{_-_}
 use native.Mathlib.Omega.{arith}
 use Rattle.spec.specs.Book.{role-name}
 use Rattle.text.specs.LineLaws.{behind-comma}
-use Rattle.cell_text.specs.Laws.ListedWritten.{Listing, listing-ends, listing-starts, part-ready, part-within, part-written}
+use Rattle.cell_text.specs.Laws.ListedWritten.{
+  Listing,
+  listing-ends,
+  listing-starts,
+  part-ready,
+  part-within,
+  part-written,
+}
 use Rattle.text.specs.Written.{room-behind, within-buffer}
 use Rattle.blocks.proofs.role_names.put_role_fields.Statement.{statement}
 use Rattle.blocks.proofs.role_names.put_role_fields.Tie as tie
@@ -25,7 +32,8 @@ part-put-role-field-start : tie.Need-part-put-role-field-start Inv-loop μ-loop
 part-put-role-field-start c = within-buffer (part-ready (c .before .loop .inv) (c .loop-test .taken))
 
 put-role-field-requires : tie.Need-put-role-field-requires Inv-loop μ-loop
-put-role-field-requires c κs = (omega arith, room-behind (part-ready (c .before .before .loop .inv) (c .before .loop-test .taken)))
+put-role-field-requires c κs =
+    (omega arith, room-behind (part-ready (c .before .before .loop .inv) (c .before .loop-test .taken)))
 
 add-at : tie.Need-add-at Inv-loop μ-loop
 add-at c =
@@ -45,18 +53,5 @@ returns c = listing-ends (c .before .loop .inv) (c .loop-test .left)
 
 pub put-role-fields-spec : {M : Type 1} → statement M
 put-role-fields-spec =
-    tie.close
-    (tie.spec
-    Inv-loop
-    μ-loop
-    loop-holds
-    sub-put-role-field
-    part-put-role-field-start
-    (λ c. search needs)
-    put-role-field-requires
-    add-at
-    (λ c. omega arith)
-    (λ c. omega arith)
-    loop-again
-    same-length
-    returns)
+    tie.close (tie.spec Inv-loop μ-loop loop-holds sub-put-role-field part-put-role-field-start (λ c. search needs)
+    put-role-field-requires add-at (λ c. omega arith) (λ c. omega arith) loop-again same-length returns)

@@ -29,7 +29,8 @@ loop-again : tie.Need-loop-again Inv-loop μ-loop
 loop-again c =
     let a = (c .before) in
     part-added (a .before .loop .inv) (a .loop-test .taken)
-    (field-measured _ (c .role-name-length .result) (c .role-name-length .ensures .counted) (c .role-name-length .ensures .small))
+    (field-measured _ (c .role-name-length .result) (c .role-name-length .ensures .counted)
+    (c .role-name-length .ensures .small))
 
 returns : tie.Need-returns Inv-loop μ-loop
 unfolding row-bits row-words
@@ -37,15 +38,5 @@ returns c = measured-within (adding-ends (c .before .loop .inv) (c .loop-test .l
 
 pub role-fields-length-spec : {M : Type 1} → statement M
 role-fields-length-spec =
-    tie.close
-    (tie.spec
-    Inv-loop
-    μ-loop
-    loop-holds
-    (λ c κs. omega arith)
-    add-total
-    add-total-2
-    (λ c. omega arith)
-    (λ c. omega arith)
-    loop-again
-    returns)
+    tie.close (tie.spec Inv-loop μ-loop loop-holds (λ c κs. omega arith) add-total add-total-2 (λ c. omega arith)
+    (λ c. omega arith) loop-again returns)

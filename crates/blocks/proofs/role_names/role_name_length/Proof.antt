@@ -14,7 +14,8 @@ add-result : tie.Need-add-result
 add-result c = omega (arith, c .decimal-length .ensures .small)
 
 returns : tie.Need-returns
-returns c = role-name-measured (c .before .before .args .role .0) (c .decimal-length .result) (c .decimal-length .ensures)
+returns c =
+    role-name-measured (c .before .before .args .role .0) (c .decimal-length .result) (c .decimal-length .ensures)
 
 pub role-name-length-spec : {M : Type 1} → statement M
 role-name-length-spec =

@@ -16,17 +16,13 @@ add-result c = omega (arith, c .before .role-fields-length .ensures .small, c .u
 
 returns : tie.Need-returns
 returns c =
-    let s = (c .before .before .before .before) in
+    let earlier = c .before .before .before .before in
+    let s = earlier in
     λ has. measured-as (sym (users-parts (sheet-of (s .args .s .now)) has (s .args .roles) (s .pre .0 .user-total)))
-    (block-measured (ascii "user") _ _ 4 _ _ refl (c .before .role-fields-length .ensures) (c .user-lines-length .ensures has) (omega arith))
+    (block-measured (ascii "user") _ _ 4 _ _ refl (c .before .role-fields-length .ensures)
+    (c .user-lines-length .ensures has) (omega arith))
 
 pub users-length-spec : {M : Type 1} → statement M
 users-length-spec =
-    tie.close
-    (tie.spec
-    (λ c κs. search needs)
-    (λ c. search needs)
-    (λ c. search needs)
-    (λ c κs. search needs)
-    add-result
-    returns)
+    tie.close (tie.spec (λ c κs. search needs) (λ c. search needs) (λ c. search needs) (λ c κs. search needs)
+    add-result returns)

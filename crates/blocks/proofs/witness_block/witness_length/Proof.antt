@@ -11,9 +11,11 @@ use Rattle.blocks.proofs.witness_block.witness_length.Tie as tie
 
 returns : tie.Need-returns
 returns c =
-    let s = (c .before .before .before .before) in
+    let earlier = c .before .before .before .before in
+    let s = earlier in
     measured-as
-    (sym (witness-parts (sheet-of (s .args .s .now)) (s .args .witness .now) (s .pre .0 .user-total) (s .pre .0 .permission-total)
+    (sym (witness-parts (sheet-of (s .args .s .now)) (s .args .witness .now) (s .pre .0 .user-total)
+    (s .pre .0 .permission-total)
     (accepted-lawful (s .args .s .now) (s .pre .0 .accepts)) (s .pre .2)))
     (record {
       counted = omega (arith, c .witness-rows-length .ensures .counted);
@@ -21,4 +23,5 @@ returns c =
     })
 
 pub witness-length-spec : {M : Type 1} → statement M
-witness-length-spec = tie.close (tie.spec (λ c κs. search needs) (λ c. search needs) returns)
+witness-length-spec =
+    tie.close (tie.spec (λ c κs. search needs) (λ c. search needs) returns)

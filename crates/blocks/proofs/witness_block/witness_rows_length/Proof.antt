@@ -12,7 +12,8 @@ use Rattle.blocks.proofs.witness_block.witness_rows_length.Statement.{s
 use Rattle.blocks.proofs.witness_block.witness_rows_length.Tie as tie
 
 abbrev Inv-loop : tie.InvT-loop
-Inv-loop s witness users permissions «user_from» «user_to» «permission_from» «permission_to» total₀ i₀ total i = Adding users (witness-row (sheet-of s) witness permissions) line-most i total
+Inv-loop s witness users permissions «user_from» «user_to» «permission_from» «permission_to» total₀ i₀ total i =
+    Adding users (witness-row (sheet-of s) witness permissions) line-most i total
 
 abbrev μ-loop : tie.MeasureT-loop
 μ-loop s witness users permissions «user_from» «user_to» «permission_from» «permission_to» total₀ i₀ total i = users - i
@@ -23,10 +24,13 @@ loop-holds c = adding-starts _ _ _
 witness-row-length-requires : tie.Need-witness-row-length-requires Inv-loop μ-loop
 unfolding row-words
 witness-row-length-requires c κs =
-    let s = c .before .before .before .before .before .before .before .before .before .before .before .before .before .before in (
+    let at-loop-test = c .before .before .before .before in
+    let between = at-loop-test .before .before .before .before .before .before .before .before in
+    let earlier = between .before .before in
+    let s = earlier in (
       users-at (s .args .s .now) (s .args .layout) (s .pre .0),
       permissions-at (s .args .s .now) (s .args .layout) (s .pre .0),
-      user-counted (s .pre .0) (c .before .before .before .before .loop-test .taken),
+      user-counted (s .pre .0) (at-loop-test .loop-test .taken),
       omega (arith, s .pre .0 .permission-total),
       omega (arith, s .pre .0 .user-total, s .pre .1),
     )
@@ -34,16 +38,21 @@ witness-row-length-requires c κs =
 add-total : tie.Need-add-total Inv-loop μ-loop
 unfolding user-limit
 add-total c =
+    let at-loop = c .before .before .before .before .before .before in
+    let start = at-loop .before .before .before .before .before .before .before .before .before in
     omega (
       arith,
       c .witness-row-length .ensures .small,
-      c .before .before .before .before .before .before .loop .inv .small,
-      few-users (c .before .before .before .before .before .before .before .before .before .before .before .before .before .before .before .pre .0),
+      at-loop .loop .inv .small,
+      few-users (start .pre .0),
     )
 
 add-i : tie.Need-add-i Inv-loop μ-loop
 unfolding user-limit
-add-i c = omega (arith, few-users (c .before .before .before .before .before .before .before .before .before .before .before .before .before .before .before .pre .0))
+add-i c =
+    let between = c .before .before .before .before .before .before .before .before in
+    let start = between .before .before .before .before .before .before .before in
+    omega (arith, few-users (start .pre .0))
 
 loop-again : tie.Need-loop-again Inv-loop μ-loop
 loop-again c =
@@ -54,18 +63,12 @@ loop-again c =
 returns : tie.Need-returns Inv-loop μ-loop
 unfolding user-limit
 returns c =
-    measured-within (adding-ends (c .before .loop .inv) (c .loop-test .left)) (omega (arith, few-users (c .before .before .before .before .before .before .before .before .before .before .pre .0)))
+    let between = c .before .before .before .before .before .before .before .before in
+    let start = between .before .before in
+    measured-within (adding-ends (c .before .loop .inv) (c .loop-test .left))
+    (omega (arith, few-users (start .pre .0)))
 
 pub witness-rows-length-spec : {M : Type 1} → statement M
 witness-rows-length-spec =
-    tie.close
-    (tie.spec
-    Inv-loop
-    μ-loop
-    loop-holds
-    witness-row-length-requires
-    add-total
-    add-i
-    (λ c. omega arith)
-    loop-again
-    returns)
+    tie.close (tie.spec Inv-loop μ-loop loop-holds witness-row-length-requires add-total add-i (λ c. omega arith)
+    loop-again returns)

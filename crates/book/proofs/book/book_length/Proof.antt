@@ -16,7 +16,8 @@ add-third : tie.Need-add-third
 add-third c = omega (arith, c .users-length .ensures [] .small)
 
 add-result : tie.Need-add-result
-add-result c = omega (arith, c .before .before .counts-length .ensures .small, c .before .roles-length .ensures [] .small)
+add-result c =
+    omega (arith, c .before .before .counts-length .ensures .small, c .before .roles-length .ensures [] .small)
 
 add-result-2 : tie.Need-add-result-2
 add-result-2 c =
@@ -46,23 +47,15 @@ add-result-3 c =
 
 returns : tie.Need-returns
 returns c =
-    let s = (c .before .before .before .before .before .before) in
+    let at-counts-length = c .before .before .before .before in
+    let earlier = at-counts-length .before .before in
+    let s = earlier in
     λ has gives. book-measured (s .args .s .now) has gives (s .args .witness .now) (s .args .counts)
-    (c .before .before .before .before .counts-length .ensures)
-    (c .before .before .before .roles-length .ensures gives) (c .before .before .users-length .ensures has) (c .witness-length .ensures)
+    (at-counts-length .counts-length .ensures)
+    (c .before .before .before .roles-length .ensures gives) (c .before .before .users-length .ensures has)
+    (c .witness-length .ensures)
 
 pub book-length-spec : {M : Type 1} → statement M
 book-length-spec =
-    tie.close
-    (tie.spec
-    (λ c κs. search needs)
-    (λ c. search needs)
-    (λ c κs. search needs)
-    add-second
-    (λ c κs. search needs)
-    add-third
-    add-result
-    add-result-2
-    witness-length-requires
-    add-result-3
-    returns)
+    tie.close (tie.spec (λ c κs. search needs) (λ c. search needs) (λ c κs. search needs) add-second
+    (λ c κs. search needs) add-third add-result add-result-2 witness-length-requires add-result-3 returns)

@@ -16,7 +16,19 @@ use Rattle.blocks.specs.CountsText.{counts-text}
 use Rattle.blocks.specs.Laws.Laid.{few-users}
 use Rattle.text.specs.LineLaws.{line-end}
 use Rattle.blocks.specs.RowsSaid.{shown-roles, shown-users}
-use Rattle.text.specs.Written.{WrittenSoFar, end-within, fits-as, front-fits, place-within, room-behind, then-same-length, then-written, with-rest, within-buffer, written-as}
+use Rattle.text.specs.Written.{
+  WrittenSoFar,
+  end-within,
+  fits-as,
+  front-fits,
+  place-within,
+  room-behind,
+  then-same-length,
+  then-written,
+  with-rest,
+  within-buffer,
+  written-as,
+}
 use Rattle.book.proofs.book.write_book.Statement.{statement}
 use Rattle.book.proofs.book.write_book.Tie as tie
 
@@ -32,7 +44,9 @@ abbrev third : tie.Start → Bytes
 third s = text-of (shown-users (sheet-of (s .args .s .now)) (s .args .has .now) (s .args .counts .roles))
 
 abbrev fourth : tie.Start → Bytes
-fourth s = text-of (witness-block (sheet-of (s .args .s .now)) (cell-grants (sheet-of (s .args .s .now)) (s .args .witness .now)))
+fourth s =
+    text-of (witness-block (sheet-of (s .args .s .now)) (cell-grants (sheet-of (s .args .s .now))
+    (s .args .witness .now)))
 
 abbrev up-to-second : tie.Start → Bytes
 up-to-second s = (first s ++ line-end) ++ second s
@@ -43,7 +57,8 @@ up-to-third s = (up-to-second s ++ line-end) ++ third s
 parts : (s : tie.Start)
     → rows-book (s .args .s .now) (s .args .has .now) (s .args .gives .now) (s .args .witness .now) (s .args .counts)
     ≡ (up-to-third s ++ line-end) ++ fourth s
-parts s = book-parts (s .args .s .now) (s .args .has .now) (s .args .gives .now) (s .args .witness .now) (s .args .counts)
+parts s =
+    book-parts (s .args .s .now) (s .args .has .now) (s .args .gives .now) (s .args .witness .now) (s .args .counts)
 
 -- ---- there is room for each front
 
@@ -59,7 +74,8 @@ second-room s = front-fits (up-to-second s ++ line-end) (third s) (front-fits (u
 first-room : (s : tie.Start) → length (first s ++ line-end) ≤ length (s .args .out .now)
 first-room s = front-fits (first s ++ line-end) (second s) (front-fits (up-to-second s) line-end (second-room s))
 
--- ---- the places behind each block and behind each empty line: the function's entry, the buffer, and where the next writer starts
+-- ---- the places behind each block and behind each empty line: the function's entry, the buffer, and where the next
+-- writer starts
 
 abbrev first-entry : tie.After-put-counts → tie.Start
 first-entry c = c .before .before .before .before
@@ -106,7 +122,11 @@ behind-second : (c : tie.After-put-roles)
     → let s = second-entry c in
     WrittenSoFar (up-to-second s) line-end (s .args .out .now) (second-after c) (second-end c)
 behind-second c =
-    record { written = then-written (at-second (before-roles c)) (c .put-roles .ensures); fits = second-room (second-entry c) }
+    record {
+      written = then-written (at-second (before-roles c)) (c .put-roles .ensures);
+      fits = second-room
+          (second-entry c);
+    }
 
 abbrev behind-roles : tie.After-put-empty-line2 → tie.After-put-roles
 behind-roles c = c .before .before .before .before
@@ -143,7 +163,11 @@ behind-third : (c : tie.After-put-users)
     → let s = third-entry c in
     WrittenSoFar (up-to-third s) line-end (s .args .out .now) (third-after c) (third-end c)
 behind-third c =
-    record { written = then-written (at-third (before-users c)) (c .put-users .ensures); fits = third-room (third-entry c) }
+    record {
+      written = then-written (at-third (before-users c)) (c .put-users .ensures);
+      fits = third-room
+          (third-entry c);
+    }
 
 abbrev behind-users : tie.After-put-empty-line3 → tie.After-put-users
 behind-users c = c .before .before .before .before
@@ -157,7 +181,11 @@ at-fourth : (c : tie.After-put-empty-line3)
     WrittenSoFar (up-to-third s ++ line-end) (fourth s) (s .args .out .now)
     (with-rest (third-end a) (third-after a) (c .put-empty-line3 .last .0)) (third-end a + c .put-empty-line3 .result)
 at-fourth c =
-    record { written = then-written (behind-third (behind-users c)) (c .put-empty-line3 .ensures); fits = room (fourth-entry c) }
+    record {
+      written = then-written (behind-third (behind-users c)) (c .put-empty-line3 .ensures);
+      fits = room
+          (fourth-entry c);
+    }
 
 -- ---- what the code asks
 
@@ -187,7 +215,8 @@ part-put-roles-start c = within-buffer (at-second (c .before .before))
 put-roles-requires : tie.Need-put-roles-requires
 unfolding row-bits row-words
 put-roles-requires c κs =
-    let s = c .before .before .before .before .before .before .before .before .before .before .before .before in
+    let between = c .before .before .before .before .before .before .before .before in
+    let s = between .before .before .before .before in
     ((s .pre .0 .0, s .pre .0 .1, omega arith), room-behind (at-second (c .before .before .before .before)))
 
 add-second : tie.Need-add-second
@@ -214,8 +243,11 @@ part-put-users-start c = within-buffer (at-third (c .before .before))
 put-users-requires : tie.Need-put-users-requires
 unfolding row-words user-limit
 put-users-requires c κs =
-    let s = (c .before .before .before .before .before .before .before .before .before .before .before .before .before .before .before .before .before .before .before .before .before) in
-    ((s .pre .0 .0, s .pre .0 .1, omega (arith, few-users (s .pre .0 .0))), room-behind (at-third (c .before .before .before .before)))
+    let earlier = c .before .before .before .before in
+    let between = earlier .before .before .before .before .before .before .before .before in
+    let still-earlier = between .before .before .before .before .before .before .before .before .before in
+    let s = still-earlier in
+    ((s .pre .0 .0, s .pre .0 .1, omega (arith, few-users (s .pre .0 .0))), room-behind (at-third earlier))
 
 add-third : tie.Need-add-third
 add-third c = omega (arith, place-within (behind-third (c .before .before)))
@@ -241,56 +273,36 @@ part-put-witness-start c = within-buffer (at-fourth (c .before .before))
 put-witness-requires : tie.Need-put-witness-requires
 unfolding row-words user-limit
 put-witness-requires c κs =
-    let s = (c .before .before .before .before .before .before .before .before .before .before .before .before .before .before .before .before .before .before .before .before .before .before .before .before .before .before .before .before .before .before) in
-    ((s .pre .0 .0, omega (arith, few-users (s .pre .0 .0)), s .pre .0 .2), room-behind (at-fourth (c .before .before .before .before)))
+    let earlier = c .before .before .before .before in
+    let between = earlier .before .before .before .before .before .before .before .before in
+    let further-between = between .before .before .before .before .before .before .before .before in
+    let further-further-between = further-between .before .before .before .before .before .before .before .before in
+    let still-earlier = further-further-between .before .before in
+    let s = still-earlier in
+    ((s .pre .0 .0, omega (arith, few-users (s .pre .0 .0)), s .pre .0 .2), room-behind (at-fourth earlier))
 
 add-result : tie.Need-add-result
 add-result c =
-    let a = (c .before .before .before .before .before .before .before) in
+    let earlier = c .before .before .before .before .before .before .before in
+    let a = earlier in
     omega (arith, fourth-entry a .good .0 .0, end-within (at-fourth a) (c .before .before .put-witness .ensures))
 
 same-length : tie.Need-same-length
-same-length c = then-same-length (at-fourth (c .before .before .before .before .before .before .before)) (c .before .before .put-witness .ensures)
+same-length c =
+    let earlier = c .before .before .before .before .before .before .before in
+    then-same-length (at-fourth earlier) (c .before .before .put-witness .ensures)
 
 returns : tie.Need-returns
 returns c =
-    let a = (c .before .before .before .before .before .before .before) in
+    let earlier = c .before .before .before .before .before .before .before in
+    let a = earlier in
     written-as (sym (parts (fourth-entry a))) (then-written (at-fourth a) (c .before .before .put-witness .ensures))
 
 pub write-book-spec : {M : Type 1} → statement M
 write-book-spec =
-    tie.close
-    (tie.spec
-    put-counts-requires
-    sub-put-empty-line
-    part-put-empty-line-start
-    (λ c. search needs)
-    put-empty-line-requires
-    add-from
-    sub-put-roles
-    part-put-roles-start
-    (λ c. search needs)
-    put-roles-requires
-    add-second
-    sub-put-empty-line-2
-    part-put-empty-line-start-2
-    (λ c. search needs)
-    put-empty-line-requires-2
-    add-from-2
-    sub-put-users
-    part-put-users-start
-    (λ c. search needs)
-    put-users-requires
-    add-third
-    sub-put-empty-line-3
-    part-put-empty-line-start-3
-    (λ c. search needs)
-    put-empty-line-requires-3
-    add-from-3
-    sub-put-witness
-    part-put-witness-start
-    (λ c. search needs)
-    put-witness-requires
-    add-result
-    same-length
-    returns)
+    tie.close (tie.spec put-counts-requires sub-put-empty-line part-put-empty-line-start (λ c. search needs)
+    put-empty-line-requires add-from sub-put-roles part-put-roles-start (λ c. search needs) put-roles-requires
+    add-second sub-put-empty-line-2 part-put-empty-line-start-2 (λ c. search needs) put-empty-line-requires-2
+    add-from-2 sub-put-users part-put-users-start (λ c. search needs) put-users-requires add-third
+    sub-put-empty-line-3 part-put-empty-line-start-3 (λ c. search needs) put-empty-line-requires-3 add-from-3
+    sub-put-witness part-put-witness-start (λ c. search needs) put-witness-requires add-result same-length returns)

@@ -18,12 +18,21 @@ returns c =
 
 write-book-requires : tie.Need-write-book-requires
 write-book-requires c κs =
-    let s = (c .before .before .before .before .before) in
-    (s .pre, omega (arith, c .before .if1 .left, c .before .before .book-length .ensures (s .args .has .now) (s .args .gives .now)))
+    let earlier = c .before .before .before .before .before in
+    let s = earlier in (
+      s .pre,
+      omega (
+        arith,
+        c .before .if1 .left,
+        c .before .before .book-length .ensures (s .args .has .now)
+            (s .args .gives .now),
+      ),
+    )
 
 returns-2 : tie.Need-returns-2
 returns-2 c =
-    let s = (c .before .before .before .before .before .before .before .before) in
+    let earlier = c .before .before .before .before .before .before .before .before in
+    let s = earlier in
     written-whole (text s)
     (omega (
       arith,

@@ -15,14 +15,5 @@ abbrev μ-loop : tie.MeasureT-loop
 
 pub put-times-spec : {M : Type 1} → statement M
 put-times-spec =
-    tie.close
-    (tie.spec
-    Inv-loop
-    μ-loop
-    (λ c. omega arith)
-    (λ c κs. search needs)
-    (λ c. omega arith)
-    (λ c. omega arith)
-    (λ c. omega arith)
-    (λ c. omega arith)
-    (λ c. search needs))
+    tie.close (tie.spec Inv-loop μ-loop (λ c. omega arith) (λ c κs. search needs) (λ c. omega arith)
+    (λ c. omega arith) (λ c. omega arith) (λ c. omega arith) (λ c. search needs))

@@ -10,4 +10,5 @@ slice-aggregate-show c = simp length-take (omega arith)
 
 pub show-book-spec : {M : Type 1} → statement M
 show-book-spec =
-    tie.close (tie.spec slice-aggregate-show (λ c κs. search needs) (λ c κs. search needs) (λ c. search needs) (λ c. search needs))
+    tie.close (tie.spec slice-aggregate-show (λ c κs. search needs) (λ c κs. search needs) (λ c. search needs)
+    (λ c. search needs))

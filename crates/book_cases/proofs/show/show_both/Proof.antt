@@ -10,14 +10,6 @@ slice-aggregate-show-damaged-book c = simp length-take (omega arith)
 
 pub show-both-spec : {M : Type 1} → statement M
 show-both-spec =
-    tie.close
-    (tie.spec
-    (λ c. search needs)
-    (λ c. search needs)
-    (λ c κs. search needs)
-    (λ c. search needs)
-    slice-aggregate-show-damaged-book
-    (λ c κs. search needs)
-    (λ c κs. search needs)
-    (λ c. search needs)
+    tie.close (tie.spec (λ c. search needs) (λ c. search needs) (λ c κs. search needs) (λ c. search needs)
+    slice-aggregate-show-damaged-book (λ c κs. search needs) (λ c κs. search needs) (λ c. search needs)
     (λ c. search needs))

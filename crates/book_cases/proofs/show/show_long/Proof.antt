@@ -10,17 +10,6 @@ slice-aggregate-show-damaged c = simp length-take (omega arith)
 
 pub show-long-spec : {M : Type 1} → statement M
 show-long-spec =
-    tie.close
-    (tie.spec
-    (λ c. search needs)
-    (λ c κs. search needs)
-    (λ c. search needs)
-    (λ c κs. search needs)
-    (λ c. search needs)
-    (λ c κs. search needs)
-    (λ c. search needs)
-    slice-aggregate-show-damaged
-    (λ c κs. search needs)
-    (λ c κs. search needs)
-    (λ c. search needs)
-    (λ c. search needs))
+    tie.close (tie.spec (λ c. search needs) (λ c κs. search needs) (λ c. search needs) (λ c κs. search needs)
+    (λ c. search needs) (λ c κs. search needs) (λ c. search needs) slice-aggregate-show-damaged (λ c κs. search needs)
+    (λ c κs. search needs) (λ c. search needs) (λ c. search needs))

@@ -10,11 +10,5 @@ slice-aggregate-show c = simp length-take (omega arith)
 
 pub show-sheet-spec : {M : Type 1} → statement M
 show-sheet-spec =
-    tie.close
-    (tie.spec
-    slice-aggregate-show
-    (λ c. search needs)
-    (λ c κs. search needs)
-    (λ c κs. search needs)
-    (λ c. search needs)
-    (λ c. search needs))
+    tie.close (tie.spec slice-aggregate-show (λ c. search needs) (λ c κs. search needs) (λ c κs. search needs)
+    (λ c. search needs) (λ c. search needs))

@@ -8,4 +8,5 @@ returns : tie.Need-returns
 returns c = digit-is (c .args .n) (c .args .p)
 
 pub digit-at-spec : {M : Type 1} → statement M
-digit-at-spec = tie.close (tie.spec (λ c. search needs) returns)
+digit-at-spec =
+    tie.close (tie.spec (λ c. search needs) returns)

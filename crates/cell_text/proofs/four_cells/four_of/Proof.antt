@@ -1,4 +1,5 @@
--- `four_cells::four_of`: a number below that of no cells says none; what is more than it must be at the positions of the cells.
+-- `four_cells::four_of`: a number below that of no cells says none; what is more than it must be at the positions of
+-- the cells.
 use borrow.Author.Needs.{needs}
 use Prim.Native.Nat.{_-_}
 use native.Mathlib.Omega.{arith}
@@ -27,7 +28,8 @@ returns-2 c =
     record {
       small = omega arith;
       good = λ p. absurd (false≢true p);
-      off = λ f x y z u e. four-unset (over .before .args .n - no-cells) fails x y z u (omega (arith, over .if1 .left, e));
+      off = λ f x y z u e. four-unset (over .before .args .n - no-cells) fails x y z u
+          (omega (arith, over .if1 .left, e));
       blank = λ f. refl;
     }
 
@@ -38,7 +40,8 @@ returns-3 c =
     let passes = sym (c .before .before .sets-cells .ensures) ∙ not-false _ (c .before .if2 .left) in
     record {
       small = rw (c .side-by-side .ensures) (word-small (bit set 8) (bit set 24) (bit set 40) (bit set 56));
-      good = λ p. four-good (over .before .args .n) set (c .side-by-side .result) (omega (arith, over .if1 .left)) passes (c .side-by-side .ensures);
+      good = λ p. four-good (over .before .args .n) set (c .side-by-side .result) (omega (arith, over .if1 .left))
+          passes (c .side-by-side .ensures);
       off = λ f. absurd (true≢false f);
       blank = λ f. absurd (true≢false f);
     }

@@ -13,13 +13,15 @@ use Rattle.cell_text.proofs.four_cells.fours_word.Statement.{statement}
 use Rattle.cell_text.proofs.four_cells.fours_word.Tie as tie
 
 abbrev Inv-loop : tie.InvT-loop
-Inv-loop s at fours word₀ i₀ word i = (i ≤ fours) × (at + 2 * (4 * fours) ≤ length s) × (4 * fours ≤ 64) × CellsIn s at (4 * i) word
+Inv-loop s at fours word₀ i₀ word i =
+    (i ≤ fours) × (at + 2 * (4 * fours) ≤ length s) × (4 * fours ≤ 64) × CellsIn s at (4 * i) word
 
 abbrev μ-loop : tie.MeasureT-loop
 μ-loop s at fours word₀ i₀ word i = fours - i
 
 loop-holds : tie.Need-loop-holds Inv-loop μ-loop
-loop-holds c = (omega arith, omega arith, omega arith, cells-start (c .before .args .s .now) (c .before .args .at) (omega arith))
+loop-holds c =
+    (omega arith, omega arith, omega arith, cells-start (c .before .args .s .now) (c .before .args .at) (omega arith))
 
 returns : tie.Need-returns Inv-loop μ-loop
 returns c =
@@ -42,30 +44,24 @@ loop-again c =
       omega arith,
       omega arith,
       omega arith,
-      fours-more (start .args .s .now) (start .args .at) (loop .i) (loop .word) (four .four-cells .result .word) (loop .inv .3)
-          (four .four-cells .ensures .1 .good (not-false _ (c .before .if1 .left))) (four .four-cells .ensures .0) (omega arith),
+      fours-more (start .args .s .now) (start .args .at) (loop .i) (loop .word) (four .four-cells .result .word)
+          (loop .inv .3)
+          (four .four-cells .ensures .1 .good (not-false _ (c .before .if1 .left))) (four .four-cells .ensures .0)
+          (omega arith),
     )
 
 returns-2 : tie.Need-returns-2 Inv-loop μ-loop
 returns-2 c =
     let loop = c .before .loop in
     let all : loop .i ≡ c .before .before .before .args .fours = omega arith in
-    record { good = λ p. rw all at (loop .inv .3); off = λ f. absurd (true≢false f); blank = λ f. absurd (true≢false f) }
+    record {
+      good = λ p. rw all at (loop .inv .3);
+      off = λ f. absurd (true≢false f);
+      blank = λ f. absurd
+          (true≢false f);
+    }
 
 pub fours-word-spec : {M : Type 1} → statement M
 fours-word-spec =
-    tie.close
-    (tie.spec
-    Inv-loop
-    μ-loop
-    loop-holds
-    (λ c. omega arith)
-    (λ c. omega arith)
-    (λ c κs. omega arith)
-    returns
-    (λ c. omega arith)
-    (λ c. omega arith)
-    (λ c. omega arith)
-    (λ c. omega arith)
-    loop-again
-    returns-2)
+    tie.close (tie.spec Inv-loop μ-loop loop-holds (λ c. omega arith) (λ c. omega arith) (λ c κs. omega arith) returns
+    (λ c. omega arith) (λ c. omega arith) (λ c. omega arith) (λ c. omega arith) loop-again returns-2)

@@ -8,4 +8,5 @@ returns : tie.Need-returns
 returns c = kept-digit (c .args .n) (c .args .p) (c .fits .n .fits) (c .pre)
 
 pub kept-at-spec : {M : Type 1} → statement M
-kept-at-spec = tie.close (tie.spec (λ c. search needs) returns)
+kept-at-spec =
+    tie.close (tie.spec (λ c. search needs) returns)

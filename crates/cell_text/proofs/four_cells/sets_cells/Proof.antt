@@ -17,30 +17,37 @@ third-small : (c : tie.After-kept-at3) → c .kept-at3 .result ≤ 2 ^ 40
 third-small c = rw (c .kept-at3 .ensures) (omega (arith, one-if-small (bit (c .before .before .before .args .n) 40)))
 
 fourth-small : (c : tie.After-kept-at4) → c .kept-at4 .result ≤ 2 ^ 56
-fourth-small c = rw (c .kept-at4 .ensures) (omega (arith, one-if-small (bit (c .before .before .before .before .args .n) 56)))
+fourth-small c =
+    let start = c .before .before .before .before in
+    rw (c .kept-at4 .ensures) (omega (arith, one-if-small (bit (start .args .n) 56)))
 
 add-result : tie.Need-add-result
 add-result c = omega (arith, first-small (c .before .before .before), second-small (c .before .before))
 
 add-result-2 : tie.Need-add-result-2
-add-result-2 c = omega (arith, first-small (c .before .before .before), second-small (c .before .before), third-small (c .before))
+add-result-2 c =
+    omega (arith, first-small (c .before .before .before), second-small (c .before .before), third-small (c .before))
 
 add-result-3 : tie.Need-add-result-3
-add-result-3 c = omega (arith, first-small (c .before .before .before), second-small (c .before .before), third-small (c .before), fourth-small c)
+add-result-3 c =
+    omega (
+      arith,
+      first-small (c .before .before .before),
+      second-small (c .before .before),
+      third-small (c .before),
+      fourth-small c,
+    )
 
 returns : tie.Need-returns
 returns c =
-    rw (c .before .before .before .kept-at .ensures, c .before .before .kept-at2 .ensures, c .before .kept-at3 .ensures, c .kept-at4 .ensures)
+    rw (
+      c .before .before .before .kept-at .ensures,
+      c .before .before .kept-at2 .ensures,
+      c .before .kept-at3 .ensures,
+      c .kept-at4 .ensures,
+    )
 
 pub sets-cells-spec : {M : Type 1} → statement M
 sets-cells-spec =
-    tie.close
-    (tie.spec
-    (λ c κs. search needs)
-    (λ c κs. search needs)
-    (λ c κs. search needs)
-    (λ c κs. search needs)
-    add-result
-    add-result-2
-    add-result-3
-    returns)
+    tie.close (tie.spec (λ c κs. search needs) (λ c κs. search needs) (λ c κs. search needs) (λ c κs. search needs)
+    add-result add-result-2 add-result-3 returns)

@@ -17,7 +17,9 @@ third-small : (c : tie.After-digit-at3) → c .digit-at3 .result ≤ 1
 third-small c = rw (c .digit-at3 .ensures) (omega (arith, one-if-small (bit (c .before .before .before .args .n) 40)))
 
 fourth-small : (c : tie.After-digit-at4) → c .digit-at4 .result ≤ 1
-fourth-small c = rw (c .digit-at4 .ensures) (omega (arith, one-if-small (bit (c .before .before .before .before .args .n) 56)))
+fourth-small c =
+    let start = c .before .before .before .before in
+    rw (c .digit-at4 .ensures) (omega (arith, one-if-small (bit (start .args .n) 56)))
 
 mul-second : tie.Need-mul-second
 mul-second c = omega (arith, second-small c)
@@ -32,27 +34,29 @@ add-result : tie.Need-add-result
 add-result c = omega (arith, first-small (c .before .before .before), second-small (c .before .before))
 
 add-result-2 : tie.Need-add-result-2
-add-result-2 c = omega (arith, first-small (c .before .before .before), second-small (c .before .before), third-small (c .before))
+add-result-2 c =
+    omega (arith, first-small (c .before .before .before), second-small (c .before .before), third-small (c .before))
 
 add-result-3 : tie.Need-add-result-3
-add-result-3 c = omega (arith, first-small (c .before .before .before), second-small (c .before .before), third-small (c .before), fourth-small c)
+add-result-3 c =
+    omega (
+      arith,
+      first-small (c .before .before .before),
+      second-small (c .before .before),
+      third-small (c .before),
+      fourth-small c,
+    )
 
 returns : tie.Need-returns
 returns c =
-    rw (c .before .before .before .digit-at .ensures, c .before .before .digit-at2 .ensures, c .before .digit-at3 .ensures, c .digit-at4 .ensures)
+    rw (
+      c .before .before .before .digit-at .ensures,
+      c .before .before .digit-at2 .ensures,
+      c .before .digit-at3 .ensures,
+      c .digit-at4 .ensures,
+    )
 
 pub side-by-side-spec : {M : Type 1} → statement M
 side-by-side-spec =
-    tie.close
-    (tie.spec
-    (λ c κs. search needs)
-    (λ c κs. search needs)
-    mul-second
-    (λ c κs. search needs)
-    mul-third
-    (λ c κs. search needs)
-    mul-fourth
-    add-result
-    add-result-2
-    add-result-3
-    returns)
+    tie.close (tie.spec (λ c κs. search needs) (λ c κs. search needs) mul-second (λ c κs. search needs) mul-third
+    (λ c κs. search needs) mul-fourth add-result add-result-2 add-result-3 returns)

@@ -38,30 +38,29 @@ add-result-2 : tie.Need-add-result-2
 add-result-2 c = omega (arith, first-small (c .before .before .before), second-small (c .before .before))
 
 add-result-3 : tie.Need-add-result-3
-add-result-3 c = omega (arith, first-small (c .before .before .before), second-small (c .before .before), third-small (c .before))
+add-result-3 c =
+    omega (arith, first-small (c .before .before .before), second-small (c .before .before), third-small (c .before))
 
 add-result-4 : tie.Need-add-result-4
 add-result-4 c =
-    omega (arith, first-small (c .before .before .before), second-small (c .before .before), third-small (c .before), fourth-small c)
+    omega (
+      arith,
+      first-small (c .before .before .before),
+      second-small (c .before .before),
+      third-small (c .before),
+      fourth-small c,
+    )
 
 returns : tie.Need-returns
 returns c =
-    rw (c .before .before .before .digit-at .ensures, c .before .before .digit-at2 .ensures, c .before .digit-at3 .ensures, c .digit-at4 .ensures)
+    rw (
+      c .before .before .before .digit-at .ensures,
+      c .before .before .digit-at2 .ensures,
+      c .before .digit-at3 .ensures,
+      c .digit-at4 .ensures,
+    )
 
 pub four-lowest-spec : {M : Type 1} → statement M
 four-lowest-spec =
-    tie.close
-    (tie.spec
-    (λ c κs. search needs)
-    mul-first
-    (λ c κs. search needs)
-    mul-second
-    (λ c κs. search needs)
-    mul-third
-    (λ c κs. search needs)
-    mul-fourth
-    add-result
-    add-result-2
-    add-result-3
-    add-result-4
-    returns)
+    tie.close (tie.spec (λ c κs. search needs) mul-first (λ c κs. search needs) mul-second (λ c κs. search needs)
+    mul-third (λ c κs. search needs) mul-fourth add-result add-result-2 add-result-3 add-result-4 returns)

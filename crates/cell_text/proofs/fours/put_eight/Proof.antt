@@ -28,7 +28,8 @@ byte-at-requires c κs = c .loop-test .taken
 
 slice-write-out : tie.Need-slice-write-out Inv-loop μ-loop
 slice-write-out c =
-    omega (arith, c .before .loop-test .taken, c .before .before .loop .inv .2, room (c .before .before .before .before))
+    let earlier = c .before .before .before .before in
+    omega (arith, c .before .loop-test .taken, c .before .before .loop .inv .2, room earlier)
 
 add-k : tie.Need-add-k Inv-loop μ-loop
 add-k c = omega (arith, c .before .loop-test .taken)
@@ -62,15 +63,5 @@ returns c =
 
 pub put-eight-spec : {M : Type 1} → statement M
 put-eight-spec =
-    tie.close
-    (tie.spec
-    Inv-loop
-    μ-loop
-    loop-holds
-    byte-at-requires
-    slice-write-out
-    add-k
-    loop-less
-    loop-again
-    same-length
-    returns)
+    tie.close (tie.spec Inv-loop μ-loop loop-holds byte-at-requires slice-write-out add-k loop-less loop-again
+    same-length returns)

@@ -1,11 +1,19 @@
--- `fours::put_fours`: where i fours are written, a turn writes the next four behind them; four by four they are the cells.
+-- `fours::put_fours`: where i fours are written, a turn writes the next four behind them; four by four they are the
+-- cells.
 use borrow.Author.Needs.{needs}
 use Prim.Native.Nat.{_-_}
 use native.Mathlib.Omega.{arith}
 use mathlib.Core.Path.{_≡_, ap, sym, _∙_}
 use Rattle.bits.specs.Bit.{bit}
 use Rattle.cell_text.specs.FourCells.{eight-bytes, four-at, fours-said, four-shifted}
-use Rattle.cell_text.specs.Laws.ListedWritten.{Listing, listing-ends, listing-starts, part-ready, part-within, part-written}
+use Rattle.cell_text.specs.Laws.ListedWritten.{
+  Listing,
+  listing-ends,
+  listing-starts,
+  part-ready,
+  part-within,
+  part-written,
+}
 use Rattle.text.specs.Written.{Written, fits-as, rest-from, room-behind, within-buffer, written-as}
 use Rattle.cell_text.proofs.fours.put_fours.Statement.{statement}
 use Rattle.cell_text.proofs.fours.put_fours.Tie as tie
@@ -18,9 +26,11 @@ abbrev μ-loop : tie.MeasureT-loop
 
 -- the number made is that of the next four cells
 next-four : (c : tie.After-four-lowest Inv-loop μ-loop)
-    → eight-bytes (c .four-lowest .result) ≡ four-at (bit (c .before .before .before .before .args .word)) (c .before .before .loop .i)
+    → let start = c .before .before .before .before in
+    eight-bytes (c .four-lowest .result) ≡ four-at (bit (start .args .word)) (c .before .before .loop .i)
 next-four c =
-    ap eight-bytes (c .four-lowest .ensures) ∙ four-shifted (c .before .before .before .before .args .word) (c .before .before .loop .i)
+    let start = c .before .before .before .before in
+    ap eight-bytes (c .four-lowest .ensures) ∙ four-shifted (start .args .word) (c .before .before .loop .i)
 
 written : (c : tie.After-put-eight Inv-loop μ-loop)
     → let a = c .before .before .before in
@@ -30,7 +40,8 @@ written c = written-as (next-four (c .before .before)) (c .put-eight .ensures)
 
 loop-holds : tie.Need-loop-holds Inv-loop μ-loop
 loop-holds c =
-    let s = c .before in listing-starts _ _ (fits-as (sym (fours-said (bit (s .args .word)) (s .args .fours))) (s .pre .1))
+    let s = c .before in listing-starts _ _ (fits-as (sym (fours-said (bit (s .args .word)) (s .args .fours)))
+    (s .pre .1))
 
 mul-four-lowest : tie.Need-mul-four-lowest Inv-loop μ-loop
 mul-four-lowest c = omega (arith, c .loop-test .taken, c .before .before .before .pre .0)
@@ -65,25 +76,11 @@ same-length c = c .before .loop .inv .same-length
 returns : tie.Need-returns Inv-loop μ-loop
 returns c =
     let s = c .before .before .before in
-    written-as (fours-said (bit (s .args .word)) (s .args .fours)) (listing-ends (c .before .loop .inv) (c .loop-test .left))
+    written-as (fours-said (bit (s .args .word)) (s .args .fours)) (listing-ends (c .before .loop .inv)
+    (c .loop-test .left))
 
 pub put-fours-spec : {M : Type 1} → statement M
 put-fours-spec =
-    tie.close
-    (tie.spec
-    Inv-loop
-    μ-loop
-    loop-holds
-    mul-four-lowest
-    shr-four-lowest
-    (λ c κs. search needs)
-    sub-put-eight
-    part-put-eight-start
-    (λ c. search needs)
-    put-eight-requires
-    add-at
-    (λ c. omega arith)
-    (λ c. omega arith)
-    loop-again
-    same-length
-    returns)
+    tie.close (tie.spec Inv-loop μ-loop loop-holds mul-four-lowest shr-four-lowest (λ c κs. search needs)
+    sub-put-eight part-put-eight-start (λ c. search needs) put-eight-requires add-at (λ c. omega arith)
+    (λ c. omega arith) loop-again same-length returns)

@@ -1,4 +1,5 @@
--- `line_cells::cells_word`: four by four the cells are read, then the loop reads each of those left over into the word (`CellsIn`). There are as many bytes as the cells take.
+-- `line_cells::cells_word`: four by four the cells are read, then the loop reads each of those left over into the
+-- word (`CellsIn`). There are as many bytes as the cells take.
 use Prim.Native.Nat.{_+_, _-_, _*_, _/_, _≤_}
 use native.Mathlib.Omega.{arith}
 use mathlib.Core.Path.{_≡_, refl, sym, _∙_}
@@ -19,7 +20,13 @@ abbrev μ-loop : tie.MeasureT-loop
 μ-loop s at count word₀ i₀ word i = count - i
 
 returns : tie.Need-returns Inv-loop μ-loop
-returns c = record { good = λ p. absurd (false≢true p); off = λ f ones stand. omega (arith, stand .within); blank = λ f. refl }
+returns c =
+    record {
+      good = λ p. absurd (false≢true p);
+      off = λ f ones stand. omega (arith, stand .within);
+      blank = λ f.
+          refl;
+    }
 
 fours-word-requires : tie.Need-fours-word-requires Inv-loop μ-loop
 fours-word-requires c κs = (omega arith, omega arith)
@@ -31,7 +38,8 @@ returns-2 c =
     record {
       good = λ p. absurd (false≢true p);
       off = λ f ones stand.
-          read .fours-word .ensures .off (not-fails _ (c .if2 .taken)) ones (stand-first (4 * (start .args .count / 4)) (omega arith) stand);
+          read .fours-word .ensures .off (not-fails _ (c .if2 .taken)) ones
+          (stand-first (4 * (start .args .count / 4)) (omega arith) stand);
       blank = λ f. refl;
     }
 
@@ -45,8 +53,9 @@ is-cell-requires c κs = tt
 
 returns-3 : tie.Need-returns-3 Inv-loop μ-loop
 returns-3 c =
+    let between = c .before .before .before .before .before .before .before .before in
+    let start = between .before .before .before in
     let loop = c .before .before .before .before .before .loop in
-    let start = c .before .before .before .before .before .before .before .before .before .before .before in
     let fails = sym (c .before .is-cell .ensures) ∙ not-fails _ (c .if3 .taken) in
     record {
       good = λ p. absurd (false≢true p);
@@ -56,44 +65,32 @@ returns-3 c =
 
 loop-again : tie.Need-loop-again Inv-loop μ-loop
 loop-again c =
-    let loop = c .before .before .before .before .before .before .loop in
-    let start = c .before .before .before .before .before .before .before .before .before .before .before .before in
+    let at-loop = c .before .before .before .before .before .before in
+    let start = at-loop .before .before .before .before .before .before in
+    let loop = at-loop .loop in
     let stands = sym (c .before .before .is-cell .ensures) ∙ not-false _ (c .before .if3 .left) in (
       omega arith,
       omega arith,
-      cells-more (start .args .s .now) (start .args .at) (loop .i) (loop .word) (c .with-cell .result) (loop .inv .2) (omega arith) stands
+      cells-more (start .args .s .now) (start .args .at) (loop .i) (loop .word) (c .with-cell .result) (loop .inv .2)
+          (omega arith) stands
           (c .with-cell .ensures),
     )
 
 returns-4 : tie.Need-returns-4 Inv-loop μ-loop
 returns-4 c =
-    let loop = c .before .loop in
     let start = c .before .before .before .before .before .before .before in
+    let loop = c .before .loop in
     let all : loop .i ≡ start .args .count = omega arith in
-    record { good = λ p. rw all at (loop .inv .2); off = λ f. absurd (true≢false f); blank = λ f. absurd (true≢false f) }
+    record {
+      good = λ p. rw all at (loop .inv .2);
+      off = λ f. absurd (true≢false f);
+      blank = λ f. absurd
+          (true≢false f);
+    }
 
 pub cells-word-spec : {M : Type 1} → statement M
 cells-word-spec =
-    tie.close
-    (tie.spec
-    Inv-loop
-    μ-loop
-    (λ c. omega arith)
-    (λ c. omega arith)
-    returns
-    fours-word-requires
-    returns-2
-    (λ c. omega arith)
-    loop-holds
-    (λ c. omega arith)
-    (λ c. omega arith)
-    (λ c. omega arith)
-    (λ c. omega arith)
-    (λ c. omega arith)
-    is-cell-requires
-    returns-3
-    (λ c κs. omega arith)
-    (λ c. omega arith)
-    (λ c. omega arith)
-    loop-again
-    returns-4)
+    tie.close (tie.spec Inv-loop μ-loop (λ c. omega arith) (λ c. omega arith) returns fours-word-requires returns-2
+    (λ c. omega arith) loop-holds (λ c. omega arith) (λ c. omega arith) (λ c. omega arith) (λ c. omega arith)
+    (λ c. omega arith) is-cell-requires returns-3 (λ c κs. omega arith) (λ c. omega arith) (λ c. omega arith)
+    loop-again returns-4)

@@ -13,4 +13,5 @@ returns-3 : tie.Need-returns-3
 returns-3 c = rw (eq-eqb _ _ (c .before .if1 .left), ne-eqb _ _ (c .if2 .left))
 
 pub is-cell-spec : {M : Type 1} → statement M
-is-cell-spec = tie.close (tie.spec returns returns-2 returns-3)
+is-cell-spec =
+    tie.close (tie.spec returns returns-2 returns-3)

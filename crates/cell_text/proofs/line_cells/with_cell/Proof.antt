@@ -17,7 +17,9 @@ shifted d i q h (inr e) = rw (e, one-shifted word-bits h) (bit-one-shifted i q �
 
 returns : tie.Need-returns
 returns c q =
-    bit-or (c .args .word) (c .args .cell % 2 * 2 ^ c .args .i % 2 ^ word-bits) q ∙ rw (shifted (c .args .cell % 2) (c .args .i) q (c .pre) (even-or-odd (c .args .cell)))
+    bit-or (c .args .word) (c .args .cell % 2 * 2 ^ c .args .i % 2 ^ word-bits) q
+    ∙ rw (shifted (c .args .cell % 2) (c .args .i) q (c .pre) (even-or-odd (c .args .cell)))
 
 pub with-cell-spec : {M : Type 1} → statement M
-with-cell-spec = tie.close (tie.spec (λ c. search needs) (λ c. search needs) returns)
+with-cell-spec =
+    tie.close (tie.spec (λ c. search needs) (λ c. search needs) returns)

@@ -12,7 +12,10 @@ add-result : tie.Need-add-result
 add-result c = omega (arith, c .lowest .ensures .within)
 
 returns-2 : tie.Need-returns-2
-returns-2 c = let a = c .before .before .args in shifted-to-lowest (a .word) (a .from) (omega arith) (c .lowest .ensures)
+returns-2 c =
+    let a = c .before .before .args in
+    shifted-to-lowest (a .word) (a .from) (omega arith) (c .lowest .ensures)
 
 pub next-position-spec : {M : Type 1} → statement M
-next-position-spec = tie.close (tie.spec (λ c. search needs) returns (λ c κs. omega arith) add-result returns-2)
+next-position-spec =
+    tie.close (tie.spec (λ c. search needs) returns (λ c κs. omega arith) add-result returns-2)

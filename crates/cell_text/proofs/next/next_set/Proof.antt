@@ -28,22 +28,17 @@ returns-2 : tie.Need-returns-2
 unfolding row-words
 returns-2 c =
     let s = c .before .before .before .before .before in
-    next-within (s .args .words .now) (s .args .row) (s .args .from) (s .args .count) _ (s .pre .1) (c .before .next-position .ensures) (c .if2 .taken)
+    next-within (s .args .words .now) (s .args .row) (s .args .from) (s .args .count) _ (s .pre .1)
+    (c .before .next-position .ensures) (c .if2 .taken)
 
 returns-3 : tie.Need-returns-3
 unfolding row-words
 returns-3 c =
     let s = c .before .before .before .before .before in
-    next-past (s .args .words .now) (s .args .row) (s .args .from) (s .args .count) _ (s .pre .1) (c .before .next-position .ensures) (s .pre .0) (c .if2 .left)
+    next-past (s .args .words .now) (s .args .row) (s .args .from) (s .args .count) _ (s .pre .1)
+    (c .before .next-position .ensures) (s .pre .0) (c .if2 .left)
 
 pub next-set-spec : {M : Type 1} → statement M
 next-set-spec =
-    tie.close
-    (tie.spec
-    returns
-    mul-next-position
-    mul-next-position-2
-    shared-slice-read-next-position
-    next-position-requires
-    returns-2
-    returns-3)
+    tie.close (tie.spec returns mul-next-position mul-next-position-2 shared-slice-read-next-position
+    next-position-requires returns-2 returns-3)

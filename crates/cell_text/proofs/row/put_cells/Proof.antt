@@ -1,5 +1,5 @@
--- `cells::put_cells`: the cells are written four by four as far as that goes, and then one by one: where the cells below i are written, a turn writes cell i
--- behind them.
+-- `cells::put_cells`: the cells are written four by four as far as that goes, and then one by one: where the cells
+-- below i are written, a turn writes cell i behind them.
 use borrow.Author.Needs.{needs}
 use Prim.Native.Nat.{ℕ, _-_, _*_, _/_, _≤_}
 use native.Mathlib.Omega.{arith}
@@ -25,13 +25,15 @@ part words row p = cell-field (cell words row p)
 -- what was written before the loop stays
 abbrev Inv-loop : tie.InvT-loop
 Inv-loop out₀ words row count word fours at₀ i₀ out at i =
-    (before : Bytes) → Listing count (part words row) i₀ before out₀ at₀ → Listing count (part words row) i before out at
+    (before : Bytes) → Listing count (part words row) i₀ before out₀ at₀ → Listing count (part words row) i before
+    out at
 
 abbrev μ-loop : tie.MeasureT-loop
 μ-loop out₀ words row count word fours at₀ i₀ out at i = count - i
 
 -- the cells of the row are the bits of its word
-same-cells : (words : List ℕ) (row n : ℕ) → n ≤ row-bits → listed n (λ p. cell-field (bit (row-word words row) p)) ≡ listed n (part words row)
+same-cells : (words : List ℕ) (row n : ℕ) → n ≤ row-bits → listed n (λ p. cell-field (bit (row-word words row) p)) ≡
+    listed n (part words row)
 same-cells words row n l = listed-same n _ _ (λ p k. ap cell-field (sym (cell-in-word words row p (omega arith))))
 
 -- there is room for a front of them
@@ -50,7 +52,8 @@ start c = c .before .before .before
 -- the fours are the first cells
 first : (c : tie.After-put-fours Inv-loop μ-loop)
     → let s = start (c .before .before) in
-    Listing (s .args .count) (part (s .args .words .now) (s .args .row)) (4 * (s .args .count / 4)) (s .args .out .now) (c .put-fours .last .0) (c .put-fours .result)
+    Listing (s .args .count) (part (s .args .words .now) (s .args .row)) (4 * (s .args .count / 4))
+    (s .args .out .now) (c .put-fours .last .0) (c .put-fours .result)
 unfolding row-words
 first c =
     let s = start (c .before .before) in
@@ -60,12 +63,19 @@ first c =
     let fits = front-room words row n (s .args .count) (omega arith) (s .pre .1) in
     let w : Written (listed n (part words row)) (s .args .out .now) (c .put-fours .last .0) (c .put-fours .result) =
     written-as (same-cells words row n (omega (arith, s .pre .0 .0))) (c .put-fours .ensures) in
-    record { below = omega arith; fits = s .pre .1; written = w; same-length = written-length (listed n (part words row)) fits w }
+    record {
+      below = omega arith;
+      fits = s .pre .1;
+      written = w;
+      same-length = written-length
+          (listed n (part words row)) fits w;
+    }
 
 -- where the loop stands
 standing : (c : tie.At-loop Inv-loop μ-loop)
     → let s = start (c .before .before .before .before .before) in
-    Listing (s .args .count) (part (s .args .words .now) (s .args .row)) (c .loop .i) (s .args .out .now) (c .loop .out) (c .loop .at)
+    Listing (s .args .count) (part (s .args .words .now) (s .args .row)) (c .loop .i) (s .args .out .now)
+    (c .loop .out) (c .loop .at)
 standing c = c .loop .inv _ (first (c .before .before .before))
 
 -- the cell that is written is cell i
@@ -77,12 +87,14 @@ unfolding row-words
 set-is c =
     let l = c .before .before in
     let s = start (l .before .before .before .before .before) in
-    c .has .ensures ∙ sym (cell-in-word (s .args .words .now) (s .args .row) (l .loop .i) (omega (arith, c .before .loop-test .taken, s .pre .0 .0)))
+    c .has .ensures ∙ sym (cell-in-word (s .args .words .now) (s .args .row) (l .loop .i)
+    (omega (arith, c .before .loop-test .taken, s .pre .0 .0)))
 
 written : (c : tie.After-put-cell Inv-loop μ-loop)
     → let l = c .before .before .before .before in
     let s = start (l .before .before .before .before .before) in
-    Written (part (s .args .words .now) (s .args .row) (l .loop .i)) (rest-from (l .loop .at) (l .loop .out)) (c .put-cell .last .0) (c .put-cell .result)
+    Written (part (s .args .words .now) (s .args .row) (l .loop .i)) (rest-from (l .loop .at) (l .loop .out))
+    (c .put-cell .last .0) (c .put-cell .result)
 written c = written-as (ap cell-field (set-is (c .before .before))) (c .put-cell .ensures)
 
 mul-word : tie.Need-mul-word Inv-loop μ-loop
@@ -105,7 +117,8 @@ put-fours-requires c κs =
     let row = s .args .row in
     let n = 4 * (s .args .count / 4) in (
       omega (arith, s .pre .0 .0),
-      fits-as (sym (same-cells words row n (omega (arith, s .pre .0 .0)))) (front-room words row n (s .args .count) (omega arith) (s .pre .1)),
+      fits-as (sym (same-cells words row n (omega (arith, s .pre .0 .0)))) (front-room words row n (s .args .count)
+          (omega arith) (s .pre .1)),
     )
 
 mul-i : tie.Need-mul-i Inv-loop μ-loop
@@ -117,7 +130,9 @@ loop-holds c before l = l
 
 has-requires : tie.Need-has-requires Inv-loop μ-loop
 unfolding row-words row-bits
-has-requires c κs = omega (arith, c .loop-test .taken, start (c .before .before .before .before .before .before) .pre .0 .0)
+has-requires c κs =
+    let earlier = c .before .before .before .before .before .before in
+    omega (arith, c .loop-test .taken, start earlier .pre .0 .0)
 
 sub-put-cell : tie.Need-sub-put-cell Inv-loop μ-loop
 sub-put-cell c = within-buffer (part-ready (standing (c .before .before)) (c .before .loop-test .taken))
@@ -148,24 +163,6 @@ returns c = listing-ends (standing (c .before)) (c .loop-test .left)
 
 pub put-cells-spec : {M : Type 1} → statement M
 put-cells-spec =
-    tie.close
-    (tie.spec
-    Inv-loop
-    μ-loop
-    mul-word
-    mul-word-2
-    shared-slice-read-word
-    put-fours-requires
-    mul-i
-    loop-holds
-    has-requires
-    sub-put-cell
-    part-put-cell-start
-    (λ c. search needs)
-    put-cell-requires
-    add-at
-    (λ c. omega arith)
-    (λ c. omega arith)
-    loop-again
-    same-length
-    returns)
+    tie.close (tie.spec Inv-loop μ-loop mul-word mul-word-2 shared-slice-read-word put-fours-requires mul-i loop-holds
+    has-requires sub-put-cell part-put-cell-start (λ c. search needs) put-cell-requires add-at (λ c. omega arith)
+    (λ c. omega arith) loop-again same-length returns)

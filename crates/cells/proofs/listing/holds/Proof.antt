@@ -17,8 +17,11 @@ returns c = c .has .ensures
 
 returns-2 : tie.Need-returns-2
 unfolding row-words
-returns-2 c = let a = c .before .before .before .args in sym (unheld-past (a .rows .now) (a .u .0) (a .p .0) (c .if1 .left))
+returns-2 c =
+    let a = c .before .before .before .args in
+    sym (unheld-past (a .rows .now) (a .u .0) (a .p .0) (c .if1 .left))
 
 pub holds-spec : {M : Type 1} → statement M
 holds-spec =
-    tie.close (tie.spec (λ c. search needs) add-i (λ c. search needs) (λ c. search needs) (λ c κs. search needs) returns returns-2)
+    tie.close (tie.spec (λ c. search needs) add-i (λ c. search needs) (λ c. search needs) (λ c κs. search needs)
+    returns returns-2)

@@ -1,5 +1,6 @@
--- `cells::listing::list_word`: the positions of w are the cells still to be put in. The lowest is put in next, and dropped. The loop ends with the word, or with an
--- array that is full before that: then the set has more cells than a sheet has grants, and nothing is said of it.
+-- `cells::listing::list_word`: the positions of w are the cells still to be put in. The lowest is put in next, and
+-- dropped. The loop ends with the word, or with an array that is full before that: then the set has more cells than a
+-- sheet has grants, and nothing is said of it.
 use Prim.Native.Nat.{ℕ, _*_}
 use native.Mathlib.Omega.{arith}
 use mathlib.Core.Path.{_≡_}
@@ -53,8 +54,10 @@ loop-less c = c .without-lowest .ensures .less
 loop-again : tie.Need-loop-again Inv-loop μ-loop
 unfolding grant-limit
 loop-again c left e listed =
-    let at = c .before .before .before .before .loop in
-    next-listed (at .inv left e listed) (c .before .lowest .ensures) (omega (arith, ltb-true)) (c .without-lowest .ensures)
+    let at-loop = c .before .before .before .before in
+    let at = at-loop .loop in
+    next-listed (at .inv left e listed) (c .before .lowest .ensures) (omega (arith, ltb-true))
+    (c .without-lowest .ensures)
 
 returns : tie.Need-returns Inv-loop μ-loop
 unfolding grant-limit
@@ -67,20 +70,5 @@ returns-2 c left e listed = word-listed (c .before .loop .inv left e listed) (c 
 
 pub list-word-spec : {M : Type 1} → statement M
 list-word-spec =
-    tie.close
-    (tie.spec
-    Inv-loop
-    μ-loop
-    loop-holds
-    mul-cells
-    (λ c κs. omega arith)
-    add-cells
-    cast-cells
-    mul-cells-2
-    element-write-cells
-    add-size
-    (λ c κs. omega arith)
-    loop-less
-    loop-again
-    returns
-    returns-2)
+    tie.close (tie.spec Inv-loop μ-loop loop-holds mul-cells (λ c κs. omega arith) add-cells cast-cells mul-cells-2
+    element-write-cells add-size (λ c κs. omega arith) loop-less loop-again returns returns-2)

@@ -56,4 +56,5 @@ returns c =
 
 pub listed-spec : {M : Type 1} → statement M
 listed-spec =
-    tie.close (tie.spec Inv-loop μ-loop loop-holds mul-loop mul-list-word element-copy-out-list-word list-word-requires add-i loop-less loop-again returns)
+    tie.close (tie.spec Inv-loop μ-loop loop-holds mul-loop mul-list-word element-copy-out-list-word
+    list-word-requires add-i loop-less loop-again returns)

@@ -1,4 +1,5 @@
--- `cells::listing::next_cell`: the word of the place has the next cell from there on, or none; then the walk goes on at the next word.
+-- `cells::listing::next_cell`: the word of the place has the next cell from there on, or none; then the walk goes on
+-- at the next word.
 use Prim.Native.Nat.{_+_, _*_, _/_, _-_, _≤_}
 use native.Mathlib.Omega.{arith}
 use mathlib.Core.Path.{_≡_}
@@ -42,9 +43,12 @@ add-result c = omega arith
 returns : tie.Need-returns Inv-loop μ-loop
 unfolding row-bits row-words
 returns c =
-    let a = c .before .before .before .before .before .args in
-    let at = c .before .before .before .before .loop in
-    found-in-word (a .words .now) (a .from) (at .n) (c .before .next-position .result) (c .before .next-position .ensures) (a .users * row-bits)
+    let at-loop = c .before .before .before .before in
+    let start = at-loop .before in
+    let a = start .args in
+    let at = at-loop .loop in
+    found-in-word (a .words .now) (a .from) (at .n) (c .before .next-position .result)
+    (c .before .next-position .ensures) (a .users * row-bits)
     (at .inv .0) (omega arith) (c .if1 .taken) (at .inv .2)
 
 mul-n : tie.Need-mul-n Inv-loop μ-loop
@@ -58,10 +62,13 @@ loop-less c = omega arith
 loop-again : tie.Need-loop-again Inv-loop μ-loop
 unfolding row-bits row-words
 loop-again c =
-    let a = c .before .before .before .before .before .args in
-    let at = c .before .before .before .before .loop in
+    let at-loop = c .before .before .before .before in
+    let start = at-loop .before in
+    let a = start .args in
+    let at = at-loop .loop in
     let next = c .before .next-position .ensures in
-    let end : at .n / word-bits * word-bits + c .before .next-position .result ≡ (at .n / word-bits + 1) * word-bits = omega (arith, next .not-past) in (
+    let end : at .n / word-bits * word-bits + c .before .next-position .result ≡ (at .n / word-bits + 1) * word-bits =
+    omega (arith, next .not-past) in (
       omega arith,
       omega arith,
       rw end at (passed-word (a .words .now) (a .from) (at .n) (c .before .next-position .result) next (at .inv .2)),
@@ -75,20 +82,5 @@ returns-2 c =
 
 pub next-cell-spec : {M : Type 1} → statement M
 next-cell-spec =
-    tie.close
-    (tie.spec
-    Inv-loop
-    μ-loop
-    loop-holds
-    mul-loop
-    mul-next-position
-    element-copy-out-next-position
-    (λ c κs. omega arith)
-    mul-result
-    add-result
-    returns
-    (λ c. omega arith)
-    mul-n
-    loop-less
-    loop-again
-    returns-2)
+    tie.close (tie.spec Inv-loop μ-loop loop-holds mul-loop mul-next-position element-copy-out-next-position
+    (λ c κs. omega arith) mul-result add-result returns (λ c. omega arith) mul-n loop-less loop-again returns-2)

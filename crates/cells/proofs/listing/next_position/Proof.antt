@@ -1,4 +1,5 @@
--- `cells::listing::next_position`: the positions from the place on are those of the word shifted by it, and the lowest of them comes next.
+-- `cells::listing::next_position`: the positions from the place on are those of the word shifted by it, and the
+-- lowest of them comes next.
 use borrow.Author.Needs.{needs}
 use native.Mathlib.Nat.{le-of-lt}
 use native.Mathlib.Omega.{arith}
@@ -17,4 +18,5 @@ returns-2 c =
     shifted-to-none (s .args .word) (s .args .from) (s .fits .word .fits) (le-of-lt (s .pre)) (omega arith)
 
 pub next-position-spec : {M : Type 1} → statement M
-next-position-spec = tie.close (tie.spec (λ c. search needs) (λ c κs. search needs) (λ c. search needs) returns returns-2)
+next-position-spec =
+    tie.close (tie.spec (λ c. search needs) (λ c κs. search needs) (λ c. search needs) returns returns-2)

@@ -9,4 +9,5 @@ unfolding row-bits row-words
 returns c = refl
 
 pub permission-of-spec : {M : Type 1} → statement M
-permission-of-spec = tie.close (tie.spec returns)
+permission-of-spec =
+    tie.close (tie.spec returns)

@@ -9,4 +9,5 @@ unfolding row-bits row-words
 returns c = refl
 
 pub user-of-spec : {M : Type 1} → statement M
-user-of-spec = tie.close (tie.spec returns)
+user-of-spec =
+    tie.close (tie.spec returns)

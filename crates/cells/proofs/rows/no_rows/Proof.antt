@@ -10,4 +10,5 @@ unfolding user-limit row-words
 returns c = refl
 
 pub no-rows-spec : {M : Type 1} → statement M
-no-rows-spec = tie.close (tie.spec returns)
+no-rows-spec =
+    tie.close (tie.spec returns)

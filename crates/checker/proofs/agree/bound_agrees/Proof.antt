@@ -24,14 +24,5 @@ returns-6 c = rw (c .before .enum-told3 .given .1, eq-eqb _ _ (c .if3 .left))
 
 pub bound-agrees-spec : {M : Type 1} → statement M
 bound-agrees-spec =
-    tie.close
-    (tie.spec
-    (λ c. search needs)
-    returns
-    (λ c. search needs)
-    returns-2
-    (λ c. search needs)
-    returns-3
-    returns-4
-    returns-5
-    returns-6)
+    tie.close (tie.spec (λ c. search needs) returns (λ c. search needs) returns-2 (λ c. search needs) returns-3
+    returns-4 returns-5 returns-6)

@@ -12,8 +12,4 @@ returns-2 c = rw (eq-eqb _ _ (c .before .if1 .left)) (c .bound-agrees .ensures)
 
 pub counts-agree-spec : {M : Type 1} → statement M
 counts-agree-spec =
-    tie.close
-    (tie.spec
-    returns
-    (λ c κs. search needs)
-    returns-2)
+    tie.close (tie.spec returns (λ c κs. search needs) returns-2)

@@ -1,4 +1,5 @@
--- `checking::check`: the sheet's own number where it has one; else 12 for a book above the limit, and for any other book what the readings find.
+-- `checking::check`: the sheet's own number where it has one; else 12 for a book above the limit, and for any other
+-- book what the readings find.
 use native.Mathlib.Omega.{arith}
 use mathlib.Core.Path.{_≡_, sym, _∙_}
 use borrow.Author.Needs.{needs}
@@ -15,15 +16,19 @@ returns c = refused-for-sheet (c .before .before .read .ensures .0) (c .before .
 returns-2 : tie.Need-returns-2
 unfolding book-limit
 returns-2 c =
-    refused-too-long (sym (c .before .before .before .read .ensures .0) ∙ c .before .before .if1 .left) (omega (arith, c .before .if2 .taken)) (c .refused2 .ensures)
+    refused-too-long (sym (c .before .before .before .read .ensures .0) ∙ c .before .before .if1 .left)
+    (omega (arith, c .before .if2 .taken)) (c .refused2 .ensures)
 
 check-book-requires : tie.Need-check-book-requires
 unfolding book-limit user-limit row-words
 check-book-requires c κs =
-    let read = c .before .before .before .before .before .read .ensures .1 .0 (c .before .before .before .before .if1 .left) in
-    let size : length (c .before .before .before .before .before .read .result .rows) ≡ 256 = search needs in
+    let at-if1 = c .before .before .before .before in
+    let at-read = at-if1 .before in
+    let read = at-read .read .ensures .1 .0 (at-if1 .if1 .left) in
+    let size : length (at-read .read .result .rows) ≡ 256 = search needs in
     ((read .0, read .1, users-within (read .0) _ size), omega (arith, c .before .before .before .if2 .left))
 
 pub check-spec : {M : Type 1} → statement M
 check-spec =
-    tie.close (tie.spec (λ c κs. search needs) (λ c κs. search needs) returns (λ c κs. search needs) returns-2 (λ c. search needs) check-book-requires (λ c. search needs))
+    tie.close (tie.spec (λ c κs. search needs) (λ c κs. search needs) returns (λ c κs. search needs) returns-2
+    (λ c. search needs) check-book-requires (λ c. search needs))

@@ -1,4 +1,5 @@
--- `checking::check_book`: where block 1 or block 2 is missing, nothing that can be said is written as this book; where both are there, the rest decides.
+-- `checking::check_book`: where block 1 or block 2 is missing, nothing that can be said is written as this book;
+-- where both are there, the rest decides.
 use Prim.Native.Nat.{_*_}
 use native.Mathlib.Omega.{arith}
 use borrow.Author.Needs.{needs}
@@ -13,10 +14,14 @@ use Rattle.checker.proofs.checking.check_book.Tie as tie
 
 -- the call, from where block 1 has been read, and that place from where block 2 has been
 abbrev call : tie.After-known-told → tie.Start
-call c = c .before .before .before .before .before .before .before
+call c =
+    let earlier = c .before .before .before .before .before .before .before in
+    earlier
 
 abbrev counted : tie.After-known-told2 → tie.After-known-told
-counted c = c .before .before .before .before .before .before
+counted c =
+    let earlier = c .before .before .before .before .before .before in
+    earlier
 
 -- its sheet
 abbrev sheet : tie.Start → Sheet
@@ -27,7 +32,8 @@ returns c =
     let read = c .before .before .before in
     let start = read .before .before .before .before in
     refused-for-form (start .pre .0 .0 .accepts)
-    (no-counts-written (sheet start) (rw (c .before .enum-told .given .1) at (read .read-counts .ensures))) (c .refused .ensures)
+    (no-counts-written (sheet start) (rw (c .before .enum-told .given .1) at (read .read-counts .ensures)))
+    (c .refused .ensures)
 
 first : (c : tie.After-known-told)
     → CountsAt (call c .args .book .now) 0 (c .before .counts .given .0 .0) (c .before .counts .given .0 .1 .0)
@@ -45,11 +51,14 @@ returns-2 c =
     let read = c .before .before .before .before in
     let one = read .before .before in
     refused-for-form (call one .pre .0 .0 .accepts)
-    (no-roles-written (sheet (call one)) (first one) (rw (c .before .enum-told2 .given .1) at (read .read-roles .ensures))) (c .refused2 .ensures)
+    (no-roles-written (sheet (call one)) (first one) (rw (c .before .enum-told2 .given .1) at
+    (read .read-roles .ensures))) (c .refused2 .ensures)
 
 front : (c : tie.After-known-told2)
-    → FrontRead (sheet (call (counted c))) (call (counted c) .args .book .now) (counted c .before .counts .given .0 .0)
-    (c .before .before .before .before .read-roles .last .1 .1 .1 .1 .0) (c .before .roles .given .0 .0) (c .before .roles .given .0 .1 .0)
+    → let at-read-roles = c .before .before .before .before in
+    FrontRead (sheet (call (counted c))) (call (counted c) .args .book .now) (counted c .before .counts .given .0 .0)
+    (at-read-roles .read-roles .last .1 .1 .1 .1 .0) (c .before .roles .given .0 .0)
+    (c .before .roles .given .0 .1 .0)
 front c =
     record {
       second = counted c .before .counts .given .0 .1 .0;
@@ -70,19 +79,6 @@ check-from-users-requires c κs =
 
 pub check-book-spec : {M : Type 1} → statement M
 check-book-spec =
-    tie.close
-    (tie.spec
-    (λ c κs. search needs)
-    (λ c. search needs)
-    (λ c. search needs)
-    (λ c κs. search needs)
-    returns
-    (λ c. search needs)
-    read-roles-requires
-    (λ c. search needs)
-    (λ c. search needs)
-    (λ c κs. search needs)
-    returns-2
-    (λ c. search needs)
-    check-from-users-requires
-    (λ c. search needs))
+    tie.close (tie.spec (λ c κs. search needs) (λ c. search needs) (λ c. search needs) (λ c κs. search needs) returns
+    (λ c. search needs) read-roles-requires (λ c. search needs) (λ c. search needs) (λ c κs. search needs) returns-2
+    (λ c. search needs) check-from-users-requires (λ c. search needs))

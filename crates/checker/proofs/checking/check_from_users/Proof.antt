@@ -1,5 +1,5 @@
--- `checking::check_from_users`: where block 3 or block 4 is missing, nothing that can be said is written as this book; where both are there, what was read
--- of the four blocks is what the book says, and it is judged.
+-- `checking::check_from_users`: where block 3 or block 4 is missing, nothing that can be said is written as this
+-- book; where both are there, what was read of the four blocks is what the book says, and it is judged.
 use Prim.Native.Nat.{ℕ, _*_}
 use mathlib.Core.Path.{_≡_, ap, _∙_}
 use mathlib.Core.List.{List}
@@ -13,7 +13,13 @@ use Rattle.form.specs.Steps.{Reads}
 use Rattle.form.specs.Pieces.{users-part}
 use Rattle.form.specs.WitnessSteps.{WitnessPart}
 use Rattle.checker.specs.BookRead.{no-users-written, no-witness-written, something-said}
-use Rattle.checker.specs.Laws.CheckSteps.{zeros-blank, rows-within, users-within, refused-for-form, judged-as-read}
+use Rattle.checker.specs.Laws.CheckSteps.{
+  zeros-blank,
+  rows-within,
+  users-within,
+  refused-for-form,
+  judged-as-read,
+}
 use Rattle.checker.proofs.checking.check_from_users.Statement.{statement}
 use Rattle.checker.proofs.checking.check_from_users.Tie as tie
 
@@ -22,7 +28,9 @@ abbrev call : tie.After-no-rows → tie.Start
 call c = c .before .before .before .before .before
 
 abbrev rows : tie.After-known-told → tie.After-no-rows
-rows c = c .before .before .before .before .before .before
+rows c =
+    let earlier = c .before .before .before .before .before .before in
+    earlier
 
 -- the sheet, and the rows that were read from block 3
 abbrev sheet : tie.Start → Sheet
@@ -49,10 +57,12 @@ returns c =
     let read = c .before .before .before .before in
     let start = call (read .before .before) in
     refused-for-form (start .pre .0 .0 .accepts)
-    (no-users-written (sheet start) (start .pre .1 .1) (rw (c .before .enum-told .given .1) at (read .read-users .ensures))) (c .refused .ensures)
+    (no-users-written (sheet start) (start .pre .1 .1) (rw (c .before .enum-told .given .1) at
+    (read .read-users .ensures))) (c .refused .ensures)
 
 users : (c : tie.After-known-told)
-    → Reads (call (rows c) .args .book .now) (call (rows c) .args .at) (users-part (sheet (call (rows c))) (call (rows c) .args .roles) (cell (has c)))
+    → Reads (call (rows c) .args .book .now) (call (rows c) .args .at) (users-part (sheet (call (rows c)))
+    (call (rows c) .args .roles) (cell (has c)))
     (c .before .last .given .0 .0)
 users c = rw (c .before .last .given .1) at (c .before .before .before .before .read-users .ensures)
 
@@ -65,12 +75,17 @@ returns-2 c =
     let start = call (rows (read .before)) in
     refused-for-form (start .pre .0 .0 .accepts)
     (no-witness-written (sheet start) (start .pre .1 .1) (has (read .before)) (users (read .before))
-    (rw (not-true (read .read-witness .result .«of_form») (c .before .if1 .taken)) at (read .read-witness .ensures))) (c .refused2 .ensures)
+    (rw (not-true (read .read-witness .result .«of_form») (c .before .if1 .taken)) at (read .read-witness .ensures)))
+    (c .refused2 .ensures)
 
 witness : (c : tie.Else1)
-    → WitnessPart (sheet (call (rows (c .before .before .before)))) (call (rows (c .before .before .before)) .args .book .now)
-    (c .before .before .before .before .last .given .0 .0) (c .before .before .read-witness .result .witness)
-witness c = rw (not-false (c .before .before .read-witness .result .«of_form») (c .if1 .left)) at (c .before .before .read-witness .ensures)
+    → let at-last = c .before .before .before .before in
+    WitnessPart (sheet (call (rows (c .before .before .before))))
+    (call (rows (c .before .before .before)) .args .book .now) (at-last .last .given .0 .0)
+    (c .before .before .read-witness .result .witness)
+witness c =
+    rw (not-false (c .before .before .read-witness .result .«of_form») (c .if1 .left)) at
+    (c .before .before .read-witness .ensures)
 
 judge-book-requires : tie.Need-judge-book-requires
 judge-book-requires c κs =
@@ -78,10 +93,12 @@ judge-book-requires c κs =
     let pre = call (rows read) .pre in (
       (pre .0 .0 .accepts, pre .0 .1, pre .0 .0 .user-total),
       (
-        something-said (sheet (call (rows read))) (pre .1 .1) (has read) (users read) (witness (c .before .before)) (pre .1 .0 .0),
+        something-said (sheet (call (rows read))) (pre .1 .1) (has read) (users read) (witness (c .before .before))
+            (pre .1 .0 .0),
         (
           pre .0 .2,
-          users-within (pre .0 .0) (length (has read)) (read .before .before .before .before .read-users .kept .1 .1 .1 .1 .0 ∙ size (rows read)),
+          users-within (pre .0 .0) (length (has read))
+              (read .before .before .before .before .read-users .kept .1 .1 .1 .1 .0 ∙ size (rows read)),
           rows-within (call (rows read) .args .roles) role-limit _ (pre .1 .1 .roles-at .few) (pre .1 .0 .1),
         ),
       ),
@@ -91,22 +108,11 @@ returns-3 : tie.Need-returns-3
 returns-3 c =
     let read = c .before .before .before .before .before .before in
     let pre = call (rows read) .pre in
-    judged-as-read (pre .0 .0 .accepts) (has read) (pre .1 .0 .0) (pre .1 .1) (users read) (witness (c .before .before .before)) (c .judge-book .ensures)
+    judged-as-read (pre .0 .0 .accepts) (has read) (pre .1 .0 .0) (pre .1 .1) (users read)
+    (witness (c .before .before .before)) (c .judge-book .ensures)
 
 pub check-from-users-spec : {M : Type 1} → statement M
 check-from-users-spec =
-    tie.close
-    (tie.spec
-    (λ c κs. search needs)
-    (λ c. search needs)
-    read-users-requires
-    (λ c. search needs)
-    (λ c. search needs)
-    (λ c κs. search needs)
-    returns
-    read-witness-requires
-    (λ c κs. search needs)
-    returns-2
-    (λ c. search needs)
-    judge-book-requires
-    returns-3)
+    tie.close (tie.spec (λ c κs. search needs) (λ c. search needs) read-users-requires (λ c. search needs)
+    (λ c. search needs) (λ c κs. search needs) returns read-witness-requires (λ c κs. search needs) returns-2
+    (λ c. search needs) judge-book-requires returns-3)

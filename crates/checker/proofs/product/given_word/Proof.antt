@@ -22,7 +22,9 @@ unfolding row-words
 roles-word-requires c κs = (c .loop-test .taken, c .before .before .before .before .pre .2)
 
 with-given-requires : tie.Need-with-given-requires Inv-loop μ-loop
-with-given-requires c κs = (c .before .before .before .before .before .pre .1, roles-have-rows (c .roles-word .ensures) (c .before .before .before .before .before .pre .3))
+with-given-requires c κs =
+    let start = c .before .before .before .before .before in
+    (start .pre .1, roles-have-rows (c .roles-word .ensures) (start .pre .3))
 
 loop-less : tie.Need-loop-less Inv-loop μ-loop
 unfolding row-words
@@ -37,19 +39,11 @@ loop-again c = (
 
 returns : tie.Need-returns Inv-loop μ-loop
 unfolding row-words
-returns c = given-end (c .before .loop .inv .1) (omega (arith, c .before .loop .inv .0, c .loop-test .left)) (c .before .before .before .before .pre .0)
+returns c =
+    let start = c .before .before .before .before in
+    given-end (c .before .loop .inv .1) (omega (arith, c .before .loop .inv .0, c .loop-test .left)) (start .pre .0)
 
 pub given-word-spec : {M : Type 1} → statement M
 given-word-spec =
-    tie.close
-    (tie.spec
-    Inv-loop
-    μ-loop
-    loop-holds
-    roles-word-requires
-    (λ c. omega arith)
-    with-given-requires
-    (λ c. omega arith)
-    loop-less
-    loop-again
-    returns)
+    tie.close (tie.spec Inv-loop μ-loop loop-holds roles-word-requires (λ c. omega arith) with-given-requires
+    (λ c. omega arith) loop-less loop-again returns)

@@ -29,17 +29,12 @@ shared-slice-read-result c = word-there (c .before .before)
 returns : tie.Need-returns
 unfolding row-words
 returns c =
-    let a = c .before .before .before .before .args in
-    roles-masked (a .has .now) (a .roles) (a .u) (a .j) _ (c .full .result) (λ q. rw (← c .before .cells-in-word .ensures) (c .full .ensures q)) refl
+    let start = c .before .before .before .before in
+    let a = start .args in
+    roles-masked (a .has .now) (a .roles) (a .u) (a .j) _ (c .full .result)
+    (λ q. rw (← c .before .cells-in-word .ensures) (c .full .ensures q)) refl
 
 pub roles-word-spec : {M : Type 1} → statement M
 roles-word-spec =
-    tie.close
-    (tie.spec
-    (λ c. search needs)
-    add-result
-    mul-result-2
-    shared-slice-read-result
-    (λ c κs. search needs)
-    (λ c κs. search needs)
-    returns)
+    tie.close (tie.spec (λ c. search needs) add-result mul-result-2 shared-slice-read-result (λ c κs. search needs)
+    (λ c κs. search needs) returns)

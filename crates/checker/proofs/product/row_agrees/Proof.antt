@@ -17,17 +17,28 @@ abbrev μ-loop : tie.MeasureT-loop
 μ-loop rows has gives roles u k₀ k = row-words - k
 
 loop-holds : tie.Need-loop-holds Inv-loop μ-loop
-loop-holds c = (omega arith, words-start (c .before .before .before .args .rows .now) (c .before .before .before .args .has .now) (c .before .before .before .args .gives .now) (c .before .before .before .args .roles) (c .before .before .before .args .u))
+loop-holds c = (
+  omega arith,
+  words-start (c .before .before .before .args .rows .now) (c .before .before .before .args .has .now)
+      (c .before .before .before .args .gives .now) (c .before .before .before .args .roles)
+      (c .before .before .before .args .u),
+)
 
 more : (c : tie.In-loop Inv-loop μ-loop) → c .before .loop .k < row-words
 unfolding row-words
 more c = c .loop-test .taken
 
-within : (c : tie.In-loop Inv-loop μ-loop) → c .before .before .before .before .before .args .u * row-words + c .before .loop .k < length (c .before .before .before .before .before .args .rows .now)
-within c = word-below (c .before .before .before .before .before .args .u) (c .before .before .before .before .before .args .u + 1) (c .before .loop .k) _ (omega arith) (more c) (c .before .before .before .before .before .pre .1)
+within : (c : tie.In-loop Inv-loop μ-loop)
+    → let start = c .before .before .before .before .before in
+    start .args .u * row-words + c .before .loop .k < length (start .args .rows .now)
+within c =
+    let start = c .before .before .before .before .before in
+    word-below (start .args .u) (start .args .u + 1) (c .before .loop .k) _ (omega arith) (more c) (start .pre .1)
 
 given-word-requires : tie.Need-given-word-requires Inv-loop μ-loop
-given-word-requires c κs = (c .before .before .before .before .before .pre .0, more c, c .before .before .before .before .before .pre .2, c .before .before .before .before .before .pre .3)
+given-word-requires c κs =
+    let start = c .before .before .before .before .before in
+    (start .pre .0, more c, start .pre .2, start .pre .3)
 
 mul-if1 : tie.Need-mul-if1 Inv-loop μ-loop
 unfolding row-words
@@ -48,9 +59,13 @@ shared-slice-read-if1 c = within (c .before .before)
 returns : tie.Need-returns Inv-loop μ-loop
 unfolding row-words
 returns c =
+    let at-loop = c .before .before .before .before in
+    let start = at-loop .before .before .before .before in
     sym
-    (word-differs (c .before .before .before .before .before .before .before .before .args .rows .now) (c .before .before .before .before .before .before .before .before .args .has .now) (c .before .before .before .before .before .before .before .before .args .gives .now) (c .before .before .before .before .before .before .before .before .args .roles) (c .before .before .before .before .before .before .before .before .args .u) (more (c .before .before .before))
-    (c .before .before .given-word .ensures) (search needs) (c .before .shared-slice-known4 .given (c .before .before .before .before .before .before .before .before .args .u * row-words + c .before .before .before .before .loop .k) .fits) (c .if1 .taken))
+    (word-differs (start .args .rows .now) (start .args .has .now) (start .args .gives .now) (start .args .roles)
+    (start .args .u) (more (c .before .before .before))
+    (c .before .before .given-word .ensures) (search needs) (c .before .shared-slice-known4 .given
+    (start .args .u * row-words + at-loop .loop .k) .fits) (c .if1 .taken))
 
 add-k : tie.Need-add-k Inv-loop μ-loop
 unfolding row-words
@@ -61,33 +76,25 @@ loop-less c = omega (arith, more (c .before .before .before))
 
 loop-again : tie.Need-loop-again Inv-loop μ-loop
 unfolding row-words
-loop-again c = (
-  omega (arith, more (c .before .before .before)),
-  words-more (c .before .before .before .before .before .before .before .before .args .rows .now) (c .before .before .before .before .before .before .before .before .args .has .now) (c .before .before .before .before .before .before .before .before .args .gives .now) (c .before .before .before .before .before .before .before .before .args .roles) (c .before .before .before .before .before .before .before .before .args .u) (c .before .before .before .before .loop .inv .1) (c .before .before .given-word .ensures)
-      (c .if1 .left),
-)
+loop-again c =
+    let at-loop = c .before .before .before .before in
+    let start = at-loop .before .before .before .before in (
+      omega (arith, more (c .before .before .before)),
+      words-more (start .args .rows .now) (start .args .has .now) (start .args .gives .now) (start .args .roles)
+          (start .args .u) (at-loop .loop .inv .1) (c .before .before .given-word .ensures)
+          (c .if1 .left),
+    )
 
 returns-2 : tie.Need-returns-2 Inv-loop μ-loop
 unfolding row-words
 returns-2 c =
+    let start = c .before .before .before .before .before in
     sym
-    (words-end (c .before .before .before .before .before .args .rows .now) (c .before .before .before .before .before .args .has .now) (c .before .before .before .before .before .args .gives .now) (c .before .before .before .before .before .args .roles) (c .before .before .before .before .before .args .u) (c .before .loop .inv .1)
+    (words-end (start .args .rows .now) (start .args .has .now) (start .args .gives .now) (start .args .roles)
+    (start .args .u) (c .before .loop .inv .1)
     (omega (arith, c .before .loop .inv .0, c .loop-test .left)))
 
 pub row-agrees-spec : {M : Type 1} → statement M
 row-agrees-spec =
-    tie.close
-    (tie.spec
-    Inv-loop
-    μ-loop
-    loop-holds
-    given-word-requires
-    mul-if1
-    add-if1
-    mul-if1-2
-    shared-slice-read-if1
-    returns
-    add-k
-    loop-less
-    loop-again
-    returns-2)
+    tie.close (tie.spec Inv-loop μ-loop loop-holds given-word-requires mul-if1 add-if1 mul-if1-2 shared-slice-read-if1
+    returns add-k loop-less loop-again returns-2)

@@ -25,42 +25,41 @@ unfolding every-below
 loop-holds c = (omega arith, refl)
 
 row-agrees-requires : tie.Need-row-agrees-requires Inv-loop μ-loop
-row-agrees-requires c κs = (
-  c .before .before .before .before .before .pre .0,
-  row-within (c .before .loop .u) (c .before .before .before .before .before .args .users) _ (c .loop-test .taken) (c .before .before .before .before .before .pre .1),
-  row-within (c .before .loop .u) (c .before .before .before .before .before .args .users) _ (c .loop-test .taken) (c .before .before .before .before .before .pre .2),
-  c .before .before .before .before .before .pre .3,
-)
+row-agrees-requires c κs =
+    let start = c .before .before .before .before .before in (
+      start .pre .0,
+      row-within (c .before .loop .u) (start .args .users) _ (c .loop-test .taken) (start .pre .1),
+      row-within (c .before .loop .u) (start .args .users) _ (c .loop-test .taken) (start .pre .2),
+      start .pre .3,
+    )
 
 returns : tie.Need-returns Inv-loop μ-loop
 returns c =
+    let start = c .before .before .before .before .before .before .before in
     sym
-    (missed-below-intro (c .before .before .before .before .before .before .before .args .users) (row-agrees (c .before .before .before .before .before .before .before .args .rows .now) (roles-in (c .before .before .before .before .before .before .before .args .has .now) (c .before .before .before .before .before .before .before .args .gives .now) (c .before .before .before .before .before .before .before .args .roles)))
+    (missed-below-intro (start .args .users) (row-agrees (start .args .rows .now) (roles-in (start .args .has .now)
+    (start .args .gives .now) (start .args .roles)))
     (c .before .before .loop-test .taken) (sym (c .before .row-agrees .ensures) ∙ not-true _ (c .if1 .taken)))
 
 loop-again : tie.Need-loop-again Inv-loop μ-loop
-loop-again c = (
-  omega (arith, c .before .before .loop-test .taken),
-  (let f : ℕ → Bool = row-agrees (c .before .before .before .before .before .before .before .args .rows .now) (roles-in (c .before .before .before .before .before .before .before .args .has .now) (c .before .before .before .before .before .before .before .args .gives .now) (c .before .before .before .before .before .before .before .args .roles)) in
-      every-below-step (c .before .before .before .loop .u) f
-      ∙ and-intro (f (c .before .before .before .loop .u)) (every-below (c .before .before .before .loop .u) f) (sym (c .before .row-agrees .ensures) ∙ not-false _ (c .if1 .left)) (c .before .before .before .loop .inv .1)),
-)
+loop-again c =
+    let at-loop = c .before .before .before in
+    let start = at-loop .before .before .before .before in (
+      omega (arith, c .before .before .loop-test .taken),
+      (let f : ℕ → Bool = row-agrees (start .args .rows .now) (roles-in (start .args .has .now) (start .args .gives .now)
+          (start .args .roles)) in
+          every-below-step (at-loop .loop .u) f
+          ∙ and-intro (f (at-loop .loop .u)) (every-below (at-loop .loop .u) f) (sym (c .before .row-agrees .ensures)
+          ∙ not-false _ (c .if1 .left)) (at-loop .loop .inv .1)),
+    )
 
 returns-2 : tie.Need-returns-2 Inv-loop μ-loop
 returns-2 c =
-    let all : c .before .loop .u ≡ c .before .before .before .before .before .args .users = omega (arith, c .before .loop .inv .0, c .loop-test .left) in
+    let start = c .before .before .before .before .before in
+    let all : c .before .loop .u ≡ start .args .users = omega (arith, c .before .loop .inv .0, c .loop-test .left) in
     sym (rw all at (c .before .loop .inv .1))
 
 pub rows-agree-spec : {M : Type 1} → statement M
 rows-agree-spec =
-    tie.close
-    (tie.spec
-    Inv-loop
-    μ-loop
-    loop-holds
-    row-agrees-requires
-    returns
-    (λ c. omega arith)
-    (λ c. omega arith)
-    loop-again
-    returns-2)
+    tie.close (tie.spec Inv-loop μ-loop loop-holds row-agrees-requires returns (λ c. omega arith) (λ c. omega arith)
+    loop-again returns-2)

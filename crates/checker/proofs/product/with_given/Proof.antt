@@ -1,4 +1,5 @@
--- `product::with_given`: the positions of left are the roles still to be counted. The lowest is counted next, and dropped.
+-- `product::with_given`: the positions of left are the roles still to be counted. The lowest is counted next, and
+-- dropped.
 use Prim.Native.Nat.{ℕ, _+_, _*_, _<_}
 use native.Mathlib.Omega.{arith}
 use mathlib.Core.Path.{_≡_, refl, sym, _∙_}
@@ -25,12 +26,14 @@ loop-holds c = (c .before .pre .1, λ q. refl)
 
 -- the row of the lowest role is among the words
 word-there : (c : tie.After-lowest Inv-loop μ-loop)
-    → (c .before .before .before .before .args .first + c .lowest .result) * row-words + c .before .before .before .before .args .k
-    < length (c .before .before .before .before .args .gives .now)
+    → let still-start = c .before .before .before .before in
+    (still-start .args .first + c .lowest .result) * row-words + still-start .args .k < length
+    (still-start .args .gives .now)
 word-there c =
-    let a = c .before .before .before .before .args in
+    let still-start = c .before .before .before .before in
+    let a = still-start .args in
     let low = c .lowest in
-    word-below (a .first + low .result) (a .first + low .result + 1) (a .k) _ (omega arith) (c .before .before .before .before .pre .0)
+    word-below (a .first + low .result) (a .first + low .result + 1) (a .k) _ (omega arith) (still-start .pre .0)
     (c .before .before .loop .inv .0 .rows (low .result) (low .ensures .within) (low .ensures .holds))
 
 add-role : tie.Need-add-role Inv-loop μ-loop
@@ -59,13 +62,16 @@ loop-less c = c .without-lowest .ensures .less
 loop-again : tie.Need-loop-again Inv-loop μ-loop
 unfolding row-words
 loop-again c =
-    let a = c .before .before .before .before .before .before .args in
-    let at = c .before .before .before .before .loop in
+    let at-loop = c .before .before .before .before in
+    let still-start = at-loop .before .before in
+    let a = still-start .args in
+    let at = at-loop .loop in
     let low = c .before .before .lowest in
     let dropped = c .without-lowest .ensures in (
       within-dropped (low .ensures) dropped (at .inv .0),
       λ q.
-          given-next (a .gives .now) (a .first) (a .k) q (at .word) _ (low .ensures) dropped (bit-or (at .word) _ q) ∙ at .inv .1 q,
+          given-next (a .gives .now) (a .first) (a .k) q (at .word) _ (low .ensures) dropped (bit-or (at .word) _ q)
+          ∙ at .inv .1 q,
     )
 
 returns : tie.Need-returns Inv-loop μ-loop
@@ -73,22 +79,10 @@ returns c =
     let a = c .before .before .before .args in
     let at = c .before .loop in
     let none : at .left ≡ 0 = omega (arith, c .loop-test .left) in
-    λ q. sym (or-false (bit (at .word) q)) ∙ rw (← none-given (a .gives .now) (a .first) (a .k) q) (rw none at (at .inv .1 q))
+    λ q. sym (or-false (bit (at .word) q)) ∙ rw (← none-given (a .gives .now) (a .first) (a .k) q)
+    (rw none at (at .inv .1 q))
 
 pub with-given-spec : {M : Type 1} → statement M
 with-given-spec =
-    tie.close
-    (tie.spec
-    Inv-loop
-    μ-loop
-    loop-holds
-    (λ c κs. omega arith)
-    add-role
-    mul-word
-    add-word
-    mul-word-2
-    shared-slice-read-word
-    (λ c κs. omega arith)
-    loop-less
-    loop-again
-    returns)
+    tie.close (tie.spec Inv-loop μ-loop loop-holds (λ c κs. omega arith) add-role mul-word add-word mul-word-2
+    shared-slice-read-word (λ c κs. omega arith) loop-less loop-again returns)

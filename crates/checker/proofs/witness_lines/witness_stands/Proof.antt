@@ -33,59 +33,64 @@ unfolding role-limit
 element-copy-out-held c = omega (arith, c .before .before .before .pre .few)
 
 held-requires : tie.Need-held-requires Inv-loop μ-loop
-held-requires c κs = c .before .before .before .before .pre .each (c .before .before .loop .j) (c .before .loop-test .taken)
+held-requires c κs =
+    let start = c .before .before .before .before in
+    start .pre .each (c .before .before .loop .j) (c .before .loop-test .taken)
 
 returns : tie.Need-returns Inv-loop μ-loop
 unfolding lines-stand
 returns c =
+    let start = c .before .before .before .before .before .before in
     sym
-    (missed-below-intro (c .before .before .before .before .before .before .args .t2 .lines)
-    (line-stands (c .before .before .before .before .before .before .args .rows .now) (c .before .before .before .before .before .before .args .t2)) (c .before .before .before .loop-test .taken)
+    (missed-below-intro (start .args .t2 .lines)
+    (line-stands (start .args .rows .now) (start .args .t2)) (c .before .before .before .loop-test .taken)
     (rw (sym (c .before .held .ensures) ∙ not-true _ (c .if1 .taken))))
 
 fits-an-earlier-requires : tie.Need-fits-an-earlier-requires Inv-loop μ-loop
-fits-an-earlier-requires c κs = (c .before .before .before .before .before .before .pre, c .before .before .before .loop-test .taken)
+fits-an-earlier-requires c κs =
+    let start = c .before .before .before .before .before .before in
+    (start .pre, c .before .before .before .loop-test .taken)
 
 returns-2 : tie.Need-returns-2 Inv-loop μ-loop
 unfolding lines-stand
 returns-2 c =
+    let at-loop-test = c .before .before .before .before .before in
+    let at-loop = at-loop-test .before in
+    let start = at-loop .before .before in
     sym
-    (missed-below-intro (c .before .before .before .before .before .before .before .before .args .t2 .lines)
-    (line-stands (c .before .before .before .before .before .before .before .before .args .rows .now) (c .before .before .before .before .before .before .before .before .args .t2)) (c .before .before .before .before .before .loop-test .taken)
-    (ap (λ (b : Bool). line-held (c .before .before .before .before .before .before .before .before .args .rows .now) (line-of (c .before .before .before .before .before .before .before .before .args .t2) (c .before .before .before .before .before .before .loop .j)) && not b) (sym (c .before .fits-an-earlier .ensures) ∙ c .if2 .taken)
-    ∙ and-false (line-held (c .before .before .before .before .before .before .before .before .args .rows .now) (line-of (c .before .before .before .before .before .before .before .before .args .t2) (c .before .before .before .before .before .before .loop .j)))))
+    (missed-below-intro (start .args .t2 .lines)
+    (line-stands (start .args .rows .now) (start .args .t2)) (at-loop-test .loop-test .taken)
+    (ap (λ (b : Bool). line-held (start .args .rows .now) (line-of (start .args .t2) (at-loop .loop .j)) && not b)
+    (sym (c .before .fits-an-earlier .ensures) ∙ c .if2 .taken)
+    ∙ and-false (line-held (start .args .rows .now) (line-of (start .args .t2) (at-loop .loop .j)))))
 
 loop-again : tie.Need-loop-again Inv-loop μ-loop
-loop-again c = (
-  omega (arith, c .before .before .before .before .before .loop-test .taken),
-  (let f : ℕ → Bool = (line-stands (c .before .before .before .before .before .before .before .before .args .rows .now) (c .before .before .before .before .before .before .before .before .args .t2)) in
-      every-below-step (c .before .before .before .before .before .before .loop .j) f
-      ∙ and-intro (f (c .before .before .before .before .before .before .loop .j)) (every-below (c .before .before .before .before .before .before .loop .j) f)
-      (and-intro (line-held (c .before .before .before .before .before .before .before .before .args .rows .now) (line-of (c .before .before .before .before .before .before .before .before .args .t2) (c .before .before .before .before .before .before .loop .j))) (not (fits-earlier (c .before .before .before .before .before .before .before .before .args .rows .now) (c .before .before .before .before .before .before .before .before .args .t2) (c .before .before .before .before .before .before .loop .j)))
-      (sym (c .before .before .before .held .ensures) ∙ not-false _ (c .before .before .if1 .left))
-      (not-passes (fits-earlier (c .before .before .before .before .before .before .before .before .args .rows .now) (c .before .before .before .before .before .before .before .before .args .t2) (c .before .before .before .before .before .before .loop .j)) (sym (c .before .fits-an-earlier .ensures) ∙ c .if2 .left))) (c .before .before .before .before .before .before .loop .inv .1)),
-)
+loop-again c =
+    let at-loop-test = c .before .before .before .before .before in
+    let at-loop = at-loop-test .before in
+    let start = at-loop .before .before in (
+      omega (arith, at-loop-test .loop-test .taken),
+      (let f : ℕ → Bool = (line-stands (start .args .rows .now) (start .args .t2)) in
+          every-below-step (at-loop .loop .j) f
+          ∙ and-intro (f (at-loop .loop .j)) (every-below (at-loop .loop .j) f)
+          (and-intro (line-held (start .args .rows .now) (line-of (start .args .t2) (at-loop .loop .j)))
+          (not (fits-earlier (start .args .rows .now) (start .args .t2) (at-loop .loop .j)))
+          (sym (c .before .before .before .held .ensures) ∙ not-false _ (c .before .before .if1 .left))
+          (not-passes (fits-earlier (start .args .rows .now) (start .args .t2) (at-loop .loop .j))
+          (sym (c .before .fits-an-earlier .ensures) ∙ c .if2 .left))) (at-loop .loop .inv .1)),
+    )
 
 returns-3 : tie.Need-returns-3 Inv-loop μ-loop
 unfolding lines-stand
 returns-3 c =
-    let all : c .before .loop .j ≡ c .before .before .before .args .t2 .lines = omega (arith, c .before .loop .inv .0, c .loop-test .left) in
+    let all : c .before .loop .j ≡ c .before .before .before .args .t2 .lines = omega (
+      arith,
+      c .before .loop .inv .0,
+      c .loop-test .left,
+    ) in
     sym (rw all at (c .before .loop .inv .1))
 
 pub witness-stands-spec : {M : Type 1} → statement M
 witness-stands-spec =
-    tie.close
-    (tie.spec
-    Inv-loop
-    μ-loop
-    loop-holds
-    mul-held
-    element-copy-out-held
-    held-requires
-    returns
-    fits-an-earlier-requires
-    returns-2
-    (λ c. omega arith)
-    (λ c. omega arith)
-    loop-again
-    returns-3)
+    tie.close (tie.spec Inv-loop μ-loop loop-holds mul-held element-copy-out-held held-requires returns
+    fits-an-earlier-requires returns-2 (λ c. omega arith) (λ c. omega arith) loop-again returns-3)

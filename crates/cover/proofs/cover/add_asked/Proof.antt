@@ -37,17 +37,10 @@ unfolding row-words
 returns c =
     let start = c .before .before in
     let within = rw (sym (start .pre .1)) at (below start) in
-    cell-set (start .args .asked .now) (start .args .c) (start .args .p) (c .with .result) (start .pre .0 .1) within (c .with .ensures)
+    cell-set (start .args .asked .now) (start .args .c) (start .args .p) (c .with .result) (start .pre .0 .1) within
+    (c .with .ensures)
 
 pub add-asked-spec : {M : Type 1} → statement M
 add-asked-spec =
-    tie.close
-    (tie.spec
-    (λ c. search needs)
-    add-i
-    mul-with
-    element-copy-out-with
-    (λ c κs. search needs)
-    mul-asked
-    element-write-asked
-    returns)
+    tie.close (tie.spec (λ c. search needs) add-i mul-with element-copy-out-with (λ c κs. search needs) mul-asked
+    element-write-asked returns)

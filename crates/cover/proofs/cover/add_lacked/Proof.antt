@@ -1,4 +1,5 @@
--- `cover::cover::add_lacked`: after j words what the user lacks of their permissions is added to the class. Each turn adds the complement of one word.
+-- `cover::cover::add_lacked`: after j words what the user lacks of their permissions is added to the class. Each turn
+-- adds the complement of one word.
 use Prim.Native.Nat.{_+_, _*_, _-_, _^_, _≤_, _<_}
 use native.Mathlib.Omega.{arith}
 use mathlib.Core.Path.{_≡_}
@@ -64,12 +65,17 @@ loop-less c = omega arith
 loop-again : tie.Need-loop-again Inv-loop μ-loop
 unfolding row-bits row-words
 loop-again c =
-    let start = c .before .before .before .before .before in
+    let at-shared-slice-known = c .before .before .before .before in
+    let start = at-shared-slice-known .before in
     let at = c .before .before .before .loop in
     let held = c .before .word-at .ensures in
-    let room : start .args .c * row-words + at .j < length (at .lacked) = omega (arith, at .inv .1 .size, start .pre .1) in
+    let room : start .args .c * row-words + at .j < length (at .lacked) = omega (
+      arith,
+      at .inv .1 .size,
+      start .pre .1,
+    ) in
     let fits : getD (start .args .rows .now) (start .args .u * row-words + at .j) 0 < 2 ^ word-bits =
-    omega (arith, c .before .before .before .before .shared-slice-known .given (start .args .u * row-words + at .j)) in
+    omega (arith, at-shared-slice-known .shared-slice-known .given (start .args .u * row-words + at .j)) in
     (omega arith, rw held (lacks-word-added (at .inv .1) (omega arith) room fits))
 
 returns : tie.Need-returns Inv-loop μ-loop
@@ -80,21 +86,5 @@ returns c =
 
 pub add-lacked-spec : {M : Type 1} → statement M
 add-lacked-spec =
-    tie.close
-    (tie.spec
-    Inv-loop
-    μ-loop
-    loop-holds
-    mul-word-at
-    add-word-at
-    word-at-requires
-    mul-i
-    add-i
-    mul-lacked
-    element-copy-out-lacked
-    mul-lacked-2
-    element-write-lacked
-    add-j
-    loop-less
-    loop-again
-    returns)
+    tie.close (tie.spec Inv-loop μ-loop loop-holds mul-word-at add-word-at word-at-requires mul-i add-i mul-lacked
+    element-copy-out-lacked mul-lacked-2 element-write-lacked add-j loop-less loop-again returns)

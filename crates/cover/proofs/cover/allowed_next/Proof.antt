@@ -15,4 +15,5 @@ returns-2 : tie.Need-returns-2
 returns-2 c so-far = c .allowed-to .ensures
 
 pub allowed-next-spec : {M : Type 1} → statement M
-allowed-next-spec = tie.close (tie.spec (λ c κs. search needs) returns returns-2)
+allowed-next-spec =
+    tie.close (tie.spec (λ c κs. search needs) returns returns-2)

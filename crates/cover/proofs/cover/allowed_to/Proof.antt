@@ -9,7 +9,8 @@ use Rattle.cover.proofs.cover.allowed_to.Statement.{statement}
 use Rattle.cover.proofs.cover.allowed_to.Tie as tie
 
 abbrev Inv-loop : tie.InvT-loop
-Inv-loop rows asked u most allowed₀ c₀ allowed c = (c ≤ most) × (length allowed ≡ row-words) × AllowedSoFar rows asked u c allowed
+Inv-loop rows asked u most allowed₀ c₀ allowed c =
+    (c ≤ most) × (length allowed ≡ row-words) × AllowedSoFar rows asked u c allowed
 
 abbrev μ-loop : tie.MeasureT-loop
 μ-loop rows asked u most allowed₀ c₀ allowed c = most - c
@@ -37,10 +38,12 @@ loop-less c = omega arith
 loop-again : tie.Need-loop-again Inv-loop μ-loop
 unfolding row-bits row-words
 loop-again c =
-    let at = c .before .before .before .before .loop in (
+    let at-loop = c .before .before .before .before in
+    let at = at-loop .loop in (
       omega arith,
       c .put-if .ensures .size ∙ at .inv .1,
-      one-allowed _ _ _ (at .allowed) _ (at .c) (at .inv .2) (rw (c .before .before .holds-asked .ensures) at (c .put-if .ensures)),
+      one-allowed _ _ _ (at .allowed) _ (at .c) (at .inv .2) (rw (c .before .before .holds-asked .ensures) at
+          (c .put-if .ensures)),
     )
 
 returns : tie.Need-returns Inv-loop μ-loop
@@ -52,14 +55,5 @@ returns c =
 
 pub allowed-to-spec : {M : Type 1} → statement M
 allowed-to-spec =
-    tie.close
-    (tie.spec
-    Inv-loop
-    μ-loop
-    loop-holds
-    holds-asked-requires
-    put-if-requires
-    add-c
-    loop-less
-    loop-again
+    tie.close (tie.spec Inv-loop μ-loop loop-holds holds-asked-requires put-if-requires add-c loop-less loop-again
     returns)

@@ -1,5 +1,5 @@
--- `cover::cover::best_of`: the groupings of the cells are those of the kernel, and the one with fewest classes is kept. The grouping by user is not needed, since it
--- never has fewer classes than the grouping by fit.
+-- `cover::cover::best_of`: the groupings of the cells are those of the kernel, and the one with fewest classes is
+-- kept. The grouping by user is not needed, since it never has fewer classes than the grouping by fit.
 use borrow.Author.Needs.{needs}
 use Rattle.cover.specs.Laws.CoverArray.{held-cells, best-of-cells}
 use Rattle.cover.proofs.cover.best_of.Statement.{statement}
@@ -19,4 +19,5 @@ returns c =
     )
 
 pub best-of-spec : {M : Type 1} → statement M
-best-of-spec = tie.close (tie.spec (λ c κs. search needs) grouped-by-fit-requires (λ c κs. search needs) returns)
+best-of-spec =
+    tie.close (tie.spec (λ c κs. search needs) grouped-by-fit-requires (λ c κs. search needs) returns)

@@ -41,8 +41,11 @@ add-result c = omega arith
 returns : tie.Need-returns Inv-loop μ-loop
 unfolding row-words
 returns c =
-    let a = c .before .before .before .before .before .args in
-    found-free (a .allowed .now) (a .lacked .now) (a .p) _ _ (c .before .free-in-word .ensures) (c .before .before .before .before .loop .inv .1) (omega arith) (omega arith)
+    let at-loop = c .before .before .before .before in
+    let start = at-loop .before in
+    let a = start .args in
+    found-free (a .allowed .now) (a .lacked .now) (a .p) _ _ (c .before .free-in-word .ensures)
+    (at-loop .loop .inv .1) (omega arith) (omega arith)
 
 add-j : tie.Need-add-j Inv-loop μ-loop
 unfolding row-words
@@ -55,9 +58,12 @@ loop-less c = omega arith
 loop-again : tie.Need-loop-again Inv-loop μ-loop
 unfolding row-words
 loop-again c =
-    let a = c .before .before .before .before .before .args in (
+    let at-loop = c .before .before .before .before in
+    let start = at-loop .before in
+    let a = start .args in (
       omega arith,
-      λ i l. none-before (a .allowed .now) (a .lacked .now) (a .p) _ _ (c .before .free-in-word .ensures) (c .before .before .before .before .loop .inv .1) i (omega arith),
+      λ i l. none-before (a .allowed .now) (a .lacked .now) (a .p) _ _ (c .before .free-in-word .ensures)
+          (at-loop .loop .inv .1) i (omega arith),
     )
 
 returns-2 : tie.Need-returns-2 Inv-loop μ-loop
@@ -68,18 +74,5 @@ returns-2 c =
 
 pub class-for-spec : {M : Type 1} → statement M
 class-for-spec =
-    tie.close
-    (tie.spec
-    Inv-loop
-    μ-loop
-    loop-holds
-    mul-free-in-word
-    element-copy-out-free-in-word
-    free-in-word-requires
-    mul-result
-    add-result
-    returns
-    add-j
-    loop-less
-    loop-again
-    returns-2)
+    tie.close (tie.spec Inv-loop μ-loop loop-holds mul-free-in-word element-copy-out-free-in-word
+    free-in-word-requires mul-result add-result returns add-j loop-less loop-again returns-2)

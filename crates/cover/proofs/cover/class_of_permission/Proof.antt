@@ -29,4 +29,5 @@ returns-2 c =
     rw (ne-eqb (getD (a .table .now) (a .p) 0) no-class (c .if1 .left))
 
 pub class-of-permission-spec : {M : Type 1} → statement M
-class-of-permission-spec = tie.close (tie.spec mul-c element-copy-out-c (λ c. omega arith) returns returns-2)
+class-of-permission-spec =
+    tie.close (tie.spec mul-c element-copy-out-c (λ c. omega arith) returns returns-2)

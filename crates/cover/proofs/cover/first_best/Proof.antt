@@ -28,13 +28,16 @@ slice-aggregate-best-of : tie.Need-slice-aggregate-best-of
 slice-aggregate-best-of c = sym (counted (c .before .before .before .before))
 
 best-of-requires : tie.Need-best-of-requires
-best-of-requires c κs = rw (counted (c .before .before .before .before)) (c .before .before .before .before .pre .few)
+best-of-requires c κs =
+    let still-start = c .before .before .before .before in
+    rw (counted still-start) (still-start .pre .few)
 
 returns-2 : tie.Need-returns-2
 returns-2 c =
     let start = c .before .before .before .before .before in
     let grants = start .args .grants in (
-      λ users sheet shown e. placed-of-kernel sheet (take (grants .size) (grants .cells)) _ _ e (c .best-of .ensures .0 users sheet shown e),
+      λ users sheet shown e. placed-of-kernel sheet (take (grants .size) (grants .cells)) _ _ e
+          (c .best-of .ensures .0 users sheet shown e),
       rw (counted start) at (c .best-of .ensures .1),
     )
 

@@ -1,4 +1,5 @@
--- `cover::cover::free_in_word`: the positions of rest are those of the word still to be tried. The lowest is tried first, so the first that passes is the lowest.
+-- `cover::cover::free_in_word`: the positions of rest are those of the word still to be tried. The lowest is tried
+-- first, so the first that passes is the lowest.
 use Prim.Native.Nat.{ℕ, _+_, _*_}
 use native.Mathlib.Omega.{arith}
 use mathlib.Core.Bool.{Bool, not}
@@ -36,7 +37,9 @@ is-lacked-requires c κs = omega (arith, c .lowest .ensures .within)
 
 returns : tie.Need-returns Inv-loop μ-loop
 returns c =
-    lowest-left _ _ (c .before .before .before .before .loop .inv) (c .before .before .lowest .ensures) (rw (c .before .is-lacked .ensures) at (c .if1 .taken))
+    let at-loop = c .before .before .before .before in
+    lowest-left _ _ (at-loop .loop .inv) (c .before .before .lowest .ensures) (rw (c .before .is-lacked .ensures) at
+    (c .if1 .taken))
 
 loop-less : tie.Need-loop-less Inv-loop μ-loop
 loop-less c = c .without-lowest .ensures .less
@@ -51,17 +54,5 @@ returns-2 c = none-left _ _ (rw (c .loop-test .left) at (c .before .loop .inv))
 
 pub free-in-word-spec : {M : Type 1} → statement M
 free-in-word-spec =
-    tie.close
-    (tie.spec
-    Inv-loop
-    μ-loop
-    loop-holds
-    (λ c κs. omega arith)
-    mul-is-lacked
-    add-is-lacked
-    is-lacked-requires
-    returns
-    (λ c κs. omega arith)
-    loop-less
-    loop-again
-    returns-2)
+    tie.close (tie.spec Inv-loop μ-loop loop-holds (λ c κs. omega arith) mul-is-lacked add-is-lacked
+    is-lacked-requires returns (λ c κs. omega arith) loop-less loop-again returns-2)

@@ -1,5 +1,6 @@
--- `cover::cover::grouped_by_fit`: each grant in turn takes the class that the grouping gives it, since the words say which classes it can join. What it asks and
--- what its user lacks is then added to that class. Where the class is past most, so is the count of the whole grouping.
+-- `cover::cover::grouped_by_fit`: each grant in turn takes the class that the grouping gives it, since the words say
+-- which classes it can join. What it asks and what its user lacks is then added to that class. Where the class is
+-- past most, so is the count of the whole grouping.
 use Prim.Native.Nat.{_-_, _≤_, _<_}
 use native.Mathlib.Nat.{mod-lt}
 use native.Mathlib.Omega.{arith}
@@ -28,7 +29,14 @@ abbrev μ-loop : tie.MeasureT-loop
 
 loop-holds : tie.Need-loop-holds Inv-loop μ-loop
 unfolding grant-limit row-bits row-words
-loop-holds c = (omega arith, refl, refl, refl, λ held. none-fitted _ _ _ 0 class-words row-words _ refl refl (omega arith), zeros-blank 0 grant-limit)
+loop-holds c = (
+  omega arith,
+  refl,
+  refl,
+  refl,
+  λ held. none-fitted _ _ _ 0 class-words row-words _ refl refl (omega arith),
+  zeros-blank 0 grant-limit,
+)
 
 user-of-requires : tie.Need-user-of-requires Inv-loop μ-loop
 user-of-requires c κs = tt
@@ -36,22 +44,27 @@ user-of-requires c κs = tt
 -- the user of a cell of 16 bits has its room
 user-below : (c : tie.After-user-of Inv-loop μ-loop) → c .user-of .result .0 < user-room
 user-below c =
+    let still-start = c .before .before .before .before .before .before in
     let d = c .before .before .before .loop .d in
     rw (c .user-of .ensures)
-    (user-has-room (getD (c .before .before .before .before .before .before .args .cells .now) d 0) (omega (arith, c .before .shared-slice-known3 .given d)))
+    (user-has-room (getD (still-start .args .cells .now) d 0) (omega (arith, c .before .shared-slice-known3 .given d)))
 
 permission-of-requires : tie.Need-permission-of-requires Inv-loop μ-loop
 permission-of-requires c κs = tt
 
 allowed-next-requires : tie.Need-allowed-next-requires Inv-loop μ-loop
-allowed-next-requires c κs = (user-below (c .before .before .before), c .before .before .before .before .before .before .before .before .before .pre .1)
+allowed-next-requires c κs =
+    let still-start = c .before .before .before .before .before .before .before .before .before in
+    (user-below (c .before .before .before), still-start .pre .1)
 
 class-for-requires : tie.Need-class-for-requires Inv-loop μ-loop
 class-for-requires c κs = rw (c .before .before .before .before .permission-of .ensures) (mod-lt _ row-bits-pos)
 
 -- from the class found back to the turn of the loop, and to the start
 abbrev turn : tie.After-class-for Inv-loop μ-loop → tie.In-loop Inv-loop μ-loop
-turn c = c .before .before .before .before .before .before .before .before .before
+turn c =
+    let earlier = c .before .before .before .before .before .before .before .before .before in
+    earlier
 
 abbrev start : tie.After-class-for Inv-loop μ-loop → tie.Start Inv-loop μ-loop
 start c = turn c .before .before .before .before
@@ -69,17 +82,20 @@ fitted : (c : tie.After-class-for Inv-loop μ-loop) →
     let a = start c .args in
     let l = turn c .before .loop in
     HeldCells (a .rows .now) (a .cells .now)
-    → FitSoFar (a .rows .now) (a .cells .now) (l .classes) (l .d) (l .count) (l .asked) (l .lacked) (user-at-cell (a .cells .now) (l .d))
+    → FitSoFar (a .rows .now) (a .cells .now) (l .classes) (l .d) (l .count) (l .asked) (l .lacked)
+    (user-at-cell (a .cells .now) (l .d))
     (c .before .before .before .allowed-next .result) (a .most)
 fitted c held =
-    let user = c .before .before .before .before .before .before .before .user-of .ensures in
+    let at-user-of = c .before .before .before .before .before .before .before in
+    let user = at-user-of .user-of .ensures in
     next-user (rw user at (c .before .before .before .allowed-next .ensures)) (turn c .before .loop .inv .4 held)
 
 -- the class found is the lowest free one for its permission
 found : (c : tie.After-class-for Inv-loop μ-loop) →
     let a = start c .args in
     let l = turn c .before .loop in
-    FirstBelow row-bits (free (c .before .before .before .allowed-next .result) (l .lacked) (permission-at-cell (a .cells .now) (l .d))) (c .class-for .result)
+    FirstBelow row-bits (free (c .before .before .before .allowed-next .result) (l .lacked)
+    (permission-at-cell (a .cells .now) (l .d))) (c .class-for .result)
 found c = rw (c .before .before .before .before .before .permission-of .ensures) at (c .class-for .ensures)
 
 add-used : tie.Need-add-used Inv-loop μ-loop
@@ -90,7 +106,11 @@ returns : tie.Need-returns Inv-loop μ-loop
 returns c =
     let found-class = c .before in
     let n = length (start found-class .args .cells .now) in (
-      λ held. inr (omega arith, more-classes (few found-class) (fitted found-class held) (found found-class) n (omega arith) (omega arith)),
+      λ held. inr (
+        omega arith,
+        more-classes (few found-class) (fitted found-class held) (found found-class) n
+            (omega arith) (omega arith),
+      ),
       later-blank (omega arith) (turn found-class .before .loop .inv .5),
     )
 
@@ -101,14 +121,22 @@ small c = omega (arith, few (c .before))
 add-asked-requires : tie.Need-add-asked-requires Inv-loop μ-loop
 add-asked-requires c κs =
     let found-class = c .before .before in (
-      (small (c .before), rw (found-class .before .before .before .before .before .permission-of .ensures) (mod-lt _ row-bits-pos)),
+      (
+        small (c .before),
+        rw (found-class .before .before .before .before .before .permission-of .ensures)
+            (mod-lt _ row-bits-pos),
+      ),
       turn found-class .before .loop .inv .2,
     )
 
 add-lacked-requires : tie.Need-add-lacked-requires Inv-loop μ-loop
 add-lacked-requires c κs =
-    let found-class = c .before .before .before .before in (
-      (small (c .before .before .before), user-below (found-class .before .before .before .before .before .before .before)),
+    let earlier = c .before .before .before .before in
+    let found-class = earlier in (
+      (
+        small (c .before .before .before),
+        user-below (found-class .before .before .before .before .before .before .before),
+      ),
       turn found-class .before .loop .inv .3,
     )
 
@@ -143,8 +171,10 @@ loop-again c =
       c .before .before .before .add-asked .ensures .size ∙ l .inv .2,
       c .before .add-lacked .ensures .size ∙ l .inv .3,
       λ held. rw (c .counted .ensures, user)
-          (one-fitted (few found-class) (fitted found-class held) (found found-class) (omega (arith, c .before .before .before .before .before .if1 .left))
-          held _ _ (omega arith) room (rw permission at (c .before .before .before .add-asked .ensures)) (rw user at (c .before .add-lacked .ensures))),
+          (one-fitted (few found-class) (fitted found-class held) (found found-class)
+          (omega (arith, c .before .before .before .before .before .if1 .left))
+          held _ _ (omega arith) room (rw permission at (c .before .before .before .add-asked .ensures))
+          (rw user at (c .before .add-lacked .ensures))),
       set-blank _ (l .inv .5),
     )
 
@@ -155,29 +185,7 @@ returns-2 c =
 
 pub grouped-by-fit-spec : {M : Type 1} → statement M
 grouped-by-fit-spec =
-    tie.close
-    (tie.spec
-    Inv-loop
-    μ-loop
-    loop-holds
-    (λ c. omega arith)
-    (λ c. omega arith)
-    user-of-requires
-    (λ c. omega arith)
-    (λ c. omega arith)
-    permission-of-requires
-    allowed-next-requires
-    class-for-requires
-    add-used
-    returns
-    add-asked-requires
-    add-lacked-requires
-    cast-classes
-    mul-classes
-    array-write-classes
-    cast-counted
-    counted-requires
-    (λ c. omega arith)
-    (λ c. omega arith)
-    loop-again
-    returns-2)
+    tie.close (tie.spec Inv-loop μ-loop loop-holds (λ c. omega arith) (λ c. omega arith) user-of-requires
+    (λ c. omega arith) (λ c. omega arith) permission-of-requires allowed-next-requires class-for-requires add-used
+    returns add-asked-requires add-lacked-requires cast-classes mul-classes array-write-classes cast-counted
+    counted-requires (λ c. omega arith) (λ c. omega arith) loop-again returns-2)

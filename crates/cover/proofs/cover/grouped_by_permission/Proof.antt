@@ -1,5 +1,6 @@
--- `cover::cover::grouped_by_permission`: after d turns the first d grants have the classes that the grouping by permission gives them, and the table has the classes of
--- their permissions. Each turn gives the next grant the class of its permission.
+-- `cover::cover::grouped_by_permission`: after d turns the first d grants have the classes that the grouping by
+-- permission gives them, and the table has the classes of their permissions. Each turn gives the next grant the class
+-- of its permission.
 use Prim.Native.Nat.{_≤_, _<_, _-_}
 use native.Mathlib.Nat.{mod-lt}
 use native.Mathlib.Omega.{arith}
@@ -9,19 +10,28 @@ use Rattle.spec.specs.Limits.{grant-limit}
 use Rattle.cells.specs.Rows.{row-words, row-bits}
 use Rattle.cells.specs.Laws.CellPlace.{row-bits-pos}
 use Rattle.cover.specs.CoverRelation.{permission-at-cell}
-use Rattle.cover.specs.CoverKeys.{Keyed, none-keyed, keyed-count-le, keyed-count-below, class-from-is-next, one-keyed}
+use Rattle.cover.specs.CoverKeys.{
+  Keyed,
+  none-keyed,
+  keyed-count-le,
+  keyed-count-below,
+  class-from-is-next,
+  one-keyed,
+}
 use Rattle.cover.proofs.cover.grouped_by_permission.Statement.{statement}
 use Rattle.cover.proofs.cover.grouped_by_permission.Tie as tie
 
 abbrev Inv-loop : tie.InvT-loop
-Inv-loop cells table₀ classes₀ count₀ d₀ table classes count d = (d ≤ length cells) × Keyed (permission-at-cell cells) d table classes count
+Inv-loop cells table₀ classes₀ count₀ d₀ table classes count d =
+    (d ≤ length cells) × Keyed (permission-at-cell cells) d table classes count
 
 abbrev μ-loop : tie.MeasureT-loop
 μ-loop cells table₀ classes₀ count₀ d₀ table classes count d = length cells - d
 
 loop-holds : tie.Need-loop-holds Inv-loop μ-loop
 unfolding grant-limit row-bits row-words
-loop-holds c = (omega arith, none-keyed (permission-at-cell (c .before .args .cells .now)) grant-limit row-bits refl refl)
+loop-holds c =
+    (omega arith, none-keyed (permission-at-cell (c .before .args .cells .now)) grant-limit row-bits refl refl)
 
 permission-of-requires : tie.Need-permission-of-requires Inv-loop μ-loop
 permission-of-requires c κs = tt
@@ -64,8 +74,11 @@ loop-again c =
     let keyed = in-loop .before .loop .inv .1 in
     let room : in-loop .before .loop .d < grant-limit = omega arith in
     let inside = rw key at (below (c .before .before .before)) in
-    let next = rw key at (c .before .class-of-permission .ensures) ∙ class-from-is-next keyed room inside in
-    (omega arith, rw (c .counted .ensures, key) (one-keyed keyed room inside (c .before .class-of-permission .result) next))
+    let next = rw key at (c .before .class-of-permission .ensures) ∙ class-from-is-next keyed room inside in (
+      omega arith,
+      rw (c .counted .ensures, key) (one-keyed keyed room inside (c .before .class-of-permission .result)
+          next),
+    )
 
 returns : tie.Need-returns Inv-loop μ-loop
 returns c =
@@ -77,21 +90,6 @@ returns c =
 
 pub grouped-by-permission-spec : {M : Type 1} → statement M
 grouped-by-permission-spec =
-    tie.close
-    (tie.spec
-    Inv-loop
-    μ-loop
-    loop-holds
-    (λ c. omega arith)
-    (λ c. omega arith)
-    permission-of-requires
-    class-of-permission-requires
-    mul-table
-    array-write-table
-    mul-classes
-    array-write-classes
-    counted-requires
-    (λ c. omega arith)
-    (λ c. omega arith)
-    loop-again
-    returns)
+    tie.close (tie.spec Inv-loop μ-loop loop-holds (λ c. omega arith) (λ c. omega arith) permission-of-requires
+    class-of-permission-requires mul-table array-write-table mul-classes array-write-classes counted-requires
+    (λ c. omega arith) (λ c. omega arith) loop-again returns)

@@ -1,4 +1,5 @@
--- `cover::cover::holds_asked`: of each word passed, what the class asks is within what the user holds. A word where it is not fails the test of all.
+-- `cover::cover::holds_asked`: of each word passed, what the class asks is within what the user holds. A word where
+-- it is not fails the test of all.
 use Prim.Native.Nat.{_*_, _-_, _≤_}
 use native.Mathlib.Omega.{arith}
 use mathlib.Core.Path.{_≡_, refl, sym, _∙_}
@@ -55,18 +56,22 @@ within-requires c κs = tt
 -- the test of the word is the test of its permissions
 word-test : (c : tie.After-within Inv-loop μ-loop) →
     let a = c .before .before .before .before .before .before .args in
-    c .within .result ≡ every-in-word (held-at (a .rows .now) (a .asked .now) (a .u) (a .c)) (c .before .before .before .before .loop .j)
+    c .within .result ≡ every-in-word (held-at (a .rows .now) (a .asked .now) (a .u) (a .c))
+    (c .before .before .before .before .loop .j)
 unfolding row-words
 word-test c =
-    let a = c .before .before .before .before .before .before .args in
+    let start = c .before .before .before .before .before .before in
+    let a = start .args in
     rw (c .before .before .word-at .ensures) at (c .within .ensures)
     ∙ held-word (a .rows .now) (a .asked .now) (a .u) (a .c) (c .before .before .before .before .loop .j)
 
 returns : tie.Need-returns Inv-loop μ-loop
 unfolding row-words row-bits
 returns c =
-    let a = c .before .before .before .before .before .before .before .args in
-    sym (every-word-fails (held-at (a .rows .now) (a .asked .now) (a .u) (a .c)) (c .before .before .before .before .before .loop .j)
+    let at-loop = c .before .before .before .before .before in
+    let start = at-loop .before .before in
+    let a = start .args in
+    sym (every-word-fails (held-at (a .rows .now) (a .asked .now) (a .u) (a .c)) (at-loop .loop .j)
     row-words (omega arith) (sym (word-test (c .before)) ∙ not-true (c .before .within .result) (c .if1 .taken)))
 
 add-j : tie.Need-add-j Inv-loop μ-loop
@@ -80,7 +85,8 @@ loop-less c = omega arith
 loop-again : tie.Need-loop-again Inv-loop μ-loop
 unfolding row-words
 loop-again c =
-    let a = c .before .before .before .before .before .before .before .args in
+    let start = c .before .before .before .before .before .before .before in
+    let a = start .args in
     let at = c .before .before .before .before .before .loop in (
       omega arith,
       every-next-word (held-at (a .rows .now) (a .asked .now) (a .u) (a .c)) (at .j) (at .inv .1)
@@ -95,21 +101,5 @@ returns-2 c =
 
 pub holds-asked-spec : {M : Type 1} → statement M
 holds-asked-spec =
-    tie.close
-    (tie.spec
-    Inv-loop
-    μ-loop
-    loop-holds
-    mul-word-at
-    add-word-at
-    word-at-requires
-    mul-within
-    add-within
-    mul-within-2
-    element-copy-out-within
-    within-requires
-    returns
-    add-j
-    loop-less
-    loop-again
-    returns-2)
+    tie.close (tie.spec Inv-loop μ-loop loop-holds mul-word-at add-word-at word-at-requires mul-within add-within
+    mul-within-2 element-copy-out-within within-requires returns add-j loop-less loop-again returns-2)

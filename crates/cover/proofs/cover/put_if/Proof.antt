@@ -23,19 +23,13 @@ unfolding row-bits row-words
 returns c =
     let start = c .before .before .before in
     let within : start .args .c / word-bits < length (start .args .allowed .now) = omega arith in
-    rw (c .before .before .if1 .taken) (class-put (start .args .allowed .now) (start .args .c) (c .with .result) (start .pre .0) within (c .with .ensures))
+    rw (c .before .before .if1 .taken) (class-put (start .args .allowed .now) (start .args .c) (c .with .result)
+    (start .pre .0) within (c .with .ensures))
 
 returns-2 : tie.Need-returns-2
 returns-2 c = rw (c .if1 .left) (cell-kept _ 0 _)
 
 pub put-if-spec : {M : Type 1} → statement M
 put-if-spec =
-    tie.close
-    (tie.spec
-    (λ c. search needs)
-    element-copy-out-with
-    (λ c κs. search needs)
-    (λ c. search needs)
-    element-write-allowed
-    returns
-    returns-2)
+    tie.close (tie.spec (λ c. search needs) element-copy-out-with (λ c κs. search needs) (λ c. search needs)
+    element-write-allowed returns returns-2)

@@ -11,4 +11,5 @@ returns-2 : tie.Need-returns-2
 returns-2 c = (λ n p q sooner later. later-is-fewer p q n sooner later (omega arith), λ n sooner later. later)
 
 pub with-fewer-spec : {M : Type 1} → statement M
-with-fewer-spec = tie.close (tie.spec returns returns-2)
+with-fewer-spec =
+    tie.close (tie.spec returns returns-2)

@@ -1,4 +1,5 @@
--- `decimal::decimal_length`: a number below ten has one digit, and any other one more than its tenth. The measure is the number.
+-- `decimal::decimal_length`: a number below ten has one digit, and any other one more than its tenth. The measure is
+-- the number.
 use Prim.Native.Nat.{ℕ, _<_}
 use native.Mathlib.Omega.{arith}
 use mathlib.Core.Path.{sym}
@@ -37,7 +38,8 @@ module _ (t : ℕ) where
   add-result c = omega (arith, c .decimal-length .ensures .small)
 
   returns-2 : lts.Need-returns-2 (claims t) (given-at t) decimal-length.Post
-  returns-2 c = one-digit-more (c .before .before .args .n) (c .before .before .fits .n .fits) (omega arith) (c .decimal-length .ensures)
+  returns-2 c = one-digit-more (c .before .before .args .n) (c .before .before .fits .n .fits) (omega arith)
+      (c .decimal-length .ensures)
 
 pub +decimal-length-spec : {M : Type 1} → statement M
 +decimal-length-spec =

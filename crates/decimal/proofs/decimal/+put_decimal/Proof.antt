@@ -1,4 +1,5 @@
--- `decimal::put_decimal`: a number below ten is one digit, and any other is its tenth with one digit behind it. The measure is the number.
+-- `decimal::put_decimal`: a number below ten is one digit, and any other is its tenth with one digit behind it. The
+-- measure is the number.
 use borrow.Author.Needs.{needs}
 use Prim.Native.Nat.{ℕ, _<_}
 use native.Mathlib.Omega.{arith}
@@ -54,7 +55,8 @@ module _ (t : ℕ) where
 
   -- after the call for the tenth
   room : (c : lts.After-digit-of2 (claims t) (given-at t) put-decimal.Post)
-      → c .before .before .before .put-decimal .result < length (c .before .before .before .before .before .before .before .args .out .now)
+      → c .before .before .before .put-decimal .result < length
+      (c .before .before .before .before .before .before .before .args .out .now)
   room c =
       let n = c .before .before .before .before .before .before .before .args .n in
       omega (arith, digit-more n (omega arith), c .before .before .before .put-decimal .ensures .counted)
@@ -71,7 +73,8 @@ module _ (t : ℕ) where
   returns-2 : lts.Need-returns-2 (claims t) (given-at t) put-decimal.Post
   returns-2 c =
       let n = c .before .before .before .before .before .before .before .args .n in
-      last-digit-written n (c .digit-of2 .result) (omega arith) (room c) (c .digit-of2 .ensures) (c .before .before .before .put-decimal .ensures)
+      last-digit-written n (c .digit-of2 .result) (omega arith) (room c) (c .digit-of2 .ensures)
+      (c .before .before .before .put-decimal .ensures)
 
 pub +put-decimal-spec : {M : Type 1} → statement M
 +put-decimal-spec = close μ λ t. lts.spec (claims t) (given-at t) put-decimal.Post

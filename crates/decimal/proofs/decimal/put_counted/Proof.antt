@@ -6,7 +6,15 @@ use mathlib.Core.List.{_++_}
 use lib.ListN.{length}
 use Rattle.spec.specs.Text.{Bytes}
 use Rattle.spec.specs.Decimal.{decimal}
-use Rattle.text.specs.Written.{WrittenSoFar, end-within, front-fits, room-behind, then-same-length, then-written, within-buffer}
+use Rattle.text.specs.Written.{
+  WrittenSoFar,
+  end-within,
+  front-fits,
+  room-behind,
+  then-same-length,
+  then-written,
+  within-buffer,
+}
 use Rattle.decimal.proofs.decimal.put_counted.Statement.{statement}
 use Rattle.decimal.proofs.decimal.put_counted.Tie as tie
 
@@ -23,7 +31,8 @@ abbrev start : tie.After-put-bytes → tie.Start
 start c = c .before .before .before .before
 
 behind-mark : (c : tie.After-put-bytes)
-    → WrittenSoFar (mark (start c)) (number (start c)) (start c .args .out .now) (c .put-bytes .last .0) (c .put-bytes .result)
+    → WrittenSoFar (mark (start c)) (number (start c)) (start c .args .out .now) (c .put-bytes .last .0)
+    (c .put-bytes .result)
 behind-mark c = record { written = c .put-bytes .ensures; fits = fits (start c) }
 
 put-bytes-requires : tie.Need-put-bytes-requires
@@ -41,23 +50,21 @@ put-decimal-requires : tie.Need-put-decimal-requires
 put-decimal-requires c κs = room-behind (behind-mark (c .before .before .before))
 
 add-result : tie.Need-add-result
-add-result c = omega (arith, end-within (behind-mark (c .before .before .before .before .before .before)) (c .before .before .put-decimal .ensures))
+add-result c =
+    let earlier = c .before .before .before .before .before .before in
+    omega (arith, end-within (behind-mark earlier) (c .before .before .put-decimal .ensures))
 
 same-length : tie.Need-same-length
-same-length c = then-same-length (behind-mark (c .before .before .before .before .before .before)) (c .before .before .put-decimal .ensures)
+same-length c =
+    let earlier = c .before .before .before .before .before .before in
+    then-same-length (behind-mark earlier) (c .before .before .put-decimal .ensures)
 
 returns : tie.Need-returns
-returns c = then-written (behind-mark (c .before .before .before .before .before .before)) (c .before .before .put-decimal .ensures)
+returns c =
+    let earlier = c .before .before .before .before .before .before in
+    then-written (behind-mark earlier) (c .before .before .put-decimal .ensures)
 
 pub put-counted-spec : {M : Type 1} → statement M
 put-counted-spec =
-    tie.close
-    (tie.spec
-    put-bytes-requires
-    sub-put-decimal
-    part-put-decimal-start
-    (λ c. search needs)
-    put-decimal-requires
-    add-result
-    same-length
-    returns)
+    tie.close (tie.spec put-bytes-requires sub-put-decimal part-put-decimal-start (λ c. search needs)
+    put-decimal-requires add-result same-length returns)

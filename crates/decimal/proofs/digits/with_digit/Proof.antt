@@ -22,4 +22,5 @@ unfolding count-cap
 returns-2 c = omega arith
 
 pub with-digit-spec : {M : Type 1} → statement M
-with-digit-spec = tie.close (tie.spec mul-m (λ c. search needs) (λ c. search needs) add-m returns returns-2)
+with-digit-spec =
+    tie.close (tie.spec mul-m (λ c. search needs) (λ c. search needs) add-m returns returns-2)

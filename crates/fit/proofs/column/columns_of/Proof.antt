@@ -12,7 +12,8 @@ use Rattle.fit.proofs.column.columns_of.Statement.{statement}
 use Rattle.fit.proofs.column.columns_of.Tie as tie
 
 abbrev Inv-loop : tie.InvT-loop
-Inv-loop rows columns₀ i₀ columns i = (i ≤ cell-words) × (length columns ≡ row-bits * column-words) × PutInBelow rows i columns
+Inv-loop rows columns₀ i₀ columns i =
+    (i ≤ cell-words) × (length columns ≡ row-bits * column-words) × PutInBelow rows i columns
 
 abbrev μ-loop : tie.MeasureT-loop
 μ-loop rows columns₀ i₀ columns i = cell-words - i
@@ -55,15 +56,5 @@ returns c =
 
 pub columns-of-spec : {M : Type 1} → statement M
 columns-of-spec =
-    tie.close
-    (tie.spec
-    Inv-loop
-    μ-loop
-    loop-holds
-    mul-put-in-columns
-    element-copy-out-put-in-columns
-    put-in-columns-requires
-    (λ c. omega arith)
-    loop-less
-    loop-again
-    returns)
+    tie.close (tie.spec Inv-loop μ-loop loop-holds mul-put-in-columns element-copy-out-put-in-columns
+    put-in-columns-requires (λ c. omega arith) loop-less loop-again returns)

@@ -1,4 +1,5 @@
--- `fit::column::partners_among`: the positions of w are the words still to be counted. The lowest is counted next, and dropped.
+-- `fit::column::partners_among`: the positions of w are the words still to be counted. The lowest is counted next,
+-- and dropped.
 use Prim.Native.Nat.{_+_, _≤_}
 use native.Mathlib.Omega.{arith}
 use mathlib.Core.Path.{_≡_, _∙_}
@@ -14,7 +15,8 @@ use Rattle.fit.proofs.column.partners_among.Tie as tie
 
 abbrev Inv-loop : tie.InvT-loop
 Inv-loop rows left it from some start most n₀ w₀ n w =
-    n + word-sum (λ q. near-in-word rows left (it .0) (from + q)) w ≡ start + word-sum (λ q. near-in-word rows left (it .0) (from + q)) some
+    n + word-sum (λ q. near-in-word rows left (it .0) (from + q)) w ≡ start + word-sum
+    (λ q. near-in-word rows left (it .0) (from + q)) some
 
 abbrev μ-loop : tie.MeasureT-loop
 μ-loop rows left it from some start most n₀ w₀ n w = w
@@ -41,23 +43,35 @@ count-requires c κs = tt
 add-n : tie.Need-add-n Inv-loop μ-loop
 unfolding user-limit row-words
 add-n c =
-    let a = c .before .before .before .before .before .before .before .args in
+    let at-loop = c .before .before .before .before .before .before in
+    let still-start = at-loop .before in
+    let a = still-start .args in
     let few : c .count .result ≤ word-bits = rw (c .count .ensures) (count-below-le word-bits _) in
-    omega (arith, c .before .before .before .before .before .before .loop .inv, near-sum-le (a .rows .now) (a .left .now) (a .it .0) word-bits (bit (a .some)) (λ q. a .from + q))
+    omega (
+      arith,
+      at-loop .loop .inv,
+      near-sum-le (a .rows .now) (a .left .now) (a .it .0) word-bits (bit (a .some))
+          (λ q. a .from + q),
+    )
 
 loop-less : tie.Need-loop-less Inv-loop μ-loop
 loop-less c = c .without-lowest .ensures .less
 
 loop-again : tie.Need-loop-again Inv-loop μ-loop
 loop-again c =
-    let a = c .before .before .before .before .before .before .before .before .args in
-    let low = c .before .before .before .before .lowest in
-    let counted = c .before .count .ensures ∙ near-word-count (a .rows .now) (a .left .now) (a .it .0) (a .from + low .result) (c .before .before .fitting .ensures) in
+    let at-lowest = c .before .before .before .before in
+    let at-loop = at-lowest .before .before .before in
+    let still-start = at-loop .before in
+    let a = still-start .args in
+    let low = at-lowest .lowest in
+    let counted = c .before .count .ensures ∙ near-word-count (a .rows .now) (a .left .now) (a .it .0)
+    (a .from + low .result) (c .before .before .fitting .ensures) in
     omega (
       arith,
-      c .before .before .before .before .before .before .before .loop .inv,
+      at-loop .loop .inv,
       counted,
-      word-sum-dropped (λ q. near-in-word (a .rows .now) (a .left .now) (a .it .0) (a .from + q)) (low .ensures) (c .without-lowest .ensures),
+      word-sum-dropped (λ q. near-in-word (a .rows .now) (a .left .now) (a .it .0) (a .from + q)) (low .ensures)
+          (c .without-lowest .ensures),
     )
 
 returns : tie.Need-returns Inv-loop μ-loop
@@ -75,20 +89,6 @@ returns-2 c =
 
 pub partners-among-spec : {M : Type 1} → statement M
 partners-among-spec =
-    tie.close
-    (tie.spec
-    Inv-loop
-    μ-loop
-    (λ c. omega arith)
-    (λ c κs. omega arith)
-    add-i
-    mul-count
-    element-copy-out-count
-    fitting-requires
-    count-requires
-    add-n
-    (λ c κs. omega arith)
-    loop-less
-    loop-again
-    returns
+    tie.close (tie.spec Inv-loop μ-loop (λ c. omega arith) (λ c κs. omega arith) add-i mul-count
+    element-copy-out-count fitting-requires count-requires add-n (λ c κs. omega arith) loop-less loop-again returns
     returns-2)

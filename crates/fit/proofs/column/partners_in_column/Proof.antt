@@ -1,5 +1,5 @@
--- `fit::column::partners_in_column`: after j words of the column the cells near the grant are counted in the words that it names so far, or most are counted
--- already. At the end these are all words in which a grant can fit it.
+-- `fit::column::partners_in_column`: after j words of the column the cells near the grant are counted in the words
+-- that it names so far, or most are counted already. At the end these are all words in which a grant can fit it.
 use Prim.Native.Nat.{_*_, _%_, _-_, _≤_}
 use native.Mathlib.Nat.{mod-lt}
 use native.Mathlib.Omega.{arith}
@@ -29,12 +29,14 @@ loop-holds c = (omega arith, record { below = λ l. refl; not-more = omega arith
 partners-among-requires : tie.Need-partners-among-requires Inv-loop μ-loop
 unfolding user-limit row-words
 partners-among-requires c κs =
-    let a = c .before .before .before .before .args in
+    let start = c .before .before .before .before in
+    let a = start .args in
     let at = c .before .before .loop in
     omega (
       arith,
       at .inv .1 .not-more,
-      near-sum-le (a .rows .now) (a .left .now) (a .it .0) (at .j * word-bits) (held-in (a .rows .now) (a .it .0 % row-bits)) (λ i. i),
+      near-sum-le (a .rows .now) (a .left .now) (a .it .0) (at .j * word-bits)
+          (held-in (a .rows .now) (a .it .0 % row-bits)) (λ i. i),
     )
 
 loop-less : tie.Need-loop-less Inv-loop μ-loop
@@ -44,10 +46,12 @@ loop-less c = omega arith
 loop-again : tie.Need-loop-again Inv-loop μ-loop
 unfolding user-limit row-words row-bits
 loop-again c =
-    let a = c .before .before .before .before .before .args in
+    let start = c .before .before .before .before .before in
+    let a = start .args in
     let at = c .before .before .before .loop in (
       omega arith,
-      rw (column-next-word (a .rows .now) (a .left .now) (a .it .0) (a .columns .now) (c .before .before .before .before .before .pre .1) (a .it .0 % row-bits) (at .j)
+      rw (column-next-word (a .rows .now) (a .left .now) (a .it .0) (a .columns .now) (start .pre .1)
+          (a .it .0 % row-bits) (at .j)
           (mod-lt (a .it .0) row-bits-pos) (omega arith))
           (counted-on _ (at .inv .1) (c .partners-among .ensures)),
     )
@@ -62,18 +66,5 @@ returns c users sheet few shown part =
 
 pub partners-in-column-spec : {M : Type 1} → statement M
 partners-in-column-spec =
-    tie.close
-    (tie.spec
-    Inv-loop
-    μ-loop
-    loop-holds
-    (λ c. omega arith)
-    (λ c. omega arith)
-    (λ c. omega arith)
-    (λ c. omega arith)
-    (λ c. omega arith)
-    partners-among-requires
-    (λ c. omega arith)
-    loop-less
-    loop-again
-    returns)
+    tie.close (tie.spec Inv-loop μ-loop loop-holds (λ c. omega arith) (λ c. omega arith) (λ c. omega arith)
+    (λ c. omega arith) (λ c. omega arith) partners-among-requires (λ c. omega arith) loop-less loop-again returns)

@@ -1,4 +1,5 @@
--- `fit::column::put_in_columns`: the positions of w are those still to be put in. The lowest goes into its column next, and is dropped.
+-- `fit::column::put_in_columns`: the positions of w are those still to be put in. The lowest goes into its column
+-- next, and is dropped.
 use borrow.Author.Needs.{needs}
 use Prim.Native.Nat.{_+_, _*_, _/_, _%_}
 use native.Mathlib.Omega.{arith}
@@ -45,14 +46,18 @@ loop-less c = c .without-lowest .ensures .less
 loop-again : tie.Need-loop-again Inv-loop μ-loop
 unfolding user-limit row-words row-bits
 loop-again c =
+    let at-loop = c .before .before .before .before .before in
+    let start = at-loop .before in
     let low = c .before .before .before .lowest in
-    let start = c .before .before .before .before .before .before in
     let a = start .args in
-    let at = c .before .before .before .before .before .loop in
-    let place : (low .result * cell-words + a .i) / word-bits ≡ low .result * column-words + a .i / word-bits = omega (arith, start .pre .0) in
+    let at = at-loop .loop in
+    let place : (low .result * cell-words + a .i) / word-bits ≡ low .result * column-words + a .i / word-bits = omega
+    (arith, start .pre .0) in
     let position : (low .result * cell-words + a .i) % word-bits ≡ a .i % word-bits = omega (arith, start .pre .0) in
-    one-put-in (a .i) (a .some) _ (at .columns) _ (start .pre .0) (at .inv) (low .ensures) (c .without-lowest .ensures) (simp length-set)
-    (rw place at (cell-put-in (at .columns) (low .result * cell-words + a .i) (c .before .with .result) (omega (arith, low .ensures .within, start .pre .1, at .inv .sized))
+    one-put-in (a .i) (a .some) _ (at .columns) _ (start .pre .0) (at .inv) (low .ensures)
+    (c .without-lowest .ensures) (simp length-set)
+    (rw place at (cell-put-in (at .columns) (low .result * cell-words + a .i) (c .before .with .result)
+    (omega (arith, low .ensures .within, start .pre .1, at .inv .sized))
     (rw (place, position) (c .before .with .ensures))))
 
 returns : tie.Need-returns Inv-loop μ-loop
@@ -62,20 +67,6 @@ returns c =
 
 pub put-in-columns-spec : {M : Type 1} → statement M
 put-in-columns-spec =
-    tie.close
-    (tie.spec
-    Inv-loop
-    μ-loop
-    loop-holds
-    (λ c κs. omega arith)
-    mul-t
-    add-t
-    (λ c. omega arith)
-    element-copy-out-with
-    (λ c κs. search needs)
-    (λ c. omega arith)
-    element-write-columns
-    (λ c κs. omega arith)
-    loop-less
-    loop-again
-    returns)
+    tie.close (tie.spec Inv-loop μ-loop loop-holds (λ c κs. omega arith) mul-t add-t (λ c. omega arith)
+    element-copy-out-with (λ c κs. search needs) (λ c. omega arith) element-write-columns (λ c κs. omega arith)
+    loop-less loop-again returns)

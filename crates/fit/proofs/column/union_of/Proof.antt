@@ -1,4 +1,5 @@
--- `fit::column::union_of`: the columns of the permissions at the positions of w are still to be joined. The lowest is next, and its position is dropped.
+-- `fit::column::union_of`: the columns of the permissions at the positions of w are still to be joined. The lowest is
+-- next, and its position is dropped.
 use Prim.Native.Nat.{ℕ}
 use native.Mathlib.Omega.{arith}
 use mathlib.Core.List.{List}
@@ -40,9 +41,11 @@ loop-less c = c .without-lowest .ensures .less
 loop-again : tie.Need-loop-again Inv-loop μ-loop
 unfolding user-limit row-words
 loop-again c rows made =
-    let start = c .before .before .before .before .before in
-    let at = c .before .before .before .before .loop in
-    reach-goes-on rows (start .args .columns .now) made _ (start .args .j) (at .some) (start .pre) (c .before .before .lowest .ensures) (c .without-lowest .ensures)
+    let at-loop = c .before .before .before .before in
+    let start = at-loop .before in
+    let at = at-loop .loop in
+    reach-goes-on rows (start .args .columns .now) made _ (start .args .j) (at .some) (start .pre)
+    (c .before .before .lowest .ensures) (c .without-lowest .ensures)
     (at .inv rows made)
 
 returns : tie.Need-returns Inv-loop μ-loop
@@ -50,17 +53,5 @@ returns c rows made = reach-ends _ _ _ _ (rw (c .loop-test .left) at (c .before 
 
 pub union-of-spec : {M : Type 1} → statement M
 union-of-spec =
-    tie.close
-    (tie.spec
-    Inv-loop
-    μ-loop
-    loop-holds
-    (λ c κs. omega arith)
-    mul-some
-    add-some
-    mul-some-2
-    element-copy-out-some
-    (λ c κs. omega arith)
-    loop-less
-    loop-again
-    returns)
+    tie.close (tie.spec Inv-loop μ-loop loop-holds (λ c κs. omega arith) mul-some add-some mul-some-2
+    element-copy-out-some (λ c κs. omega arith) loop-less loop-again returns)

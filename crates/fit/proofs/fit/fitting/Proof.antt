@@ -1,5 +1,5 @@
--- `fit::fit::fitting`: the cells of a word have one user. Where that user holds the grant's permission, those that fit are the same word of the grant's row;
--- else none fits.
+-- `fit::fit::fitting`: the cells of a word have one user. Where that user holds the grant's permission, those that
+-- fit are the same word of the grant's row; else none fits.
 use borrow.Author.Needs.{needs}
 use Prim.Native.Nat.{_+_, _*_, _/_, _%_}
 use native.Mathlib.Omega.{arith}
@@ -29,10 +29,12 @@ element-copy-out-result c = omega arith
 returns : tie.Need-returns
 unfolding row-bits row-words
 returns c =
-    let a = c .before .before .before .before .args in
+    let start = c .before .before .before .before in
+    let a = start .args in
     record {
       bits = λ q l.
-          sym (fit-by-word (a .rows .now) (a .it .0) (a .i) q l ∙ rw (sym (c .before .before .has .ensures) ∙ c .before .if1 .taken) (and-true _));
+          sym (fit-by-word (a .rows .now) (a .it .0) (a .i) q l ∙ rw (sym (c .before .before .has .ensures)
+          ∙ c .before .if1 .taken) (and-true _));
     }
 
 returns-2 : tie.Need-returns-2
@@ -43,21 +45,12 @@ returns-2 c =
       bits = λ q l.
           sym (fit-by-word (a .rows .now) (a .it .0) (a .i) q l
           ∙ rw (sym (c .before .has .ensures) ∙ c .if1 .left)
-          (and-false (bit (getD (a .rows .now) (a .it .0 / row-bits * row-words + a .i % row-words) 0) q) ∙ sym (bit-of-zero q)));
+          (and-false (bit (getD (a .rows .now) (a .it .0 / row-bits * row-words + a .i % row-words) 0) q)
+          ∙ sym (bit-of-zero q)));
     }
 
 pub fitting-spec : {M : Type 1} → statement M
 fitting-spec =
-    tie.close
-    (tie.spec
-    (λ c. search needs)
-    (λ c. search needs)
-    mul-other-2
-    element-copy-out-other
-    (λ c κs. search needs)
-    (λ c. search needs)
-    (λ c. search needs)
-    (λ c. search needs)
-    element-copy-out-result
-    returns
+    tie.close (tie.spec (λ c. search needs) (λ c. search needs) mul-other-2 element-copy-out-other
+    (λ c κs. search needs) (λ c. search needs) (λ c. search needs) (λ c. search needs) element-copy-out-result returns
     returns-2)

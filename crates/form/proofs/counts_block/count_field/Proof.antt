@@ -11,7 +11,9 @@ use Rattle.form.proofs.counts_block.count_field.Tie as tie
 returns : tie.Need-returns
 returns c = no-comma-behind (rw (c .enum-told .given .1) at (c .before .before .part-end .ensures))
 
-ended : (c : tie.After-known-told) → Ended (c .before .before .before .before .before .args .book .now) (c .before .before .before .before .before .args .at) comma (c .before .to .given .0 .0)
+ended : (c : tie.After-known-told)
+    → let start = c .before .before .before .before .before in
+    Ended (start .args .book .now) (start .args .at) comma (c .before .to .given .0 .0)
 ended c = rw (c .before .to .given .1) at (c .before .before .before .part-end .ensures)
 
 sub-count-of : tie.Need-sub-count-of
@@ -24,28 +26,20 @@ part-count-of-end : tie.Need-part-count-of-end
 part-count-of-end c = omega (arith, ended c .within)
 
 returns-2 : tie.Need-returns-2
-returns-2 c = no-count (ended (c .before .before .before .before)) (sym (c .enum-told2 .given .1) ∙ c .before .before .count-of .ensures)
+returns-2 c =
+    let earlier = c .before .before .before .before in
+    no-count (ended earlier) (sym (c .enum-told2 .given .1) ∙ c .before .before .count-of .ensures)
 
 add-t8 : tie.Need-add-t8
 add-t8 c = omega (arith, ended (c .before .before .before .before .before) .within)
 
 returns-3 : tie.Need-returns-3
-returns-3 c = count-at (ended (c .before .before .before .before .before)) (sym (c .before .n .given .1) ∙ c .before .before .before .count-of .ensures)
+returns-3 c =
+    let earlier = c .before .before .before .before .before in
+    count-at (ended earlier) (sym (c .before .n .given .1) ∙ c .before .before .before .count-of .ensures)
 
 pub count-field-spec : {M : Type 1} → statement M
 count-field-spec =
-    tie.close
-    (tie.spec
-    (λ c κs. search needs)
-    (λ c. search needs)
-    (λ c. search needs)
-    returns
-    sub-count-of
-    part-count-of-start
-    part-count-of-end
-    (λ c κs. search needs)
-    (λ c. search needs)
-    (λ c. search needs)
-    returns-2
-    add-t8
-    returns-3)
+    tie.close (tie.spec (λ c κs. search needs) (λ c. search needs) (λ c. search needs) returns sub-count-of
+    part-count-of-start part-count-of-end (λ c κs. search needs) (λ c. search needs) (λ c. search needs) returns-2
+    add-t8 returns-3)

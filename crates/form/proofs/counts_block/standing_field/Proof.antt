@@ -15,26 +15,16 @@ returns-3 c = rw (c .before .next3 .given .1) at (c .before .before .before .exp
 
 returns-4 : tie.Need-returns-4
 returns-4 c =
-    no-standing (rw (c .before .before .before .before .before .before .before .before .enum-told .given .1) at (c .before .before .before .before .before .before .before .before .before .before .expect .ensures)) (rw (c .before .before .before .before .enum-told2 .given .1) at (c .before .before .before .before .before .before .expect2 .ensures))
+    let at-enum-told2 = c .before .before .before .before in
+    let at-expect2 = at-enum-told2 .before .before in
+    let at-enum-told = at-expect2 .before .before in
+    let at-expect = at-enum-told .before .before in
+    no-standing (rw (at-enum-told .enum-told .given .1) at (at-expect .expect .ensures))
+    (rw (at-enum-told2 .enum-told2 .given .1) at (at-expect2 .expect2 .ensures))
     (rw (c .enum-told3 .given .1) at (c .before .before .expect3 .ensures))
 
 pub standing-field-spec : {M : Type 1} → statement M
 standing-field-spec =
-    tie.close
-    (tie.spec
-    (λ c. search needs)
-    (λ c κs. search needs)
-    (λ c. search needs)
-    returns
-    (λ c. search needs)
-    (λ c. search needs)
-    (λ c κs. search needs)
-    (λ c. search needs)
-    returns-2
-    (λ c. search needs)
-    (λ c. search needs)
-    (λ c κs. search needs)
-    (λ c. search needs)
-    returns-3
-    (λ c. search needs)
-    returns-4)
+    tie.close (tie.spec (λ c. search needs) (λ c κs. search needs) (λ c. search needs) returns (λ c. search needs)
+    (λ c. search needs) (λ c κs. search needs) (λ c. search needs) returns-2 (λ c. search needs) (λ c. search needs)
+    (λ c κs. search needs) (λ c. search needs) returns-3 (λ c. search needs) returns-4)

@@ -34,19 +34,24 @@ returns c =
 
 returns-2 : tie.Need-returns-2 Inv-loop μ-loop
 returns-2 c =
-    let a = c .before .before .before .before .before .before .args in
-    let i = c .before .before .before .before .before .loop .i in
-    c .before .before .before .before .before .loop .inv .2 Off
-    (rw (drop-cons (a .word .now) i 0 (omega arith)) (misses-byte (a .book .now) (a .at + i) _ _ (omega arith) (c .if2 .taken)))
+    let at-loop = c .before .before .before .before .before in
+    let start = at-loop .before in
+    let a = start .args in
+    let i = at-loop .loop .i in
+    at-loop .loop .inv .2 Off
+    (rw (drop-cons (a .word .now) i 0 (omega arith)) (misses-byte (a .book .now) (a .at + i) _ _ (omega arith)
+    (c .if2 .taken)))
 
 loop-again : tie.Need-loop-again Inv-loop μ-loop
 loop-again c =
-    let a = c .before .before .before .before .before .before .args in
-    let i = c .before .before .before .before .before .loop .i in (
+    let at-loop = c .before .before .before .before .before in
+    let start = at-loop .before in
+    let a = start .args in
+    let i = at-loop .loop .i in (
       omega arith,
       omega arith,
       λ r e.
-          c .before .before .before .before .before .loop .inv .2 r
+          at-loop .loop .inv .2 r
           (expects-next (a .book .now) (a .word .now) (a .at) i (omega arith) (omega arith) (c .if2 .left) r e),
     )
 
@@ -60,19 +65,5 @@ returns-3 c =
 
 pub expect-spec : {M : Type 1} → statement M
 expect-spec =
-    tie.close
-    (tie.spec
-    Inv-loop
-    μ-loop
-    loop-holds
-    (λ c. omega arith)
-    returns
-    (λ c. omega arith)
-    (λ c. omega arith)
-    (λ c. omega arith)
-    returns-2
-    (λ c. omega arith)
-    (λ c. omega arith)
-    loop-again
-    (λ c. omega arith)
-    returns-3)
+    tie.close (tie.spec Inv-loop μ-loop loop-holds (λ c. omega arith) returns (λ c. omega arith) (λ c. omega arith)
+    (λ c. omega arith) returns-2 (λ c. omega arith) (λ c. omega arith) loop-again (λ c. omega arith) returns-3)

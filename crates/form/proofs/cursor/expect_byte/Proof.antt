@@ -19,4 +19,5 @@ returns-3 c =
     reads-this-byte (a .book .now) (a .at) (a .b) (search needs) (c .if2 .left)
 
 pub expect-byte-spec : {M : Type 1} → statement M
-expect-byte-spec = tie.close (tie.spec returns (λ c. search needs) returns-2 (λ c. search needs) returns-3)
+expect-byte-spec =
+    tie.close (tie.spec returns (λ c. search needs) returns-2 (λ c. search needs) returns-3)

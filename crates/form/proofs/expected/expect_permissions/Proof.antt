@@ -29,72 +29,89 @@ abbrev μ-loop : tie.MeasureT-loop
 μ-loop book at sheet permissions from to next₀ p₀ next p = length (sheet-of sheet .permissions) - p
 
 loop-holds : tie.Need-loop-holds Inv-loop μ-loop
-loop-holds c = (omega arith, reads-nothing (c .before .before .before .before .before .args .book .now) (c .before .before .before .before .before .args .at) (c .before .before .before .before .before .pre .0))
+loop-holds c =
+    let start = c .before .before .before .before .before in
+    (omega arith, reads-nothing (start .args .book .now) (start .args .at) (start .pre .0))
 
 expect-byte-requires : tie.Need-expect-byte-requires Inv-loop μ-loop
 expect-byte-requires c κs = c .before .loop .inv .1 .within
 
-more : (c : tie.In-loop Inv-loop μ-loop) → c .before .loop .p < length (sheet-of (c .before .before .before .before .before .before .before .args .sheet .now) .permissions)
-more c = omega (arith, c .loop-test .taken, c .before .before .before .before .before .before .before .pre .1 .permission-total)
+more : (c : tie.In-loop Inv-loop μ-loop)
+    → let start = c .before .before .before .before .before .before .before in
+    c .before .loop .p < length (sheet-of (start .args .sheet .now) .permissions)
+more c =
+    let start = c .before .before .before .before .before .before .before in
+    omega (arith, c .loop-test .taken, start .pre .1 .permission-total)
 
 returns : tie.Need-returns Inv-loop μ-loop
 returns c =
-    misses-known (c .before .before .before .before .loop .p) _ (field (c .before .before .before .before .before .before .before .before .before .before .args .sheet .now)) (more (c .before .before .before)) (c .before .before .before .before .loop .inv .1)
-    (misses-first (name-at (c .before .before .before .before .before .before .before .before .before .before .args .sheet .now) (c .before .before .before .before .loop .p)) (rw (c .enum-told .given .1) at (c .before .before .expect-byte .ensures)))
+    let at-loop = c .before .before .before .before in
+    let start = at-loop .before .before .before .before .before .before in
+    misses-known (at-loop .loop .p) _ (field (start .args .sheet .now)) (more (c .before .before .before))
+    (at-loop .loop .inv .1)
+    (misses-first (name-at (start .args .sheet .now) (at-loop .loop .p)) (rw (c .enum-told .given .1) at
+    (c .before .before .expect-byte .ensures)))
 
-comma-there : (c : tie.After-known-told Inv-loop μ-loop) → Reads (c .before .before .before .before .before .before .before .before .before .before .before .args .book .now) (c .before .before .before .before .before .loop .next) (comma ∷ []) (c .before .start .given .0 .0)
+comma-there : (c : tie.After-known-told Inv-loop μ-loop)
+    → let at-loop = c .before .before .before .before .before in
+    let start = at-loop .before .before .before .before .before .before in
+    Reads (start .args .book .now) (at-loop .loop .next) (comma ∷ []) (c .before .start .given .0 .0)
 comma-there c = rw (c .before .start .given .1) at (c .before .before .before .expect-byte .ensures)
 
 permission-name-in-requires : tie.Need-permission-name-in-requires Inv-loop μ-loop
 permission-name-in-requires c κs =
-    let s = c .before .before .before .before .before .before .before .before .before .before .before .before .before in
-    (permissions-at (s .args .sheet .now) (s .args .layout) (s .pre .1), more (c .before .before .before .before .before .before))
+    let earlier = c .before .before .before .before .before .before in
+    let s = earlier .before .before .before .before .before .before .before in
+    (permissions-at (s .args .sheet .now) (s .args .layout) (s .pre .1), more earlier)
 
 expect-requires : tie.Need-expect-requires Inv-loop μ-loop
 expect-requires c κs = comma-there (c .before .before .before) .within
 
 returns-2 : tie.Need-returns-2 Inv-loop μ-loop
 returns-2 c =
-    misses-known (c .before .before .before .before .before .before .before .before .before .before .before .loop .p) _ (field (c .before .before .before .before .before .before .before .before .before .before .before .before .before .before .before .before .before .args .sheet .now)) (more (c .before .before .before .before .before .before .before .before .before .before)) (c .before .before .before .before .before .before .before .before .before .before .before .loop .inv .1)
-    (misses-second (name-at (c .before .before .before .before .before .before .before .before .before .before .before .before .before .before .before .before .before .args .sheet .now) (c .before .before .before .before .before .before .before .before .before .before .before .loop .p)) (comma-there (c .before .before .before .before .before .before))
-    (rw (c .enum-told2 .given .1, c .before .before .before .permission-name-in .ensures) at (c .before .before .expect .ensures)))
+    let earlier = c .before .before .before .before .before .before in
+    let still-earlier = earlier .before .before .before .before in
+    let at-loop = still-earlier .before in
+    let start = at-loop .before .before .before .before .before .before in
+    misses-known (at-loop .loop .p) _ (field (start .args .sheet .now)) (more still-earlier) (at-loop .loop .inv .1)
+    (misses-second (name-at (start .args .sheet .now) (at-loop .loop .p)) (comma-there earlier)
+    (rw (c .enum-told2 .given .1, c .before .before .before .permission-name-in .ensures) at
+    (c .before .before .expect .ensures)))
 
 add-p : tie.Need-add-p Inv-loop μ-loop
-add-p c = omega (arith, c .before .before .before .before .before .before .before .before .before .before .before .loop-test .taken)
+add-p c =
+    let taken = (c .before .before .before .before .before .before) .before .before .before .before .before .loop-test .taken in
+    omega arith
 
 loop-less : tie.Need-loop-less Inv-loop μ-loop
-loop-less c = omega (arith, more (c .before .before .before .before .before .before .before .before .before .before .before))
+loop-less c =
+    let between = c .before .before .before .before .before .before .before .before in
+    let earlier = between .before .before .before in
+    omega (arith, more earlier)
 
 loop-again : tie.Need-loop-again Inv-loop μ-loop
-loop-again c = (
-  omega (arith, more (c .before .before .before .before .before .before .before .before .before .before .before)),
-  reads-more (c .before .before .before .before .before .before .before .before .before .before .before .before .loop .p) (field (c .before .before .before .before .before .before .before .before .before .before .before .before .before .before .before .before .before .before .args .sheet .now)) (c .before .before .before .before .before .before .before .before .before .before .before .before .loop .inv .1)
-      (reads-then (comma-there (c .before .before .before .before .before .before .before)) (rw (c .before .after .given .1, c .before .before .before .before .permission-name-in .ensures) at (c .before .before .before .expect .ensures))),
-)
+loop-again c =
+    let at-permission-name-in = c .before .before .before .before in
+    let earlier = at-permission-name-in .before .before .before in
+    let still-earlier = earlier .before .before .before .before in
+    let at-loop = still-earlier .before in
+    let start = at-loop .before .before .before .before .before .before in (
+      omega (arith, more still-earlier),
+      reads-more (at-loop .loop .p) (field (start .args .sheet .now)) (at-loop .loop .inv .1)
+          (reads-then (comma-there earlier)
+          (rw (c .before .after .given .1, at-permission-name-in .permission-name-in .ensures) at
+          (c .before .before .before .expect .ensures))),
+    )
 
 returns-3 : tie.Need-returns-3 Inv-loop μ-loop
 returns-3 c =
-    let all : c .before .loop .p ≡ length (sheet-of (c .before .before .before .before .before .before .before .args .sheet .now) .permissions) =
-    omega (arith, c .before .loop .inv .0, c .loop-test .left, c .before .before .before .before .before .before .before .pre .1 .permission-total) in
+    let start = c .before .before .before .before .before .before .before in
+    let all : c .before .loop .p ≡ length (sheet-of (start .args .sheet .now) .permissions) =
+    omega (arith, c .before .loop .inv .0, c .loop-test .left, start .pre .1 .permission-total) in
     rw all at (c .before .loop .inv .1)
 
 pub expect-permissions-spec : {M : Type 1} → statement M
 expect-permissions-spec =
-    tie.close
-    (tie.spec
-    Inv-loop
-    μ-loop
-    loop-holds
-    expect-byte-requires
-    (λ c. search needs)
-    (λ c. search needs)
-    returns
-    permission-name-in-requires
-    expect-requires
-    (λ c. search needs)
-    (λ c. search needs)
-    returns-2
-    add-p
-    loop-less
-    loop-again
-    returns-3)
+    tie.close (tie.spec Inv-loop μ-loop loop-holds expect-byte-requires (λ c. search needs) (λ c. search needs)
+    returns permission-name-in-requires expect-requires (λ c. search needs) (λ c. search needs) returns-2 add-p
+    loop-less loop-again returns-3)

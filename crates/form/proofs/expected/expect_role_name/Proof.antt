@@ -34,18 +34,13 @@ slice-aggregate-expect c =
 
 returns : tie.Need-returns
 returns c =
+    let start = c .before .before .before .before .before .before in
     let w = c .before .before .before .put-role-name in
-    let name : take (w .result) (w .last .0) ≡ role-name (c .before .before .before .before .before .before .args .role .0) =
+    let name : take (w .result) (w .last .0) ≡ role-name (start .args .role .0) =
     rw (w .ensures .buffer) (take-at _ _ (w .result) (sym (w .ensures .counted))) in
     rw name at (c .expect .ensures)
 
 pub expect-role-name-spec : {M : Type 1} → statement M
 expect-role-name-spec =
-    tie.close
-    (tie.spec
-    (λ c. search needs)
-    put-role-name-requires
-    array-share-prefix-name
-    slice-aggregate-expect
-    (λ c κs. search needs)
-    returns)
+    tie.close (tie.spec (λ c. search needs) put-role-name-requires array-share-prefix-name slice-aggregate-expect
+    (λ c κs. search needs) returns)

@@ -14,40 +14,43 @@ roles-heading-requires : tie.Need-roles-heading-requires
 roles-heading-requires c κs = (c .before .before .before .pre .0 .0, c .before .before .before .pre .0 .1)
 
 returns : tie.Need-returns
-returns c = no-roles-heading (sheet-of (c .before .before .before .before .before .before .args .sheet .now)) (rw (c .enum-told .given .1) at (c .before .before .roles-heading .ensures))
+returns c =
+    let start = c .before .before .before .before .before .before in
+    no-roles-heading (sheet-of (start .args .sheet .now)) (rw (c .enum-told .given .1) at
+    (c .before .before .roles-heading .ensures))
 
-heading : (c : tie.After-known-told) → Reads (c .before .before .before .before .before .before .before .args .book .now) (c .before .before .before .before .before .before .before .args .at) (roles-heading (sheet-of (c .before .before .before .before .before .before .before .args .sheet .now))) (c .before .lines .given .0 .0)
+heading : (c : tie.After-known-told)
+    → let start = c .before .before .before .before .before .before .before in
+    Reads (start .args .book .now) (start .args .at) (roles-heading (sheet-of (start .args .sheet .now)))
+    (c .before .lines .given .0 .0)
 heading c = rw (c .before .lines .given .1) at (c .before .before .before .roles-heading .ensures)
 
 role-lines-requires : tie.Need-role-lines-requires
-role-lines-requires c κs = (
-  heading (c .before) .within,
-  omega (
-    arith,
-    permissions-fit-a-row,
-    c .before .before .before .before .before .before .before .before .pre .0 .1 .permission-total,
-    accepted-lawful (c .before .before .before .before .before .before .before .before .args .sheet .now) (c .before .before .before .before .before .before .before .before .pre .0 .1 .accepts) .few-permissions,
-  ),
-  c .before .before .before .before .before .before .before .before .pre .1 .0,
-  c .before .before .before .before .before .before .before .before .pre .1 .1,
-)
+role-lines-requires c κs =
+    let start = c .before .before .before .before .before .before .before .before in (
+      heading (c .before) .within,
+      omega (
+        arith,
+        permissions-fit-a-row,
+        start .pre .0 .1 .permission-total,
+        accepted-lawful (start .args .sheet .now) (start .pre .0 .1 .accepts) .few-permissions,
+      ),
+      start .pre .1 .0,
+      start .pre .1 .1,
+    )
 
 same-length : tie.Need-same-length
 same-length c = c .before .before .role-lines .kept .1 .1 .0
 
 returns-2 : tie.Need-returns-2
 returns-2 c =
-    heading-then-roles (sheet-of (c .before .before .before .before .before .before .before .before .before .before .before .args .sheet .now)) (c .before .before .role-lines .last .1 .1 .0) (heading (c .before .before .before .before)) (c .before .before .role-lines .result)
-    (rw (c .before .before .before .before .before .before .before .before .before .before .before .pre .0 .1 .permission-total) at (c .before .before .role-lines .ensures))
+    let earlier = c .before .before .before .before in
+    let start = earlier .before .before .before .before .before .before .before in
+    heading-then-roles (sheet-of (start .args .sheet .now)) (c .before .before .role-lines .last .1 .1 .0)
+    (heading earlier) (c .before .before .role-lines .result)
+    (rw (start .pre .0 .1 .permission-total) at (c .before .before .role-lines .ensures))
 
 pub read-roles-spec : {M : Type 1} → statement M
 read-roles-spec =
-    tie.close
-    (tie.spec
-    roles-heading-requires
-    (λ c. search needs)
-    (λ c. search needs)
-    returns
-    role-lines-requires
-    same-length
-    returns-2)
+    tie.close (tie.spec roles-heading-requires (λ c. search needs) (λ c. search needs) returns role-lines-requires
+    same-length returns-2)

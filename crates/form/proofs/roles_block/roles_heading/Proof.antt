@@ -12,24 +12,38 @@ use Rattle.form.proofs.roles_block.roles_heading.Tie as tie
 
 returns : tie.Need-returns
 returns c =
+    let start = c .before .before .before .before .before .before in
     misses-first line-end
-    (misses-first (name-fields (sheet-of (c .before .before .before .before .before .before .args .sheet .now) .permissions)) (rw (c .enum-told .given .1) at (c .before .before .expect .ensures)))
+    (misses-first (name-fields (sheet-of (start .args .sheet .now) .permissions)) (rw (c .enum-told .given .1) at
+    (c .before .before .expect .ensures)))
 
-word : (c : tie.After-known-told) → Reads (c .before .before .before .before .before .before .before .args .book .now) (c .before .before .before .before .before .before .before .args .at) (ascii "role") (c .before .names .given .0 .0)
+word : (c : tie.After-known-told)
+    → let start = c .before .before .before .before .before .before .before in
+    Reads (start .args .book .now) (start .args .at) (ascii "role") (c .before .names .given .0 .0)
 word c = rw (c .before .names .given .1) at (c .before .before .before .expect .ensures)
 
 expect-permissions-requires : tie.Need-expect-permissions-requires
-expect-permissions-requires c κs = (word c .within, c .before .before .before .before .before .before .before .pre .1)
+expect-permissions-requires c κs =
+    let start = c .before .before .before .before .before .before .before in
+    (word c .within, start .pre .1)
 
 returns-2 : tie.Need-returns-2
 returns-2 c =
+    let between = c .before .before .before .before .before .before .before .before in
+    let start = between .before .before in
     misses-first line-end
-    (misses-second (name-fields (sheet-of (c .before .before .before .before .before .before .before .before .before .before .args .sheet .now) .permissions)) (word (c .before .before .before))
+    (misses-second (name-fields (sheet-of (start .args .sheet .now) .permissions)) (word (c .before .before .before))
     (rw (c .enum-told2 .given .1) at (c .before .before .expect-permissions .ensures)))
 
 names : (c : tie.After-known-told2)
-    → Reads (c .before .before .before .before .before .before .before .before .before .before .before .args .book .now) (c .before .before .before .before .before .before .before .before .before .before .before .args .at) (ascii "role" ++ name-fields (sheet-of (c .before .before .before .before .before .before .before .before .before .before .before .args .sheet .now) .permissions)) (c .before .end .given .0 .0)
-names c = reads-then (word (c .before .before .before .before)) (rw (c .before .end .given .1) at (c .before .before .before .expect-permissions .ensures))
+    → let between = c .before .before .before .before .before .before .before .before in
+    let start = between .before .before .before in
+    Reads (start .args .book .now) (start .args .at)
+    (ascii "role" ++ name-fields (sheet-of (start .args .sheet .now) .permissions)) (c .before .end .given .0 .0)
+names c =
+    let earlier = c .before .before .before .before in
+    reads-then (word earlier) (rw (c .before .end .given .1) at
+    (c .before .before .before .expect-permissions .ensures))
 
 expect-byte-requires : tie.Need-expect-byte-requires
 expect-byte-requires c κs = names c .within
@@ -39,16 +53,5 @@ returns-3 c = expects-then line-end (names (c .before)) (c .expect-byte .result)
 
 pub roles-heading-spec : {M : Type 1} → statement M
 roles-heading-spec =
-    tie.close
-    (tie.spec
-    (λ c. search needs)
-    (λ c κs. search needs)
-    (λ c. search needs)
-    (λ c. search needs)
-    returns
-    expect-permissions-requires
-    (λ c. search needs)
-    (λ c. search needs)
-    returns-2
-    expect-byte-requires
-    returns-3)
+    tie.close (tie.spec (λ c. search needs) (λ c κs. search needs) (λ c. search needs) (λ c. search needs) returns
+    expect-permissions-requires (λ c. search needs) (λ c. search needs) returns-2 expect-byte-requires returns-3)

@@ -10,4 +10,6 @@ unfolding row-words
 mul-first c = omega arith
 
 pub cells-in-word-spec : {M : Type 1} → statement M
-cells-in-word-spec = tie.close (tie.spec mul-first (λ c. search needs) (λ c. search needs) (λ c. search needs) (λ c. search needs) (λ c. search needs))
+cells-in-word-spec =
+    tie.close (tie.spec mul-first (λ c. search needs) (λ c. search needs) (λ c. search needs) (λ c. search needs)
+    (λ c. search needs))

@@ -14,7 +14,8 @@ use Rattle.form.proofs.row_cells.read_cells.Tie as tie
 
 abbrev Inv-loop : tie.InvT-loop
 Inv-loop book at rows₀ row count next₀ k₀ rows next k =
-    (k ≤ row-words) × (length rows ≡ length rows₀) × (next ≡ at + 2 * before-word count k) × Reading book at row (before-word count k) rows₀ rows
+    (k ≤ row-words) × (length rows ≡ length rows₀) × (next ≡ at + 2 * before-word count k)
+    × Reading book at row (before-word count k) rows₀ rows
 
 abbrev μ-loop : tie.MeasureT-loop
 μ-loop book at rows₀ row count next₀ k₀ rows next k = row-words - k
@@ -38,20 +39,24 @@ same-length c = c .before .before .before .before .before .loop .inv .1
 
 returns : tie.Need-returns Inv-loop μ-loop
 returns c =
-    let a = c .before .before .before .before .before .before .before .before .args in
-    let at = c .before .before .before .before .before .loop in
+    let at-loop = c .before .before .before .before .before in
+    let start = at-loop .before .before .before in
+    let a = start .args in
+    let at = at-loop .loop in
     let n = c .before .before .before .cells-in-word in
-    reading-off (before-word (a .count) (at .k)) (n .result) (a .count) (c .before .before .before .before .before .before .before .before .pre .0)
-    (omega (arith, n .ensures)) (rw (at .inv .2) at (c .before .before .cells-word .ensures .off (not-true _ (c .if1 .taken))))
+    reading-off (before-word (a .count) (at .k)) (n .result) (a .count) (start .pre .0)
+    (omega (arith, n .ensures)) (rw (at .inv .2) at (c .before .before .cells-word .ensures .off
+    (not-true _ (c .if1 .taken))))
 
 -- the word is among the words
 word-there : (c : tie.In-loop Inv-loop μ-loop)
     → c .before .before .before .before .args .row * row-words + c .before .loop .k < length (c .before .loop .rows)
 unfolding row-words
 word-there c =
-    let a = c .before .before .before .before .args in
+    let start = c .before .before .before .before in
+    let a = start .args in
     word-below (a .row) (a .row + 1) (c .before .loop .k) _ (omega arith) (c .loop-test .taken)
-    (omega (arith, c .before .before .before .before .pre .2, c .before .loop .inv .1))
+    (omega (arith, start .pre .2, c .before .loop .inv .1))
 
 mul-rows : tie.Need-mul-rows Inv-loop μ-loop
 unfolding row-words
@@ -74,8 +79,10 @@ mul-next c = omega (arith, c .before .before .before .cells-in-word .ensures)
 
 -- the cells of the word
 cells : (c : tie.Else1 Inv-loop μ-loop)
-    → CellsIn (c .before .before .before .before .before .before .before .before .args .book .now) (c .before .before .before .before .before .loop .next)
-    (c .before .before .before .cells-in-word .result) (c .before .before .cells-word .result .word)
+    → let at-loop = c .before .before .before .before .before in
+    let start = at-loop .before .before .before in
+    CellsIn (start .args .book .now) (at-loop .loop .next) (c .before .before .before .cells-in-word .result)
+    (c .before .before .cells-word .result .word)
 cells c = c .before .before .cells-word .ensures .good (not-false _ (c .if1 .left))
 
 add-next : tie.Need-add-next Inv-loop μ-loop
@@ -92,17 +99,21 @@ loop-less c = omega (arith, c .before .before .before .before .loop-test .taken)
 loop-again : tie.Need-loop-again Inv-loop μ-loop
 unfolding row-words
 loop-again c =
-    let a = c .before .before .before .before .before .before .before .before .args in
-    let at = c .before .before .before .before .before .loop in
+    let at-loop-test = c .before .before .before .before in
+    let at-loop = at-loop-test .before in
+    let start = at-loop .before .before .before in
+    let a = start .args in
+    let at = at-loop .loop in
     let n = c .before .before .before .cells-in-word in
-    let more : before-word (a .count) (at .k + 1) ≡ before-word (a .count) (at .k) + n .result = omega (arith, n .ensures) in (
-      omega (arith, c .before .before .before .before .loop-test .taken),
+    let more : before-word (a .count) (at .k + 1) ≡ before-word (a .count) (at .k) + n .result = omega
+    (arith, n .ensures) in (
+      omega (arith, at-loop-test .loop-test .taken),
       length-set (at .rows) _ _ ∙ at .inv .1,
       omega (arith, at .inv .2, more),
       rw more
           (reading-more (at .inv .3)
-          (word-stored (at .rows) (a .row) (at .k) _ (c .before .before .before .before .loop-test .taken) (word-there (c .before .before .before .before)))
-          (c .before .before .before .before .loop-test .taken) (omega arith) (λ l. omega (arith, n .ensures)) (omega (arith, n .ensures))
+          (word-stored (at .rows) (a .row) (at .k) _ (at-loop-test .loop-test .taken) (word-there at-loop-test))
+          (at-loop-test .loop-test .taken) (omega arith) (λ l. omega (arith, n .ensures)) (omega (arith, n .ensures))
           (rw (at .inv .2) at (cells c))),
     )
 
@@ -112,30 +123,19 @@ same-length-2 c = c .before .loop .inv .1
 returns-2 : tie.Need-returns-2 Inv-loop μ-loop
 unfolding row-bits row-words
 returns-2 c =
-    let a = c .before .before .before .before .args in
+    let start = c .before .before .before .before in
+    let a = start .args in
     let at = c .before .loop in
-    let all : before-word (a .count) (at .k) ≡ a .count = omega (arith, at .inv .0, c .loop-test .left, c .before .before .before .before .pre .1) in
+    let all : before-word (a .count) (at .k) ≡ a .count = omega (
+      arith,
+      at .inv .0,
+      c .loop-test .left,
+      start .pre .1,
+    ) in
     rw (at .inv .2, all) (reading-ends (rw all at (at .inv .3)))
 
 pub read-cells-spec : {M : Type 1} → statement M
 read-cells-spec =
-    tie.close
-    (tie.spec
-    Inv-loop
-    μ-loop
-    loop-holds
-    cells-in-word-requires
-    cells-word-requires
-    same-length
-    returns
-    mul-rows
-    add-rows
-    mul-rows-2
-    slice-write-rows
-    mul-next
-    add-next
-    add-k
-    loop-less
-    loop-again
-    same-length-2
+    tie.close (tie.spec Inv-loop μ-loop loop-holds cells-in-word-requires cells-word-requires same-length returns
+    mul-rows add-rows mul-rows-2 slice-write-rows mul-next add-next add-k loop-less loop-again same-length-2
     returns-2)

@@ -1,4 +1,5 @@
--- `buckets::bucket_of`: h is the bucket of the bytes before i, so the bytes from i on lead from it to the bucket of all.
+-- `buckets::bucket_of`: h is the bucket of the bytes before i, so the bytes from i on lead from it to the bucket of
+-- all.
 use borrow.Author.Needs.{needs}
 use Prim.Native.Nat.{_-_, _≤_, _<_}
 use native.Mathlib.Omega.{arith}
@@ -28,8 +29,12 @@ add-h c = omega (arith, c .wide .ensures .1)
 loop-again : tie.Need-loop-again Inv-loop μ-loop
 loop-again c =
     let turn = c .before .before in
-    let name = turn .before .before .before .args .name .now in
-    (omega arith, rw (c .wide .ensures .0, add-one) (sym (bucket-step (turn .before .loop .h) name (turn .before .loop .i) (turn .loop-test .taken)) ∙ turn .before .loop .inv .1))
+    let name = turn .before .before .before .args .name .now in (
+      omega arith,
+      rw (c .wide .ensures .0, add-one)
+          (sym (bucket-step (turn .before .loop .h) name (turn .before .loop .i) (turn .loop-test .taken))
+          ∙ turn .before .loop .inv .1),
+    )
 
 returns : tie.Need-returns Inv-loop μ-loop
 unfolding bucket-of
@@ -40,16 +45,5 @@ returns c =
 
 pub bucket-of-spec : {M : Type 1} → statement M
 bucket-of-spec =
-    tie.close
-    (tie.spec
-    Inv-loop
-    μ-loop
-    loop-holds
-    (λ c. search needs)
-    (λ c. omega arith)
-    wide-requires
-    add-h
-    (λ c. omega arith)
-    (λ c. omega arith)
-    loop-again
-    returns)
+    tie.close (tie.spec Inv-loop μ-loop loop-holds (λ c. search needs) (λ c. omega arith) wide-requires add-h
+    (λ c. omega arith) (λ c. omega arith) loop-again returns)

@@ -18,7 +18,8 @@ use Rattle.names.proofs.buckets.meets_bucket.Statement.{statement}
 use Rattle.names.proofs.buckets.meets_bucket.Tie as tie
 
 abbrev Inv-loop : tie.InvT-loop
-Inv-loop s from to table bucket words name k₀ k = (k ≤ words) × (meets-bucket s (places-of from to) table bucket k name ≡ false)
+Inv-loop s from to table bucket words name k₀ k =
+    (k ≤ words) × (meets-bucket s (places-of from to) table bucket k name ≡ false)
 
 abbrev μ-loop : tie.MeasureT-loop
 μ-loop s from to table bucket words name k₀ k = words - k
@@ -29,27 +30,36 @@ loop-holds c = (omega arith, refl)
 
 meets-word-requires : tie.Need-meets-word-requires Inv-loop μ-loop
 meets-word-requires c κs p l s =
-    c .before .before .before .before .before .pre .0 .part (c .before .before .before .before .before .args .bucket) (c .before .before .loop .k) p (omega arith) l s
+    let start = c .before .before .before .before .before in
+    start .pre .0 .part (start .args .bucket) (c .before .before .loop .k) p (omega arith) l s
 
 -- whether the word k has a name that is met
 abbrev met : Bytes → Places → List ℕ → ℕ → Bytes → ℕ → Bool
-met text places table bucket name k = meets-word text places (getD table (bucket * bucket-words + k) 0) (k * word-bits) name
+met text places table bucket name k =
+    meets-word text places (getD table (bucket * bucket-words + k) 0) (k * word-bits) name
 
 returns : tie.Need-returns Inv-loop μ-loop
 returns c =
-    let a = c .before .before .before .before .before .before .before .args in
-    let k = c .before .before .before .before .loop .k in
-    sym (some-below-intro (a .words) (met (a .s .now) (places-of (a .from .now) (a .to .now)) (a .table .now) (a .bucket) (a .name .now)) {i = k}
+    let at-loop = c .before .before .before .before in
+    let start = at-loop .before .before .before in
+    let a = start .args in
+    let k = at-loop .loop .k in
+    sym (some-below-intro (a .words) (met (a .s .now) (places-of (a .from .now) (a .to .now)) (a .table .now)
+    (a .bucket) (a .name .now)) {i = k}
     (c .before .before .before .loop-test .taken) (sym (c .before .meets-word .ensures) ∙ c .if1 .taken))
 
 loop-again : tie.Need-loop-again Inv-loop μ-loop
 loop-again c =
-    let a = c .before .before .before .before .before .before .before .args in
-    let k = c .before .before .before .before .loop .k in
-    let test : ℕ → Bool = met (a .s .now) (places-of (a .from .now) (a .to .now)) (a .table .now) (a .bucket) (a .name .now) in (
+    let at-loop = c .before .before .before .before in
+    let start = at-loop .before .before .before in
+    let a = start .args in
+    let k = at-loop .loop .k in
+    let test : ℕ → Bool = met (a .s .now) (places-of (a .from .now) (a .to .now)) (a .table .now) (a .bucket)
+    (a .name .now) in (
       omega arith,
       some-below-step k test
-          ∙ or-fails (test k) (some-below k test) (sym (c .before .meets-word .ensures) ∙ c .if1 .left) (c .before .before .before .before .loop .inv .1),
+          ∙ or-fails (test k) (some-below k test) (sym (c .before .meets-word .ensures) ∙ c .if1 .left)
+          (at-loop .loop .inv .1),
     )
 
 returns-2 : tie.Need-returns-2 Inv-loop μ-loop
@@ -59,19 +69,6 @@ returns-2 c =
 
 pub meets-bucket-spec : {M : Type 1} → statement M
 meets-bucket-spec =
-    tie.close
-    (tie.spec
-    Inv-loop
-    μ-loop
-    loop-holds
-    (λ c. omega arith)
-    (λ c. omega arith)
-    (λ c. omega arith)
-    (λ c. omega arith)
-    (λ c. omega arith)
-    meets-word-requires
-    returns
-    (λ c. omega arith)
-    (λ c. omega arith)
-    loop-again
+    tie.close (tie.spec Inv-loop μ-loop loop-holds (λ c. omega arith) (λ c. omega arith) (λ c. omega arith)
+    (λ c. omega arith) (λ c. omega arith) meets-word-requires returns (λ c. omega arith) (λ c. omega arith) loop-again
     returns-2)

@@ -16,7 +16,8 @@ abbrev μ-loop : tie.MeasureT-loop
 
 loop-holds : tie.Need-loop-holds Inv-loop μ-loop
 loop-holds c =
-    let a = c .before .before .args in none-walked (a .s .now) (places-of (a .from .now) (a .to .now)) (a .word) (a .first) (a .name .now)
+    let a = c .before .before .args in none-walked (a .s .now) (places-of (a .from .now) (a .to .now)) (a .word)
+    (a .first) (a .name .now)
 
 -- the name at the lowest position stands in the text
 there : (c : tie.After-lowest Inv-loop μ-loop)
@@ -39,9 +40,11 @@ same-name-requires c κs = tt
 
 returns : tie.Need-returns Inv-loop μ-loop
 returns c =
-    let a = c .before .before .before .before .before .before .before .before .args in
+    let at-loop = c .before .before .before .before .before in
+    let start = at-loop .before .before .before in
+    let a = start .args in
     sym (lowest-met (a .s .now) (places-of (a .from .now) (a .to .now)) (a .word) (a .first) (a .name .now)
-    (c .before .before .before .before .before .loop .w) (c .before .before .before .before .before .loop .inv)
+    (at-loop .loop .w) (at-loop .loop .inv)
     (c .before .before .before .lowest .ensures)
     (rw (c .before .before .part-at .ensures) at (sym (c .before .same-name .ensures) ∙ c .if1 .taken)))
 
@@ -50,11 +53,15 @@ loop-less c = c .without-lowest .ensures .less
 
 loop-again : tie.Need-loop-again Inv-loop μ-loop
 loop-again c =
-    let a = c .before .before .before .before .before .before .before .before .before .args in
+    let at-lowest = c .before .before .before .before in
+    let at-loop = at-lowest .before .before in
+    let start = at-loop .before .before .before in
+    let a = start .args in
     lowest-walked (a .s .now) (places-of (a .from .now) (a .to .now)) (a .word) (a .first) (a .name .now)
-    (c .before .before .before .before .before .before .loop .w) (c .before .before .before .before .before .before .loop .inv)
-    (c .before .before .before .before .lowest .ensures)
-    (rw (c .before .before .before .part-at .ensures) at (sym (c .before .before .same-name .ensures) ∙ c .before .if1 .left))
+    (at-loop .loop .w) (at-loop .loop .inv)
+    (at-lowest .lowest .ensures)
+    (rw (c .before .before .before .part-at .ensures) at (sym (c .before .before .same-name .ensures)
+    ∙ c .before .if1 .left))
     (c .without-lowest .ensures)
 
 returns-2 : tie.Need-returns-2 Inv-loop μ-loop
@@ -65,17 +72,5 @@ returns-2 c =
 
 pub meets-word-spec : {M : Type 1} → statement M
 meets-word-spec =
-    tie.close
-    (tie.spec
-    Inv-loop
-    μ-loop
-    loop-holds
-    (λ c κs. omega arith)
-    add-i
-    part-at-requires
-    same-name-requires
-    returns
-    (λ c κs. omega arith)
-    loop-less
-    loop-again
-    returns-2)
+    tie.close (tie.spec Inv-loop μ-loop loop-holds (λ c κs. omega arith) add-i part-at-requires same-name-requires
+    returns (λ c κs. omega arith) loop-less loop-again returns-2)

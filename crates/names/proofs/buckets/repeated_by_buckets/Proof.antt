@@ -1,5 +1,5 @@
--- `buckets::repeated_by_buckets`: the names before number i are noted in the table and no two of them are equal. The next one is compared with those of its
--- own bucket, and equal names have one bucket.
+-- `buckets::repeated_by_buckets`: the names before number i are noted in the table and no two of them are equal. The
+-- next one is compared with those of its own bucket, and equal names have one bucket.
 use Prim.Native.Nat.{_-_, _/_, _≤_, _<_}
 use native.Mathlib.Omega.{arith}
 use native.Mathlib.Numerals.{add-one}
@@ -35,24 +35,35 @@ bucket-of-requires : tie.Need-bucket-of-requires Inv-loop μ-loop
 bucket-of-requires c κs = tt
 
 -- the name's bucket and its word there are within the table
-small : (c : tie.After-bucket-of Inv-loop μ-loop) → (c .bucket-of .result < bucket-count) × (c .before .before .before .loop .i / word-bits < bucket-words)
+small : (c : tie.After-bucket-of Inv-loop μ-loop) → (c .bucket-of .result < bucket-count)
+    × (c .before .before .before .loop .i / word-bits < bucket-words)
 unfolding user-limit
 small c =
-    let start = c .before .before .before .before .before in
-    (rw (c .bucket-of .ensures) (bucket-below (c .before .part-at .result .now)), omega (arith, start .pre .few, c .before .before .loop-test .taken))
+    let start = c .before .before .before .before .before in (
+      rw (c .bucket-of .ensures) (bucket-below (c .before .part-at .result .now)),
+      omega (arith, start .pre .few, c .before .before .loop-test .taken),
+    )
 
 meets-bucket-requires : tie.Need-meets-bucket-requires Inv-loop μ-loop
 meets-bucket-requires c κs =
-    let loop = c .before .before .before .before .loop in
-    (noted-standing (loop .inv .1 .noted) (c .before .before .before .before .before .before .pre) (loop .inv .0), small (c .before) .0, omega (arith, small (c .before) .1))
+    let at-loop = c .before .before .before .before in
+    let still-start = at-loop .before .before in
+    let loop = at-loop .loop in (
+      noted-standing (loop .inv .1 .noted) (still-start .pre) (loop .inv .0),
+      small (c .before) .0,
+      omega (arith, small (c .before) .1),
+    )
 
 returns : tie.Need-returns Inv-loop μ-loop
 returns c =
-    let start = c .before .before .before .before .before .before .before .before in
-    let loop = c .before .before .before .before .before .before .loop in
+    let at-part-at = c .before .before .before .before in
+    let at-loop-test = at-part-at .before in
+    let at-loop = at-loop-test .before in
+    let start = at-loop .before .before in
+    let loop = at-loop .loop in
     sym (met-repeats (loop .table) (start .args .s .now) (places start) (start .args .count) (loop .i) (start .pre)
-    (c .before .before .before .before .before .loop-test .taken) (loop .inv .1) (c .before .before .before .before .part-at .result .now)
-    (c .before .before .before .before .part-at .ensures) (c .before .before .before .bucket-of .result)
+    (at-loop-test .loop-test .taken) (loop .inv .1) (at-part-at .part-at .result .now)
+    (at-part-at .part-at .ensures) (c .before .before .before .bucket-of .result)
     (sym (c .before .meets-bucket .ensures) ∙ c .if1 .taken))
 
 mul-at : tie.Need-mul-at Inv-loop μ-loop
@@ -75,14 +86,18 @@ array-write-table c = omega (arith, small (c .before .before .before .before))
 
 loop-again : tie.Need-loop-again Inv-loop μ-loop
 loop-again c =
-    let start = c .before .before .before .before .before .before .before .before .before in
-    let loop = c .before .before .before .before .before .before .before .loop in (
+    let at-bucket-of = c .before .before .before .before in
+    let at-part-at = at-bucket-of .before in
+    let at-loop-test = at-part-at .before in
+    let at-loop = at-loop-test .before in
+    let start = at-loop .before .before in
+    let loop = at-loop .loop in (
       omega arith,
       rw add-one
           (unmet-searched (loop .table) (start .args .s .now) (places start) (start .args .count) (loop .i) (start .pre)
-          (c .before .before .before .before .before .before .loop-test .taken) (loop .inv .1)
-          (c .before .before .before .before .before .part-at .result .now) (c .before .before .before .before .before .part-at .ensures)
-          (c .before .before .before .before .bucket-of .result) (c .before .before .before .before .bucket-of .ensures)
+          (at-loop-test .loop-test .taken) (loop .inv .1)
+          (at-part-at .part-at .result .now) (at-part-at .part-at .ensures)
+          (at-bucket-of .bucket-of .result) (at-bucket-of .bucket-of .ensures)
           (sym (c .before .before .meets-bucket .ensures) ∙ c .before .if1 .left) (c .with .result) (c .with .ensures)),
     )
 
@@ -95,24 +110,6 @@ returns-2 c =
 
 pub repeated-by-buckets-spec : {M : Type 1} → statement M
 repeated-by-buckets-spec =
-    tie.close
-    (tie.spec
-    Inv-loop
-    μ-loop
-    loop-holds
-    part-at-requires
-    bucket-of-requires
-    (λ c. omega arith)
-    meets-bucket-requires
-    returns
-    mul-at
-    add-at
-    mul-with
-    array-read-with
-    (λ c κs. omega arith)
-    mul-table
-    array-write-table
-    (λ c. omega arith)
-    (λ c. omega arith)
-    loop-again
-    returns-2)
+    tie.close (tie.spec Inv-loop μ-loop loop-holds part-at-requires bucket-of-requires (λ c. omega arith)
+    meets-bucket-requires returns mul-at add-at mul-with array-read-with (λ c κs. omega arith) mul-table
+    array-write-table (λ c. omega arith) (λ c. omega arith) loop-again returns-2)

@@ -1,4 +1,5 @@
--- `buckets::repeated_few`: no two of the names before number i are equal, and the next one is compared with all of them.
+-- `buckets::repeated_few`: no two of the names before number i are equal, and the next one is compared with all of
+-- them.
 use Prim.Native.Nat.{_+_, _-_, _≤_}
 use native.Mathlib.Nat.{not-suc-le-zero}
 use native.Mathlib.Omega.{arith}
@@ -36,19 +37,27 @@ meets-word-requires c κs p l s =
 
 returns : tie.Need-returns Inv-loop μ-loop
 returns c =
-    let start = c .before .before .before .before .before .before .before in
-    let loop = c .before .before .before .before .before .loop in
-    sym (met-few (start .args .s .now) (places start) (start .args .count) (loop .i) (c .before .before .full .result) (c .before .before .before .before .loop-test .taken)
-    (c .before .before .full .ensures) (c .before .before .before .part-at .result .now) (c .before .before .before .part-at .ensures)
+    let at-loop-test = c .before .before .before .before in
+    let at-loop = at-loop-test .before in
+    let start = at-loop .before .before in
+    let loop = at-loop .loop in
+    sym (met-few (start .args .s .now) (places start) (start .args .count) (loop .i) (c .before .before .full .result)
+    (at-loop-test .loop-test .taken)
+    (c .before .before .full .ensures) (c .before .before .before .part-at .result .now)
+    (c .before .before .before .part-at .ensures)
     (sym (c .before .meets-word .ensures) ∙ c .if1 .taken))
 
 loop-again : tie.Need-loop-again Inv-loop μ-loop
 loop-again c =
-    let start = c .before .before .before .before .before .before .before in
-    let loop = c .before .before .before .before .before .loop in (
+    let at-loop-test = c .before .before .before .before in
+    let at-loop = at-loop-test .before in
+    let start = at-loop .before .before in
+    let loop = at-loop .loop in (
       omega arith,
-      rw add-one (unmet-few (start .args .s .now) (places start) (start .args .count) (loop .i) (c .before .before .full .result) (c .before .before .before .before .loop-test .taken)
-          (c .before .before .full .ensures) (c .before .before .before .part-at .result .now) (c .before .before .before .part-at .ensures) (omega arith) (loop .inv .1)
+      rw add-one (unmet-few (start .args .s .now) (places start) (start .args .count) (loop .i)
+          (c .before .before .full .result) (at-loop-test .loop-test .taken)
+          (c .before .before .full .ensures) (c .before .before .before .part-at .result .now)
+          (c .before .before .before .part-at .ensures) (omega arith) (loop .inv .1)
           (sym (c .before .meets-word .ensures) ∙ c .if1 .left)),
     )
 
@@ -61,16 +70,5 @@ returns-2 c =
 
 pub repeated-few-spec : {M : Type 1} → statement M
 repeated-few-spec =
-    tie.close
-    (tie.spec
-    Inv-loop
-    μ-loop
-    loop-holds
-    part-at-requires
-    (λ c κs. omega arith)
-    meets-word-requires
-    returns
-    (λ c. omega arith)
-    (λ c. omega arith)
-    loop-again
-    returns-2)
+    tie.close (tie.spec Inv-loop μ-loop loop-holds part-at-requires (λ c κs. omega arith) meets-word-requires returns
+    (λ c. omega arith) (λ c. omega arith) loop-again returns-2)

@@ -12,4 +12,5 @@ returns c =
     rw (start .pre .0 .names .each (start .args .p .0) (start .pre .1) .reads) at (c .part-at .ensures)
 
 pub permission-name-in-spec : {M : Type 1} → statement M
-permission-name-in-spec = tie.close (tie.spec part-at-requires returns)
+permission-name-in-spec =
+    tie.close (tie.spec part-at-requires returns)

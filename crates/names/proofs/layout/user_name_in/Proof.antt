@@ -12,4 +12,5 @@ returns c =
     rw (start .pre .0 .names .each (start .args .u .0) (start .pre .1) .reads) at (c .part-at .ensures)
 
 pub user-name-in-spec : {M : Type 1} → statement M
-user-name-in-spec = tie.close (tie.spec part-at-requires returns)
+user-name-in-spec =
+    tie.close (tie.spec part-at-requires returns)

@@ -21,7 +21,11 @@ places start = places-of (start .args .from .now) (start .args .to .now)
 
 loop-holds : tie.Need-loop-holds Inv-loop μ-loop
 loop-holds c =
-    let start = c .before .before in (omega arith, nowhere-yet (start .args .s .now) (places start) (start .args .name .now) (start .args .low))
+    let start = c .before .before in (
+      omega arith,
+      nowhere-yet (start .args .s .now) (places start)
+          (start .args .name .now) (start .args .low),
+    )
 
 part-at-requires : tie.Need-part-at-requires Inv-loop μ-loop
 part-at-requires c κs = inside-part (c .before .before .before .before .pre) (c .before .loop .i) (c .loop-test .taken)
@@ -44,27 +48,19 @@ loop-again c =
     let start = turn .before .before .before .before in (
       omega arith,
       rw add-one
-          (nowhere-more (start .args .s .now) (places start) (start .args .name .now) (start .args .low) (turn .before .loop .i) (turn .before .loop .inv .1)
+          (nowhere-more (start .args .s .now) (places start) (start .args .name .now) (start .args .low)
+          (turn .before .loop .i) (turn .before .loop .inv .1)
           (rw (c .before .before .part-at .ensures) at (sym (c .before .same-name .ensures) ∙ c .if1 .left))),
     )
 
 returns-2 : tie.Need-returns-2 Inv-loop μ-loop
 returns-2 c =
     let start = c .before .before .before .before in
-    nowhere-past (start .args .s .now) (places start) (start .args .name .now) (start .args .low) (start .args .high) (c .before .loop .i)
+    nowhere-past (start .args .s .now) (places start) (start .args .name .now) (start .args .low) (start .args .high)
+    (c .before .loop .i)
     (c .before .loop .inv .1) (c .loop-test .left)
 
 pub find-between-spec : {M : Type 1} → statement M
 find-between-spec =
-    tie.close
-    (tie.spec
-    Inv-loop
-    μ-loop
-    loop-holds
-    part-at-requires
-    same-name-requires
-    returns
-    (λ c. omega arith)
-    (λ c. omega arith)
-    loop-again
-    returns-2)
+    tie.close (tie.spec Inv-loop μ-loop loop-holds part-at-requires same-name-requires returns (λ c. omega arith)
+    (λ c. omega arith) loop-again returns-2)

@@ -23,13 +23,5 @@ element-copy-out-end c = c .before .pre .0
 
 pub part-at-spec : {M : Type 1} → statement M
 part-at-spec =
-    tie.close
-    (tie.spec
-    mul-start
-    element-copy-out-start
-    mul-end
-    element-copy-out-end
-    (λ c. search needs)
-    (λ c. search needs)
-    (λ c. search needs)
-    (λ c. search needs))
+    tie.close (tie.spec mul-start element-copy-out-start mul-end element-copy-out-end (λ c. search needs)
+    (λ c. search needs) (λ c. search needs) (λ c. search needs))

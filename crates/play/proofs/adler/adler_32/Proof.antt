@@ -9,7 +9,8 @@ use Rattle.play.proofs.adler.adler_32.Statement.{statement}
 use Rattle.play.proofs.adler.adler_32.Tie as tie
 
 abbrev Inv-loop : tie.InvT-loop
-Inv-loop s low₀ high₀ i₀ low high i = (i ≤ length s) × (low < adler-base) × (high < adler-base) × (adler-from low high (drop i s) ≡ adler-32 s)
+Inv-loop s low₀ high₀ i₀ low high i =
+    (i ≤ length s) × (low < adler-base) × (high < adler-base) × (adler-from low high (drop i s) ≡ adler-32 s)
 
 abbrev μ-loop : tie.MeasureT-loop
 μ-loop s low₀ high₀ i₀ low high i = length s - i
@@ -25,12 +26,14 @@ add-low c = omega (arith, byte c)
 
 loop-again : tie.Need-loop-again Inv-loop μ-loop
 loop-again c =
+    let start = c .before .before .before .before .before in
     let at = c .before .before .before .loop in
-    let s = c .before .before .before .before .before .args .s .now in (
+    let s = start .args .s .now in (
       omega arith,
       mod-lt (at .low + c .wide .result) (omega arith),
       mod-lt (at .high + (at .low + c .wide .result) % adler-base) (omega arith),
-      rw (c .wide .ensures) (sym (adler-next (at .low) (at .high) s (at .i) (c .before .before .loop-test .taken)) ∙ at .inv .3),
+      rw (c .wide .ensures) (sym (adler-next (at .low) (at .high) s (at .i) (c .before .before .loop-test .taken))
+          ∙ at .inv .3),
     )
 
 returns : tie.Need-returns Inv-loop μ-loop
@@ -40,18 +43,5 @@ returns c =
 
 pub adler-32-spec : {M : Type 1} → statement M
 adler-32-spec =
-    tie.close
-    (tie.spec
-    Inv-loop
-    μ-loop
-    loop-holds
-    (λ c. omega arith)
-    (λ c κs. omega arith)
-    add-low
-    (λ c. omega arith)
-    (λ c. omega arith)
-    (λ c. omega arith)
-    loop-again
-    (λ c. omega arith)
-    (λ c. omega arith)
-    returns)
+    tie.close (tie.spec Inv-loop μ-loop loop-holds (λ c. omega arith) (λ c κs. omega arith) add-low (λ c. omega arith)
+    (λ c. omega arith) (λ c. omega arith) loop-again (λ c. omega arith) (λ c. omega arith) returns)

@@ -29,15 +29,5 @@ returns-2 c = tt
 
 pub skip-line-spec : {M : Type 1} → statement M
 skip-line-spec =
-    tie.close
-    (tie.spec
-    Inv-loop
-    μ-loop
-    loop-holds
-    next-byte-requires
-    ends-line-requires
-    returns
-    (λ c. omega arith)
-    (λ c. omega arith)
-    loop-again
-    returns-2)
+    tie.close (tie.spec Inv-loop μ-loop loop-holds next-byte-requires ends-line-requires returns (λ c. omega arith)
+    (λ c. omega arith) loop-again returns-2)

@@ -24,25 +24,22 @@ add-result : tie.Need-add-result
 add-result c =
     let b = c .before .before .before .before .before .before in
     let n = c .before .before .put-numbers .ensures in
-    omega (arith, end-within (behind-word (start b .args .numbers .now) (b .put-bytes .ensures) (n .0 .counted) (n .1) (start b .pre)) (n .0))
+    omega (
+      arith,
+      end-within (behind-word (start b .args .numbers .now) (b .put-bytes .ensures) (n .0 .counted) (n .1)
+          (start b .pre)) (n .0),
+    )
 
 returns : tie.Need-returns
 returns c =
     let b = c .before .before .before .before .before .before in
     let n = c .before .before .put-numbers .ensures in (
-      then-written (behind-word (start b .args .numbers .now) (b .put-bytes .ensures) (n .0 .counted) (n .1) (start b .pre)) (n .0),
+      then-written (behind-word (start b .args .numbers .now) (b .put-bytes .ensures) (n .0 .counted) (n .1)
+          (start b .pre)) (n .0),
       omega (arith, b .put-bytes .ensures .counted, n .1),
     )
 
 pub put-front-spec : {M : Type 1} → statement M
 put-front-spec =
-    tie.close
-    (tie.spec
-    (λ c κs. omega arith)
-    (λ c. search needs)
-    (λ c. search needs)
-    (λ c. search needs)
-    put-numbers-requires
-    add-result
-    (λ c. search needs)
-    returns)
+    tie.close (tie.spec (λ c κs. omega arith) (λ c. search needs) (λ c. search needs) (λ c. search needs)
+    put-numbers-requires add-result (λ c. search needs) returns)

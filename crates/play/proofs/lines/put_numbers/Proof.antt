@@ -5,21 +5,30 @@ use native.Mathlib.Nat.{le-trans}
 use native.Mathlib.Omega.{arith}
 use lib.ListN.{length, getD}
 use Rattle.spec.specs.Decimal.{decimal}
-use Rattle.cell_text.specs.Laws.ListedWritten.{Listing, listing-ends, listing-starts, part-ready, part-within, part-written}
+use Rattle.cell_text.specs.Laws.ListedWritten.{
+  Listing,
+  listing-ends,
+  listing-starts,
+  part-ready,
+  part-within,
+  part-written,
+}
 use Rattle.text.specs.Written.{room-behind, within-buffer}
 use Rattle.play.specs.AnswerParts.{behind-blank, numbers-text, number-most, numbers-room}
 use Rattle.play.proofs.lines.put_numbers.Statement.{statement}
 use Rattle.play.proofs.lines.put_numbers.Tie as tie
 
 abbrev Inv-loop : tie.InvT-loop
-Inv-loop out₀ numbers at₀ i₀ mark out at i = Listing (length numbers) (λ j. behind-blank (decimal (getD numbers j 0))) i out₀ out at
+Inv-loop out₀ numbers at₀ i₀ mark out at i =
+    Listing (length numbers) (λ j. behind-blank (decimal (getD numbers j 0))) i out₀ out at
 
 abbrev μ-loop : tie.MeasureT-loop
 μ-loop out₀ numbers at₀ i₀ mark out at i = length numbers - i
 
 -- the numbers are of the machine, and have no more digits than that allows
 room : (c : tie.After-shared-slice-known Inv-loop μ-loop)
-    → let numbers = c .before .before .args .numbers .now in length (numbers-text numbers) ≤ length numbers * number-most
+    → let numbers = c .before .before .args .numbers .now in length (numbers-text numbers) ≤ length numbers *
+    number-most
 room c = numbers-room (c .before .before .args .numbers .now) (λ i. c .shared-slice-known .given i .fits)
 
 loop-holds : tie.Need-loop-holds Inv-loop μ-loop
@@ -39,7 +48,11 @@ put-counted-requires c κs =
 add-at : tie.Need-add-at Inv-loop μ-loop
 add-at c =
     let turn = c .before .before .before .before .before .before in
-    omega (arith, part-within (turn .before .loop .inv) (turn .loop-test .taken) (c .before .before .put-counted .ensures))
+    omega (
+      arith,
+      part-within (turn .before .loop .inv) (turn .loop-test .taken)
+          (c .before .before .put-counted .ensures),
+    )
 
 loop-again : tie.Need-loop-again Inv-loop μ-loop
 loop-again c =
@@ -56,21 +69,6 @@ returns c =
 
 pub put-numbers-spec : {M : Type 1} → statement M
 put-numbers-spec =
-    tie.close
-    (tie.spec
-    Inv-loop
-    μ-loop
-    loop-holds
-    sub-put-counted
-    part-put-counted-start
-    (λ c. search needs)
-    (λ c. search needs)
-    (λ c. search needs)
-    (λ c. search needs)
-    put-counted-requires
-    add-at
-    (λ c. omega arith)
-    (λ c. omega arith)
-    loop-again
-    same-length
-    returns)
+    tie.close (tie.spec Inv-loop μ-loop loop-holds sub-put-counted part-put-counted-start (λ c. search needs)
+    (λ c. search needs) (λ c. search needs) (λ c. search needs) put-counted-requires add-at (λ c. omega arith)
+    (λ c. omega arith) loop-again same-length returns)

@@ -12,7 +12,8 @@ abbrev start : tie.After-put-front → tie.Start
 start c = c .before .before .before .before .before
 
 behind : (c : tie.After-put-front)
-    → WrittenSoFar (front-text (start c .args .word .now) (start c .args .numbers .now)) (line-feed ∷ []) (start c .args .out .now) (c .put-front .last .0)
+    → WrittenSoFar (front-text (start c .args .word .now) (start c .args .numbers .now)) (line-feed ∷ [])
+    (start c .args .out .now) (c .put-front .last .0)
     (c .put-front .result)
 behind c = behind-front (c .put-front .ensures .0) (omega (arith, c .put-front .ensures .1, start c .pre))
 
@@ -27,5 +28,4 @@ returns c = then-byte (behind (c .before .before))
 
 pub put-numbers-line-spec : {M : Type 1} → statement M
 put-numbers-line-spec =
-    tie.close
-    (tie.spec (λ c κs. search needs) slice-write-out add-result (λ c. search needs) returns)
+    tie.close (tie.spec (λ c κs. search needs) slice-write-out add-result (λ c. search needs) returns)

@@ -26,11 +26,20 @@ abbrev ending : tie.Start → Bytes
 ending s = blank ∷ word s ++ line-feed ∷ []
 
 abbrev start : tie.After-put-front → tie.Start
-start c = c .before .before .before .before .before .before
+start c =
+    let earlier = c .before .before .before .before .before .before in
+    earlier
 
 behind : (c : tie.After-put-front)
-    → WrittenSoFar (front (start c)) (ending (start c)) (start c .args .out .now) (c .put-front .last .0) (c .put-front .result)
-behind c = behind-front (c .put-front .ensures .0) (omega (arith, c .put-front .ensures .1, start c .pre, state-room (state-said (start c .args .answer .state))))
+    → WrittenSoFar (front (start c)) (ending (start c)) (start c .args .out .now) (c .put-front .last .0)
+    (c .put-front .result)
+behind c =
+    behind-front (c .put-front .ensures .0) (omega (
+      arith,
+      c .put-front .ensures .1,
+      start c .pre,
+      state-room (state-said (start c .args .answer .state)),
+    ))
 
 put-state-requires : tie.Need-put-state-requires
 put-state-requires c κs =
@@ -45,7 +54,9 @@ put-state-requires c κs =
     )
 
 add-result : tie.Need-add-result
-add-result c = omega (arith, end-within (behind (c .before .before .before .before .before .before)) (c .before .before .put-state .ensures))
+add-result c =
+    let earlier = c .before .before .before .before .before .before in
+    omega (arith, end-within (behind earlier) (c .before .before .put-state .ensures))
 
 returns : tie.Need-returns
 returns c =
@@ -56,16 +67,6 @@ returns c =
 
 pub put-searched-spec : {M : Type 1} → statement M
 put-searched-spec =
-    tie.close
-    (tie.spec
-    (λ c. search needs)
-    (λ c. search needs)
-    (λ c. search needs)
-    (λ c κs. search needs)
-    (λ c. search needs)
-    (λ c. search needs)
-    (λ c. search needs)
-    put-state-requires
-    add-result
-    (λ c. search needs)
+    tie.close (tie.spec (λ c. search needs) (λ c. search needs) (λ c. search needs) (λ c κs. search needs)
+    (λ c. search needs) (λ c. search needs) (λ c. search needs) put-state-requires add-result (λ c. search needs)
     returns)

@@ -19,45 +19,31 @@ abbrev standing-text : StandingValue → Bytes
 standing-text s = text (named.State s)
 
 returns : tie.Need-returns
-returns c = written-as (sym (ap text (c .before .before .before .before .before .enum-told .given .1))) (c .before .before .put-bytes .ensures)
+returns c =
+    let at-enum-told = c .before .before .before .before .before in
+    written-as (sym (ap text (at-enum-told .enum-told .given .1))) (c .before .before .put-bytes .ensures)
 
 returns-2 : tie.Need-returns-2
 returns-2 c =
     let told = c .before .before .before .before .before in
-    written-as (sym (ap text (told .before .before .before .named .given .1) ∙ ap standing-text (told .enum-told2 .given .1))) (c .before .before .put-bytes2 .ensures)
+    written-as (sym (ap text (told .before .before .before .named .given .1)
+    ∙ ap standing-text (told .enum-told2 .given .1))) (c .before .before .put-bytes2 .ensures)
 
 returns-3 : tie.Need-returns-3
 returns-3 c =
     let told = c .before .before .before .before .before in
-    written-as (sym (ap text (told .before .before .before .named .given .1) ∙ ap standing-text (told .enum-told3 .given .1))) (c .before .before .put-bytes3 .ensures)
+    written-as (sym (ap text (told .before .before .before .named .given .1)
+    ∙ ap standing-text (told .enum-told3 .given .1))) (c .before .before .put-bytes3 .ensures)
 
 returns-4 : tie.Need-returns-4
 returns-4 c =
     let told = c .before .before .before .before .before in
-    written-as (sym (ap text (told .before .before .before .named .given .1) ∙ ap standing-text (told .enum-told4 .given .1))) (c .before .before .put-bytes4 .ensures)
+    written-as (sym (ap text (told .before .before .before .named .given .1)
+    ∙ ap standing-text (told .enum-told4 .given .1))) (c .before .before .put-bytes4 .ensures)
 
 pub put-state-spec : {M : Type 1} → statement M
 put-state-spec =
-    tie.close
-    (tie.spec
-    (λ c. search needs)
-    (λ c. search needs)
-    (λ c κs. search needs)
-    (λ c. search needs)
-    (λ c. search needs)
-    (λ c. search needs)
-    (λ c κs. search needs)
-    (λ c. search needs)
-    (λ c. search needs)
-    (λ c κs. search needs)
-    (λ c. search needs)
-    (λ c. search needs)
-    (λ c κs. search needs)
-    (λ c. search needs)
-    returns
-    (λ c. search needs)
-    returns-2
-    (λ c. search needs)
-    returns-3
-    (λ c. search needs)
-    returns-4)
+    tie.close (tie.spec (λ c. search needs) (λ c. search needs) (λ c κs. search needs) (λ c. search needs)
+    (λ c. search needs) (λ c. search needs) (λ c κs. search needs) (λ c. search needs) (λ c. search needs)
+    (λ c κs. search needs) (λ c. search needs) (λ c. search needs) (λ c κs. search needs) (λ c. search needs) returns
+    (λ c. search needs) returns-2 (λ c. search needs) returns-3 (λ c. search needs) returns-4)

@@ -23,25 +23,32 @@ abbrev ending : tie.Start → Bytes
 ending s = blank ∷ word s ++ line-feed ∷ []
 
 abbrev start : tie.After-put-front → tie.Start
-start c = c .before .before .before .before .before .before .before
+start c =
+    let earlier = c .before .before .before .before .before .before .before in
+    earlier
 
 abbrev summed : tie.After-put-front → tie.After-adler-32
 summed c = c .before .before .before .before
 
 behind : (c : tie.After-put-front)
-    → WrittenSoFar (front (start c)) (ending (start c)) (start c .args .out .now) (c .put-front .last .0) (c .put-front .result)
+    → WrittenSoFar (front (start c)) (ending (start c)) (start c .args .out .now) (c .put-front .last .0)
+    (c .put-front .result)
 behind c = behind-front (c .put-front .ensures .0) (omega (arith, c .put-front .ensures .1, start c .pre))
 
 abbrev front-put : tie.After-slice-known3 → tie.After-put-front
-front-put c = c .before .before .before .before .before .before
+front-put c =
+    let earlier = c .before .before .before .before .before .before in
+    earlier
 
 -- what was put behind the front is the digest of the bytes that were lent
 digest-put : (c : tie.After-slice-known3)
     → let f = front-put c in
-    Written (ending (start f)) (rest-from (f .put-front .result) (f .put-front .last .0)) (c .before .before .put-digest .last .0)
+    Written (ending (start f)) (rest-from (f .put-front .result) (f .put-front .last .0))
+    (c .before .before .put-digest .last .0)
     (c .before .before .put-digest .result)
 digest-put c =
-    written-as (ap (λ (n : ℕ). (blank ∷ digits 16 digest-digits n) ++ line-feed ∷ []) (summed (front-put c) .adler-32 .ensures))
+    written-as (ap (λ (n : ℕ). (blank ∷ digits 16 digest-digits n) ++ line-feed ∷ [])
+    (summed (front-put c) .adler-32 .ensures))
     (c .before .before .put-digest .ensures)
 
 put-digest-requires : tie.Need-put-digest-requires
@@ -63,20 +70,11 @@ returns : tie.Need-returns
 returns c =
     let f = front-put c in
     let s = start f in
-    written-as (sym (line-with-last (ascii "write") (s .args .answer .number ∷ s .args .answer .count ∷ []) (word s))) (then-written (behind f) (digest-put c))
+    written-as (sym (line-with-last (ascii "write") (s .args .answer .number ∷ s .args .answer .count ∷ []) (word s)))
+    (then-written (behind f) (digest-put c))
 
 pub put-written-spec : {M : Type 1} → statement M
 put-written-spec =
-    tie.close
-    (tie.spec
-    (λ c κs. search needs)
-    (λ c. search needs)
-    (λ c. search needs)
-    (λ c κs. search needs)
-    (λ c. search needs)
-    (λ c. search needs)
-    (λ c. search needs)
-    put-digest-requires
-    add-result
-    (λ c. search needs)
+    tie.close (tie.spec (λ c κs. search needs) (λ c. search needs) (λ c. search needs) (λ c κs. search needs)
+    (λ c. search needs) (λ c. search needs) (λ c. search needs) put-digest-requires add-result (λ c. search needs)
     returns)

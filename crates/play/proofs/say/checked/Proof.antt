@@ -12,11 +12,5 @@ slice-aggregate-write-all c = front-counted (c .before .before .put-checked .ens
 
 pub checked-spec : {M : Type 1} → statement M
 checked-spec =
-    tie.close
-    (tie.spec
-    (λ c. search needs)
-    (λ c κs. search needs)
-    array-share-prefix-out
-    slice-aggregate-write-all
-    (λ c κs. search needs)
-    (λ c. search needs))
+    tie.close (tie.spec (λ c. search needs) (λ c κs. search needs) array-share-prefix-out slice-aggregate-write-all
+    (λ c κs. search needs) (λ c. search needs))

@@ -20,14 +20,5 @@ returns-2 c = counts _ _ (omega arith)
 
 pub first-blank-spec : {M : Type 1} → statement M
 first-blank-spec =
-    tie.close
-    (tie.spec
-    Inv-loop
-    μ-loop
-    (λ c. omega arith)
-    (λ c. omega arith)
-    returns
-    (λ c. omega arith)
-    (λ c. omega arith)
-    (λ c. omega arith)
-    returns-2)
+    tie.close (tie.spec Inv-loop μ-loop (λ c. omega arith) (λ c. omega arith) returns (λ c. omega arith)
+    (λ c. omega arith) (λ c. omega arith) returns-2)

@@ -17,8 +17,11 @@ loop-holds c = (omega arith, pattern-starts _ (search needs))
 
 loop-again : tie.Need-loop-again Inv-loop μ-loop
 loop-again c =
-    let at = c .before .before .loop in
-    (omega arith, pattern-goes-on (at .space) (at .i) (c .pattern-byte .result) (at .inv .1) (c .before .loop-test .taken) (c .pattern-byte .ensures))
+    let at = c .before .before .loop in (
+      omega arith,
+      pattern-goes-on (at .space) (at .i) (c .pattern-byte .result) (at .inv .1)
+          (c .before .loop-test .taken) (c .pattern-byte .ensures),
+    )
 
 returns : tie.Need-returns Inv-loop μ-loop
 returns c =
@@ -27,14 +30,5 @@ returns c =
 
 pub patterned-spec : {M : Type 1} → statement M
 patterned-spec =
-    tie.close
-    (tie.spec
-    Inv-loop
-    μ-loop
-    loop-holds
-    (λ c κs. omega arith)
-    (λ c. omega arith)
-    (λ c. omega arith)
-    (λ c. omega arith)
-    loop-again
-    returns)
+    tie.close (tie.spec Inv-loop μ-loop loop-holds (λ c κs. omega arith) (λ c. omega arith) (λ c. omega arith)
+    (λ c. omega arith) loop-again returns)

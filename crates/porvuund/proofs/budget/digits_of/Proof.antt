@@ -23,33 +23,43 @@ loop-holds c = (omega arith, omega arith, refl)
 returns : tie.Need-returns Inv-loop μ-loop
 unfolding budget-cap
 returns c =
-    let s = c .before .before .before .before .before .args .word .now in
-    let i = c .before .before .before .loop .i in
+    let at-loop = c .before .before .before in
+    let start = at-loop .before .before in
+    let s = start .args .word .now in
+    let i = at-loop .loop .i in
     sym
-    (sym (c .before .before .before .loop .inv .2)
-    ∙ digits-off-at (c .before .before .before .loop .n) s i (c .before .before .loop-test .taken) (λ t. omega (arith, between-low 48 57 (getD s i 0) t, c .if1 .taken)))
+    (sym (at-loop .loop .inv .2)
+    ∙ digits-off-at (at-loop .loop .n) s i (c .before .before .loop-test .taken)
+    (λ t. omega (arith, between-low 48 57 (getD s i 0) t, c .if1 .taken)))
 
 returns-2 : tie.Need-returns-2 Inv-loop μ-loop
 unfolding budget-cap
 returns-2 c =
-    let s = c .before .before .before .before .before .before .args .word .now in
-    let i = c .before .before .before .before .loop .i in
+    let at-loop = c .before .before .before .before in
+    let start = at-loop .before .before in
+    let s = start .args .word .now in
+    let i = at-loop .loop .i in
     sym
-    (sym (c .before .before .before .before .loop .inv .2)
-    ∙ digits-off-at (c .before .before .before .before .loop .n) s i (c .before .before .before .loop-test .taken) (λ t. omega (arith, between-high 48 57 (getD s i 0) t, c .if2 .taken)))
+    (sym (at-loop .loop .inv .2)
+    ∙ digits-off-at (at-loop .loop .n) s i (c .before .before .before .loop-test .taken)
+    (λ t. omega (arith, between-high 48 57 (getD s i 0) t, c .if2 .taken)))
 
 with-digit-requires : tie.Need-with-digit-requires Inv-loop μ-loop
 with-digit-requires c κs = (c .before .before .before .before .loop .inv .1, c .before .if1 .left)
 
 loop-again : tie.Need-loop-again Inv-loop μ-loop
 loop-again c =
-    let i = c .before .before .before .before .before .loop .i in
-    let s = c .before .before .before .before .before .before .before .args .word .now in
-    let digit : So (is-digit (getD s i 0)) = between-intro 48 57 (getD s i 0) (c .before .before .if1 .left) (c .before .if2 .left) in (
-      omega (arith, c .before .before .before .before .loop-test .taken),
+    let at-loop-test = c .before .before .before .before in
+    let at-loop = at-loop-test .before in
+    let start = at-loop .before .before in
+    let i = at-loop .loop .i in
+    let s = start .args .word .now in
+    let digit : So (is-digit (getD s i 0)) = between-intro 48 57 (getD s i 0) (c .before .before .if1 .left)
+    (c .before .if2 .left) in (
+      omega (arith, at-loop-test .loop-test .taken),
       omega (arith, c .with-digit .ensures),
       rw (c .with-digit .ensures)
-          (sym (digits-next-at (c .before .before .before .before .before .loop .n) s i (c .before .before .before .before .loop-test .taken) digit) ∙ c .before .before .before .before .before .loop .inv .2),
+          (sym (digits-next-at (at-loop .loop .n) s i (at-loop-test .loop-test .taken) digit) ∙ at-loop .loop .inv .2),
     )
 
 returns-3 : tie.Need-returns-3 Inv-loop μ-loop
@@ -62,16 +72,5 @@ returns-3 c =
 
 pub digits-of-spec : {M : Type 1} → statement M
 digits-of-spec =
-    tie.close
-    (tie.spec
-    Inv-loop
-    μ-loop
-    loop-holds
-    (λ c. omega arith)
-    returns
-    returns-2
-    with-digit-requires
-    (λ c. omega arith)
-    (λ c. omega arith)
-    loop-again
-    returns-3)
+    tie.close (tie.spec Inv-loop μ-loop loop-holds (λ c. omega arith) returns returns-2 with-digit-requires
+    (λ c. omega arith) (λ c. omega arith) loop-again returns-3)

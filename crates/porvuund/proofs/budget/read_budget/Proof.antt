@@ -1,4 +1,5 @@
--- `budget::read_budget`: the digits say a number below the bound exactly where the word is a budget, and then it is that number.
+-- `budget::read_budget`: the digits say a number below the bound exactly where the word is a budget, and then it is
+-- that number.
 use borrow.Author.Needs.{needs}
 use Prim.Native.Nat.{_≤_, _<_}
 use mathlib.Core.Path.{sym, ap, _∙_}
@@ -27,4 +28,5 @@ returns-3 c =
     sym (budget-missing s (c .before .before .if1 .left) (rw e at great))
 
 pub read-budget-spec : {M : Type 1} → statement M
-read-budget-spec = tie.close (tie.spec returns (λ c κs. search needs) (λ c. search needs) returns-2 returns-3)
+read-budget-spec =
+    tie.close (tie.spec returns (λ c κs. search needs) (λ c. search needs) returns-2 returns-3)

@@ -16,7 +16,8 @@ returns : tie.Need-returns
 returns c =
     let l = c .before in
     let s = start l in
-    refused-by-load (s .args .sheet .now) (s .args .budget) (s .args .out .now) (l .load .result .answer .number) (sheet-number l) (c .if1 .taken)
+    refused-by-load (s .args .sheet .now) (s .args .budget) (s .args .out .now) (l .load .result .answer .number)
+    (sheet-number l) (c .if1 .taken)
 
 returns-2 : tie.Need-returns-2
 returns-2 c =
@@ -24,17 +25,11 @@ returns-2 c =
     let f = w .before .before .before in
     let l = f .before .before .before in
     let s = start l in
-    written-after (s .args .sheet .now) (s .args .budget) (s .args .out .now) (sym (sheet-number l) ∙ f .before .before .if1 .left)
+    written-after (s .args .sheet .now) (s .args .budget) (s .args .out .now) (sym (sheet-number l)
+    ∙ f .before .before .if1 .left)
     (l .before .fresh .ensures .0) (l .load .ensures .0) (f .search .ensures .0) (w .write .ensures)
 
 pub porvuund-book-spec : {M : Type 1} → statement M
 porvuund-book-spec =
-    tie.close
-    (tie.spec
-    (λ c κs. search needs)
-    (λ c κs. search needs)
-    returns
-    (λ c κs. search needs)
-    (λ c κs. search needs)
-    (λ c. search needs)
-    returns-2)
+    tie.close (tie.spec (λ c κs. search needs) (λ c κs. search needs) returns (λ c κs. search needs)
+    (λ c κs. search needs) (λ c. search needs) returns-2)

@@ -15,7 +15,8 @@ abbrev start : tie.After-put-decimal → tie.Start
 start c = c .before .before .before
 
 behind-digits : (c : tie.After-put-decimal)
-    → WrittenSoFar (number (start c)) (line-feed ∷ []) (start c .args .out .now) (c .put-decimal .last .0) (c .put-decimal .result)
+    → WrittenSoFar (number (start c)) (line-feed ∷ []) (start c .args .out .now) (c .put-decimal .last .0)
+    (c .put-decimal .result)
 behind-digits c = record { written = c .put-decimal .ensures; fits = start c .pre }
 
 put-decimal-requires : tie.Need-put-decimal-requires
@@ -33,4 +34,5 @@ returns : tie.Need-returns
 returns c = then-byte (behind-digits (c .before .before))
 
 pub put-number-line-spec : {M : Type 1} → statement M
-put-number-line-spec = tie.close (tie.spec put-decimal-requires slice-write-out add-result (λ c. search needs) returns)
+put-number-line-spec =
+    tie.close (tie.spec put-decimal-requires slice-write-out add-result (λ c. search needs) returns)

@@ -7,7 +7,17 @@ use lib.ListN.{length, set}
 use Rattle.spec.specs.Text.{Bytes, comma}
 use Rattle.spec.specs.Decimal.{decimal}
 use Rattle.spec.specs.Program.{number-line}
-use Rattle.text.specs.Written.{WrittenSoFar, front-fits, byte-within, then-byte, within-buffer, room-behind, end-within, then-same-length, then-written}
+use Rattle.text.specs.Written.{
+  WrittenSoFar,
+  front-fits,
+  byte-within,
+  then-byte,
+  within-buffer,
+  room-behind,
+  end-within,
+  then-same-length,
+  then-written,
+}
 use Rattle.porvuund.proofs.lines.put_pair_line.Statement.{statement}
 use Rattle.porvuund.proofs.lines.put_pair_line.Tie as tie
 
@@ -24,7 +34,8 @@ abbrev start : tie.After-put-decimal → tie.Start
 start c = c .before .before .before
 
 behind-first : (c : tie.After-put-decimal)
-    → WrittenSoFar (first (start c)) (comma ∷ []) (start c .args .out .now) (c .put-decimal .last .0) (c .put-decimal .result)
+    → WrittenSoFar (first (start c)) (comma ∷ []) (start c .args .out .now) (c .put-decimal .last .0)
+    (c .put-decimal .result)
 behind-first c = record { written = c .put-decimal .ensures; fits = front-room (start c) }
 
 behind-comma : (c : tie.After-slice-known2)
@@ -56,25 +67,21 @@ put-number-line-requires : tie.Need-put-number-line-requires
 put-number-line-requires c κs = room-behind (behind-comma (c .before))
 
 add-result : tie.Need-add-result
-add-result c = omega (arith, end-within (behind-comma (c .before .before .before .before)) (c .before .before .put-number-line .ensures))
+add-result c =
+    let earlier = c .before .before .before .before in
+    omega (arith, end-within (behind-comma earlier) (c .before .before .put-number-line .ensures))
 
 same-length : tie.Need-same-length
-same-length c = then-same-length (behind-comma (c .before .before .before .before)) (c .before .before .put-number-line .ensures)
+same-length c =
+    let earlier = c .before .before .before .before in
+    then-same-length (behind-comma earlier) (c .before .before .put-number-line .ensures)
 
 returns : tie.Need-returns
-returns c = then-written (behind-comma (c .before .before .before .before)) (c .before .before .put-number-line .ensures)
+returns c =
+    let earlier = c .before .before .before .before in
+    then-written (behind-comma earlier) (c .before .before .put-number-line .ensures)
 
 pub put-pair-line-spec : {M : Type 1} → statement M
 put-pair-line-spec =
-    tie.close
-    (tie.spec
-    put-decimal-requires
-    slice-write-out
-    add-from
-    sub-put-number-line
-    part-put-number-line-start
-    (λ c. search needs)
-    put-number-line-requires
-    add-result
-    same-length
-    returns)
+    tie.close (tie.spec put-decimal-requires slice-write-out add-from sub-put-number-line part-put-number-line-start
+    (λ c. search needs) put-number-line-requires add-result same-length returns)

@@ -22,29 +22,35 @@ start c = c .before .before .before .before .before
 
 books : (c : tie.After-porvuund-book)
     → let s = start c in
-    Books (s .args .sheet .now) (budget-of (s .args .word .now ∷ [])) (s .args .out .now) (book-said (c .porvuund-book .result)) (c .porvuund-book .last .1 .1 .0)
+    Books (s .args .sheet .now) (budget-of (s .args .word .now ∷ [])) (s .args .out .now)
+    (book-said (c .porvuund-book .result)) (c .porvuund-book .last .1 .1 .0)
 books c = rw (c .before .before .budget-of .ensures) at (c .porvuund-book .ensures)
 
 returns : tie.Need-returns
 returns c =
     let b = c .before .before in
     let s = start b in
-    output-written (s .args .sheet .now) (s .args .word .now) (s .args .out .now) (room (b .before)) (books b) (c .if1 .taken)
+    output-written (s .args .sheet .now) (s .args .word .now) (s .args .out .now) (room (b .before)) (books b)
+    (c .if1 .taken)
 
 put-number-line-requires : tie.Need-put-number-line-requires
 put-number-line-requires c κs =
     let h : length (c .before .before .before .porvuund-book .last .1 .1 .0) ≡ 65_536 = search needs in
-    omega (arith, number-line-length (c .before .before .before .porvuund-book .result .number) (c .before .before .struct-known .given .0 .fits))
+    omega (
+      arith,
+      number-line-length (c .before .before .before .porvuund-book .result .number)
+          (c .before .before .struct-known .given .0 .fits),
+    )
 
 returns-2 : tie.Need-returns-2
 returns-2 c =
     let e = c .before .before in
     let b = e .before .before in
     let s = start b in
-    let refused = output-refused (s .args .sheet .now) (s .args .word .now) (s .args .out .now) (room (b .before)) (books b) (e .if1 .left) in
+    let refused = output-refused (s .args .sheet .now) (s .args .word .now) (s .args .out .now) (room (b .before))
+    (books b) (e .if1 .left) in
     written-as (sym (refused .0)) (rw (refused .1) at (c .put-number-line .ensures))
 
 pub book-output-spec : {M : Type 1} → statement M
 book-output-spec =
-    tie.close
-    (tie.spec (λ c κs. search needs) (λ c κs. search needs) returns put-number-line-requires returns-2)
+    tie.close (tie.spec (λ c κs. search needs) (λ c κs. search needs) returns put-number-line-requires returns-2)

@@ -9,7 +9,8 @@ use Rattle.reduction.proofs.reduction.count_singles.Statement.{statemen
 use Rattle.reduction.proofs.reduction.count_singles.Tie as tie
 
 abbrev Inv-loop : tie.InvT-loop
-Inv-loop removed partner count singles₀ i₀ singles i = (i ≤ count) × (singles ≤ i) × (singles ≡ single-count removed partner i)
+Inv-loop removed partner count singles₀ i₀ singles i =
+    (i ≤ count) × (singles ≤ i) × (singles ≡ single-count removed partner i)
 
 abbrev μ-loop : tie.MeasureT-loop
 μ-loop removed partner count singles₀ i₀ singles i = count - i
@@ -66,17 +67,5 @@ returns c =
 
 pub count-singles-spec : {M : Type 1} → statement M
 count-singles-spec =
-    tie.close
-    (tie.spec
-    Inv-loop
-    μ-loop
-    loop-holds
-    mul-if1
-    element-copy-out-if1
-    mul-if1-2
-    element-copy-out-if1-2
-    add-singles
-    add-i
-    (λ c. omega arith)
-    loop-again
-    returns)
+    tie.close (tie.spec Inv-loop μ-loop loop-holds mul-if1 element-copy-out-if1 mul-if1-2 element-copy-out-if1-2
+    add-singles add-i (λ c. omega arith) loop-again returns)

@@ -11,14 +11,16 @@ columns-of-requires c κs = tt
 
 sweeps-requires : tie.Need-sweeps-requires
 unfolding grant-limit
-sweeps-requires c κs = (
-  shows-ready (c .before .before .before .before .before .before .pre),
-  c .before .before .before .before .columns-of .ensures,
-  refl,
-)
+sweeps-requires c κs =
+    let still-start = c .before .before .before .before .before .before in (
+      shows-ready (still-start .pre),
+      c .before .before .before .before .columns-of .ensures,
+      refl,
+    )
 
 returns : tie.Need-returns
 returns c = settled-reduced (c .before .before .before .sweeps .ensures) (c .count-singles .ensures)
 
 pub reduce-spec : {M : Type 1} → statement M
-reduce-spec = tie.close (tie.spec columns-of-requires sweeps-requires (λ c κs. search needs) returns)
+reduce-spec =
+    tie.close (tie.spec columns-of-requires sweeps-requires (λ c κs. search needs) returns)

@@ -12,7 +12,8 @@ use Rattle.reduction.proofs.reduction.sweep.Tie as tie
 
 abbrev Inv-loop : tie.InvT-loop
 Inv-loop rows columns left₀ removed₀ partner₀ users count count₀ i₀ left removed partner count' i =
-    (i ≤ users * row-words) × Swept rows users i (work-of left₀ removed₀ partner₀ count) (work-of left removed partner count')
+    (i ≤ users * row-words) × Swept rows users i (work-of left₀ removed₀ partner₀ count)
+    (work-of left removed partner count')
 
 abbrev μ-loop : tie.MeasureT-loop
 μ-loop rows columns left₀ removed₀ partner₀ users count count₀ i₀ left removed partner count' i = users * row-words - i
@@ -32,7 +33,9 @@ sweep-word-requires c κs =
 
 add-i : tie.Need-add-i Inv-loop μ-loop
 unfolding user-limit
-add-i c = omega (arith, c .before .before .before .before .before .before .pre .0 .few-users)
+add-i c =
+    let start = c .before .before .before .before .before .before in
+    omega (arith, start .pre .0 .few-users)
 
 loop-less : tie.Need-loop-less Inv-loop μ-loop
 unfolding row-words
@@ -40,7 +43,10 @@ loop-less c = omega arith
 
 loop-again : tie.Need-loop-again Inv-loop μ-loop
 unfolding row-words
-loop-again c = let at = c .before .before .before .before .before .loop in (omega arith, swept-next (at .i) (at .inv .1) (c .sweep-word .ensures))
+loop-again c =
+    let at-loop = c .before .before .before .before .before in
+    let at = at-loop .loop in
+    (omega arith, swept-next (at .i) (at .inv .1) (c .sweep-word .ensures))
 
 returns : tie.Need-returns Inv-loop μ-loop
 unfolding row-words
@@ -51,14 +57,4 @@ returns c =
 
 pub sweep-spec : {M : Type 1} → statement M
 sweep-spec =
-    tie.close
-    (tie.spec
-    Inv-loop
-    μ-loop
-    loop-holds
-    mul-loop
-    sweep-word-requires
-    add-i
-    loop-less
-    loop-again
-    returns)
+    tie.close (tie.spec Inv-loop μ-loop loop-holds mul-loop sweep-word-requires add-i loop-less loop-again returns)

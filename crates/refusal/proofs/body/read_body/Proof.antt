@@ -1,4 +1,5 @@
--- `body::read_body`: the loop reads the lines one by one (`BodyReading`), and each line starts at a later place than the one before.
+-- `body::read_body`: the loop reads the lines one by one (`BodyReading`), and each line starts at a later place than
+-- the one before.
 use Prim.Native.Nat.{suc, _-_}
 use native.Mathlib.Omega.{arith}
 use lib.ListN.{length}
@@ -29,7 +30,8 @@ loop-again c =
     let args = turn .before .before .before .before .args in
     let loop = turn .before .loop in
     rw (c .with .ensures, c .before .name-length .ensures)
-    (body-goes-on (args .s .now) (args .at) (args .width) (loop .body) (loop .from) (c .before .before .before .read-line .result) (loop .inv)
+    (body-goes-on (args .s .now) (args .at) (args .width) (loop .body) (loop .from)
+    (c .before .before .before .read-line .result) (loop .inv)
     (turn .loop-test .taken) (c .before .before .before .read-line .ensures))
 
 returns : tie.Need-returns Inv-loop μ-loop
@@ -40,18 +42,6 @@ returns c =
 
 pub read-body-spec : {M : Type 1} → statement M
 read-body-spec =
-    tie.close
-    (tie.spec
-    Inv-loop
-    μ-loop
-    none-requires
-    loop-holds
-    (λ c κs. omega arith)
-    (λ c. omega arith)
-    (λ c. omega arith)
-    (λ c. omega arith)
-    name-length-requires
-    (λ c κs. omega arith)
-    (λ c. omega arith)
-    loop-again
+    tie.close (tie.spec Inv-loop μ-loop none-requires loop-holds (λ c κs. omega arith) (λ c. omega arith)
+    (λ c. omega arith) (λ c. omega arith) name-length-requires (λ c κs. omega arith) (λ c. omega arith) loop-again
     returns)

@@ -12,5 +12,4 @@ returns-2 c = rw (sym (c .before .before .same-bytes .ensures) ∙ c .before .if
 
 pub is-bit-spec : {M : Type 1} → statement M
 is-bit-spec =
-    tie.close
-    (tie.spec (λ c. search needs) (λ c κs. search needs) returns (λ c κs. search needs) returns-2)
+    tie.close (tie.spec (λ c. search needs) (λ c κs. search needs) returns (λ c κs. search needs) returns-2)

@@ -13,4 +13,5 @@ unfolding has-name-length
 returns-2 c = rw (le-leb _ _ (c .if1 .left))
 
 pub name-length-spec : {M : Type 1} → statement M
-name-length-spec = tie.close (tie.spec returns returns-2)
+name-length-spec =
+    tie.close (tie.spec returns returns-2)

@@ -1,4 +1,5 @@
--- `line::read_line`: the loop reads the line field by field (`Reading`), and each field starts at a later place than the one before.
+-- `line::read_line`: the loop reads the line field by field (`Reading`), and each field starts at a later place than
+-- the one before.
 use Prim.Native.Nat.{suc, _-_}
 use native.Mathlib.Omega.{arith}
 use mathlib.Core.Path.{refl, sym}
@@ -30,18 +31,21 @@ none-requires c κs = tt
 loop-holds : tie.Need-loop-holds Inv-loop μ-loop
 loop-holds c =
     let start = c .before .before .before .before in
-    rw (c .before .before .field .ensures, c .before .none .ensures) (reading-starts (start .args .s .now) (start .args .at) (start .pre))
+    rw (c .before .before .field .ensures, c .before .none .ensures) (reading-starts (start .args .s .now)
+    (start .args .at) (start .pre))
 
 field-requires-2 : tie.Need-field-requires-2 Inv-loop μ-loop
 field-requires-2 c κs = tt
 
 -- in a turn the line goes on
-reading : (c : tie.In-loop Inv-loop μ-loop) → Reading (text (c .before)) (c .before .before .before .before .before .before .args .at)
-    (c .before .loop .cells) false (c .before .loop .next .at)
+reading : (c : tie.In-loop Inv-loop μ-loop)
+    → let still-start = c .before .before .before .before .before .before in
+    Reading (text (c .before)) (still-start .args .at) (c .before .loop .cells) false (c .before .loop .next .at)
 reading c = rw (not-fails (c .before .loop .last) (c .loop-test .taken)) at (c .before .loop .inv)
 
 -- the field that a turn reads
-read : (c : tie.After-field2 Inv-loop μ-loop) → FieldStep (text (c .before .before)) (c .before .before .loop .next .at) (c .field2 .result)
+read : (c : tie.After-field2 Inv-loop μ-loop) → FieldStep (text (c .before .before))
+    (c .before .before .loop .next .at) (c .field2 .result)
 read c =
     rw (c .field2 .ensures)
     (field-step (text (c .before .before)) (c .before .before .loop .next .at) (reading (c .before) .more refl))
@@ -62,16 +66,19 @@ loop-again : tie.Need-loop-again Inv-loop μ-loop
 loop-again c =
     let turn = c .before .before .before .before in
     rw (c .before .with .ensures, c .before .before .before .field2 .ensures)
-    (reading-goes-on (text (turn .before)) (turn .before .before .before .before .before .before .args .at) (turn .before .loop .cells)
+    (reading-goes-on (text (turn .before)) (turn .before .before .before .before .before .before .args .at)
+    (turn .before .loop .cells)
     (turn .before .loop .next .at) (reading turn))
 
 returns : tie.Need-returns Inv-loop μ-loop
 returns c =
-    let start = c .before .before .before .before .before .before in
+    let at-field = c .before .before .before .before in
+    let start = at-field .before .before in
     let read-whole = rw (not-false (c .before .loop .last) (c .loop-test .left)) at (c .before .loop .inv) in
     record {
-      name = rw (c .before .before .before .before .field .ensures) (first-field-part (start .args .s .now) (start .args .at) (start .pre));
-      cells = reading-ends (start .args .s .now) (start .args .at) (c .before .loop .cells) (c .before .loop .next .at) read-whole;
+      name = rw (at-field .field .ensures) (first-field-part (start .args .s .now) (start .args .at) (start .pre));
+      cells = reading-ends (start .args .s .now) (start .args .at) (c .before .loop .cells)
+          (c .before .loop .next .at) read-whole;
       after = sym (read-whole .after);
       within = read-whole .within;
       count-small = read-whole .count-small;
@@ -80,18 +87,5 @@ returns c =
 
 pub read-line-spec : {M : Type 1} → statement M
 read-line-spec =
-    tie.close
-    (tie.spec
-    Inv-loop
-    μ-loop
-    field-requires
-    none-requires
-    loop-holds
-    field-requires-2
-    sub-with
-    part-with-start
-    part-with-end
-    (λ c κs. omega arith)
-    loop-less
-    loop-again
-    returns)
+    tie.close (tie.spec Inv-loop μ-loop field-requires none-requires loop-holds field-requires-2 sub-with
+    part-with-start part-with-end (λ c κs. omega arith) loop-less loop-again returns)

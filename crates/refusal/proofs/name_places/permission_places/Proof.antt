@@ -1,5 +1,5 @@
--- `places::permission_places`: the loop notes a field a turn (`FieldsNoted`). While a field is left there is room, since there are at most as many
--- fields as room.
+-- `places::permission_places`: the loop notes a field a turn (`FieldsNoted`). While a field is left there is room,
+-- since there are at most as many fields as room.
 use Prim.Native.Nat.{suc, _-_, _<_}
 use native.Mathlib.Omega.{arith}
 use native.Mathlib.Numerals.{add-one}
@@ -11,7 +11,12 @@ use Rattle.spec.specs.Text.{Bytes}
 use Rattle.bits.specs.Truth.{not-fails}
 use Rattle.refusal.specs.FieldLaws.{FieldStep}
 use Rattle.refusal.specs.Laws.FieldsLeft.{field-next, field-below}
-use Rattle.refusal.specs.Laws.PermissionPlaces.{FieldsNoted, noting-fields-starts, noting-fields-goes-on, noting-fields-ends}
+use Rattle.refusal.specs.Laws.PermissionPlaces.{
+  FieldsNoted,
+  noting-fields-starts,
+  noting-fields-goes-on,
+  noting-fields-ends,
+}
 use Rattle.refusal.proofs.name_places.permission_places.Statement.{statement}
 use Rattle.refusal.proofs.name_places.permission_places.Tie as tie
 
@@ -29,8 +34,9 @@ none-requires c κs = tt
 
 loop-holds : tie.Need-loop-holds Inv-loop μ-loop
 loop-holds c =
+    let start = c .before .before .before .before in
     rw (c .before .before .field .ensures)
-    (noting-fields-starts user-limit (c .before .before .before .before .args .s .now) (c .before .none .result) (c .before .none .ensures))
+    (noting-fields-starts user-limit (start .args .s .now) (c .before .none .result) (c .before .none .ensures))
 
 field-requires-2 : tie.Need-field-requires-2 Inv-loop μ-loop
 field-requires-2 c κs = tt
@@ -40,23 +46,27 @@ text c = c .before .before .before .before .before .args .s .now
 
 -- in a turn the line goes on
 noting : (c : tie.In-loop Inv-loop μ-loop)
-    → FieldsNoted user-limit (text (c .before)) (c .before .loop .places) (c .before .loop .n) false (c .before .loop .next .at)
+    → FieldsNoted user-limit (text (c .before)) (c .before .loop .places) (c .before .loop .n) false
+    (c .before .loop .next .at)
 noting c = rw (not-fails (c .before .loop .last) (c .loop-test .taken)) at (c .before .loop .inv)
 
 room : (c : tie.In-loop Inv-loop μ-loop) → c .before .loop .n < user-limit
 room c =
+    let start = c .before .before .before .before .before .before in
     let loop = c .before .loop in
     omega (
       arith,
-      c .before .before .before .before .before .before .pre,
+      start .pre,
       field-below (text (c .before)) 0 (loop .n) (loop .next .at) (noting c .left),
     )
 
 -- the field that a turn reads
-read : (c : tie.After-field2 Inv-loop μ-loop) → FieldStep (text (c .before .before)) (c .before .before .loop .next .at) (c .field2 .result)
+read : (c : tie.After-field2 Inv-loop μ-loop) → FieldStep (text (c .before .before))
+    (c .before .before .loop .next .at) (c .field2 .result)
 read c =
     let loop = c .before .before .loop in
-    rw (c .field2 .ensures) (field-next (text (c .before .before)) 0 (loop .n) (loop .next .at) (noting (c .before) .left))
+    rw (c .field2 .ensures) (field-next (text (c .before .before)) 0 (loop .n) (loop .next .at)
+    (noting (c .before) .left))
 
 mul-places : tie.Need-mul-places Inv-loop μ-loop
 unfolding user-limit
@@ -97,19 +107,5 @@ returns c =
 
 pub permission-places-spec : {M : Type 1} → statement M
 permission-places-spec =
-    tie.close
-    (tie.spec
-    Inv-loop
-    μ-loop
-    field-requires
-    none-requires
-    loop-holds
-    field-requires-2
-    mul-places
-    element-write-places
-    mul-places-2
-    element-write-places-2
-    add-n
-    loop-less
-    loop-again
-    returns)
+    tie.close (tie.spec Inv-loop μ-loop field-requires none-requires loop-holds field-requires-2 mul-places
+    element-write-places mul-places-2 element-write-places-2 add-n loop-less loop-again returns)

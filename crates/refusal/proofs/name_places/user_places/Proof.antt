@@ -1,4 +1,5 @@
--- `places::user_places`: the loop notes a name a line (`Noting`). While a line is left there is room, since there are at most as many lines as room.
+-- `places::user_places`: the loop notes a name a line (`Noting`). While a line is left there is room, since there are
+-- at most as many lines as room.
 use Prim.Native.Nat.{suc, _-_, _<_}
 use native.Mathlib.Omega.{arith}
 use native.Mathlib.Numerals.{add-one}
@@ -20,7 +21,8 @@ none-requires c κs = tt
 loop-holds : tie.Need-loop-holds Inv-loop μ-loop
 loop-holds c =
     let start = c .before .before in
-    noting-starts user-limit (start .args .s .now) (start .args .at) (c .none .result) (c .none .ensures) (start .pre .0)
+    noting-starts user-limit (start .args .s .now) (start .args .at) (c .none .result) (c .none .ensures)
+    (start .pre .0)
 
 room : (c : tie.After-read-line Inv-loop μ-loop) → c .before .before .loop .n < user-limit
 room c =
@@ -65,22 +67,10 @@ returns : tie.Need-returns Inv-loop μ-loop
 returns c =
     let start = c .before .before .before .before in
     let loop = c .before .loop in
-    noting-ends user-limit (start .args .s .now) (start .args .at) (loop .places) (loop .n) (loop .from) (loop .inv) (c .loop-test .left)
+    noting-ends user-limit (start .args .s .now) (start .args .at) (loop .places) (loop .n) (loop .from) (loop .inv)
+    (c .loop-test .left)
 
 pub user-places-spec : {M : Type 1} → statement M
 user-places-spec =
-    tie.close
-    (tie.spec
-    Inv-loop
-    μ-loop
-    none-requires
-    loop-holds
-    (λ c κs. omega arith)
-    mul-places
-    element-write-places
-    mul-places-2
-    element-write-places-2
-    add-n
-    (λ c. omega arith)
-    loop-again
-    returns)
+    tie.close (tie.spec Inv-loop μ-loop none-requires loop-holds (λ c κs. omega arith) mul-places element-write-places
+    mul-places-2 element-write-places-2 add-n (λ c. omega arith) loop-again returns)

@@ -27,7 +27,11 @@ returns : tie.Need-returns Inv-loop μ-loop
 returns c =
     let turn = c .before .before .before in
     let refused = sym (c .before .is-allowed .ensures) ∙ not-true _ (c .if1 .taken) in
-    rw (all-left (turn .before .before .before .args .s .now) (turn .before .loop .i) 0 (turn .loop-test .taken) allowed-byte, refused) at
+    rw (
+      all-left (turn .before .before .before .args .s .now) (turn .before .loop .i) 0 (turn .loop-test .taken)
+          allowed-byte,
+      refused,
+    ) at
     (turn .before .loop .inv)
 
 loop-again : tie.Need-loop-again Inv-loop μ-loop
@@ -35,7 +39,11 @@ loop-again c =
     let turn = c .before .before .before in
     let passed = sym (c .before .is-allowed .ensures) ∙ not-false _ (c .if1 .left) in
     rw add-one
-    (rw (all-left (turn .before .before .before .args .s .now) (turn .before .loop .i) 0 (turn .loop-test .taken) allowed-byte, passed) at
+    (rw (
+      all-left (turn .before .before .before .args .s .now) (turn .before .loop .i) 0 (turn .loop-test .taken)
+          allowed-byte,
+      passed,
+    ) at
     (turn .before .loop .inv))
 
 returns-2 : tie.Need-returns-2 Inv-loop μ-loop
@@ -45,15 +53,5 @@ returns-2 c =
 
 pub all-allowed-spec : {M : Type 1} → statement M
 all-allowed-spec =
-    tie.close
-    (tie.spec
-    Inv-loop
-    μ-loop
-    loop-holds
-    (λ c. omega arith)
-    is-allowed-requires
-    returns
-    (λ c. omega arith)
-    (λ c. omega arith)
-    loop-again
-    returns-2)
+    tie.close (tie.spec Inv-loop μ-loop loop-holds (λ c. omega arith) is-allowed-requires returns (λ c. omega arith)
+    (λ c. omega arith) loop-again returns-2)

@@ -15,13 +15,5 @@ returns-2 c = rw (sym (c .before .same-bytes .ensures) ∙ c .if1 .left)
 
 pub good-first-line-spec : {M : Type 1} → statement M
 good-first-line-spec =
-    tie.close
-    (tie.spec
-    (λ c. search needs)
-    (λ c. search needs)
-    (λ c. search needs)
-    (λ c. search needs)
-    (λ c κs. search needs)
-    (λ c κs. search needs)
-    returns
-    returns-2)
+    tie.close (tie.spec (λ c. search needs) (λ c. search needs) (λ c. search needs) (λ c. search needs)
+    (λ c κs. search needs) (λ c κs. search needs) returns returns-2)

@@ -10,7 +10,9 @@ returns : tie.Need-returns
 returns c = sym (no-bytes-bad (c .before .before .args .s .now) (c .if1 .taken))
 
 returns-2 : tie.Need-returns-2
-returns-2 c = rw (some-bytes-bad (c .before .before .before .before .args .s .now) (c .before .before .if1 .left), ne-eqb _ _ (c .if2 .taken))
+returns-2 c =
+    let start = c .before .before .before .before in
+    rw (some-bytes-bad (start .args .s .now) (c .before .before .if1 .left), ne-eqb _ _ (c .if2 .taken))
 
 returns-3 : tie.Need-returns-3
 returns-3 c =
@@ -22,5 +24,4 @@ returns-3 c =
 
 pub has-bad-bytes-spec : {M : Type 1} → statement M
 has-bad-bytes-spec =
-    tie.close
-    (tie.spec returns (λ c. search needs) (λ c. search needs) returns-2 (λ c κs. search needs) returns-3)
+    tie.close (tie.spec returns (λ c. search needs) (λ c. search needs) returns-2 (λ c κs. search needs) returns-3)

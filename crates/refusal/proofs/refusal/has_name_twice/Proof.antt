@@ -24,17 +24,20 @@ repeated-requires : tie.Need-repeated-requires
 repeated-requires c κs =
     let start = c .before .before in
     rw (start .pre .1 .0)
-    (placed-inside (length (lines-of (drop (start .args .head .next) (start .args .s .now)))) (start .args .s .now) (c .user-places .result)
+    (placed-inside (length (lines-of (drop (start .args .head .next) (start .args .s .now)))) (start .args .s .now)
+    (c .user-places .result)
     (users start) (c .user-places .ensures .names) (omega (arith, start .pre .1 .0, start .pre .1 .1 .0)))
 
 -- the users' names at the places noted
 users-there : (c : tie.After-user-places)
-    → names-at (c .before .before .args .s .now) (c .user-places .result) (c .before .before .args .users) ≡ users (c .before .before)
+    → names-at (c .before .before .args .s .now) (c .user-places .result) (c .before .before .args .users) ≡ users
+    (c .before .before)
 users-there c =
     let start = c .before .before in
     let lines = lines-of (drop (start .args .head .next) (start .args .s .now)) in
     rw (start .pre .1 .0)
-    (placed-names (length lines) (start .args .s .now) (c .user-places .result) (users start) (c .user-places .ensures .names)
+    (placed-names (length lines) (start .args .s .now) (c .user-places .result) (users start)
+    (c .user-places .ensures .names)
     (sym (length-map lines first-field)))
 
 returns : tie.Need-returns
@@ -80,11 +83,5 @@ returns-2 c =
 
 pub has-name-twice-spec : {M : Type 1} → statement M
 has-name-twice-spec =
-    tie.close
-    (tie.spec
-    (λ c κs. search needs)
-    repeated-requires
-    returns
-    permission-places-requires
-    repeated-requires-2
-    returns-2)
+    tie.close (tie.spec (λ c κs. search needs) repeated-requires returns permission-places-requires
+    repeated-requires-2 returns-2)

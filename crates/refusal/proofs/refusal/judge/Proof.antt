@@ -1,5 +1,5 @@
--- `refusal::judge`: each test is the cause of its number, in terms of what was read; where it passes the number is the lowest, and where it fails the
--- later causes decide.
+-- `refusal::judge`: each test is the cause of its number, in terms of what was read; where it passes the number is
+-- the lowest, and where it fails the later causes decide.
 use borrow.Author.Needs.{needs}
 use Prim.Native.Nat.{_≤_}
 use mathlib.Core.Path.{_≡_, sym, ap, _∙_}
@@ -9,10 +9,39 @@ use lib.Dec.{ltb}
 use Rattle.spec.specs.Limits.{permission-limit, user-limit, grant-limit}
 use Rattle.spec.specs.Text.{ascii, same-bytes, Bytes, between, lines-of}
 use Rattle.spec.specs.Sheet.{sheet-of}
-use Rattle.spec.specs.Refusal.{too-long, bad-first-line, bad-line-count, bad-name, uneven-line, bad-cell, name-twice, too-many-grants, refusal}
+use Rattle.spec.specs.Refusal.{
+  too-long,
+  bad-first-line,
+  bad-line-count,
+  bad-name,
+  uneven-line,
+  bad-cell,
+  name-twice,
+  too-many-grants,
+  refusal,
+}
 use Rattle.bits.specs.Truth.{and-right}
 use Rattle.names.specs.Places.{part}
-use Rattle.refusal.specs.Laws.Judge.{within-high, causes-from-2, causes-from-3, causes-from-4, causes-from-5, causes-from-6, causes-from-7, causes-from-8, causes-from-9, refusal-in-turn, HeadRead, cause-3, cause-4, cause-5, cause-6, cause-7, cause-8, cause-9}
+use Rattle.refusal.specs.Laws.Judge.{
+  within-high,
+  causes-from-2,
+  causes-from-3,
+  causes-from-4,
+  causes-from-5,
+  causes-from-6,
+  causes-from-7,
+  causes-from-8,
+  causes-from-9,
+  refusal-in-turn,
+  HeadRead,
+  cause-3,
+  cause-4,
+  cause-5,
+  cause-6,
+  cause-7,
+  cause-8,
+  cause-9,
+}
 use Rattle.refusal.proofs.refusal.judge.Statement.{statement}
 use Rattle.refusal.proofs.refusal.judge.Tie as tie
 
@@ -46,7 +75,9 @@ head-read c =
       first = c .read-line .ensures;
     }
 
-is-3 : (c : tie.After-good-first-line) → bad-first-line (lines-of (text (c .before .before .before .before))) ≡ not (c .good-first-line .result)
+is-3 : (c : tie.After-good-first-line)
+    → let earlier = c .before .before .before .before in
+    bad-first-line (lines-of (text earlier)) ≡ not (c .good-first-line .result)
 is-3 c =
     cause-3 (text (c .before .before .before .before)) (c .before .read-line .result) (head-read (c .before))
     ∙ ap not (sym (c .good-first-line .ensures))
@@ -54,13 +85,17 @@ is-3 c =
 returns-3 : tie.Need-returns-3
 returns-3 c = rw (past-2 (c .before .before .before), is-3 (c .before) ∙ c .if3 .taken)
 
-past-3 : (c : tie.Else3) → refusal (text (c .before .before .before .before .before)) ≡ causes-from-4 (text (c .before .before .before .before .before))
+past-3 : (c : tie.Else3)
+    → let earlier = c .before .before .before .before .before in
+    refusal (text earlier) ≡ causes-from-4 (text earlier)
 past-3 c = rw (past-2 (c .before .before .before), is-3 (c .before) ∙ c .if3 .left)
 
 -- ---- 4
 
 abbrev sheet-bytes : tie.After-read-body → Bytes
-sheet-bytes c = text (c .before .before .before .before .before .before)
+sheet-bytes c =
+    let earlier = c .before .before .before .before .before .before in
+    text earlier
 
 abbrev head : (c : tie.After-read-body) → tie.After-read-line
 head c = c .before .before .before
@@ -68,7 +103,8 @@ head c = c .before .before .before
 is-4 : (c : tie.After-is-within) → bad-line-count (lines-of (sheet-bytes (c .before))) ≡ not (c .is-within .result)
 unfolding user-limit
 is-4 c =
-    cause-4 (sheet-bytes (c .before)) (head (c .before) .read-line .result) (head-read (head (c .before))) (c .before .read-body .result)
+    cause-4 (sheet-bytes (c .before)) (head (c .before) .read-line .result) (head-read (head (c .before)))
+    (c .before .read-body .result)
     (c .before .read-body .ensures)
     ∙ ap not (sym (c .is-within .ensures))
 
@@ -83,36 +119,53 @@ past-4 c = rw (past-3 (c .before .before .before), is-4 (c .before) ∙ c .if4 .
 is-5 : (c : tie.After-both) → bad-name (sheet-of (sheet-bytes (c .before .before .before))) ≡ not (c .both .result)
 is-5 c =
     let read = c .before .before .before in
-    cause-5 (sheet-bytes read) (head read .read-line .result) (head-read (head read)) (read .read-body .result) (read .read-body .ensures)
+    cause-5 (sheet-bytes read) (head read .read-line .result) (head-read (head read)) (read .read-body .result)
+    (read .read-body .ensures)
     ∙ ap not (sym (c .both .ensures))
 
 returns-5 : tie.Need-returns-5
 returns-5 c = rw (past-4 (c .before .before), is-5 (c .before) ∙ c .if5 .taken)
 
-past-5 : (c : tie.Else5) → refusal (sheet-bytes (c .before .before .before .before)) ≡ causes-from-6 (sheet-bytes (c .before .before .before .before))
+past-5 : (c : tie.Else5)
+    → let earlier = c .before .before .before .before in
+    refusal (sheet-bytes earlier) ≡ causes-from-6 (sheet-bytes earlier)
 past-5 c = rw (past-4 (c .before .before), is-5 (c .before) ∙ c .if5 .left)
 
 -- ---- 6
 
 is-6 : (c : tie.After-read-body) → uneven-line (lines-of (sheet-bytes c)) ≡ not (c .read-body .result .even)
-is-6 c = cause-6 (sheet-bytes c) (head c .read-line .result) (head-read (head c)) (c .read-body .result) (c .read-body .ensures)
+is-6 c =
+    cause-6 (sheet-bytes c) (head c .read-line .result) (head-read (head c)) (c .read-body .result)
+    (c .read-body .ensures)
 
 returns-6 : tie.Need-returns-6
-returns-6 c = rw (past-5 (c .before .before), is-6 (c .before .before .before .before .before .before) ∙ c .if6 .taken)
+returns-6 c =
+    let earlier = c .before .before .before .before .before .before in
+    rw (past-5 (c .before .before), is-6 earlier ∙ c .if6 .taken)
 
-past-6 : (c : tie.Else6) → refusal (sheet-bytes (c .before .before .before .before .before .before)) ≡ causes-from-7 (sheet-bytes (c .before .before .before .before .before .before))
-past-6 c = rw (past-5 (c .before .before), is-6 (c .before .before .before .before .before .before) ∙ c .if6 .left)
+past-6 : (c : tie.Else6)
+    → let earlier = c .before .before .before .before .before .before in
+    refusal (sheet-bytes earlier) ≡ causes-from-7 (sheet-bytes earlier)
+past-6 c =
+    let earlier = c .before .before .before .before .before .before in
+    rw (past-5 (c .before .before), is-6 earlier ∙ c .if6 .left)
 
 -- ---- 7
 
 is-7 : (c : tie.After-read-body) → bad-cell (lines-of (sheet-bytes c)) ≡ not (c .read-body .result .bits)
-is-7 c = cause-7 (sheet-bytes c) (head c .read-line .result) (head-read (head c)) (c .read-body .result) (c .read-body .ensures)
+is-7 c =
+    cause-7 (sheet-bytes c) (head c .read-line .result) (head-read (head c)) (c .read-body .result)
+    (c .read-body .ensures)
 
 returns-7 : tie.Need-returns-7
-returns-7 c = rw (past-6 (c .before .before), is-7 (c .before .before .before .before .before .before .before .before) ∙ c .if7 .taken)
+returns-7 c =
+    let earlier = c .before .before .before .before .before .before .before .before in
+    rw (past-6 (c .before .before), is-7 earlier ∙ c .if7 .taken)
 
 abbrev body : tie.Else7 → tie.After-read-body
-body c = c .before .before .before .before .before .before .before .before
+body c =
+    let earlier = c .before .before .before .before .before .before .before .before in
+    earlier
 
 past-7 : (c : tie.Else7) → refusal (sheet-bytes (body c)) ≡ causes-from-8 (sheet-bytes (body c))
 past-7 c = rw (past-6 (c .before .before), is-7 (body c) ∙ c .if7 .left)
@@ -127,22 +180,27 @@ few-users c =
 
 few-permissions : (c : tie.Else3) → c .before .before .read-line .result .cells .count ≤ permission-limit
 few-permissions c =
+    let earlier = c .before .before .before .before .before in
     let read = c .before .before .read-line .result in
-    let user : Bool = same-bytes (part 0 (read .to) (text (c .before .before .before .before .before))) (ascii "user") in
-    let good = sym (c .before .good-first-line .ensures) ∙ not-false (c .before .good-first-line .result) (c .if3 .left) in
-    within-high 1 permission-limit (read .cells .count) (and-right user (between 1 permission-limit (read .cells .count)) good)
+    let user : Bool = same-bytes (part 0 (read .to) (text earlier)) (ascii "user") in
+    let good = sym (c .before .good-first-line .ensures) ∙ not-false (c .before .good-first-line .result)
+    (c .if3 .left) in
+    within-high 1 permission-limit (read .cells .count)
+    (and-right user (between 1 permission-limit (read .cells .count)) good)
 
 has-name-twice-requires : tie.Need-has-name-twice-requires
 has-name-twice-requires c κs =
+    let earlier = c .before .before .before .before .before .before in
     let read = body c in (
       head read .read-line .ensures,
       (
         ap (λ said. said .users) (read .read-body .ensures),
-        (few-users (c .before .before .before .before .before .before), few-permissions (read .before)),
+        (few-users earlier, few-permissions (read .before)),
       ),
     )
 
-is-8 : (c : tie.After-has-name-twice) → name-twice (sheet-of (sheet-bytes (body (c .before)))) ≡ c .has-name-twice .result
+is-8 : (c : tie.After-has-name-twice) → name-twice (sheet-of (sheet-bytes (body (c .before)))) ≡
+    c .has-name-twice .result
 is-8 c =
     let read = body (c .before) in
     cause-8 (sheet-bytes read) (head read .read-line .result) (head-read (head read)) ∙ sym (c .has-name-twice .ensures)
@@ -150,40 +208,32 @@ is-8 c =
 returns-8 : tie.Need-returns-8
 returns-8 c = rw (past-7 (c .before .before), is-8 (c .before) ∙ c .if8 .taken)
 
-past-8 : (c : tie.Else8) → refusal (sheet-bytes (body (c .before .before))) ≡ causes-from-9 (sheet-bytes (body (c .before .before)))
+past-8 : (c : tie.Else8) → refusal (sheet-bytes (body (c .before .before))) ≡ causes-from-9
+    (sheet-bytes (body (c .before .before)))
 past-8 c = rw (past-7 (c .before .before), is-8 (c .before) ∙ c .if8 .left)
 
 -- ---- 9
 
-is-9 : (c : tie.After-read-body) → too-many-grants (sheet-of (sheet-bytes c)) ≡ ltb grant-limit (c .read-body .result .ones)
-is-9 c = cause-9 (sheet-bytes c) (head c .read-line .result) (head-read (head c)) (c .read-body .result) (c .read-body .ensures)
+is-9 : (c : tie.After-read-body) → too-many-grants (sheet-of (sheet-bytes c)) ≡ ltb grant-limit
+    (c .read-body .result .ones)
+is-9 c =
+    cause-9 (sheet-bytes c) (head c .read-line .result) (head-read (head c)) (c .read-body .result)
+    (c .read-body .ensures)
 
 returns-9 : tie.Need-returns-9
 unfolding grant-limit
-returns-9 c = rw (past-8 (c .before .before), is-9 (body (c .before .before .before .before)), lt-ltb _ _ (c .if9 .taken))
+returns-9 c =
+    let earlier = c .before .before .before .before in
+    rw (past-8 (c .before .before), is-9 (body earlier), lt-ltb _ _ (c .if9 .taken))
 
 returns-10 : tie.Need-returns-10
 unfolding grant-limit
-returns-10 c = rw (past-8 (c .before .before), is-9 (body (c .before .before .before .before)), le-ltb _ _ (c .if9 .left))
+returns-10 c =
+    let earlier = c .before .before .before .before in
+    rw (past-8 (c .before .before), is-9 (body earlier), le-ltb _ _ (c .if9 .left))
 
 pub judge-spec : {M : Type 1} → statement M
 judge-spec =
-    tie.close
-    (tie.spec
-    returns
-    (λ c κs. search needs)
-    returns-2
-    (λ c κs. search needs)
-    (λ c κs. search needs)
-    returns-3
-    (λ c κs. search needs)
-    (λ c κs. search needs)
-    returns-4
-    (λ c κs. search needs)
-    returns-5
-    returns-6
-    returns-7
-    has-name-twice-requires
-    returns-8
-    returns-9
-    returns-10)
+    tie.close (tie.spec returns (λ c κs. search needs) returns-2 (λ c κs. search needs) (λ c κs. search needs)
+    returns-3 (λ c κs. search needs) (λ c κs. search needs) returns-4 (λ c κs. search needs) returns-5 returns-6
+    returns-7 has-name-twice-requires returns-8 returns-9 returns-10)

@@ -1,5 +1,5 @@
--- `roles::all_classes`: while i removals are left, going back over them from the classes so far leads to the classes of all grants. Each turn goes back over
--- the latest that is left, and opens at most one class.
+-- `roles::all_classes`: while i removals are left, going back over them from the classes so far leads to the classes
+-- of all grants. Each turn goes back over the latest that is left, and opens at most one class.
 use Prim.Native.Nat.{_+_, _≤_, _-_}
 use native.Mathlib.Omega.{arith}
 use Rattle.spec.specs.Limits.{grant-limit}
@@ -47,17 +47,22 @@ element-copy-out-put-back-2 c = omega arith
 
 put-back-requires : tie.Need-put-back-requires Inv-loop μ-loop
 unfolding grant-limit
-put-back-requires c κs = (
-  omega arith,
-  c .before .before .before .before .before .before .before .pre .1 .1 .1 .below (c .before .before .before .before .loop .i - 1) (omega arith),
-  c .before .before .before .before .before .before .before .pre .1 .1 .2 .below (c .before .before .before .before .loop .i - 1) (omega arith),
-)
+put-back-requires c κs =
+    let still-at-loop = c .before .before .before .before in
+    let start = still-at-loop .before .before .before in (
+      omega arith,
+      start .pre .1 .1 .1 .below (still-at-loop .loop .i - 1) (omega arith),
+      start .pre .1 .1 .2 .below (still-at-loop .loop .i - 1) (omega arith),
+    )
 
 loop-again : tie.Need-loop-again Inv-loop μ-loop
 loop-again c =
-    let a = c .before .before .before .before .before .before .before .before .args in
-    let at-loop = c .before .before .before .before .before in
-    let on = going-back-on (a .removed .now) (a .partner .now) (at-loop .loop .i) (c .before .before .before .before .loop-test .taken) (c .put-back .ensures)
+    let at-loop-test = c .before .before .before .before in
+    let at-loop = at-loop-test .before in
+    let start = at-loop .before .before .before in
+    let a = start .args in
+    let on = going-back-on (a .removed .now) (a .partner .now) (at-loop .loop .i) (at-loop-test .loop-test .taken)
+    (c .put-back .ensures)
     (at-loop .loop .inv .2) in
     (omega arith, omega (arith, on .1), on .0)
 
@@ -68,18 +73,6 @@ returns c =
 
 pub all-classes-spec : {M : Type 1} → statement M
 all-classes-spec =
-    tie.close
-    (tie.spec
-    Inv-loop
-    μ-loop
-    place-kernel-requires
-    loop-holds
-    (λ c. omega arith)
-    mul-put-back
-    element-copy-out-put-back
-    mul-put-back-2
-    element-copy-out-put-back-2
-    put-back-requires
-    (λ c. omega arith)
-    loop-again
-    returns)
+    tie.close (tie.spec Inv-loop μ-loop place-kernel-requires loop-holds (λ c. omega arith) mul-put-back
+    element-copy-out-put-back mul-put-back-2 element-copy-out-put-back-2 put-back-requires (λ c. omega arith)
+    loop-again returns)

@@ -1,5 +1,5 @@
--- `roles::place_kernel`: after i turns the array has the classes of the first i grants of the kernel, the latest in front, since each turn writes the class
--- of the next grant at its cell.
+-- `roles::place_kernel`: after i turns the array has the classes of the first i grants of the kernel, the latest in
+-- front, since each turn writes the class of the next grant at its cell.
 use Prim.Native.Nat.{_≤_, _<_, _-_}
 use native.Mathlib.Omega.{arith}
 use mathlib.Core.Path.{_≡_}
@@ -19,7 +19,8 @@ abbrev μ-loop : tie.MeasureT-loop
 μ-loop class₀ kernel size placed i₀ class i = size - i
 
 -- the next grant of the kernel is a cell
-cell-below : (c : tie.In-loop Inv-loop μ-loop) → getD (c .before .before .args .kernel .now) (c .before .loop .i) 0 < cell-limit
+cell-below : (c : tie.In-loop Inv-loop μ-loop) → getD (c .before .before .args .kernel .now) (c .before .loop .i) 0 <
+    cell-limit
 cell-below c = c .before .before .pre .1 .below (c .before .loop .i) (c .loop-test .taken)
 
 loop-holds : tie.Need-loop-holds Inv-loop μ-loop
@@ -71,19 +72,5 @@ returns c =
 
 pub place-kernel-spec : {M : Type 1} → statement M
 place-kernel-spec =
-    tie.close
-    (tie.spec
-    Inv-loop
-    μ-loop
-    loop-holds
-    mul-cell
-    element-copy-out-cell
-    cast-cell
-    mul-class
-    element-copy-out-class
-    mul-class-2
-    element-write-class
-    add-i
-    (λ c. omega arith)
-    loop-again
-    returns)
+    tie.close (tie.spec Inv-loop μ-loop loop-holds mul-cell element-copy-out-cell cast-cell mul-class
+    element-copy-out-class mul-class-2 element-write-class add-i (λ c. omega arith) loop-again returns)

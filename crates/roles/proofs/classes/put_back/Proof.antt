@@ -1,4 +1,5 @@
--- `roles::put_back`: the class written at the cell is the one that the definition gives the grant that is put back, by the same test.
+-- `roles::put_back`: the class written at the cell is the one that the definition gives the grant that is put back,
+-- by the same test.
 use native.Mathlib.Omega.{arith}
 use borrow.Author.Needs.{needs}
 use Rattle.spec.specs.Limits.{user-limit}
@@ -27,19 +28,10 @@ element-write-class-2 c = omega arith
 returns-2 : tie.Need-returns-2
 returns-2 c classes at =
     let a = c .before .before .args in
-    tied-written (a .cell) (a .partner) (c .before .before .pre .1) at (c .before .if1 .left) (c .before .before .pre .2)
+    tied-written (a .cell) (a .partner) (c .before .before .pre .1) at (c .before .if1 .left)
+    (c .before .before .pre .2)
 
 pub put-back-spec : {M : Type 1} → statement M
 put-back-spec =
-    tie.close
-    (tie.spec
-    (λ c. search needs)
-    (λ c. search needs)
-    element-write-class
-    (λ c. search needs)
-    returns
-    (λ c. search needs)
-    element-copy-out-joined
-    (λ c. search needs)
-    element-write-class-2
-    returns-2)
+    tie.close (tie.spec (λ c. search needs) (λ c. search needs) element-write-class (λ c. search needs) returns
+    (λ c. search needs) element-copy-out-joined (λ c. search needs) element-write-class-2 returns-2)

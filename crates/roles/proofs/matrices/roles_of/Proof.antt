@@ -1,5 +1,5 @@
--- `roles::roles_of`: the grants of the sheet are listed, the classes of all grants stand at their cells, and the roles of the listed grants in these classes
--- are those of the sheet.
+-- `roles::roles_of`: the grants of the sheet are listed, the classes of all grants stand at their cells, and the
+-- roles of the listed grants in these classes are those of the sheet.
 use mathlib.Core.Path.{_≡_, refl, sym, ap, _∙_}
 use borrow.Author.Needs.{needs}
 use lib.ListN.{length}
@@ -10,7 +10,19 @@ use Rattle.spec.specs.Roles.{classes-of}
 use Rattle.cells.specs.Rows.{row-words}
 use Rattle.cells.specs.CellPlaces.{cell-limit}
 use Rattle.roles.specs.Laws.CellClass.{no-classes}
-use Rattle.roles.specs.Laws.RolesInput.{kernel-below, removed-below, partner-below, all-roomy, all-listed, all-below, all-users-below, classes-below, roles-few, all-class-at, roles-belong}
+use Rattle.roles.specs.Laws.RolesInput.{
+  kernel-below,
+  removed-below,
+  partner-below,
+  all-roomy,
+  all-listed,
+  all-below,
+  all-users-below,
+  classes-below,
+  roles-few,
+  all-class-at,
+  roles-belong,
+}
 use Rattle.roles.proofs.matrices.roles_of.Statement.{statement}
 use Rattle.roles.proofs.matrices.roles_of.Tie as tie
 
@@ -26,7 +38,10 @@ unfolding user-limit row-words
 all-classes-requires c κs =
     let b = c .before .before .pre .belongs in (
       (b .few-cells, kernel-below b, no-classes cell-limit refl),
-      ((b .placement-held .in-use ∙ ap used (sym (b .placement-held .so-far)), b .few-classes), (b .few-removals, removed-below b, partner-below b)),
+      (
+        (b .placement-held .in-use ∙ ap used (sym (b .placement-held .so-far)), b .few-classes),
+        (b .few-removals, removed-below b, partner-below b),
+      ),
     )
 
 roles-of-classes-requires : tie.Need-roles-of-classes-requires
@@ -36,24 +51,32 @@ roles-of-classes-requires c κs =
     let all = at-listed .listed .result in
     let whole = all-listed (all .cells) (all .size) (b .shown) (room at-listed) (at-listed .listed .ensures) in
     let at = c .before .before .before .all-classes .ensures in (
-      (at-listed .listed .ensures .few, all-below b (all .cells) (all .size) whole at, classes-below b (all .cells) (all .size) whole at),
+      (
+        at-listed .listed .ensures .few,
+        all-below b (all .cells) (all .size) whole at,
+        classes-below b (all .cells)
+            (all .size) whole at,
+      ),
       roles-few b (all .cells) (all .size) whole at,
     )
 
 returns : tie.Need-returns
 returns c =
-    let at-listed = c .before .before .before .before .before .before in
+    let at-all-classes = c .before .before .before .before in
+    let at-listed = at-all-classes .before .before in
     let users = at-listed .before .args .users in
     let all = at-listed .listed .result in
     let listed = at-listed .listed .ensures in
-    let at = c .before .before .before .before .all-classes .ensures in
+    let at = at-all-classes .all-classes .ensures in
     let given = at-listed .before .pre .belongs in (
       λ sheet placement b.
           let whole = all-listed (all .cells) (all .size) (b .shown) (room at-listed) listed in
           rw (roles-belong b (all .cells) (all .size) whole at) at
-          (c .roles-of-classes .ensures .0 (classes-of (reduction sheet) placement .members) users (all-class-at b (all .cells) (all .size) whole at)),
+          (c .roles-of-classes .ensures .0 (classes-of (reduction sheet) placement .members) users
+          (all-class-at b (all .cells) (all .size) whole at)),
       c .roles-of-classes .ensures .1 users
-          (all-users-below given (all .cells) (all .size) (all-listed (all .cells) (all .size) (given .shown) (room at-listed) listed) at),
+          (all-users-below given (all .cells) (all .size) (all-listed (all .cells) (all .size) (given .shown)
+          (room at-listed) listed) at),
     )
 
 pub roles-of-spec : {M : Type 1} → statement M

@@ -1,4 +1,5 @@
--- `roles::roles_of_classes`: the role numbers are below the count, so they are columns of a row; and the two matrices show the grants with these numbers.
+-- `roles::roles_of_classes`: the role numbers are below the count, so they are columns of a row; and the two matrices
+-- show the grants with these numbers.
 use borrow.Author.Needs.{needs}
 use Rattle.roles.specs.RolesShown.{roles-below, matrices-show, matrices-only}
 use Rattle.roles.proofs.matrices.roles_of_classes.Statement.{statement}
@@ -20,4 +21,5 @@ returns c =
     )
 
 pub roles-of-classes-spec : {M : Type 1} → statement M
-roles-of-classes-spec = tie.close (tie.spec (λ c κs. search needs) role-rows-requires returns)
+roles-of-classes-spec =
+    tie.close (tie.spec (λ c κs. search needs) role-rows-requires returns)

@@ -1,5 +1,5 @@
--- `roles::number_roles`: after i turns the first i grants have the roles that a grouping by class gives them, and the table has the roles of their classes.
--- Each turn gives the next grant the role of its class.
+-- `roles::number_roles`: after i turns the first i grants have the roles that a grouping by class gives them, and the
+-- table has the roles of their classes. Each turn gives the next grant the role of its class.
 use Prim.Native.Nat.{_≤_, _<_, _-_}
 use native.Mathlib.Omega.{arith}
 use mathlib.Core.Path.{_≡_, refl, _∙_}
@@ -8,22 +8,31 @@ use Rattle.spec.specs.Limits.{grant-limit, user-limit}
 use Rattle.cells.specs.Rows.{row-words}
 use Rattle.cells.specs.CellPlaces.{cell-limit}
 use Rattle.roles.specs.RoleNumbers.{class-limit, class-key}
-use Rattle.roles.specs.Laws.RoleNumber.{Numbering, nothing-numbered, numbering-count-le, role-from-is-next, numbering-step}
+use Rattle.roles.specs.Laws.RoleNumber.{
+  Numbering,
+  nothing-numbered,
+  numbering-count-le,
+  role-from-is-next,
+  numbering-step,
+}
 use Rattle.roles.proofs.numbering.number_roles.Statement.{statement}
 use Rattle.roles.proofs.numbering.number_roles.Tie as tie
 
 abbrev Inv-loop : tie.InvT-loop
-Inv-loop cells n class table₀ roles₀ count₀ i₀ table roles count i = (i ≤ n) × Numbering (class-key class cells) i table roles count
+Inv-loop cells n class table₀ roles₀ count₀ i₀ table roles count i =
+    (i ≤ n) × Numbering (class-key class cells) i table roles count
 
 abbrev μ-loop : tie.MeasureT-loop
 μ-loop cells n class table₀ roles₀ count₀ i₀ table roles count i = n - i
 
 -- the next grant is a cell, its class stands in the table, and there are few roles so far
-cell-below : (c : tie.In-loop Inv-loop μ-loop) → getD (c .before .before .args .cells .now) (c .before .loop .i) 0 < cell-limit
+cell-below : (c : tie.In-loop Inv-loop μ-loop) → getD (c .before .before .args .cells .now) (c .before .loop .i) 0 <
+    cell-limit
 cell-below c = c .before .before .pre .1 .below (c .before .loop .i) (c .loop-test .taken)
 
 key-below : (c : tie.In-loop Inv-loop μ-loop)
-    → class-key (c .before .before .args .class .now) (c .before .before .args .cells .now) (c .before .loop .i) < class-limit
+    → class-key (c .before .before .args .class .now) (c .before .before .args .cells .now) (c .before .loop .i) <
+    class-limit
 key-below c = c .before .before .pre .2 .below (c .before .loop .i) (c .loop-test .taken)
 
 few-roles : (c : tie.In-loop Inv-loop μ-loop) → c .before .loop .count < grant-limit
@@ -31,7 +40,11 @@ few-roles c = omega (arith, numbering-count-le (c .before .loop .inv .1))
 
 loop-holds : tie.Need-loop-holds Inv-loop μ-loop
 unfolding grant-limit
-loop-holds c = (omega arith, nothing-numbered (class-key (c .args .class .now) (c .args .cells .now)) grant-limit class-limit refl refl)
+loop-holds c = (
+  omega arith,
+  nothing-numbered (class-key (c .args .class .now) (c .args .cells .now)) grant-limit class-limit
+      refl refl,
+)
 
 mul-cell : tie.Need-mul-cell Inv-loop μ-loop
 unfolding grant-limit
@@ -93,8 +106,11 @@ loop-again c =
     let in-loop = c .before .before .before .before .before in
     let numbering = in-loop .before .loop .inv .1 in
     let room : in-loop .before .loop .i < grant-limit = omega arith in
-    let next = c .before .role-for .ensures ∙ role-from-is-next numbering room (key-below in-loop) in
-    (omega arith, rw (c .counted .ensures) (numbering-step numbering room (key-below in-loop) (c .before .role-for .result) next))
+    let next = c .before .role-for .ensures ∙ role-from-is-next numbering room (key-below in-loop) in (
+      omega arith,
+      rw (c .counted .ensures) (numbering-step numbering room (key-below in-loop)
+          (c .before .role-for .result) next),
+    )
 
 returns : tie.Need-returns Inv-loop μ-loop
 returns c =
@@ -103,24 +119,6 @@ returns c =
 
 pub number-roles-spec : {M : Type 1} → statement M
 number-roles-spec =
-    tie.close
-    (tie.spec
-    Inv-loop
-    μ-loop
-    loop-holds
-    mul-cell
-    element-copy-out-cell
-    cast-cell
-    mul-c
-    element-copy-out-c
-    cast-c
-    role-for-requires
-    mul-table
-    array-write-table
-    mul-roles
-    array-write-roles
-    counted-requires
-    add-i
-    loop-less
-    loop-again
-    returns)
+    tie.close (tie.spec Inv-loop μ-loop loop-holds mul-cell element-copy-out-cell cast-cell mul-c element-copy-out-c
+    cast-c role-for-requires mul-table array-write-table mul-roles array-write-roles counted-requires add-i loop-less
+    loop-again returns)

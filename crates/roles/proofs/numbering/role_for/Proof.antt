@@ -32,4 +32,5 @@ returns-2 c =
     rw (ne-eqb (getD (a .table .now) (a .class) 0) no-role (c .if1 .left))
 
 pub role-for-spec : {M : Type 1} → statement M
-role-for-spec = tie.close (tie.spec mul-r element-copy-out-r cast-result returns returns-2)
+role-for-spec =
+    tie.close (tie.spec mul-r element-copy-out-r cast-result returns returns-2)

@@ -39,14 +39,5 @@ returns c =
 
 pub mark-spec : {M : Type 1} → statement M
 mark-spec =
-    tie.close
-    (tie.spec
-    mul-i
-    add-i
-    mul-with
-    slice-read-with
-    (λ c κs. search needs)
-    mul-words
-    slice-write-words
-    (λ c. search needs)
-    returns)
+    tie.close (tie.spec mul-i add-i mul-with slice-read-with (λ c κs. search needs) mul-words slice-write-words
+    (λ c. search needs) returns)

@@ -17,4 +17,5 @@ returns : tie.Need-returns
 returns c = c .role .ensures
 
 pub role-of-spec : {M : Type 1} → statement M
-role-of-spec = tie.close (tie.spec mul-role element-copy-out-role (λ c κs. search needs) returns)
+role-of-spec =
+    tie.close (tie.spec mul-role element-copy-out-role (λ c κs. search needs) returns)

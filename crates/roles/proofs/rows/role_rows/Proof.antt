@@ -1,5 +1,5 @@
--- `roles::role_rows`: after i turns the words hold who has which role and what each role gives by the first i grants, since each turn sets the cell of the next
--- grant's user and role, and that of its role and permission.
+-- `roles::role_rows`: after i turns the words hold who has which role and what each role gives by the first i grants,
+-- since each turn sets the cell of the next grant's user and role, and that of its role and permission.
 use Prim.Native.Nat.{ℕ, _≤_, _<_, _-_}
 use native.Mathlib.Omega.{arith}
 use mathlib.Core.Path.{_≡_, sym, _∙_}
@@ -8,7 +8,18 @@ use Rattle.spec.specs.Limits.{grant-limit, user-limit}
 use Rattle.cells.specs.Rows.{row-words, row-bits}
 use Rattle.cells.specs.CellPlaces.{cell-words, cell-limit}
 use Rattle.roles.specs.CellClasses.{paired-in}
-use Rattle.roles.specs.RoleMatrices.{role-words, CellsShow, has-role, gives-permission, user-word-below, permission-of-cell-below, role-word-below, no-cells, has-role-next, gives-permission-next}
+use Rattle.roles.specs.RoleMatrices.{
+  role-words,
+  CellsShow,
+  has-role,
+  gives-permission,
+  user-word-below,
+  permission-of-cell-below,
+  role-word-below,
+  no-cells,
+  has-role-next,
+  gives-permission-next,
+}
 use Rattle.roles.proofs.rows.role_rows.Statement.{statement}
 use Rattle.roles.proofs.rows.role_rows.Tie as tie
 
@@ -21,10 +32,12 @@ abbrev μ-loop : tie.MeasureT-loop
 μ-loop cells roles n has₀ gives₀ i₀ has gives i = n - i
 
 -- the next grant is a cell, and its role a column of a row
-cell-below : (c : tie.In-loop Inv-loop μ-loop) → getD (c .before .before .args .cells .now) (c .before .loop .i) 0 < cell-limit
+cell-below : (c : tie.In-loop Inv-loop μ-loop) → getD (c .before .before .args .cells .now) (c .before .loop .i) 0 <
+    cell-limit
 cell-below c = c .before .before .pre .1 .below (c .before .loop .i) (c .loop-test .taken)
 
-role-below : (c : tie.In-loop Inv-loop μ-loop) → getD (c .before .before .args .roles .now) (c .before .loop .i) 0 < row-bits
+role-below : (c : tie.In-loop Inv-loop μ-loop) → getD (c .before .before .args .roles .now) (c .before .loop .i) 0 <
+    row-bits
 role-below c = c .before .before .pre .2 .below (c .before .loop .i) (c .loop-test .taken)
 
 loop-holds : tie.Need-loop-holds Inv-loop μ-loop
@@ -63,7 +76,9 @@ give-role-requires c κs =
 
 slice-aggregate-give-permission : tie.Need-slice-aggregate-give-permission Inv-loop μ-loop
 unfolding user-limit row-bits row-words
-slice-aggregate-give-permission c = sym (c .before .before .before .before .before .before .before .before .loop .inv .2 .0)
+slice-aggregate-give-permission c =
+    let at-loop = c .before .before .before .before .before .before .before .before in
+    sym (at-loop .loop .inv .2 .0)
 
 permission-of-requires : tie.Need-permission-of-requires Inv-loop μ-loop
 permission-of-requires c κs = tt
@@ -95,7 +110,8 @@ loop-again c =
     let inv = in-loop .before .loop .inv in
     let i = in-loop .before .loop .i in
     let has-added = rw (numbered .role-of .ensures, given .before .user-of .ensures) at (given .give-role .ensures) in
-    let gives-added = rw (permitted .permission-of .ensures, numbered .role-of .ensures) at (c .before .give-permission .ensures) in (
+    let gives-added = rw (permitted .permission-of .ensures, numbered .role-of .ensures) at
+    (c .before .give-permission .ensures) in (
       omega arith,
       (has-added .size ∙ inv .1 .0, has-role-next (a .cells .now) (a .roles .now) i has-added (inv .1 .1)),
       (gives-added .size ∙ inv .2 .0, gives-permission-next (a .cells .now) (a .roles .now) i gives-added (inv .2 .1)),
@@ -108,21 +124,6 @@ returns c =
 
 pub role-rows-spec : {M : Type 1} → statement M
 role-rows-spec =
-    tie.close
-    (tie.spec
-    Inv-loop
-    μ-loop
-    loop-holds
-    mul-cell
-    element-copy-out-cell
-    role-of-requires
-    slice-aggregate-give-role
-    user-of-requires
-    give-role-requires
-    slice-aggregate-give-permission
-    permission-of-requires
-    give-permission-requires
-    add-i
-    loop-less
-    loop-again
-    returns)
+    tie.close (tie.spec Inv-loop μ-loop loop-holds mul-cell element-copy-out-cell role-of-requires
+    slice-aggregate-give-role user-of-requires give-role-requires slice-aggregate-give-permission
+    permission-of-requires give-permission-requires add-i loop-less loop-again returns)

@@ -17,4 +17,5 @@ returns-3 c =
     rw (ne-eqb (a .roles) (a .w) (c .before .if1 .left), c .if2 .left)
 
 pub standing-of-spec : {M : Type 1} → statement M
-standing-of-spec = tie.close (tie.spec returns returns-2 returns-3)
+standing-of-spec =
+    tie.close (tie.spec returns returns-2 returns-3)

@@ -1,5 +1,5 @@
--- `class_end`: each test decides one part of the definition, and with fewer classes in use than the best placement has, at most one more is
--- the next one.
+-- `class_end`: each test decides one part of the definition, and with fewer classes in use than the best placement
+-- has, at most one more is the next one.
 use borrow.Author.Needs.{needs}
 use borrow.Author.Tests.{lt-ltb, le-ltb}
 use mathlib.Core.Bool.{and-false}
@@ -16,12 +16,21 @@ returns-2 c = let a = c .before .before .args in rw (le-ltb (a .used) (a .count)
 returns-3 : tie.Need-returns-3
 returns-3 c =
     let a = c .before .before .before .args in
-    rw (lt-ltb (a .depth) (a .size) (c .before .before .if1 .left), lt-ltb (a .used) (a .count) (c .before .if2 .left)) (omega arith)
+    rw (
+      lt-ltb (a .depth) (a .size) (c .before .before .if1 .left),
+      lt-ltb (a .used) (a .count)
+          (c .before .if2 .left),
+    ) (omega arith)
 
 returns-4 : tie.Need-returns-4
 returns-4 c =
     let a = c .before .before .before .args in
-    rw (lt-ltb (a .depth) (a .size) (c .before .before .if1 .left), lt-ltb (a .used) (a .count) (c .before .if2 .left)) (omega arith)
+    rw (
+      lt-ltb (a .depth) (a .size) (c .before .before .if1 .left),
+      lt-ltb (a .used) (a .count)
+          (c .before .if2 .left),
+    ) (omega arith)
 
 pub class-end-spec : {M : Type 1} → statement M
-class-end-spec = tie.close (tie.spec returns returns-2 (λ c. search needs) (λ c. search needs) returns-3 returns-4)
+class-end-spec =
+    tie.close (tie.spec returns returns-2 (λ c. search needs) (λ c. search needs) returns-3 returns-4)

@@ -1,5 +1,6 @@
--- `class_for`: the classes from the next try on are looked through, and those before are not open to the grant. One whose words are within the grant's
--- is open, and then the lowest; with none left, none is. The measure is how many are left.
+-- `class_for`: the classes from the next try on are looked through, and those before are not open to the grant. One
+-- whose words are within the grant's is open, and then the lowest; with none left, none is. The measure is how many
+-- are left.
 use Prim.Native.Nat.{ℕ, _-_, _≤_, _<_}
 use mathlib.Core.Path.{_≡_, sym, _∙_}
 use mathlib.Core.Bool.{false}
@@ -18,7 +19,8 @@ abbrev μ-loop : tie.MeasureT-loop
 returns : tie.Need-returns Inv-loop μ-loop
 returns c =
     let a = c .before .args in
-    opens-nowhere (a .fit .now) (a .members .now) (a .d) (a .next) (a .end) (λ q l. none-open (a .fit .now) (a .members .now) (a .d) (a .next) l)
+    opens-nowhere (a .fit .now) (a .members .now) (a .d) (a .next) (a .end) (λ q l. none-open (a .fit .now)
+    (a .members .now) (a .d) (a .next) l)
     (c .if1 .taken)
 
 row-requires : tie.Need-row-requires Inv-loop μ-loop
@@ -31,48 +33,45 @@ loop-holds c =
 
 -- the test tells whether all members of the class fit the grant
 told : (c : tie.After-within Inv-loop μ-loop)
-    → c .within .result
-    ≡ (let a = c .before .before .before .before .before .before .args in
-    all-fit (a .fit .now) (a .members .now) (a .d) (c .before .before .before .loop .c))
+    → let start = c .before .before .before .before .before .before in
+    c .within .result ≡ (let a = start .args in all-fit (a .fit .now) (a .members .now) (a .d)
+    (c .before .before .before .loop .c))
 told c =
-    let a = c .before .before .before .before .before .before .args in
+    let start = c .before .before .before .before .before .before in
+    let a = start .args in
     c .within .ensures
     ∙ rw (c .before .row2 .ensures, c .before .before .before .before .row .ensures)
     (within-row (a .fit .now) (a .members .now) (a .d) (c .before .before .before .loop .c))
 
 returns-2 : tie.Need-returns-2 Inv-loop μ-loop
 returns-2 c =
-    let a = c .before .before .before .before .before .before .before .args in
-    let loop = c .before .before .before .before .loop in
-    opens-at (a .fit .now) (a .members .now) (a .d) (a .next) (a .end) (loop .inv .1) (loop .inv .0) (c .before .before .before .loop-test .taken)
+    let at-loop = c .before .before .before .before in
+    let start = at-loop .before .before .before in
+    let a = start .args in
+    let loop = at-loop .loop in
+    opens-at (a .fit .now) (a .members .now) (a .d) (a .next) (a .end) (loop .inv .1) (loop .inv .0)
+    (c .before .before .before .loop-test .taken)
     (sym (told (c .before)) ∙ c .if2 .taken)
 
 loop-again : tie.Need-loop-again Inv-loop μ-loop
 loop-again c =
-    let a = c .before .before .before .before .before .before .before .args in
-    let loop = c .before .before .before .before .loop in (
+    let at-loop = c .before .before .before .before in
+    let start = at-loop .before .before .before in
+    let a = start .args in
+    let loop = at-loop .loop in (
       omega (arith, loop .inv .0),
-      passes-at (a .fit .now) (a .members .now) (a .d) (a .next) (a .end) (loop .inv .1) (sym (told (c .before)) ∙ c .if2 .left),
+      passes-at (a .fit .now) (a .members .now) (a .d) (a .next) (a .end) (loop .inv .1) (sym (told (c .before))
+          ∙ c .if2 .left),
     )
 
 returns-3 : tie.Need-returns-3 Inv-loop μ-loop
 returns-3 c =
-    let a = c .before .before .before .before .args in
-    opens-nowhere (a .fit .now) (a .members .now) (a .d) (a .next) (a .end) (c .before .loop .inv .1) (c .loop-test .left)
+    let start = c .before .before .before .before in
+    let a = start .args in
+    opens-nowhere (a .fit .now) (a .members .now) (a .d) (a .next) (a .end) (c .before .loop .inv .1)
+    (c .loop-test .left)
 
 pub class-for-spec : {M : Type 1} → statement M
 class-for-spec =
-    tie.close
-    (tie.spec
-    Inv-loop
-    μ-loop
-    returns
-    row-requires
-    loop-holds
-    (λ c κs. omega arith)
-    (λ c κs. search needs)
-    returns-2
-    (λ c. omega arith)
-    (λ c. omega arith)
-    loop-again
-    returns-3)
+    tie.close (tie.spec Inv-loop μ-loop returns row-requires loop-holds (λ c κs. omega arith) (λ c κs. search needs)
+    returns-2 (λ c. omega arith) (λ c. omega arith) loop-again returns-3)

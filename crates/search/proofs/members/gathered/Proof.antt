@@ -1,4 +1,5 @@
--- `gathered`: no grant is placed at first, and each turn puts the next one in its class (`Gathered`). The measure is how many are left.
+-- `gathered`: no grant is placed at first, and each turn puts the next one in its class (`Gathered`). The measure is
+-- how many are left.
 use Prim.Native.Nat.{_-_, _≤_, _<_}
 use mathlib.Core.Path.{_≡_, refl}
 use native.Mathlib.Numerals.{add-one}
@@ -31,9 +32,10 @@ put-in-requires c κs = (c .before .before .before .loop .inv .1 .sized, (class-
 
 loop-again : tie.Need-loop-again Inv-loop μ-loop
 loop-again c =
-    let i = c .before .before .before .before .loop .i in (
+    let at-loop = c .before .before .before .before in
+    let i = at-loop .loop .i in (
       omega arith,
-      rw (add-one i) (gathered-more (c .before .before .before .before .loop .inv .1) (c .put-in .ensures) (λ q l. refl) refl),
+      rw (add-one i) (gathered-more (at-loop .loop .inv .1) (c .put-in .ensures) (λ q l. refl) refl),
     )
 
 returns : tie.Need-returns Inv-loop μ-loop
@@ -43,5 +45,5 @@ returns c =
 
 pub gathered-spec : {M : Type 1} → statement M
 gathered-spec =
-    tie.close
-    (tie.spec Inv-loop μ-loop loop-holds (λ c. omega arith) cast-put-in put-in-requires (λ c. omega arith) (λ c. omega arith) loop-again returns)
+    tie.close (tie.spec Inv-loop μ-loop loop-holds (λ c. omega arith) cast-put-in put-in-requires (λ c. omega arith)
+    (λ c. omega arith) loop-again returns)

@@ -18,10 +18,11 @@ word-there c = omega arith
 returns : tie.Need-returns
 returns c =
     let a = c .before .before .args in
-    word-changed (λ was it. was && not it) and-true (a .members .now) (a .class) (a .grant) (c .without .result) (c .before .before .pre .1 .1)
+    word-changed (λ was it. was && not it) and-true (a .members .now) (a .class) (a .grant) (c .without .result)
+    (c .before .before .pre .1 .1)
     (word-there (c .before .before)) (c .without .ensures)
 
 pub take-out-spec : {M : Type 1} → statement M
 take-out-spec =
-    tie.close
-    (tie.spec (λ c. search needs) (λ c. search needs) (λ c. search needs) (λ c. search needs) (λ c κs. search needs) (λ c. search needs) (λ c. search needs) returns)
+    tie.close (tie.spec (λ c. search needs) (λ c. search needs) (λ c. search needs) (λ c. search needs)
+    (λ c κs. search needs) (λ c. search needs) (λ c. search needs) returns)

@@ -1,5 +1,5 @@
--- `moved`: the class looked for is the machine's choice, and each return is one of the four ways that a step goes (`Moves`); the grant placed or taken back
--- joins or leaves its class in the table of members (`Gathered`).
+-- `moved`: the class looked for is the machine's choice, and each return is one of the four ways that a step goes
+-- (`Moves`); the grant placed or taken back joins or leaves its class in the table of members (`Gathered`).
 use Prim.Native.Nat.{suc, _-_, _<_}
 use mathlib.Core.Path.{_≡_, sym, _∙_}
 use native.Mathlib.Numerals.{add-one}
@@ -37,43 +37,57 @@ element-write-classes : tie.Need-element-write-classes
 element-write-classes c = room c
 
 put-in-requires : tie.Need-put-in-requires
-put-in-requires c κs = (c .before .before .before .before .before .pre .gathered .sized, (class-small (c .before), room (c .before)))
+put-in-requires c κs =
+    let still-start = c .before .before .before .before .before in
+    (still-start .pre .gathered .sized, (class-small (c .before), room (c .before)))
 
 placed-requires : tie.Need-placed-requires
 placed-requires c κs =
     let then = c .before .before in
-    let t = tried (then .before .before .before .before .pre .stands) (then .before .before .before .class-end .ensures) (then .if1 .taken) in
+    let t = tried (then .before .before .before .before .pre .stands)
+    (then .before .before .before .class-end .ensures) (then .if1 .taken) in
     (room then, (t .used-or-next, omega (arith, t .below-best)))
 
 returns : tie.Need-returns
 returns c =
-    let start = c .before .before .before .before .before .before .before .before .before .before in
+    let at-put-in = c .before .before .before .before in
+    let then = at-put-in .before .before in
+    let start = then .before .before .before .before in
     let a = start .args in
-    let then = c .before .before .before .before .before .before in
-    put-last (a .fit .now) (a .size) (a .singles) (a .witness) (start .pre) (then .before .before .before .class-end .ensures) (then .before .class-for .ensures)
-    (then .if1 .taken) (c .before .before .before .placed .result) (c .before .before .before .placed .ensures) (c .before .before .before .before .put-in .last .0) (c .before .before .before .before .put-in .ensures)
-    (sym (add-one (a .at .depth)) ∙ c .before .before .if2 .taken) (c .before .reaches .result) (c .before .reaches .ensures)
+    put-last (a .fit .now) (a .size) (a .singles) (a .witness) (start .pre)
+    (then .before .before .before .class-end .ensures) (then .before .class-for .ensures)
+    (then .if1 .taken) (c .before .before .before .placed .result) (c .before .before .before .placed .ensures)
+    (at-put-in .put-in .last .0) (at-put-in .put-in .ensures)
+    (sym (add-one (a .at .depth)) ∙ c .before .before .if2 .taken) (c .before .reaches .result)
+    (c .before .reaches .ensures)
 
 returns-2 : tie.Need-returns-2
 returns-2 c =
-    let start = c .before .before .before .before .before .before .before .before in
-    let a = start .args in
     let then = c .before .before .before .before in
-    put (a .fit .now) (a .size) (a .singles) (a .witness) (start .pre) (then .before .before .before .class-end .ensures) (then .before .class-for .ensures)
-    (then .if1 .taken) (c .before .placed .result) (c .before .placed .ensures) (c .before .before .put-in .last .0) (c .before .before .put-in .ensures)
+    let start = then .before .before .before .before in
+    let a = start .args in
+    put (a .fit .now) (a .size) (a .singles) (a .witness) (start .pre)
+    (then .before .before .before .class-end .ensures) (then .before .class-for .ensures)
+    (then .if1 .taken) (c .before .placed .result) (c .before .placed .ensures) (c .before .before .put-in .last .0)
+    (c .before .before .put-in .ensures)
     (λ e. c .if2 .left (add-one (a .at .depth) ∙ e))
 
 returns-3 : tie.Need-returns-3
 returns-3 c =
-    let start = c .before .before .before .before .before in
+    let at-class-end = c .before .before .before .before in
+    let start = at-class-end .before in
     let a = start .args in
-    closed (a .fit .now) (a .size) (a .singles) (a .witness) (start .pre) (c .before .before .before .before .class-end .ensures) (c .before .before .class-for .ensures)
+    closed (a .fit .now) (a .size) (a .singles) (a .witness) (start .pre) (at-class-end .class-end .ensures)
+    (c .before .before .class-for .ensures)
     (c .before .if1 .left) (c .if3 .taken)
 
 -- the class of the latest grant
 last-small : (c : tie.Else3)
-    → getD (c .before .before .before .before .before .args .classes .now) (c .before .before .before .before .before .args .at .depth - 1) 0 < mark-limit
-last-small c = class-below-limit (c .before .before .before .before .before .pre .stands) (c .before .before .before .before .before .args .at .depth - 1) (omega arith)
+    → let still-start = c .before .before .before .before .before in
+    getD (still-start .args .classes .now) (still-start .args .at .depth - 1) 0 < mark-limit
+last-small c =
+    let still-start = c .before .before .before .before .before in
+    class-below-limit (still-start .pre .stands) (still-start .args .at .depth - 1) (omega arith)
 
 element-copy-out-last : tie.Need-element-copy-out-last
 element-copy-out-last c = omega (arith, depth-le-limit (c .before .before .before .before .before .pre .stands))
@@ -83,44 +97,40 @@ cast-last c = omega (arith, last-small (c .before))
 
 take-out-requires : tie.Need-take-out-requires
 take-out-requires c κs =
-    let s = c .before .before .before .before .before .before .before .pre in
+    let still-start = c .before .before .before .before .before .before .before in
+    let s = still-start .pre in
     (s .gathered .sized, (last-small (c .before .before), omega (arith, depth-le-limit (s .stands))))
 
 taken-back-requires : tie.Need-taken-back-requires
 taken-back-requires c κs =
-    let s = c .before .before .before .before .before .before .before .before .pre .stands in
-    let d = c .before .before .before .before .before .before .before .before .args .at .depth in
+    let still-start = c .before .before .before .before .before .before .before .before in
+    let s = still-start .pre .stands in
+    let d = still-start .args .at .depth in
     let pos : 0 < d = omega arith in
-    let latest : d ≡ suc (d - 1) = omega arith in
-    (pos, (depth-le-limit s, (last-small (c .before .before .before), trail-used-pos (d - 1) (rw latest at (s .trail)))))
+    let latest : d ≡ suc (d - 1) = omega arith in (
+      pos,
+      (
+        depth-le-limit s,
+        (
+          last-small (c .before .before .before),
+          trail-used-pos (d - 1)
+              (rw latest at (s .trail)),
+        ),
+      ),
+    )
 
 returns-4 : tie.Need-returns-4
 returns-4 c =
-    let start = c .before .before .before .before .before .before .before .before .before in
-    let a = start .args in
     let else = c .before .before .before .before in
-    took-back (a .fit .now) (a .size) (a .singles) (a .witness) (start .pre) (else .before .before .before .before .class-end .ensures) (else .before .before .class-for .ensures)
-    (else .before .if1 .left) (omega arith) (c .taken-back .result) (c .before .take-out .last .0) (c .taken-back .ensures) (c .before .take-out .ensures)
+    let start = else .before .before .before .before .before in
+    let a = start .args in
+    took-back (a .fit .now) (a .size) (a .singles) (a .witness) (start .pre)
+    (else .before .before .before .before .class-end .ensures) (else .before .before .class-for .ensures)
+    (else .before .if1 .left) (omega arith) (c .taken-back .result) (c .before .take-out .last .0)
+    (c .taken-back .ensures) (c .before .take-out .ensures)
 
 pub moved-spec : {M : Type 1} → statement M
 moved-spec =
-    tie.close
-    (tie.spec
-    (λ c κs. search needs)
-    class-for-requires
-    cast-classes
-    element-write-classes
-    put-in-requires
-    placed-requires
-    (λ c. search needs)
-    (λ c κs. search needs)
-    returns
-    returns-2
-    returns-3
-    (λ c. search needs)
-    element-copy-out-last
-    cast-last
-    (λ c. search needs)
-    take-out-requires
-    taken-back-requires
-    returns-4)
+    tie.close (tie.spec (λ c κs. search needs) class-for-requires cast-classes element-write-classes put-in-requires
+    placed-requires (λ c. search needs) (λ c κs. search needs) returns returns-2 returns-3 (λ c. search needs)
+    element-copy-out-last cast-last (λ c. search needs) take-out-requires taken-back-requires returns-4)

@@ -19,4 +19,5 @@ returns-2 c =
     (λ e. eq-eqb (a .witness - a .count) (a .singles) (omega (arith, eqb-true (a .count + a .singles) (a .witness) e)))
 
 pub reaches-spec : {M : Type 1} → statement M
-reaches-spec = tie.close (tie.spec returns returns-2)
+reaches-spec =
+    tie.close (tie.spec returns returns-2)

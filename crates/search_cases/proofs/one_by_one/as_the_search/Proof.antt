@@ -24,7 +24,9 @@ returns c =
     let a = searched .before .args in
     let kernel = kernel-given (a .fit .now) grants singles witness in
     c .same .ensures .when
-    (searched .search .ensures .0 ∙ search-within kernel (a .budget) (view (a .from) grants) few ∙ sym (stepped .steps-from .ensures))
+    (searched .search .ensures .0 ∙ search-within kernel (a .budget) (view (a .from) grants) few
+    ∙ sym (stepped .steps-from .ensures))
 
 pub as-the-search-spec : {M : Type 1} → statement M
-as-the-search-spec = tie.close (tie.spec (λ c κs. search needs) (λ c κs. search needs) same-requires returns)
+as-the-search-spec =
+    tie.close (tie.spec (λ c κs. search needs) (λ c κs. search needs) same-requires returns)

@@ -1,4 +1,5 @@
--- `one_by_one::same`: each part of a state that differs tells the runs apart, and behind all other parts the best placements tell.
+-- `one_by_one::same`: each part of a state that differs tells the runs apart, and behind all other parts the best
+-- placements tell.
 use borrow.Author.Needs.{needs}
 use borrow.Author.Tests.{not-true, not-false}
 use native.Mathlib.Omega.{arith}
@@ -6,7 +7,17 @@ use Prim.Native.Nat.{_≤_}
 use Rattle.spec.specs.Limits.{search-limit}
 use Rattle.bits.specs.Truth.{not-both}
 use Rattle.search_cases.specs.Crown.{grants}
-use Rattle.search_cases.specs.Same.{told-apart, truth-differs, truth-same, same-steps, same-depth, same-next, same-finished, same-placed, best-tells}
+use Rattle.search_cases.specs.Same.{
+  told-apart,
+  truth-differs,
+  truth-same,
+  same-steps,
+  same-depth,
+  same-next,
+  same-finished,
+  same-placed,
+  best-tells,
+}
 use Rattle.search_cases.proofs.one_by_one.same.Statement.{statement}
 use Rattle.search_cases.proofs.one_by_one.same.Tie as tie
 
@@ -24,7 +35,9 @@ abbrev third : tie.Else4 → tie.Else3
 third c = c .before .before .before
 
 abbrev fourth : tie.Else5 → tie.Else4
-fourth c = c .before .before .before .before .before .before
+fourth c =
+    let earlier = c .before .before .before .before .before .before in
+    earlier
 
 few : grants ≤ search-limit
 unfolding search-limit
@@ -47,12 +60,15 @@ returns-4 : tie.Need-returns-4
 returns-4 c =
     let a = start-1 (first (second (c .before .before .before))) .args in
     told-apart
-    (λ e. truth-differs (a .t1 .position .cursor .finished) (a .t2 .position .cursor .finished) (c .if4 .taken) (same-finished (a .t1) (a .t2) grants e))
+    (λ e. truth-differs (a .t1 .position .cursor .finished) (a .t2 .position .cursor .finished) (c .if4 .taken)
+    (same-finished (a .t1) (a .t2) grants e))
 
 returns-5 : tie.Need-returns-5
 returns-5 c =
-    let a = start-1 (first (second (third (c .before .before .before .before .before .before)))) .args in
-    told-apart (λ e. not-both (c .before .same-classes .ensures .when (same-placed (a .t1) (a .t2) grants e)) (not-true (c .before .same-classes .result) (c .if5 .taken)))
+    let earlier = c .before .before .before .before .before .before in
+    let a = start-1 (first (second (third earlier))) .args in
+    told-apart (λ e. not-both (c .before .same-classes .ensures .when (same-placed (a .t1) (a .t2) grants e))
+    (not-true (c .before .same-classes .result) (c .if5 .taken)))
 
 same-classes-requires-2 : tie.Need-same-classes-requires-2
 same-classes-requires-2 c κs = few
@@ -72,13 +88,5 @@ returns-6 c =
 
 pub same-spec : {M : Type 1} → statement M
 same-spec =
-    tie.close
-    (tie.spec
-    returns
-    returns-2
-    returns-3
-    returns-4
-    (λ c κs. search needs)
-    returns-5
-    same-classes-requires-2
+    tie.close (tie.spec returns returns-2 returns-3 returns-4 (λ c κs. search needs) returns-5 same-classes-requires-2
     returns-6)

@@ -22,14 +22,19 @@ loop-holds c = (omega arith, c .pre, refl)
 
 returns : tie.Need-returns Inv-loop μ-loop
 returns c =
-    let a = c .before .before .before .before .before .args in
+    let at-loop = c .before .before .before .before in
+    let start = at-loop .before in
+    let a = start .args in
     record {
       passes = λ never. absurd (not-both never refl);
-      when = λ e. absurd (c .if1 .taken (same-class (a .a .now) (a .b .now) (a .count) (c .before .before .before .before .loop .i) (c .before .before .before .loop-test .taken) e));
+      when = λ e. absurd (c .if1 .taken (same-class (a .a .now) (a .b .now) (a .count) (at-loop .loop .i)
+          (c .before .before .before .loop-test .taken) e));
     }
 
 loop-again : tie.Need-loop-again Inv-loop μ-loop
-loop-again c = (omega arith, omega arith, rw (add-one (c .before .before .before .before .loop .i), c .if1 .left, c .before .before .before .before .loop .inv .2))
+loop-again c =
+    let at-loop = c .before .before .before .before in
+    (omega arith, omega arith, rw (add-one (at-loop .loop .i), c .if1 .left, at-loop .loop .inv .2))
 
 returns-2 : tie.Need-returns-2 Inv-loop μ-loop
 returns-2 c =
@@ -39,15 +44,5 @@ returns-2 c =
 
 pub same-classes-spec : {M : Type 1} → statement M
 same-classes-spec =
-    tie.close
-    (tie.spec
-    Inv-loop
-    μ-loop
-    loop-holds
-    (λ c. omega arith)
-    (λ c. omega arith)
-    returns
-    (λ c. omega arith)
-    (λ c. omega arith)
-    loop-again
-    returns-2)
+    tie.close (tie.spec Inv-loop μ-loop loop-holds (λ c. omega arith) (λ c. omega arith) returns (λ c. omega arith)
+    (λ c. omega arith) loop-again returns-2)

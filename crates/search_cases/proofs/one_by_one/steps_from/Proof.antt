@@ -1,5 +1,6 @@
--- `one_by_one::steps_from`: at each turn the run is the steps made and the run of the budget left (`Running`), which one step more keeps. The measure
--- is the budget left. The loop ends when there is none, or when the position is finished.
+-- `one_by_one::steps_from`: at each turn the run is the steps made and the run of the budget left (`Running`), which
+-- one step more keeps. The measure is the budget left. The loop ends when there is none, or when the position is
+-- finished.
 use borrow.Author.Tests.{not-true, not-false}
 use Prim.Native.Nat.{_-_}
 use native.Mathlib.Omega.{arith}
@@ -10,7 +11,8 @@ use Rattle.search_cases.proofs.one_by_one.steps_from.Statement.{stateme
 use Rattle.search_cases.proofs.one_by_one.steps_from.Tie as tie
 
 abbrev Inv-loop : tie.InvT-loop
-Inv-loop fit budget position₀ steps₀ position steps = Running (kernel-given fit grants singles witness) budget (view position₀ grants) position steps
+Inv-loop fit budget position₀ steps₀ position steps =
+    Running (kernel-given fit grants singles witness) budget (view position₀ grants) position steps
 
 abbrev μ-loop : tie.MeasureT-loop
 μ-loop fit budget position₀ steps₀ position steps = budget - steps
@@ -25,10 +27,14 @@ step-requires c κs = c .before .before .before .loop .inv .stands
 
 loop-again : tie.Need-loop-again Inv-loop μ-loop
 loop-again c =
-    let loop = c .before .before .before .before .loop in
-    let a = c .before .before .before .before .before .args in
-    running-more (kernel-given (a .fit .now) grants singles witness) (a .budget) (view (a .from) grants) (loop .inv) (c .step .result)
-    (c .before .before .before .loop-test .taken) (not-true (loop .position .cursor .finished) (c .before .if1 .taken)) (c .step .ensures .0) (c .step .ensures .1)
+    let at-loop = c .before .before .before .before in
+    let start = at-loop .before in
+    let loop = at-loop .loop in
+    let a = start .args in
+    running-more (kernel-given (a .fit .now) grants singles witness) (a .budget) (view (a .from) grants) (loop .inv)
+    (c .step .result)
+    (c .before .before .before .loop-test .taken) (not-true (loop .position .cursor .finished)
+    (c .before .if1 .taken)) (c .step .ensures .0) (c .step .ensures .1)
 
 returns : tie.Need-returns Inv-loop μ-loop
 returns c =
@@ -41,18 +47,10 @@ returns-2 : tie.Need-returns-2 Inv-loop μ-loop
 returns-2 c =
     let loop = c .before .loop in
     let a = c .before .before .args in
-    running-spent (kernel-given (a .fit .now) grants singles witness) (a .budget) (view (a .from) grants) (loop .inv) (c .loop-test .left)
+    running-spent (kernel-given (a .fit .now) grants singles witness) (a .budget) (view (a .from) grants) (loop .inv)
+    (c .loop-test .left)
 
 pub steps-from-spec : {M : Type 1} → statement M
 steps-from-spec =
-    tie.close
-    (tie.spec
-    Inv-loop
-    μ-loop
-    loop-holds
-    step-requires
-    (λ c. omega arith)
-    (λ c. omega arith)
-    loop-again
-    returns
-    returns-2)
+    tie.close (tie.spec Inv-loop μ-loop loop-holds step-requires (λ c. omega arith) (λ c. omega arith) loop-again
+    returns returns-2)

@@ -1,5 +1,5 @@
--- `session::Session::anew`: the sheet is accepted, so it is short enough to be kept whole and its first cover has classes of one byte where it can be
--- searched; the session is then one made anew from it.
+-- `session::Session::anew`: the sheet is accepted, so it is short enough to be kept whole and its first cover has
+-- classes of one byte where it can be searched; the session is then one made anew from it.
 use native.Mathlib.Omega.{arith}
 use mathlib.Core.Path.{_≡_, refl}
 use borrow.Author.Needs.{needs}
@@ -25,7 +25,9 @@ prepare-requires c κs =
 
 -- what was found of the sheet
 found : (c : tie.After-prepare) → PreparedFor (c .before .before .before .args .s .now) (c .prepare .result)
-found c = let read = c .before .before .before .pre in c .prepare .ensures (c .before .before .before .args .s .now) (read .1) (read .2)
+found c =
+    let read = c .before .before .before .pre in
+    c .prepare .ensures (c .before .before .before .args .s .now) (read .1) (read .2)
 
 narrowed-requires : tie.Need-narrowed-requires
 narrowed-requires c κs = λ searched i l. omega (arith, first-class-below (found (c .before .before)) i l)

@@ -9,4 +9,5 @@ returns : tie.Need-returns
 returns c = (refl, record { held = λ accepts. absurd (false≢true accepts) })
 
 pub fresh-spec : {M : Type 1} → statement M
-fresh-spec = tie.close (tie.spec (λ c κs. search needs) (λ c κs. search needs) returns)
+fresh-spec =
+    tie.close (tie.spec (λ c κs. search needs) (λ c κs. search needs) returns)

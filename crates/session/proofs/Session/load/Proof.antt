@@ -1,5 +1,6 @@
--- `session::Session::load`: the number that the sheet was read with decides. A refused sheet is answered by it and leaves the session; of an accepted one the session is made
--- anew, and its counts are those found of the bytes that it keeps.
+-- `session::Session::load`: the number that the sheet was read with decides. A refused sheet is answered by it and
+-- leaves the session; of an accepted one the session is made anew, and its counts are those found of the bytes that
+-- it keeps.
 use native.Mathlib.Omega.{arith}
 use mathlib.Core.Path.{_≡_, refl, sym, ap, _∙_}
 use borrow.Author.Needs.{needs}
@@ -15,8 +16,10 @@ use Rattle.session.proofs.Session.load.Tie as tie
 
 returns : tie.Need-returns
 returns c =
-    let at-read = c .before .before in
-    (refused-loads _ _ (at-read .read .ensures .0) (λ z. omega arith) (c .refused .ensures), (at-read .before .before .pre, λ _. refl))
+    let at-read = c .before .before in (
+      refused-loads _ _ (at-read .read .ensures .0) (λ z. omega arith) (c .refused .ensures),
+      (at-read .before .before .pre, λ _. refl),
+    )
 
 anew-requires : tie.Need-anew-requires
 anew-requires c κs =
@@ -26,23 +29,30 @@ anew-requires c κs =
     (sym (at-read .read .ensures .0) ∙ e, read .0, read .1)
 
 -- the answer has the counts of the sheet
-said : (c : tie.After-counts) → load-said (c .counts .result) ≡ load-counts (sheet-of (c .before .before .before .before .before .before .before .before .args .s .now))
+said : (c : tie.After-counts)
+    → let start = c .before .before .before .before .before .before .before .before in
+    load-said (c .counts .result) ≡ load-counts (sheet-of (start .args .s .now))
 said c =
     let at-anew = c .before .before in
     let session = at-anew .anew .result in
     let text = at-anew .before .before .before .before .before .before .args .s .now in
     c .counts .ensures (text-in session) (at-anew .anew .ensures .1 .prepared)
-    ∙ ap (λ (t : Bytes). load-counts (sheet-of t)) (text-loaded session text (start-of (sheet-of text)) (at-anew .anew .ensures .0))
+    ∙ ap (λ (t : Bytes). load-counts (sheet-of t)) (text-loaded session text (start-of (sheet-of text))
+    (at-anew .anew .ensures .0))
 
 returns-2 : tie.Need-returns-2
 returns-2 c =
     let at-anew = c .before .before in
     let at-read = at-anew .before .before .before .before in (
       accepted-loads _ _ (omega (arith, at-read .read .ensures .0)) (said c) (at-anew .anew .ensures .0),
-      (record { held = λ _. at-anew .anew .ensures .1 }, λ refused. absurd (refused (ap (λ (a : LoadAnswer). a .number) (said c)))),
+      (
+        record { held = λ _. at-anew .anew .ensures .1 },
+        λ refused. absurd
+            (refused (ap (λ (a : LoadAnswer). a .number) (said c))),
+      ),
     )
 
 pub load-spec : {M : Type 1} → statement M
 load-spec =
-    tie.close
-    (tie.spec (λ c κs. search needs) (λ c κs. search needs) returns anew-requires (λ c κs. search needs) returns-2)
+    tie.close (tie.spec (λ c κs. search needs) (λ c κs. search needs) returns anew-requires (λ c κs. search needs)
+    returns-2)

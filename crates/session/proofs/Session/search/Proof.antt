@@ -1,5 +1,6 @@
--- `Session::search`: without a sheet it is refused and the session stays. With one, its position is moved on as the machine moves, and the answer has
--- the steps made and the counts there (`searches-held`); what the session holds is kept (`ran`).
+-- `Session::search`: without a sheet it is refused and the session stays. With one, its position is moved on as the
+-- machine moves, and the answer has the steps made and the counts there (`searches-held`); what the session holds is
+-- kept (`ran`).
 use mathlib.Core.Path.{refl, ap}
 use borrow.Author.Needs.{needs}
 use borrow.Author.Tests.{not-true, not-false}
@@ -13,7 +14,8 @@ returns : tie.Need-returns
 returns c =
     let start = c .before .before .before in
     let a = start .args in (
-      searches-nothing (a .self) (not-true (a .self .loaded) (c .before .if1 .taken)) (a .budget) (search-said (c .refused .result)) (c .refused .ensures),
+      searches-nothing (a .self) (not-true (a .self .loaded) (c .before .if1 .taken)) (a .budget)
+          (search-said (c .refused .result)) (c .refused .ensures),
       (start .pre, λ n. refl),
     )
 
@@ -32,4 +34,5 @@ returns-2 c =
 
 pub search-spec : {M : Type 1} → statement M
 search-spec =
-    tie.close (tie.spec (λ c κs. search needs) returns ran-requires (λ c κs. search needs) (λ c κs. search needs) returns-2)
+    tie.close (tie.spec (λ c κs. search needs) returns ran-requires (λ c κs. search needs) (λ c κs. search needs)
+    returns-2)

@@ -1,6 +1,7 @@
--- `Session::write`: without a sheet it is refused with 10, and nothing is written. With one, the arrays that the session keeps, with the best placement, are the
--- sheet's (`best-belongs`), so the roles found from them are the sheet's; what is written of counts, roles and witness is the book of the sheet where the search
--- stands (`book-held`), and the answer is that of the book's writing (`writes-held`).
+-- `Session::write`: without a sheet it is refused with 10, and nothing is written. With one, the arrays that the
+-- session keeps, with the best placement, are the sheet's (`best-belongs`), so the roles found from them are the
+-- sheet's; what is written of counts, roles and witness is the book of the sheet where the search stands
+-- (`book-held`), and the answer is that of the book's writing (`writes-held`).
 use borrow.Author.Needs.{needs}
 use borrow.Author.Tests.{not-true, not-false}
 use mathlib.Core.Bool.{So}
@@ -35,13 +36,17 @@ belongs b = let h = holds (sheet-at b) in best-belongs h (best-held h (b .best-o
 
 -- where the counts are found
 abbrev best-at : tie.After-counts-at → tie.After-best-of
-best-at n = n .before .before .before .before .before .before .before .before
+best-at n =
+    let earlier = n .before .before .before .before .before .before .before .before in
+    earlier
 
 counted : (n : tie.After-counts-at) → CountsIn (self (sheet-at (best-at n))) (n .counts-at .result)
 counted n = counts-held (holds (sheet-at (best-at n))) (n .counts-at .result) (n .counts-at .ensures)
 
 abbrev counts-before : tie.After-book-into-arg6 → tie.After-counts-at
-counts-before c = c .before .before .before .before .before .before .before .before .before
+counts-before c =
+    let earlier = c .before .before .before .before .before .before .before .before .before in
+    earlier
 
 returns : tie.Need-returns
 returns c =
@@ -56,7 +61,9 @@ roles-of-requires c κs =
     record { sheet = sheet-of (text-in held); placement = state-in held .best; belongs = belongs b }
 
 counts-at-requires : tie.Need-counts-at-requires
-counts-at-requires c κs = few-roles-held (holds (sheet-at (c .before .before .before .before .before .before .before)))
+counts-at-requires c κs =
+    let earlier = c .before .before .before .before .before .before .before in
+    few-roles-held (holds (sheet-at earlier))
 
 book-into-requires : tie.Need-book-into-requires
 book-into-requires c κs =
@@ -70,19 +77,11 @@ returns-2 c =
     let n = counts-before (written .before) in
     let e = sheet-at (best-at n) in
     writes-held (self e) (loaded e)
-    (rw (book-held (holds e) (counted n) (n .before .roles-of .ensures .0 _ _ (belongs (best-at n)))) at (written .book-into .ensures))
+    (rw (book-held (holds e) (counted n) (n .before .roles-of .ensures .0 _ _ (belongs (best-at n)))) at
+    (written .book-into .ensures))
     (write-said (c .of .result)) (c .of .ensures)
 
 pub write-spec : {M : Type 1} → statement M
 write-spec =
-    tie.close
-    (tie.spec
-    (λ c κs. search needs)
-    returns
-    (λ c κs. search needs)
-    roles-of-requires
-    counts-at-requires
-    book-into-requires
-    (λ c κs. search needs)
-    (λ c. search needs)
-    returns-2)
+    tie.close (tie.spec (λ c κs. search needs) returns (λ c κs. search needs) roles-of-requires counts-at-requires
+    book-into-requires (λ c κs. search needs) (λ c. search needs) returns-2)

@@ -15,4 +15,5 @@ unfolding search-limit
 returns-2 c = record { above = λ l. absurd (omega arith); within = λ l. c .widened .ensures }
 
 pub best-of-spec : {M : Type 1} → statement M
-best-of-spec = tie.close (tie.spec returns (λ c κs. search needs) returns-2)
+best-of-spec =
+    tie.close (tie.spec returns (λ c κs. search needs) returns-2)

@@ -1,5 +1,5 @@
--- `session::classes::narrowed`: where i classes are copied, both arrays hold the same placement of the first i. Of a kernel that can be searched each class is
--- below the greatest size of such a kernel, so a byte has it.
+-- `session::classes::narrowed`: where i classes are copied, both arrays hold the same placement of the first i. Of a
+-- kernel that can be searched each class is below the greatest size of such a kernel, so a byte has it.
 use Prim.Native.Nat.{_-_, _≤_}
 use native.Mathlib.Omega.{arith}
 use native.Mathlib.Nat.{le-refl}
@@ -7,7 +7,13 @@ use native.Mathlib.Numerals.{add-one}
 use mathlib.Core.Path.{_≡_, refl, _∙_}
 use lib.ListN.{length, length-set}
 use Rattle.spec.specs.Limits.{search-limit}
-use Rattle.session.specs.Laws.ClassesCopied.{ClassesCopied, none-copied, one-copied, copied-placement, placed-latest}
+use Rattle.session.specs.Laws.ClassesCopied.{
+  ClassesCopied,
+  none-copied,
+  one-copied,
+  copied-placement,
+  placed-latest,
+}
 use Rattle.session.proofs.classes.narrowed.Statement.{statement}
 use Rattle.session.proofs.classes.narrowed.Tie as tie
 
@@ -51,17 +57,5 @@ returns-2 c = λ _.
 
 pub narrowed-spec : {M : Type 1} → statement M
 narrowed-spec =
-    tie.close
-    (tie.spec
-    Inv-loop
-    μ-loop
-    returns
-    loop-holds
-    (λ c. omega arith)
-    (λ c. omega arith)
-    cast-narrow
-    array-write-narrow
-    (λ c. omega arith)
-    (λ c. omega arith)
-    loop-again
-    returns-2)
+    tie.close (tie.spec Inv-loop μ-loop returns loop-holds (λ c. omega arith) (λ c. omega arith) cast-narrow
+    array-write-narrow (λ c. omega arith) (λ c. omega arith) loop-again returns-2)

@@ -1,11 +1,18 @@
--- `session::classes::widened`: where i classes are copied, both arrays hold the same placement of the first i, and of fewer.
+-- `session::classes::widened`: where i classes are copied, both arrays hold the same placement of the first i, and of
+-- fewer.
 use Prim.Native.Nat.{_-_, _≤_}
 use native.Mathlib.Omega.{arith}
 use native.Mathlib.Numerals.{add-one}
 use mathlib.Core.Path.{_≡_, refl, _∙_, sym}
 use lib.ListN.{length, length-set}
 use Rattle.spec.specs.Limits.{grant-limit, search-limit}
-use Rattle.session.specs.Laws.ClassesCopied.{ClassesCopied, none-copied, one-copied, copied-placement, placed-latest}
+use Rattle.session.specs.Laws.ClassesCopied.{
+  ClassesCopied,
+  none-copied,
+  one-copied,
+  copied-placement,
+  placed-latest,
+}
 use Rattle.session.proofs.classes.widened.Statement.{statement}
 use Rattle.session.proofs.classes.widened.Tie as tie
 
@@ -56,16 +63,5 @@ returns c n l =
 
 pub widened-spec : {M : Type 1} → statement M
 widened-spec =
-    tie.close
-    (tie.spec
-    Inv-loop
-    μ-loop
-    loop-holds
-    (λ c. omega arith)
-    wider-requires
-    mul-wide
-    array-write-wide
-    add-i
-    loop-less
-    loop-again
-    returns)
+    tie.close (tie.spec Inv-loop μ-loop loop-holds (λ c. omega arith) wider-requires mul-wide array-write-wide add-i
+    loop-less loop-again returns)

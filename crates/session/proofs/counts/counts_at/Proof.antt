@@ -14,4 +14,5 @@ returns : tie.Need-returns
 returns c = record { roles = refl; bound = c .bound-of .ensures; standing = c .before .standing-of .ensures }
 
 pub counts-at-spec : {M : Type 1} → statement M
-counts-at-spec = tie.close (tie.spec add-roles (λ c κs. search needs) (λ c κs. search needs) returns)
+counts-at-spec =
+    tie.close (tie.spec add-roles (λ c κs. search needs) (λ c κs. search needs) returns)

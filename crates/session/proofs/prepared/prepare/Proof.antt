@@ -1,12 +1,22 @@
--- `session::prepared::prepare`: an accepted sheet keeps the rules, so its rows show it, and each call gets what it asks for of that sheet; each part is then
--- what its own call says of every sheet that the rows show.
+-- `session::prepared::prepare`: an accepted sheet keeps the rules, so its rows show it, and each call gets what it
+-- asks for of that sheet; each part is then what its own call says of every sheet that the rows show.
 use borrow.Author.Needs.{needs}
 use mathlib.Core.Path.{_≡_}
 use lib.ListN.{length}
 use Rattle.spec.specs.Limits.{grant-limit}
 use Rattle.spec.specs.Sheet.{sheet-of}
 use Rattle.cells.specs.KernelArray.{KernelListed}
-use Rattle.session.specs.Laws.Preparing.{laid-lawful, laid-few-users, laid-shown, laid-shows, kernel-roomy, kernel-cells, kernel-listed, kernel-counted, kernel-placed}
+use Rattle.session.specs.Laws.Preparing.{
+  laid-lawful,
+  laid-few-users,
+  laid-shown,
+  laid-shows,
+  kernel-roomy,
+  kernel-cells,
+  kernel-listed,
+  kernel-counted,
+  kernel-placed,
+}
 use Rattle.session.proofs.prepared.prepare.Statement.{statement}
 use Rattle.session.proofs.prepared.prepare.Tie as tie
 
@@ -22,16 +32,19 @@ listed-requires c κs =
     let at-reduced = c .before .before in
     let given = at-reduced .before .before .pre in (
       laid-few-users (given .laid),
-      kernel-roomy (at-reduced .reduce .ensures) (laid-shown (given .laid) (given .read)) (laid-lawful (given .laid) .few-grants),
+      kernel-roomy (at-reduced .reduce .ensures) (laid-shown (given .laid) (given .read))
+          (laid-lawful (given .laid) .few-grants),
     )
 
 -- the listed cells are those of the kernel
 of-kernel : (c : tie.After-listed)
-    → KernelListed (c .before .before .before .before .before .args .t2) (c .listed .result .cells) (c .listed .result .size)
+    → let start = c .before .before .before .before .before in
+    KernelListed (start .args .t2) (c .listed .result .cells) (c .listed .result .size)
 of-kernel c =
     let at-reduced = c .before .before .before in
     let given = at-reduced .before .before .pre in
-    kernel-listed (at-reduced .reduce .ensures) (laid-shown (given .laid) (given .read)) (laid-lawful (given .laid) .few-grants) (c .listed .ensures)
+    kernel-listed (at-reduced .reduce .ensures) (laid-shown (given .laid) (given .read))
+    (laid-lawful (given .laid) .few-grants) (c .listed .ensures)
 
 witness-found-requires : tie.Need-witness-found-requires
 witness-found-requires c κs =
@@ -47,7 +60,8 @@ fit-table-requires c κs = of-kernel (c .before .before .before .before .before)
 
 returns : tie.Need-returns
 returns c text laid read =
-    let at-listed = c .before .before .before .before .before .before in
+    let at-witness-found = c .before .before .before .before in
+    let at-listed = at-witness-found .before .before in
     let at-reduced = at-listed .before .before .before in
     let users = at-reduced .before .before .args .layout .users in
     let from = at-reduced .reduce .ensures in
@@ -62,19 +76,14 @@ returns c text laid read =
       listed = listed;
       room = room at-listed;
       kernel-size = kernel-counted from here few listed (room at-listed);
-      witness = c .before .before .before .before .witness-found .ensures (sheet-of text) here few;
-      first = kernel-placed from here few listed (room at-listed) (c .before .before .first-best .ensures .0 users (sheet-of text) here cells);
+      witness = at-witness-found .witness-found .ensures (sheet-of text) here few;
+      first = kernel-placed from here few listed (room at-listed) (c .before .before .first-best .ensures .0 users
+          (sheet-of text) here cells);
       first-past = c .before .before .first-best .ensures .1;
       table = c .fit-table .ensures users (sheet-of text) here cells;
     }
 
 pub prepare-spec : {M : Type 1} → statement M
 prepare-spec =
-    tie.close
-    (tie.spec
-    reduce-requires
-    listed-requires
-    witness-found-requires
-    first-best-requires
-    fit-table-requires
+    tie.close (tie.spec reduce-requires listed-requires witness-found-requires first-best-requires fit-table-requires
     returns)

@@ -1,4 +1,5 @@
--- `session::prepared::witness_found`: the cells logged as single are those of the singles of every sheet that the rows show.
+-- `session::prepared::witness_found`: the cells logged as single are those of the singles of every sheet that the
+-- rows show.
 use borrow.Author.Needs.{needs}
 use Rattle.session.specs.Laws.Preparing.{reduced-to, reduced-rows}
 use Rattle.session.proofs.prepared.witness_found.Statement.{statement}
@@ -17,4 +18,5 @@ returns c sheet shown few =
     c .witness-of .ensures sheet shown (reduced-to from shown few (at-singles .single-cells .ensures))
 
 pub witness-found-spec : {M : Type 1} → statement M
-witness-found-spec = tie.close (tie.spec (λ c κs. search needs) witness-of-requires returns)
+witness-found-spec =
+    tie.close (tie.spec (λ c κs. search needs) witness-of-requires returns)

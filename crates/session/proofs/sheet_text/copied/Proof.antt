@@ -1,4 +1,5 @@
--- `session::sheet_text::copied`: where i bytes are copied, the first i bytes of the copy are the sheet's, and a turn copies one byte more.
+-- `session::sheet_text::copied`: where i bytes are copied, the first i bytes of the copy are the sheet's, and a turn
+-- copies one byte more.
 use Prim.Native.Nat.{_-_, _≤_}
 use native.Mathlib.Omega.{arith}
 use native.Mathlib.Numerals.{add-one}
@@ -43,14 +44,5 @@ returns c =
 
 pub copied-spec : {M : Type 1} → statement M
 copied-spec =
-    tie.close
-    (tie.spec
-    Inv-loop
-    μ-loop
-    loop-holds
-    (λ c. omega arith)
-    array-write-text
-    (λ c. omega arith)
-    (λ c. omega arith)
-    loop-again
-    returns)
+    tie.close (tie.spec Inv-loop μ-loop loop-holds (λ c. omega arith) array-write-text (λ c. omega arith)
+    (λ c. omega arith) loop-again returns)

@@ -16,4 +16,5 @@ returns : tie.Need-returns
 returns c = c .before .before .write-if-room .ensures
 
 pub book-into-spec : {M : Type 1} → statement M
-book-into-spec = tie.close (tie.spec slice-aggregate-write-if-room write-if-room-requires (λ c. search needs) returns)
+book-into-spec =
+    tie.close (tie.spec slice-aggregate-write-if-room write-if-room-requires (λ c. search needs) returns)

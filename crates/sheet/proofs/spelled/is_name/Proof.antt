@@ -11,4 +11,5 @@ returns-2 : tie.Need-returns-2
 returns-2 c = rw (sym (c .before .name-length .ensures) ∙ c .if1 .left)
 
 pub is-name-spec : {M : Type 1} → statement M
-is-name-spec = tie.close (tie.spec (λ c κs. search needs) (λ c κs. search needs) returns returns-2)
+is-name-spec =
+    tie.close (tie.spec (λ c κs. search needs) (λ c κs. search needs) returns returns-2)

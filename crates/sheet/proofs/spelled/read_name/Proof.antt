@@ -12,7 +12,8 @@ field-requires : tie.Need-field-requires
 field-requires c κs = tt
 
 -- the field that is read
-read : (c : tie.After-field) → FieldStep (c .before .before .args .s .now) (c .before .before .args .at) (c .field .result)
+read : (c : tie.After-field) → FieldStep (c .before .before .args .s .now) (c .before .before .args .at)
+    (c .field .result)
 read c =
     let start = c .before .before in
     rw (c .field .ensures) (field-step (start .args .s .now) (start .args .at) (start .pre))
@@ -30,7 +31,8 @@ returns : tie.Need-returns
 returns c =
     let start = c .before .before .before .before in
     record {
-      ends = ap (λ (f : FieldRead). f .to) (c .before .before .field .ensures) ∙ field-ends (start .args .s .now) (start .args .at) (start .pre);
+      ends = ap (λ (f : FieldRead). f .to) (c .before .before .field .ensures) ∙ field-ends (start .args .s .now)
+          (start .args .at) (start .pre);
       judged = c .is-name .ensures;
     }
 

@@ -30,7 +30,10 @@ below c = omega (arith, c .before .before .loop .inv .1 .few)
 
 -- and the line of a user stands there
 line : (c : tie.Else2 Inv-loop μ-loop)
-    → LineStands (c .before .before .before .before .before .before .before .args .s .now) (c .before .before .before .before .before .loop .at) (c .before .before .before .before .before .before .before .args .width) (c .before .before .read-user-line .result .to) (c .before .before .read-user-line .result .word)
+    → let at-loop = c .before .before .before .before .before in
+    let still-start = at-loop .before .before in
+    LineStands (still-start .args .s .now) (at-loop .loop .at) (still-start .args .width)
+    (c .before .before .read-user-line .result .to) (c .before .before .read-user-line .result .word)
     (c .before .before .read-user-line .result .next)
 line c = c .before .before .read-user-line .ensures .good (not-false _ (c .if2 .left))
 
@@ -39,7 +42,8 @@ loop-holds c =
     let start = c .before in
     let room = start .pre .2 in (
       record { from-room = room .from-room; to-room = room .to-room; words-room = room .words-room },
-      lines-start (start .args .s .now) (start .args .start) (start .args .width) (start .args .from .now) (start .args .to .now)
+      lines-start (start .args .s .now) (start .args .start) (start .args .width) (start .args .from .now)
+          (start .args .to .now)
           (start .args .rows .now) (start .pre .0) room,
       λ names rows fit e. e,
     )
@@ -55,7 +59,8 @@ returns c =
     record {
       good = λ p. absurd (not-both p (c .none .ensures));
       found = λ names rows fit e.
-          (let below = few-left (start .args .s .now) (start .args .start) (start .args .width) (loop .users) (loop .at) (loop .inv .2) (omega arith) names rows fit e in
+          (let below = few-left (start .args .s .now) (start .args .start) (start .args .width) (loop .users)
+          (loop .at) (loop .inv .2) (omega arith) names rows fit e in
           absurd (omega arith));
     }
 
@@ -67,13 +72,17 @@ none-requires-2 c κs = tt
 
 returns-2 : tie.Need-returns-2 Inv-loop μ-loop
 returns-2 c =
-    let start = c .before .before .before .before .before .before .before .before in
-    let loop = c .before .before .before .before .before .before .loop in
+    let at-loop = c .before .before .before .before .before .before in
+    let start = at-loop .before .before in
+    let loop = at-loop .loop in
     record {
       good = λ p. absurd (not-both p (c .none2 .ensures));
       found = λ names rows fit e.
-          absurd (not-both (line-found (start .args .s .now) (start .args .start) (start .args .width) (loop .users) (loop .at) (loop .inv .2)
-          (omega arith) (c .before .before .before .read-user-line .result) (c .before .before .before .read-user-line .ensures) names rows fit e) (not-true _ (c .before .if2 .taken)));
+          absurd (not-both (line-found (start .args .s .now) (start .args .start) (start .args .width) (loop .users)
+          (loop .at) (loop .inv .2)
+          (omega arith) (c .before .before .before .read-user-line .result)
+          (c .before .before .before .read-user-line .ensures) names rows fit e)
+          (not-true _ (c .before .if2 .taken)));
     }
 
 mul-from : tie.Need-mul-from Inv-loop μ-loop
@@ -106,7 +115,8 @@ count-requires c κs = tt
 add-grants : tie.Need-add-grants Inv-loop μ-loop
 unfolding user-limit
 add-grants c =
-    let loop = c .before .before .before .before .before .before .loop in
+    let at-loop = c .before .before .before .before .before .before in
+    let loop = at-loop .loop in
     omega (
       arith,
       below (c .before .before .before .before),
@@ -125,46 +135,35 @@ loop-less c = omega (arith, line (c .before) .forward)
 
 loop-again : tie.Need-loop-again Inv-loop μ-loop
 loop-again c =
-    let start = c .before .before .before .before .before .before .before .before in
-    let loop = c .before .before .before .before .before .before .loop in
+    let earlier = c .before .before .before .before in
+    let at-loop = earlier .before .before in
+    let start = at-loop .before .before in
+    let loop = at-loop .loop in
     let found = c .before .before .before .read-user-line .result in (
-      sizes-kept (start .args .s .now) (start .args .start) (start .args .width) (loop .from) (loop .to) (loop .rows) (loop .users) (loop .grants)
-          (loop .at) (loop .inv .1) (loop .inv .0) (below (c .before .before .before .before)) (found .to) (found .word) (found .next) (line (c .before)),
+      sizes-kept (start .args .s .now) (start .args .start) (start .args .width) (loop .from) (loop .to) (loop .rows)
+          (loop .users) (loop .grants)
+          (loop .at) (loop .inv .1) (loop .inv .0) (below earlier) (found .to) (found .word) (found .next)
+          (line (c .before)),
       rw (add-one, c .count .ensures)
-          (lines-more (start .args .s .now) (start .args .start) (start .args .width) (loop .from) (loop .to) (loop .rows) (loop .users) (loop .grants)
-          (loop .at) (loop .inv .1) (loop .inv .0) (below (c .before .before .before .before)) (found .to) (found .word) (found .next) (line (c .before))),
+          (lines-more (start .args .s .now) (start .args .start) (start .args .width) (loop .from) (loop .to)
+          (loop .rows) (loop .users) (loop .grants)
+          (loop .at) (loop .inv .1) (loop .inv .0) (below earlier) (found .to) (found .word) (found .next)
+          (line (c .before))),
       rw add-one
-          (left-next (start .args .s .now) (start .args .start) (start .args .width) (loop .users) (loop .at) (loop .inv .2) (omega arith) found
+          (left-next (start .args .s .now) (start .args .start) (start .args .width) (loop .users) (loop .at)
+          (loop .inv .2) (omega arith) found
           (c .before .before .before .read-user-line .ensures)),
     )
 
 returns-3 : tie.Need-returns-3 Inv-loop μ-loop
 returns-3 c =
     let loop = c .before .loop in
-    let all : loop .at ≡ length (c .before .before .before .args .s .now) = omega (arith, loop .inv .1 .stands .within) in
+    let all : loop .at ≡ length (c .before .before .before .args .s .now) = omega
+    (arith, loop .inv .1 .stands .within) in
     record { good = λ p. rw all at (loop .inv .1); found = λ names rows fit e. refl }
 
 pub read-user-lines-spec : {M : Type 1} → statement M
 read-user-lines-spec =
-    tie.close
-    (tie.spec
-    Inv-loop
-    μ-loop
-    loop-holds
-    none-requires
-    returns
-    read-user-line-requires
-    none-requires-2
-    returns-2
-    mul-from
-    element-write-from
-    mul-to
-    element-write-to
-    mul-rows
-    element-write-rows
-    count-requires
-    add-grants
-    add-users
-    loop-less
-    loop-again
-    returns-3)
+    tie.close (tie.spec Inv-loop μ-loop loop-holds none-requires returns read-user-line-requires none-requires-2
+    returns-2 mul-from element-write-from mul-to element-write-to mul-rows element-write-rows count-requires
+    add-grants add-users loop-less loop-again returns-3)

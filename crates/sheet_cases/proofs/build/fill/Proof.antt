@@ -26,18 +26,5 @@ returns-2 c = tt
 
 pub fill-spec : {M : Type 1} → statement M
 fill-spec =
-    tie.close
-    (tie.spec
-    Inv-loop
-    μ-loop
-    (λ c. omega arith)
-    put-requires
-    (λ c. omega arith)
-    (λ c. omega arith)
-    (λ c. omega arith)
-    (λ c. omega arith)
-    put-requires-2
-    (λ c. omega arith)
-    returns
-    (λ c. omega arith)
-    returns-2)
+    tie.close (tie.spec Inv-loop μ-loop (λ c. omega arith) put-requires (λ c. omega arith) (λ c. omega arith)
+    (λ c. omega arith) (λ c. omega arith) put-requires-2 (λ c. omega arith) returns (λ c. omega arith) returns-2)

@@ -32,18 +32,6 @@ returns c = tt
 
 pub put-head-spec : {M : Type 1} → statement M
 put-head-spec =
-    tie.close
-    (tie.spec
-    Inv-loop
-    μ-loop
-    slice-aggregate-put-word
-    put-word-requires
-    (λ c. omega arith)
-    put-requires
-    put-name-requires
-    (λ c. omega arith)
-    (λ c. omega arith)
-    (λ c. omega arith)
-    put-requires-2
-    (λ c. omega arith)
+    tie.close (tie.spec Inv-loop μ-loop slice-aggregate-put-word put-word-requires (λ c. omega arith) put-requires
+    put-name-requires (λ c. omega arith) (λ c. omega arith) (λ c. omega arith) put-requires-2 (λ c. omega arith)
     returns)

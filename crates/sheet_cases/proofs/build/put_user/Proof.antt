@@ -29,17 +29,5 @@ returns c = tt
 
 pub put-user-spec : {M : Type 1} → statement M
 put-user-spec =
-    tie.close
-    (tie.spec
-    Inv-loop
-    μ-loop
-    put-name-requires
-    (λ c. omega arith)
-    put-requires
-    put-requires-2
-    (λ c. omega arith)
-    (λ c. omega arith)
-    (λ c. omega arith)
-    put-requires-3
-    (λ c. omega arith)
-    returns)
+    tie.close (tie.spec Inv-loop μ-loop put-name-requires (λ c. omega arith) put-requires put-requires-2
+    (λ c. omega arith) (λ c. omega arith) (λ c. omega arith) put-requires-3 (λ c. omega arith) returns)

@@ -30,16 +30,5 @@ returns c = tt
 
 pub set-bits-spec : {M : Type 1} → statement M
 set-bits-spec =
-    tie.close
-    (tie.spec
-    Inv-loop
-    μ-loop
-    (λ c. omega arith)
-    (λ c. omega arith)
-    (λ c. omega arith)
-    count-requires
-    add-total
-    (λ c. omega arith)
-    (λ c. omega arith)
-    loop-again
-    returns)
+    tie.close (tie.spec Inv-loop μ-loop (λ c. omega arith) (λ c. omega arith) (λ c. omega arith) count-requires
+    add-total (λ c. omega arith) (λ c. omega arith) loop-again returns)

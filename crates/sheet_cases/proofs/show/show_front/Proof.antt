@@ -9,4 +9,5 @@ slice-aggregate-show : tie.Need-slice-aggregate-show
 slice-aggregate-show c = simp length-take (omega arith)
 
 pub show-front-spec : {M : Type 1} → statement M
-show-front-spec = tie.close (tie.spec slice-aggregate-show (λ c κs. search needs) (λ c. search needs) (λ c. search needs))
+show-front-spec =
+    tie.close (tie.spec slice-aggregate-show (λ c κs. search needs) (λ c. search needs) (λ c. search needs))

@@ -11,7 +11,8 @@ use Rattle.table.proofs.table.columns.Statement.{statement}
 use Rattle.table.proofs.table.columns.Tie as tie
 
 abbrev Inv-loop : tie.InvT-loop
-Inv-loop rows cells from some words₀ p₀ words p = (p ≤ row-bits) × (length words ≡ row-bits) × ColumnsOf rows cells from some p words
+Inv-loop rows cells from some words₀ p₀ words p =
+    (p ≤ row-bits) × (length words ≡ row-bits) × ColumnsOf rows cells from some p words
 
 abbrev μ-loop : tie.MeasureT-loop
 μ-loop rows cells from some words₀ p₀ words p = row-bits - p
@@ -51,16 +52,5 @@ returns c =
 
 pub columns-spec : {M : Type 1} → statement M
 columns-spec =
-    tie.close
-    (tie.spec
-    Inv-loop
-    μ-loop
-    loop-holds
-    (λ c κs. omega arith)
-    holders-requires
-    (λ c. omega arith)
-    (λ c. omega arith)
-    (λ c. omega arith)
-    loop-less
-    loop-again
-    returns)
+    tie.close (tie.spec Inv-loop μ-loop loop-holds (λ c κs. omega arith) holders-requires (λ c. omega arith)
+    (λ c. omega arith) (λ c. omega arith) loop-less loop-again returns)

@@ -11,4 +11,5 @@ returns c =
     same-user (found .before .before .before .pre) (c .if1 .taken ∙ found .user-of .ensures)
 
 pub held-again-spec : {M : Type 1} → statement M
-held-again-spec = tie.close (tie.spec (λ c κs. search needs) returns (λ c κs. search needs) (λ c. search needs))
+held-again-spec =
+    tie.close (tie.spec (λ c κs. search needs) returns (λ c κs. search needs) (λ c. search needs))

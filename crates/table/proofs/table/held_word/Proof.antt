@@ -13,7 +13,8 @@ use Rattle.table.proofs.table.held_word.Statement.{statement}
 use Rattle.table.proofs.table.held_word.Tie as tie
 
 abbrev Inv-loop : tie.InvT-loop
-Inv-loop rows cells from it count word₀ q₀ word q = (q ≤ count) × FirstBits (permission-held-at rows cells from (it / row-bits)) q word
+Inv-loop rows cells from it count word₀ q₀ word q =
+    (q ≤ count) × FirstBits (permission-held-at rows cells from (it / row-bits)) q word
 
 abbrev μ-loop : tie.MeasureT-loop
 μ-loop rows cells from it count word₀ q₀ word q = count - q
@@ -38,14 +39,23 @@ unfolding row-bits row-words
 holds-requires c κs = omega (arith, c .before .before .user-of .ensures, c .permission-of .ensures)
 
 with-requires : tie.Need-with-requires Inv-loop μ-loop
-with-requires c κs = omega (arith, c .before .before .before .before .before .before .before .cells-from .ensures .not-past)
+with-requires c κs =
+    let at-cells-from = c .before .before .before .before .before .before .before in
+    omega (arith, at-cells-from .cells-from .ensures .not-past)
 
 loop-again : tie.Need-loop-again Inv-loop μ-loop
 loop-again c =
-    let at = c .before .before .before .before .before .before .loop in
-    let told = rw (c .before .before .before .before .user-of .ensures, c .before .before .permission-of .ensures) at (c .before .holds .ensures) in
+    let at-user-of = c .before .before .before .before in
+    let at-loop = at-user-of .before .before in
+    let at = at-loop .loop in
+    let told = rw (at-user-of .user-of .ensures, c .before .before .permission-of .ensures) at
+    (c .before .holds .ensures) in
     ⊎-elim
-    (λ w. (omega arith, rw (w .2) (bit-put-in _ (at .q) (at .word) (at .inv .1) _ (sym told ∙ w .0 .taken) (w .1 .ensures))))
+    (λ w. (
+      omega arith,
+      rw (w .2) (bit-put-in _ (at .q) (at .word) (at .inv .1) _ (sym told ∙ w .0 .taken)
+          (w .1 .ensures)),
+    ))
     (λ w. (omega arith, rw (w .1) (bit-left-out _ (at .q) (at .word) (at .inv .1) (sym told ∙ w .0 .left))))
     (c .if1 .came)
 
@@ -54,24 +64,11 @@ returns c =
     let at = c .before in
     let a = at .before .before .before .before .args in
     let e : at .loop .q ≡ at .before .cells-from .result = omega arith in
-    all-cells (at .before .cells-from .ensures) (permission-held-at (a .rows .now) (a .cells .now) (a .from) (a .it / row-bits)) (rw e at (at .loop .inv .1))
+    all-cells (at .before .cells-from .ensures) (permission-held-at (a .rows .now) (a .cells .now) (a .from)
+    (a .it / row-bits)) (rw e at (at .loop .inv .1))
 
 pub held-word-spec : {M : Type 1} → statement M
 held-word-spec =
-    tie.close
-    (tie.spec
-    Inv-loop
-    μ-loop
-    (λ c κs. search needs)
-    loop-holds
-    (λ c κs. search needs)
-    add-permission-of
-    mul-permission-of
-    shared-slice-read-permission-of
-    (λ c κs. search needs)
-    holds-requires
-    with-requires
-    (λ c. omega arith)
-    (λ c. omega arith)
-    loop-again
-    returns)
+    tie.close (tie.spec Inv-loop μ-loop (λ c κs. search needs) loop-holds (λ c κs. search needs) add-permission-of
+    mul-permission-of shared-slice-read-permission-of (λ c κs. search needs) holds-requires with-requires
+    (λ c. omega arith) (λ c. omega arith) loop-again returns)

@@ -30,21 +30,29 @@ unfolding table-row
 mul-user-of c = omega (arith, c .before .before .cells-from .ensures .not-past)
 
 shared-slice-read-user-of : tie.Need-shared-slice-read-user-of Inv-loop μ-loop
-shared-slice-read-user-of c = c .before .before .before .cells-from .ensures .there (c .before .before .loop .q) (omega arith)
+shared-slice-read-user-of c =
+    c .before .before .before .cells-from .ensures .there (c .before .before .loop .q) (omega arith)
 
 holds-requires : tie.Need-holds-requires Inv-loop μ-loop
 unfolding row-bits row-words
 holds-requires c κs = omega (arith, c .user-of .ensures)
 
 with-requires : tie.Need-with-requires Inv-loop μ-loop
-with-requires c κs = omega (arith, c .before .before .before .before .before .before .cells-from .ensures .not-past)
+with-requires c κs =
+    let at-cells-from = c .before .before .before .before .before .before in
+    omega (arith, at-cells-from .cells-from .ensures .not-past)
 
 loop-again : tie.Need-loop-again Inv-loop μ-loop
 loop-again c =
-    let at = c .before .before .before .before .before .loop in
+    let at-loop = c .before .before .before .before .before in
+    let at = at-loop .loop in
     let told = rw (c .before .before .user-of .ensures) at (c .before .holds .ensures) in
     ⊎-elim
-    (λ w. (omega arith, rw (w .2) (bit-put-in _ (at .q) (at .word) (at .inv .1) _ (sym told ∙ w .0 .taken) (w .1 .ensures))))
+    (λ w. (
+      omega arith,
+      rw (w .2) (bit-put-in _ (at .q) (at .word) (at .inv .1) _ (sym told ∙ w .0 .taken)
+          (w .1 .ensures)),
+    ))
     (λ w. (omega arith, rw (w .1) (bit-left-out _ (at .q) (at .word) (at .inv .1) (sym told ∙ w .0 .left))))
     (c .if1 .came)
 
@@ -53,23 +61,11 @@ returns c =
     let at = c .before in
     let a = at .before .before .before .before .args in
     let e : at .loop .q ≡ at .before .cells-from .result = omega arith in
-    all-cells (at .before .cells-from .ensures) (user-holds-at (a .rows .now) (a .cells .now) (a .from) (a .p)) (rw e at (at .loop .inv .1))
+    all-cells (at .before .cells-from .ensures) (user-holds-at (a .rows .now) (a .cells .now) (a .from) (a .p))
+    (rw e at (at .loop .inv .1))
 
 pub holders-spec : {M : Type 1} → statement M
 holders-spec =
-    tie.close
-    (tie.spec
-    Inv-loop
-    μ-loop
-    (λ c κs. search needs)
-    loop-holds
-    add-user-of
-    mul-user-of
-    shared-slice-read-user-of
-    (λ c κs. search needs)
-    holds-requires
-    with-requires
-    (λ c. omega arith)
-    (λ c. omega arith)
-    loop-again
-    returns)
+    tie.close (tie.spec Inv-loop μ-loop (λ c κs. search needs) loop-holds add-user-of mul-user-of
+    shared-slice-read-user-of (λ c κs. search needs) holds-requires with-requires (λ c. omega arith)
+    (λ c. omega arith) loop-again returns)

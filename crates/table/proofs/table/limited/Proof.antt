@@ -14,4 +14,5 @@ unfolding table-row
 returns-2 c = (omega arith, omega arith, λ l. absurd (omega arith))
 
 pub limited-spec : {M : Type 1} → statement M
-limited-spec = tie.close (tie.spec returns returns-2)
+limited-spec =
+    tie.close (tie.spec returns returns-2)

@@ -27,8 +27,11 @@ with-requires c κs = omega (arith, c .permission-of .ensures)
 loop-again : tie.Need-loop-again Inv-loop μ-loop
 loop-again c =
     let at = c .before .before .before .before in
-    let cells = at .before .before .args .cells .now in
-    (omega arith, permission-put-in cells (at .loop .i) (at .loop .word) _ _ (c .before .permission-of .ensures) (c .with .ensures) (at .loop .inv .1))
+    let cells = at .before .before .args .cells .now in (
+      omega arith,
+      permission-put-in cells (at .loop .i) (at .loop .word) _ _ (c .before .permission-of .ensures)
+          (c .with .ensures) (at .loop .inv .1),
+    )
 
 returns : tie.Need-returns Inv-loop μ-loop
 returns c =
@@ -38,16 +41,5 @@ returns c =
 
 pub permissions-among-spec : {M : Type 1} → statement M
 permissions-among-spec =
-    tie.close
-    (tie.spec
-    Inv-loop
-    μ-loop
-    loop-holds
-    (λ c. omega arith)
-    (λ c. omega arith)
-    (λ c κs. search needs)
-    with-requires
-    (λ c. omega arith)
-    (λ c. omega arith)
-    loop-again
-    returns)
+    tie.close (tie.spec Inv-loop μ-loop loop-holds (λ c. omega arith) (λ c. omega arith) (λ c κs. search needs)
+    with-requires (λ c. omega arith) (λ c. omega arith) loop-again returns)

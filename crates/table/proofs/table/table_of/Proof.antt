@@ -1,4 +1,5 @@
--- `table::table::table_of`: grant by grant its two words are put in; past the last grant the words stay 0, and nothing fits there.
+-- `table::table::table_of`: grant by grant its two words are put in; past the last grant the words stay 0, and
+-- nothing fits there.
 use Prim.Native.Nat.{ℕ, _*_, _-_, _≤_, _<_}
 use native.Mathlib.Omega.{arith}
 use mathlib.Core.Path.{_≡_, _∙_}
@@ -14,14 +15,17 @@ use Rattle.table.proofs.table.table_of.Tie as tie
 
 abbrev Inv-loop : tie.InvT-loop
 Inv-loop rows cells count some low high last₀ words₀ i₀ last words i =
-    (i ≤ count) × (length words ≡ table-limit * table-row) × HeldBy rows cells (last .user) last × Filled rows cells i words
+    (i ≤ count) × (length words ≡ table-limit * table-row) × HeldBy rows cells (last .user) last
+    × Filled rows cells i words
 
 abbrev μ-loop : tie.MeasureT-loop
 μ-loop rows cells count some low high last₀ words₀ i₀ last words i = count - i
 
 -- there is room for every grant
 within : (c : tie.In-loop Inv-loop μ-loop) → c .before .loop .i < table-limit
-within c = omega (arith, c .before .before .before .before .before .before .limited .ensures .1)
+within c =
+    let at-limited = c .before .before .before .before .before .before in
+    omega (arith, at-limited .limited .ensures .1)
 
 -- its permission has a column
 column : (c : tie.After-permission-of Inv-loop μ-loop) → c .permission-of .result .0 < row-bits
@@ -38,7 +42,13 @@ columns-requires-2 c κs = omega arith
 
 loop-holds : tie.Need-loop-holds Inv-loop μ-loop
 unfolding table-row
-loop-holds c = (omega arith, length-replicate {A = ℕ} (table-limit * table-row) 0, own-user (c .held-by .ensures), nothing-filled _ _)
+loop-holds c = (
+  omega arith,
+  length-replicate {A = ℕ} (table-limit * table-row) 0,
+  own-user (c .held-by .ensures),
+  nothing-filled
+      _ _,
+)
 
 mul-it : tie.Need-mul-it Inv-loop μ-loop
 unfolding table-row
@@ -107,9 +117,12 @@ loop-again c =
       omega arith,
       simp length-set (at .loop .inv .1),
       own-user (at-held .held-again .ensures),
-      grant-filled (at .loop .inv .3) (within in-loop) (omega (arith, some .before .limited .ensures .0)) (at .loop .inv .1)
-          (at-permission .permission-of .ensures) (at-held .held-again .ensures .low) (at-held .held-again .ensures .high)
-          (made .before .columns .ensures .column p (column at-permission) wanted) (made .columns2 .ensures .column p (column at-permission) wanted),
+      grant-filled (at .loop .inv .3) (within in-loop) (omega (arith, some .before .limited .ensures .0))
+          (at .loop .inv .1)
+          (at-permission .permission-of .ensures) (at-held .held-again .ensures .low)
+          (at-held .held-again .ensures .high)
+          (made .before .columns .ensures .column p (column at-permission) wanted) (made .columns2 .ensures .column p
+          (column at-permission) wanted),
     )
 
 returns : tie.Need-returns Inv-loop μ-loop
@@ -122,32 +135,8 @@ returns c users sheet shown =
 
 pub table-of-spec : {M : Type 1} → statement M
 table-of-spec =
-    tie.close
-    (tie.spec
-    Inv-loop
-    μ-loop
-    (λ c κs. search needs)
-    (λ c κs. search needs)
-    columns-requires
-    columns-requires-2
-    (λ c κs. search needs)
-    loop-holds
-    mul-it
-    (λ c. omega arith)
-    (λ c κs. search needs)
-    (λ c κs. search needs)
-    mul-words
-    array-read-words
-    mul-words-2
-    mul-words-3
-    array-write-words
-    mul-words-4
-    array-read-words-2
-    mul-words-5
-    add-words
-    mul-words-6
-    array-write-words-2
-    add-i
-    (λ c. omega arith)
-    loop-again
+    tie.close (tie.spec Inv-loop μ-loop (λ c κs. search needs) (λ c κs. search needs) columns-requires
+    columns-requires-2 (λ c κs. search needs) loop-holds mul-it (λ c. omega arith) (λ c κs. search needs)
+    (λ c κs. search needs) mul-words array-read-words mul-words-2 mul-words-3 array-write-words mul-words-4
+    array-read-words-2 mul-words-5 add-words mul-words-6 array-write-words-2 add-i (λ c. omega arith) loop-again
     returns)

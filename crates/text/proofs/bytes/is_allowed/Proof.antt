@@ -14,4 +14,5 @@ unfolding allowed-byte
 returns-2 c = rw (sym (c .before .before .is-name-byte .ensures) ∙ c .before .if1 .left) (c .is-separator .ensures)
 
 pub is-allowed-spec : {M : Type 1} → statement M
-is-allowed-spec = tie.close (tie.spec (λ c κs. search needs) returns (λ c κs. search needs) returns-2)
+is-allowed-spec =
+    tie.close (tie.spec (λ c κs. search needs) returns (λ c κs. search needs) returns-2)

@@ -1,4 +1,5 @@
--- `bytes::is_name_byte`: the six tests in turn. Where one passes the byte is of a name, and where it fails the next ones decide.
+-- `bytes::is_name_byte`: the six tests in turn. Where one passes the byte is of a name, and where it fails the next
+-- ones decide.
 use borrow.Author.Needs.{needs}
 use borrow.Author.Tests.{eq-eqb, ne-eqb}
 use Prim.Native.Nat.{ℕ}
@@ -28,19 +29,24 @@ returns-2 c =
 returns-3 : tie.Need-returns-3
 unfolding name-byte
 returns-3 c =
+    let at-if1 = c .before .before .before .before in
+    let at-is-between = at-if1 .before in
     rw (
-      sym (c .before .before .before .before .before .is-between .ensures) ∙ c .before .before .before .before .if1 .left,
+      sym (at-is-between .is-between .ensures) ∙ at-if1 .if1 .left,
       sym (c .before .before .before .is-between2 .ensures) ∙ c .before .before .if2 .left,
       sym (c .before .is-between3 .ensures) ∙ c .if3 .taken,
     )
 
 -- a byte in none of the ranges
-past-ranges : (c : tie.Else3) → name-byte (c .before .before .before .before .before .before .args .b)
-    ≡ other-name-byte (c .before .before .before .before .before .before .args .b)
+past-ranges : (c : tie.Else3)
+    → let start = c .before .before .before .before .before .before in
+    name-byte (start .args .b) ≡ other-name-byte (start .args .b)
 unfolding name-byte
 past-ranges c =
+    let at-if1 = c .before .before .before .before in
+    let at-is-between = at-if1 .before in
     rw (
-      sym (c .before .before .before .before .before .is-between .ensures) ∙ c .before .before .before .before .if1 .left,
+      sym (at-is-between .is-between .ensures) ∙ at-if1 .if1 .left,
       sym (c .before .before .before .is-between2 .ensures) ∙ c .before .before .if2 .left,
       sym (c .before .is-between3 .ensures) ∙ c .if3 .left,
     )
@@ -56,14 +62,5 @@ returns-6 c = rw (past-ranges (c .before .before), ne-eqb _ _ (c .before .if4 .l
 
 pub is-name-byte-spec : {M : Type 1} → statement M
 is-name-byte-spec =
-    tie.close
-    (tie.spec
-    (λ c κs. search needs)
-    returns
-    (λ c κs. search needs)
-    returns-2
-    (λ c κs. search needs)
-    returns-3
-    returns-4
-    returns-5
-    returns-6)
+    tie.close (tie.spec (λ c κs. search needs) returns (λ c κs. search needs) returns-2 (λ c κs. search needs)
+    returns-3 returns-4 returns-5 returns-6)

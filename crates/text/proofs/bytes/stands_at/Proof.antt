@@ -13,4 +13,5 @@ returns-2 : tie.Need-returns-2
 returns-2 c = rw (le-ltb (c .before .args .at) (length (c .before .args .s .now)) (omega arith))
 
 pub stands-at-spec : {M : Type 1} → statement M
-stands-at-spec = tie.close (tie.spec (λ c. search needs) returns returns-2)
+stands-at-spec =
+    tie.close (tie.spec (λ c. search needs) returns returns-2)

@@ -8,4 +8,5 @@ returns-2 : tie.Need-returns-2
 returns-2 c = rw (List·getD-eq-default (c .before .args .s .now) 0 (c .if1 .left))
 
 pub ends-line-spec : {M : Type 1} → statement M
-ends-line-spec = tie.close (tie.spec (λ c. search needs) (λ c. search needs) returns-2)
+ends-line-spec =
+    tie.close (tie.spec (λ c. search needs) (λ c. search needs) returns-2)

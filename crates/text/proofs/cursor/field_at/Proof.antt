@@ -1,6 +1,7 @@
--- `cursor::field_at`: a reader that is made of the sheet and the place passed has just these two, so what `next_field` reads of it is the field at that
--- place. The reader stands in a local, which no covered function has, so the code is walked by hand: the reader is made, one call is made, its result is
--- returned. A `&` is there twice: one goes into the reader, and one stays for the exit.
+-- `cursor::field_at`: a reader that is made of the sheet and the place passed has just these two, so what
+-- `next_field` reads of it is the field at that place. The reader stands in a local, which no covered function has,
+-- so the code is walked by hand: the reader is made, one call is made, its result is returned. A `&` is there twice:
+-- one goes into the reader, and one stays for the exit.
 use Prim.Native.Nat.{ℕ, _<_, _^_}
 use mathlib.Core.Path.{_≡_, refl}
 use mathlib.Core.List.{List, [], _∷_}
@@ -38,7 +39,19 @@ use denote.Triple.Call.{calls-at}
 use denote.Triple.Entry.{Vals, onEntry}
 use denote.Triple.Spec.{Meets, tripleOf}
 use denote.Triple.Table.{entered, cited}
-use denote.Triple.Walked.{says, Stays, stay-none, stay-none-slice, walkOf, goes-none, goes-none-slice, Walks, ends-at, walked, walk-meets}
+use denote.Triple.Walked.{
+  says,
+  Stays,
+  stay-none,
+  stay-none-slice,
+  walkOf,
+  goes-none,
+  goes-none-slice,
+  Walks,
+  ends-at,
+  walked,
+  walk-meets,
+}
 use denote.Triple.Clauses.{Clauses, ensured, lasts}
 use denote.Exit.{yes}
 use Rattle.text.specs.Fields.{field-read}
@@ -60,7 +73,8 @@ use Rattle.text.proofs.cursor.field_at.Code as code
 abbrev stayed : Stays (field-at.ended .signature .params) (field-at.ended .kept)
 stayed = (stay-none-slice (0 ∷ []) tt (plain (λ _. u8)) yes, (stay-none (λ _. usize) yes, tt))
 
-module _ {M : Type 1} (𝓤 : URA M) (H : Heap 𝓤) (A : Atoms 𝓤) (W : Given 𝓤 H A) (mem : Memory → SProp 𝓤) (run : Routine → Fun 𝓤) where
+module _ {M : Type 1} (𝓤 : URA M) (H : Heap 𝓤) (A : Atoms 𝓤) (W : Given 𝓤 H A) (mem : Memory → SProp 𝓤) (run : Routine
+    → Fun 𝓤) where
   -- the two contracts: what is to be shown, and what is known of the callee
   abbrev shown : Clauses 𝓤 field-at.ended
   shown = field-at.clauses 𝓤 H A mem run
@@ -122,14 +136,17 @@ module _ {M : Type 1} (𝓤 : URA M) (H : Heap 𝓤) (A : Atoms 𝓤) (W : Given
     abbrev Field : FieldRead → Val → Item 𝓤
     Field r u = ‵ (field-type.the-row .own r (u ∷ []))
 
-    reader-asked : ent 𝓤 (onEntry 𝓤 H A next-field.signature κs (q, tt) (reader, tt) (reader-val ∷ [], tt)) (Nexts .pre called)
-    reader-asked = qed W (Token ∷ ‵ (owns (ReaderHeld ∷ []) (reader, tt) (reader-val ∷ [], tt)) ∷ []) ∵ join ! $ frame ! $ done !
+    reader-asked : ent 𝓤 (onEntry 𝓤 H A next-field.signature κs (q, tt) (reader, tt) (reader-val ∷ [], tt))
+        (Nexts .pre called)
+    reader-asked = qed W (Token ∷ ‵ (owns (ReaderHeld ∷ []) (reader, tt) (reader-val ∷ [], tt)) ∷ []) ∵ join ! $ frame
+        ! $ done !
 
     -- the reference and the place's facts are what the reader owns
     reader-made : ent 𝓤 (sem 𝓤 H A Lent) (sem 𝓤 H A (ReaderHeld .own reader (reader-val ∷ [])))
     reader-made =
         qed W (‵ Lent ∷ []) ∵
-        nothing ! $ owned ! usize (Is usize) (uint-makes 𝓤 H A W w64) place _ (refl, fits) $ fjoin ! $ move ! (1 ∷ 0 ∷ []) $ fjoin ! $
+        nothing ! $ owned ! usize (Is usize) (uint-makes 𝓤 H A W w64) place _ (refl, fits) $ fjoin ! $ move !
+        (1 ∷ 0 ∷ []) $ fjoin ! $
         by ! (own-shut 𝓤 H A W (reader-type.the-type lifetime) (reader-laws.the-laws lifetime) (sheet, (place, tt)))
 
     -- one copy of the reference goes into the reader for the call, and the other is kept
@@ -149,29 +166,38 @@ module _ {M : Type 1} (𝓤 : URA M) (H : Heap 𝓤) (A : Atoms 𝓤) (W : Given
     leaves : (r : FieldRead) (u : Val) → r ≡ answer → ent 𝓤 (⋆ 𝓤 H A (Field r u ∷ Token ∷ ‵ Lent ∷ [])) (Post u)
     leaves r u is-answer =
         qed W (Field r u ∷ Token ∷ ‵ Lent ∷ []) ∵
-        suffices ! _ (ends-at 𝓤 H A field-at.ended stayed shown W bound u r (tt, (tt, tt)) (tt, (tt, tt))) $ says ! is-answer $
-        move ! (1 ∷ []) $ frame ! $ nothing ! $ owned ! usize (Is usize) (uint-makes 𝓤 H A W w64) place _ (refl, fits) $ fjoin ! $
+        suffices ! _ (ends-at 𝓤 H A field-at.ended stayed shown W bound u r (tt, (tt, tt)) (tt, (tt, tt))) $ says !
+        is-answer $
+        move ! (1 ∷ []) $ frame ! $ nothing ! $ owned ! usize (Is usize) (uint-makes 𝓤 H A W w64) place _ (refl, fits)
+        $ fjoin ! $
         move ! (2 ∷ 0 ∷ []) $ fjoin ! $ frame ! $ done !
 
     module _ (C : Calls 𝓤 H) (Λ : Loops 𝓤 H) (fm : FmC 𝓤 H (W .laws) C) (nexts : Triple 𝓤 (C #next-field) Nexts) where
-      walk : Is (ShrSlice (named 0) κ u8) sheet (sheet-val ∷ []) → ent 𝓤 Entry (WpFn 𝓤 H C Λ code.function (sheet-val ∷ vint w64 place ∷ []) Post)
+      walk : Is (ShrSlice (named 0) κ u8) sheet (sheet-val ∷ [])
+          → ent 𝓤 Entry (WpFn 𝓤 H C Λ code.function (sheet-val ∷ vint w64 place ∷ []) Post)
       walk is-sheet =
           let typed = shr-slice-lawful 𝓤 H A W (named 0) κ u8 .typed sheet (sheet-val ∷ []) is-sheet .0 in
           qed W (raw Entry ∷ []) ∵ enter ! C Λ code.function (sheet-val ∷ vint w64 place ∷ []) _ $
           alloc1 ! (λ result. alloc1 ! (λ given-sheet. alloc1 ! (λ given-place. alloc1 ! (λ made. alloc0 ! $
           params1 ! $ pass1 ! (init ! 4 refl typed) $ pass1 ! (init ! 2 refl (tt, record { fits = fits })) $ pass0 ! $
           -- [room for the reader; …; the place; …; the sheet; …; room for the result; …; what is had at entry]
-          assigns ! (agg ! (and-then ! (load ! (from ! (stop !)) (look ! 4 refl)) (and-then ! (load ! (from ! (stop !)) (look ! 2 refl)) (no-more !))))
+          assigns ! (agg ! (and-then ! (load ! (from ! (stop !)) (look ! 4 refl))
+          (and-then ! (load ! (from ! (stop !)) (look ! 2 refl)) (no-more !))))
           (from ! (stop !)) (init ! 0 refl (tt, (typed .1, (record { fits = fits }, tt)))) $
           move ! (8 ∷ []) $ use1 W (raw (Nexts .pre called) ⊛ ‵ Lent) lent-on $ split ! $
           calls-at ! fm Nexts nexts called (and-then ! (load ! (from ! (stop !)) (look ! 2 refl)) (no-more !)) (λ u.
-          use1 W (later (some (λ (r : FieldRead). (Token ⊛ Field r u) ⊛ raw (Said r)))) (id⊢ 𝓤 _) $ await ! tt $ pick ! (λ r.
-          split ! $ move ! (1 ∷ []) $ use1 W (raw (fact 𝓤 (r ≡ answer))) (said r) $ heard ! (r ≡ answer) (λ is-answer. split ! $ move ! (1 ∷ []) $
-          -- [the field; the token; what the sheet's reference owns; the reader; …; the place; …; the sheet; …; room for the result; …]
+          use1 W (later (some (λ (r : FieldRead). (Token ⊛ Field r u) ⊛ raw (Said r)))) (id⊢ 𝓤 _) $ await ! tt $ pick
+          ! (λ r.
+          split ! $ move ! (1 ∷ []) $ use1 W (raw (fact 𝓤 (r ≡ answer))) (said r) $ heard ! (r ≡ answer)
+          (λ is-answer. split ! $ move ! (1 ∷ []) $
+          -- [the field; the token; what the sheet's reference owns; the reader; …; the place; …; the sheet; …; room
+          -- for the result; …]
           peeks ! field-type.the-row (Is field-type.the-row) (shows 𝓤 H A field-type.the-row) r (u ∷ []) (λ is.
-          land ! (from ! (stop !)) (init ! 9 refl (struct-laws.lawful field-type.the-type field-laws.the-laws 𝓤 H A W .typed r _ is .0)) $
+          land ! (from ! (stop !)) (init ! 9 refl (struct-laws.lawful field-type.the-type field-laws.the-laws 𝓤 H A
+          W .typed r _ is .0)) $
           returns ! (look ! 9 refl) $ forget ! 3 refl $ forget ! 5 refl $ forget ! 7 refl $ forget ! 9 refl $
-          move ! (9 ∷ 10 ∷ []) $ free1 ! $ move ! (7 ∷ 8 ∷ []) $ free1 ! $ move ! (5 ∷ 6 ∷ []) $ free1 ! $ move ! (3 ∷ 4 ∷ []) $ free1 ! $ free0 ! $
+          move ! (9 ∷ 10 ∷ []) $ free1 ! $ move ! (7 ∷ 8 ∷ []) $ free1 ! $ move ! (5 ∷ 6 ∷ []) $ free1 ! $ move !
+          (3 ∷ 4 ∷ []) $ free1 ! $ free0 ! $
           by ! (leaves r u is-answer)))))))))
 
   walks : (C : Calls 𝓤 H) (Λ : Loops 𝓤 H) → FmC 𝓤 H (W .laws) C → Triple 𝓤 (C #next-field) Nexts
@@ -185,8 +211,10 @@ module _ {M : Type 1} (𝓤 : URA M) (H : Heap 𝓤) (A : Atoms 𝓤) (W : Given
   meets : (𝓣 : Tables 𝓤 H) → Triple 𝓤 (𝓣 .C #next-field) Nexts
       → Meets 𝓤 H A field-at.signature (WpFn 𝓤 H (𝓣 .C) (𝓣 .Λ) code.function) (field-at.spec 𝓤 H A mem run)
   meets 𝓣 nexts =
-      walk-meets 𝓤 H A field-at.ended stayed W
-      (goes-none-slice 𝓤 H A W 1 (0 ∷ []) tt (plain (λ _. u8)) yes, (goes-none 𝓤 H A W 1 (λ _. usize) yes (λ κs x f. refl), tt)) shown
+      walk-meets 𝓤 H A field-at.ended stayed W (
+        goes-none-slice 𝓤 H A W 1 (0 ∷ []) tt (plain (λ _. u8)) yes,
+        (goes-none 𝓤 H A W 1 (λ _. usize) yes (λ κs x f. refl), tt),
+      ) shown
       (WpFn 𝓤 H (𝓣 .C) (𝓣 .Λ) code.function) (WpFn-mono 𝓤 H (W .laws) 𝓣 code.function)
       (walks (𝓣 .C) (𝓣 .Λ) (fmOf 𝓤 H (W .laws) 𝓣) nexts)
 

@@ -1,4 +1,5 @@
--- `cursor::field_end`: with no separator from `at` up to i, the field ends as far from i as the first separator from i on stands.
+-- `cursor::field_end`: with no separator from `at` up to i, the field ends as far from i as the first separator from
+-- i on stands.
 use Prim.Native.Nat.{_+_, _-_, _≤_}
 use native.Mathlib.Omega.{arith}
 use native.Mathlib.Numerals.{add-one}
@@ -23,18 +24,22 @@ is-separator-requires c κs = tt
 
 returns : tie.Need-returns Inv-loop μ-loop
 returns c =
-    let i = c .before .before .before .before .loop .i in
-    let s = c .before .before .before .before .before .before .args .s .now in
+    let at-loop = c .before .before .before .before in
+    let start = at-loop .before .before in
+    let i = at-loop .loop .i in
+    let s = start .args .s .now in
     let stops = sym (c .before .is-separator .ensures) ∙ c .if1 .taken in
-    omega (arith, rw (span-drop separator s i 0 (omega arith), stops) at (c .before .before .before .before .loop .inv))
+    omega (arith, rw (span-drop separator s i 0 (omega arith), stops) at (at-loop .loop .inv))
 
 loop-again : tie.Need-loop-again Inv-loop μ-loop
 loop-again c =
-    let i = c .before .before .before .before .loop .i in
-    let s = c .before .before .before .before .before .before .args .s .now in
+    let at-loop = c .before .before .before .before in
+    let start = at-loop .before .before in
+    let i = at-loop .loop .i in
+    let s = start .args .s .now in
     let goes-on = sym (c .before .is-separator .ensures) ∙ c .if1 .left in
     rw add-one
-    (omega (arith, rw (span-drop separator s i 0 (omega arith), goes-on) at (c .before .before .before .before .loop .inv)))
+    (omega (arith, rw (span-drop separator s i 0 (omega arith), goes-on) at (at-loop .loop .inv)))
 
 returns-2 : tie.Need-returns-2 Inv-loop μ-loop
 returns-2 c =
@@ -45,15 +50,5 @@ returns-2 c =
 
 pub field-end-spec : {M : Type 1} → statement M
 field-end-spec =
-    tie.close
-    (tie.spec
-    Inv-loop
-    μ-loop
-    loop-holds
-    (λ c. omega arith)
-    is-separator-requires
-    returns
-    (λ c. omega arith)
-    (λ c. omega arith)
-    loop-again
-    returns-2)
+    tie.close (tie.spec Inv-loop μ-loop loop-holds (λ c. omega arith) is-separator-requires returns (λ c. omega arith)
+    (λ c. omega arith) loop-again returns-2)

@@ -1,6 +1,7 @@
--- `cursor::next_field`: what it reads is what `read_field` reads at the reader's own sheet and place. No function over a struct that holds a reference is
--- covered, so the code is walked by hand: two fields are copied out, one call is made, its result is returned. Of `read_field` the contract alone is used.
--- A reader holds a `&` and a number, so whatever it owns is there twice: one goes to the call as its sheet and its place, one stays for the exit.
+-- `cursor::next_field`: what it reads is what `read_field` reads at the reader's own sheet and place. No function
+-- over a struct that holds a reference is covered, so the code is walked by hand: two fields are copied out, one call
+-- is made, its result is returned. Of `read_field` the contract alone is used. A reader holds a `&` and a number, so
+-- whatever it owns is there twice: one goes to the call as its sheet and its place, one stays for the exit.
 use Prim.Native.Nat.{_<_, _^_}
 use mathlib.Core.Path.{_≡_, refl}
 use mathlib.Core.List.{[], _∷_}
@@ -76,7 +77,8 @@ made-laws κs = reader-laws.the-laws (lifetime κs)
 abbrev stayed : Stays (next-field.ended .signature .params) (next-field.ended .kept)
 stayed = (stay-none ReaderHeld yes, tt)
 
-module _ {M : Type 1} (𝓤 : URA M) (H : Heap 𝓤) (A : Atoms 𝓤) (W : Given 𝓤 H A) (mem : Memory → SProp 𝓤) (run : Routine → Fun 𝓤) where
+module _ {M : Type 1} (𝓤 : URA M) (H : Heap 𝓤) (A : Atoms 𝓤) (W : Given 𝓤 H A) (mem : Memory → SProp 𝓤) (run : Routine
+    → Fun 𝓤) where
   -- the two contracts: what is to be shown, and what is known of the callee
   abbrev shown : Clauses 𝓤 next-field.ended
   shown = next-field.clauses 𝓤 H A mem run
@@ -135,20 +137,25 @@ module _ {M : Type 1} (𝓤 : URA M) (H : Heap 𝓤) (A : Atoms 𝓤) (W : Given
     Field r u = ‵ (field-type.the-row .own r (u ∷ []))
 
     fields-asked : ent 𝓤 (onEntry 𝓤 H A read-field.signature κs (q, tt) fields passed) (Reads .pre called)
-    fields-asked = qed W (Token ∷ ‵ (owns (ShrSlice (named 0) κ u8 ∷ usize ∷ []) fields passed) ∷ []) ∵ join ! $ frame ! $ done !
+    fields-asked = qed W (Token ∷ ‵ (owns (ShrSlice (named 0) κ u8 ∷ usize ∷ []) fields passed) ∷ []) ∵ join ! $ frame
+        ! $ done !
 
     -- one copy of what the reader owns is opened for the call, and the other is kept
     taken-apart : reader .at < 2 ^ 64 → ent 𝓤 Entry (sep 𝓤 (Reads .pre called) (sem 𝓤 H A Whole))
     taken-apart fits =
         qed W (Token ∷ ‵ (owns (ReaderHeld κs ∷ []) (reader, tt) (reader-val ∷ [], tt)) ∷ []) ∵
         move ! (1 ∷ []) $ fsplit ! $ move ! (1 ∷ []) $ drop ! $
-        use1 W (‵ Whole ⊛ ‵ Whole) (struct-laws.copy (Made κs) (reader-laws.the-copy (lifetime κs)) 𝓤 H A W .twice reader (reader-val ∷ [])) $ split ! $
+        use1 W (‵ Whole ⊛ ‵ Whole) (struct-laws.copy (Made κs) (reader-laws.the-copy (lifetime κs)) 𝓤 H A W .twice
+        reader (reader-val ∷ [])) $ split ! $
         use1 W (given (reader-val ∷ [] ≡ reader-val ∷ []) (‵ (all-own (Made κs .parts) (made-laws κs) fields)))
         (own-open 𝓤 H A W (Made κs) (made-laws κs) fields reader-val) $ learn ! (λ _.
-        use1 W (‵ Sheet ⊛ ‵ (rest (Made κs .parts) (made-laws κs) 0 fields)) (own-out 𝓤 H A W (Made κs .parts) (made-laws κs) 0 fields) $ split ! $
+        use1 W (‵ Sheet ⊛ ‵ (rest (Made κs .parts) (made-laws κs) 0 fields)) (own-out 𝓤 H A W (Made κs .parts)
+        (made-laws κs) 0 fields) $ split ! $
         -- [the sheet's; the place's; the reader's; the token]: the place's facts are made anew
-        move ! (1 ∷ []) $ drop ! $ nothing ! $ owned ! usize (Is usize) (uint-makes 𝓤 H A W w64) (reader .at) _ (refl, fits) $ fjoin ! $
-        move ! (1 ∷ 0 ∷ []) $ fjoin ! $ move ! (2 ∷ 0 ∷ []) $ use2 W (raw (Reads .pre called)) fields-asked $ frame ! $ done !)
+        move ! (1 ∷ []) $ drop ! $ nothing ! $ owned ! usize (Is usize) (uint-makes 𝓤 H A W w64) (reader .at) _
+        (refl, fits) $ fjoin ! $
+        move ! (1 ∷ 0 ∷ []) $ fjoin ! $ move ! (2 ∷ 0 ∷ []) $ use2 W (raw (Reads .pre called)) fields-asked $ frame !
+        $ done !)
 
     -- `read_field` has no `&mut`, so of what it ensures only the clause is kept
     said : (r : FieldRead) → ent 𝓤 (Said r) (fact 𝓤 (r ≡ answer))
@@ -161,7 +168,8 @@ module _ {M : Type 1} (𝓤 : URA M) (H : Heap 𝓤) (A : Atoms 𝓤) (W : Given
         move ! (1 ∷ []) $ frame ! $ nothing ! $ move ! (2 ∷ 0 ∷ []) $ fjoin ! $ frame ! $ done !
 
     module _ (C : Calls 𝓤 H) (Λ : Loops 𝓤 H) (fm : FmC 𝓤 H (W .laws) C) (reads : Triple 𝓤 (C #read-field) Reads) where
-      walk : Holds (hasTy (reader-laws.mir (named 0)) reader-val) × WT reader-val → ent 𝓤 Entry (WpFn 𝓤 H C Λ code.function (reader-val ∷ []) Post)
+      walk : Holds (hasTy (reader-laws.mir (named 0)) reader-val) × WT reader-val
+          → ent 𝓤 Entry (WpFn 𝓤 H C Λ code.function (reader-val ∷ []) Post)
       walk typed =
           qed W (raw Entry ∷ []) ∵ enter ! C Λ code.function (reader-val ∷ []) _ $
           alloc1 ! (λ result. alloc1 ! (λ given-reader. alloc1 ! (λ sheet. alloc1 ! (λ place. alloc0 ! $
@@ -173,14 +181,20 @@ module _ {M : Type 1} (𝓤 : URA M) (H : Heap 𝓤) (A : Atoms 𝓤) (W : Given
           (from ! (stop !)) (init ! 0 refl (tt, typed .1 .1 .0)) $
           move ! (8 ∷ []) $ use1 W (raw (Reads .pre called) ⊛ ‵ Whole) (taken-apart (typed .1 .1 .0 .fits)) $ split ! $
           calls-at ! fm Reads reads called
-          (and-then ! (load ! (from ! (stop !)) (look ! 4 refl)) (and-then ! (load ! (from ! (stop !)) (look ! 2 refl)) (no-more !))) (λ u.
-          use1 W (later (some (λ (r : FieldRead). (Token ⊛ Field r u) ⊛ raw (Said r)))) (id⊢ 𝓤 _) $ await ! tt $ pick ! (λ r.
-          split ! $ move ! (1 ∷ []) $ use1 W (raw (fact 𝓤 (r ≡ answer))) (said r) $ heard ! (r ≡ answer) (λ is-answer. split ! $ move ! (1 ∷ []) $
-          -- [the field; the token; what the reader owns; the place; …; the sheet; …; the reader; …; room for the result; …]
+          (and-then ! (load ! (from ! (stop !)) (look ! 4 refl))
+          (and-then ! (load ! (from ! (stop !)) (look ! 2 refl)) (no-more !))) (λ u.
+          use1 W (later (some (λ (r : FieldRead). (Token ⊛ Field r u) ⊛ raw (Said r)))) (id⊢ 𝓤 _) $ await ! tt $ pick
+          ! (λ r.
+          split ! $ move ! (1 ∷ []) $ use1 W (raw (fact 𝓤 (r ≡ answer))) (said r) $ heard ! (r ≡ answer)
+          (λ is-answer. split ! $ move ! (1 ∷ []) $
+          -- [the field; the token; what the reader owns; the place; …; the sheet; …; the reader; …; room for the
+          -- result; …]
           peeks ! field-type.the-row (Is field-type.the-row) (shows 𝓤 H A field-type.the-row) r (u ∷ []) (λ is.
-          land ! (from ! (stop !)) (init ! 9 refl (struct-laws.lawful field-type.the-type field-laws.the-laws 𝓤 H A W .typed r _ is .0)) $
+          land ! (from ! (stop !)) (init ! 9 refl (struct-laws.lawful field-type.the-type field-laws.the-laws 𝓤 H A
+          W .typed r _ is .0)) $
           returns ! (look ! 9 refl) $ forget ! 3 refl $ forget ! 5 refl $ forget ! 7 refl $ forget ! 9 refl $
-          move ! (9 ∷ 10 ∷ []) $ free1 ! $ move ! (7 ∷ 8 ∷ []) $ free1 ! $ move ! (5 ∷ 6 ∷ []) $ free1 ! $ move ! (3 ∷ 4 ∷ []) $ free1 ! $ free0 ! $
+          move ! (9 ∷ 10 ∷ []) $ free1 ! $ move ! (7 ∷ 8 ∷ []) $ free1 ! $ move ! (5 ∷ 6 ∷ []) $ free1 ! $ move !
+          (3 ∷ 4 ∷ []) $ free1 ! $ free0 ! $
           by ! (leaves r u is-answer)))))))))
 
   walks : (C : Calls 𝓤 H) (Λ : Loops 𝓤 H) → FmC 𝓤 H (W .laws) C → Triple 𝓤 (C #read-field) Reads
@@ -189,7 +203,8 @@ module _ {M : Type 1} (𝓤 : URA M) (H : Heap 𝓤) (A : Atoms 𝓤) (W : Given
       walked 𝓤 H A next-field.ended stayed shown (WpFn 𝓤 H C Λ code.function)
       (λ κs. (struct-laws.vals (Made κs) (made-laws κs), tt)) (λ κs. (struct-laws.tells (Made κs) (made-laws κs), tt))
       (λ κs qs bounds args g are. via 𝓤 _ (fst∗ 𝓤 _ (emp 𝓤))
-      (walk (κs .0) (qs .0) (args .0) C Λ fm reads (struct-laws.lawful (Made κs) (made-laws κs) 𝓤 H A W .typed (args .0) _ (are .0) .0)))
+      (walk (κs .0) (qs .0) (args .0) C Λ fm reads (struct-laws.lawful (Made κs) (made-laws κs) 𝓤 H A W .typed
+      (args .0) _ (are .0) .0)))
 
   meets : (𝓣 : Tables 𝓤 H) → Triple 𝓤 (𝓣 .C #read-field) Reads
       → Meets 𝓤 H A next-field.signature (WpFn 𝓤 H (𝓣 .C) (𝓣 .Λ) code.function) (next-field.spec 𝓤 H A mem run)

@@ -1,5 +1,5 @@
--- `names::same_bytes`: slices of other lengths are not the same; and with the bytes before i the same, the slices are the same exactly
--- where what stands from i on is.
+-- `names::same_bytes`: slices of other lengths are not the same; and with the bytes before i the same, the slices are
+-- the same exactly where what stands from i on is.
 use Prim.Native.Nat.{_≤_, _-_}
 use native.Mathlib.Omega.{arith}
 use native.Mathlib.Numerals.{add-one}
@@ -26,19 +26,29 @@ loop-holds c = (omega arith, refl)
 
 returns-2 : tie.Need-returns-2 Inv-loop μ-loop
 returns-2 c =
-    let i = c .before .before .before .before .loop .i in
-    let same = c .before .before .before .before .loop .inv .1 in
-    let args = c .before .before .before .before .before .before .args in
-    sym (sym same ∙ rw (same-by-drop eqb (args .a .now) (args .b .now) i 0 (omega arith) (omega arith), ne-eqb _ _ (c .if2 .taken)))
+    let at-loop = c .before .before .before .before in
+    let start = at-loop .before .before in
+    let i = at-loop .loop .i in
+    let same = at-loop .loop .inv .1 in
+    let args = start .args in
+    sym (sym same ∙ rw (
+      same-by-drop eqb (args .a .now) (args .b .now) i 0 (omega arith) (omega arith),
+      ne-eqb _ _ (c .if2 .taken),
+    ))
 
 loop-again : tie.Need-loop-again Inv-loop μ-loop
 loop-again c =
-    let i = c .before .before .before .before .loop .i in
-    let same = c .before .before .before .before .loop .inv .1 in
-    let args = c .before .before .before .before .before .before .args in (
+    let at-loop = c .before .before .before .before in
+    let start = at-loop .before .before in
+    let i = at-loop .loop .i in
+    let same = at-loop .loop .inv .1 in
+    let args = start .args in (
       omega arith,
       rw add-one
-          (sym (rw (same-by-drop eqb (args .a .now) (args .b .now) i 0 (omega arith) (omega arith), eq-eqb _ _ (c .if2 .left))) ∙ same),
+          (sym (rw (
+            same-by-drop eqb (args .a .now) (args .b .now) i 0 (omega arith) (omega arith),
+            eq-eqb _ _ (c .if2 .left),
+          )) ∙ same),
     )
 
 returns-3 : tie.Need-returns-3 Inv-loop μ-loop
@@ -51,16 +61,5 @@ returns-3 c =
 
 pub same-bytes-spec : {M : Type 1} → statement M
 same-bytes-spec =
-    tie.close
-    (tie.spec
-    Inv-loop
-    μ-loop
-    returns
-    loop-holds
-    (λ c. omega arith)
-    (λ c. omega arith)
-    returns-2
-    (λ c. omega arith)
-    (λ c. omega arith)
-    loop-again
-    returns-3)
+    tie.close (tie.spec Inv-loop μ-loop returns loop-holds (λ c. omega arith) (λ c. omega arith) returns-2
+    (λ c. omega arith) (λ c. omega arith) loop-again returns-3)

@@ -6,7 +6,9 @@ use Rattle.verdict.proofs.domination.apart.Statement.{statement}
 use Rattle.verdict.proofs.domination.apart.Tie as tie
 
 returns : tie.Need-returns
-returns c = (and-le-l _ _, bit-and-not word-bits (c .args .w) (c .args .others) (c .fits .w .fits) (c .fits .others .fits))
+returns c =
+    (and-le-l _ _, bit-and-not word-bits (c .args .w) (c .args .others) (c .fits .w .fits) (c .fits .others .fits))
 
 pub apart-spec : {M : Type 1} → statement M
-apart-spec = tie.close (tie.spec returns)
+apart-spec =
+    tie.close (tie.spec returns)

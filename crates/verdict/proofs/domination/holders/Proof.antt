@@ -35,25 +35,17 @@ returns : tie.Need-returns
 unfolding user-limit row-words
 returns c = λ rows made.
     let s = c .before .before in
-    whole-word-holds rows (s .args .columns .now) made (s .args .users) (s .args .p) (s .args .j) (s .pre .0) (s .pre .1) (s .pre .2) (omega arith)
+    whole-word-holds rows (s .args .columns .now) made (s .args .users) (s .args .p) (s .args .j) (s .pre .0)
+    (s .pre .1) (s .pre .2) (omega arith)
 
 returns-2 : tie.Need-returns-2
 unfolding user-limit row-words
 returns-2 c = λ rows made.
     let s = c .before .before .before in
-    cut-word-holds rows (s .args .columns .now) made (s .args .users) (s .args .p) (s .args .j) (s .pre .0) (s .pre .1) (s .pre .2) (c .full .result) (c .full .ensures)
+    cut-word-holds rows (s .args .columns .now) made (s .args .users) (s .args .p) (s .args .j) (s .pre .0)
+    (s .pre .1) (s .pre .2) (c .full .result) (c .full .ensures)
 
 pub holders-spec : {M : Type 1} → statement M
 holders-spec =
-    tie.close
-    (tie.spec
-    mul-word
-    add-word
-    mul-word-2
-    element-copy-out-word
-    (λ c. search needs)
-    mul-count-2
-    sub-count
-    returns
-    (λ c κs. search needs)
-    returns-2)
+    tie.close (tie.spec mul-word add-word mul-word-2 element-copy-out-word (λ c. search needs) mul-count-2 sub-count
+    returns (λ c κs. search needs) returns-2)

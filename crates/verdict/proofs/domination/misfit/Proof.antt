@@ -1,4 +1,5 @@
--- `verdict::domination::misfit`: none of the users' words before those at word j of the column is a misfit, so the first position found is that of the first.
+-- `verdict::domination::misfit`: none of the users' words before those at word j of the column is a misfit, so the
+-- first position found is that of the first.
 use Prim.Native.Nat.{_*_, _-_, _≤_}
 use native.Mathlib.Omega.{arith}
 use Rattle.spec.specs.Limits.{user-limit}
@@ -10,7 +11,8 @@ use Rattle.verdict.proofs.domination.misfit.Statement.{statement}
 use Rattle.verdict.proofs.domination.misfit.Tie as tie
 
 abbrev Inv-loop : tie.InvT-loop
-Inv-loop rows columns left users it other v j₀ j = (j ≤ column-words) × NoMisfitBefore rows left users (it .0) (other .0) j
+Inv-loop rows columns left users it other v j₀ j =
+    (j ≤ column-words) × NoMisfitBefore rows left users (it .0) (other .0) j
 
 abbrev μ-loop : tie.MeasureT-loop
 μ-loop rows columns left users it other v j₀ j = users * row-words - j * word-bits
@@ -49,10 +51,13 @@ add-result c = omega arith
 returns : tie.Need-returns Inv-loop μ-loop
 unfolding user-limit row-words row-bits
 returns c =
-    let s = c .before .before .before .before .before .before in
-    let at = c .before .before .before .before .loop in
-    first-misfit (s .args .rows .now) (s .args .left .now) (s .args .users) (s .args .it .0) (s .args .other .0) (at .j) (c .before .before .suspects .result) (c .before .misfit-among .result)
-    (omega arith) (c .before .before .suspects .ensures (s .args .rows .now) (s .args .left .now) (s .pre .3)) (c .before .misfit-among .ensures) (at .inv .1) (omega arith)
+    let at-loop = c .before .before .before .before in
+    let s = at-loop .before .before in
+    let at = at-loop .loop in
+    first-misfit (s .args .rows .now) (s .args .left .now) (s .args .users) (s .args .it .0) (s .args .other .0)
+    (at .j) (c .before .before .suspects .result) (c .before .misfit-among .result)
+    (omega arith) (c .before .before .suspects .ensures (s .args .rows .now) (s .args .left .now) (s .pre .3))
+    (c .before .misfit-among .ensures) (at .inv .1) (omega arith)
 
 add-j : tie.Need-add-j Inv-loop μ-loop
 unfolding user-limit row-words
@@ -65,11 +70,14 @@ loop-less c = omega arith
 loop-again : tie.Need-loop-again Inv-loop μ-loop
 unfolding user-limit row-words row-bits
 loop-again c =
-    let s = c .before .before .before .before .before .before in
-    let at = c .before .before .before .before .loop in (
+    let at-loop = c .before .before .before .before in
+    let s = at-loop .before .before in
+    let at = at-loop .loop in (
       omega arith,
-      no-misfit-then (s .args .rows .now) (s .args .left .now) (s .args .users) (s .args .it .0) (s .args .other .0) (at .j) (c .before .before .suspects .result) (c .before .misfit-among .result)
-          (omega arith) (c .before .before .suspects .ensures (s .args .rows .now) (s .args .left .now) (s .pre .3)) (c .before .misfit-among .ensures) (at .inv .1) (omega arith),
+      no-misfit-then (s .args .rows .now) (s .args .left .now) (s .args .users) (s .args .it .0) (s .args .other .0)
+          (at .j) (c .before .before .suspects .result) (c .before .misfit-among .result)
+          (omega arith) (c .before .before .suspects .ensures (s .args .rows .now) (s .args .left .now) (s .pre .3))
+          (c .before .misfit-among .ensures) (at .inv .1) (omega arith),
     )
 
 mul-result-2 : tie.Need-mul-result-2 Inv-loop μ-loop
@@ -85,21 +93,5 @@ returns-2 c =
 
 pub misfit-spec : {M : Type 1} → statement M
 misfit-spec =
-    tie.close
-    (tie.spec
-    Inv-loop
-    μ-loop
-    loop-holds
-    mul-loop
-    mul-loop-2
-    suspects-requires
-    mul-misfit-among
-    misfit-among-requires
-    mul-result
-    add-result
-    returns
-    add-j
-    loop-less
-    loop-again
-    mul-result-2
-    returns-2)
+    tie.close (tie.spec Inv-loop μ-loop loop-holds mul-loop mul-loop-2 suspects-requires mul-misfit-among
+    misfit-among-requires mul-result add-result returns add-j loop-less loop-again mul-result-2 returns-2)

@@ -1,4 +1,5 @@
--- `verdict::domination::misfit_among`: the positions of w are those still to be tried. The lowest is tried next, and dropped.
+-- `verdict::domination::misfit_among`: the positions of w are those still to be tried. The lowest is tried next, and
+-- dropped.
 use native.Mathlib.Omega.{arith}
 use Prim.Native.Nat.{ℕ, _+_}
 use native.Mathlib.Nat.{le-refl}
@@ -38,13 +39,16 @@ row-fits-requires c κs = omega (arith, c .lowest .ensures .within)
 
 returns : tie.Need-returns Inv-loop μ-loop
 returns c =
-    let a = c .before .before .before .before .before .args in
+    let at-loop = c .before .before .before .before in
+    let start = at-loop .before in
+    let a = start .args in
     let low = c .before .before .lowest in
-    let at = c .before .before .before .before .loop in
+    let at = at-loop .loop in
     record {
       within = omega (arith, low .ensures .within);
       passes = λ l.
-          and-intro (bit (a .some) (low .result)) (not (row-fits (a .rows .now) (a .left .now) (a .it .0) (a .v) (a .from + low .result)))
+          and-intro (bit (a .some) (low .result)) (not (row-fits (a .rows .now) (a .left .now) (a .it .0) (a .v)
+          (a .from + low .result)))
           (at .inv .kept (low .result) (low .ensures .holds))
           (not-passes (row-fits (a .rows .now) (a .left .now) (a .it .0) (a .v) (a .from + low .result))
           (sym (c .before .row-fits .ensures) ∙ not-true (c .before .row-fits .result) (c .if1 .taken)));
@@ -56,30 +60,27 @@ loop-less c = c .without-lowest .ensures .less
 
 loop-again : tie.Need-loop-again Inv-loop μ-loop
 loop-again c =
-    let a = c .before .before .before .before .before .before .args in
+    let at-loop = c .before .before .before .before .before in
+    let start = at-loop .before in
+    let a = start .args in
     let low = c .before .before .before .lowest in
-    walk-next (c .before .before .before .before .before .loop .inv) (low .ensures)
-    (rw (sym (c .before .before .row-fits .ensures) ∙ not-false (c .before .before .row-fits .result) (c .before .if1 .left))
+    walk-next (at-loop .loop .inv) (low .ensures)
+    (rw (sym (c .before .before .row-fits .ensures) ∙ not-false (c .before .before .row-fits .result)
+    (c .before .if1 .left))
     (and-false (bit (a .some) (low .result)))) (c .without-lowest .ensures)
 
 returns-2 : tie.Need-returns-2 Inv-loop μ-loop
 returns-2 c =
     let at = c .before .loop in
     let none : at .w ≡ 0 = c .loop-test .left in
-    record { within = le-refl word-bits; passes = λ l. absurd (omega arith); earlier = walk-ended (rw none at (at .inv)) }
+    record {
+      within = le-refl word-bits;
+      passes = λ l. absurd (omega arith);
+      earlier = walk-ended
+          (rw none at (at .inv));
+    }
 
 pub misfit-among-spec : {M : Type 1} → statement M
 misfit-among-spec =
-    tie.close
-    (tie.spec
-    Inv-loop
-    μ-loop
-    loop-holds
-    (λ c κs. omega arith)
-    add-row-fits
-    row-fits-requires
-    returns
-    (λ c κs. omega arith)
-    loop-less
-    loop-again
-    returns-2)
+    tie.close (tie.spec Inv-loop μ-loop loop-holds (λ c κs. omega arith) add-row-fits row-fits-requires returns
+    (λ c κs. omega arith) loop-less loop-again returns-2)

@@ -26,19 +26,13 @@ element-copy-out-within c = omega arith
 
 returns : tie.Need-returns
 unfolding row-words
-returns c = let a = c .before .before .before .before .args in
-    c .within .ensures ∙ row-fits-by-word (a .rows .now) (a .left .now) (a .it .0) (a .v) (a .j) (c .before .fitting .ensures)
+returns c =
+    let start = c .before .before .before .before in
+    let a = start .args in
+    c .within .ensures ∙ row-fits-by-word (a .rows .now) (a .left .now) (a .it .0) (a .v) (a .j)
+    (c .before .fitting .ensures)
 
 pub row-fits-spec : {M : Type 1} → statement M
 row-fits-spec =
-    tie.close
-    (tie.spec
-    (λ c. search needs)
-    (λ c. search needs)
-    mul-row-2
-    element-copy-out-row
-    mul-within
-    element-copy-out-within
-    (λ c κs. search needs)
-    (λ c κs. search needs)
-    returns)
+    tie.close (tie.spec (λ c. search needs) (λ c. search needs) mul-row-2 element-copy-out-row mul-within
+    element-copy-out-within (λ c κs. search needs) (λ c κs. search needs) returns)

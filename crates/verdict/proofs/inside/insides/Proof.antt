@@ -15,7 +15,8 @@ use Rattle.verdict.proofs.inside.insides.Statement.{statement}
 use Rattle.verdict.proofs.inside.insides.Tie as tie
 
 abbrev Inv-loop : tie.InvT-loop
-Inv-loop rows left users i words₀ k₀ words k = (k ≤ users * row-words) × (length words ≡ column-words) × PassedBelow (may-tie rows left (i / row-words)) k words
+Inv-loop rows left users i words₀ k₀ words k =
+    (k ≤ users * row-words) × (length words ≡ column-words) × PassedBelow (may-tie rows left (i / row-words)) k words
 
 abbrev μ-loop : tie.MeasureT-loop
 μ-loop rows left users i words₀ k₀ words k = users * row-words - k
@@ -57,7 +58,9 @@ is-inside-requires c κs = tt
 
 put-word-requires : tie.Need-put-word-requires Inv-loop μ-loop
 unfolding user-limit row-words
-put-word-requires c κs = omega (arith, c .before .before .before .before .before .before .loop .inv .1)
+put-word-requires c κs =
+    let at-loop = c .before .before .before .before .before .before in
+    omega (arith, at-loop .loop .inv .1)
 
 add-k : tie.Need-add-k Inv-loop μ-loop
 unfolding user-limit row-words
@@ -70,12 +73,26 @@ loop-less c = omega arith
 loop-again : tie.Need-loop-again Inv-loop μ-loop
 unfolding user-limit row-words
 loop-again c =
-    let a = c .before .before .before .before .before .before .args in
-    let at = c .before .before .before .before .before .loop in
-    let told = c .before .is-inside .ensures ∙ may-tie-by-word (a .rows .now) (a .left .now) (a .i / row-words) (at .k) in
+    let at-loop = c .before .before .before .before .before in
+    let start = at-loop .before in
+    let a = start .args in
+    let at = at-loop .loop in
+    let told = c .before .is-inside .ensures ∙ may-tie-by-word (a .rows .now) (a .left .now) (a .i / row-words)
+    (at .k) in
     ⊎-elim
-    (λ w. (omega arith, rw (w .3) (w .2 .ensures .0), passed-put-in (may-tie (a .rows .now) (a .left .now) (a .i / row-words)) (at .k) (at .words) (at .inv .2) (c .if1 .words) (sym told ∙ w .0 .taken) (λ m. rw (w .3) (w .2 .ensures .1 m))))
-    (λ w. (omega arith, rw (w .1) (at .inv .1), rw (w .1) (passed-left-out (may-tie (a .rows .now) (a .left .now) (a .i / row-words)) (at .k) (at .words) (at .inv .2) (sym told ∙ w .0 .left))))
+    (λ w. (
+      omega arith,
+      rw (w .3) (w .2 .ensures .0),
+      passed-put-in (may-tie (a .rows .now) (a .left .now)
+          (a .i / row-words)) (at .k) (at .words) (at .inv .2) (c .if1 .words) (sym told ∙ w .0 .taken)
+          (λ m. rw (w .3) (w .2 .ensures .1 m)),
+    ))
+    (λ w. (
+      omega arith,
+      rw (w .1) (at .inv .1),
+      rw (w .1) (passed-left-out (may-tie (a .rows .now) (a .left .now) (a .i / row-words)) (at .k) (at .words)
+          (at .inv .2) (sym told ∙ w .0 .left)),
+    ))
     (c .if1 .came)
 
 returns : tie.Need-returns Inv-loop μ-loop
@@ -87,21 +104,6 @@ returns c =
 
 pub insides-spec : {M : Type 1} → statement M
 insides-spec =
-    tie.close
-    (tie.spec
-    Inv-loop
-    μ-loop
-    loop-holds
-    mul-loop
-    mul-is-inside
-    element-copy-out-is-inside
-    mul-is-inside-2
-    add-is-inside
-    mul-is-inside-3
-    element-copy-out-is-inside-2
-    is-inside-requires
-    put-word-requires
-    add-k
-    loop-less
-    loop-again
-    returns)
+    tie.close (tie.spec Inv-loop μ-loop loop-holds mul-loop mul-is-inside element-copy-out-is-inside mul-is-inside-2
+    add-is-inside mul-is-inside-3 element-copy-out-is-inside-2 is-inside-requires put-word-requires add-k loop-less
+    loop-again returns)

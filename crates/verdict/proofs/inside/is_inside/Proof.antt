@@ -20,4 +20,5 @@ returns-2 c =
     c .within .ensures ∙ rw (some-bit word-bits (s .args .w) (omega arith) (s .fits .w .fits))
 
 pub is-inside-spec : {M : Type 1} → statement M
-is-inside-spec = tie.close (tie.spec returns (λ c κs. search needs) returns-2)
+is-inside-spec =
+    tie.close (tie.spec returns (λ c κs. search needs) returns-2)

@@ -23,10 +23,13 @@ returns : tie.Need-returns
 unfolding user-limit row-words
 returns c =
     let a = c .before .before .args in
-    let sized = c .before .before .pre .1 in
-    (length-set (a .words .now) (a .k / word-bits) (c .with .result) ∙ sized, cell-put-in (a .words .now) (a .k) (c .with .result) (omega (arith, sized)) (c .with .ensures))
+    let sized = c .before .before .pre .1 in (
+      length-set (a .words .now) (a .k / word-bits) (c .with .result) ∙ sized,
+      cell-put-in (a .words .now) (a .k)
+          (c .with .result) (omega (arith, sized)) (c .with .ensures),
+    )
 
 pub put-word-spec : {M : Type 1} → statement M
 put-word-spec =
-    tie.close
-    (tie.spec (λ c. search needs) element-copy-out-with (λ c κs. search needs) (λ c. search needs) element-write-words returns)
+    tie.close (tie.spec (λ c. search needs) element-copy-out-with (λ c κs. search needs) (λ c. search needs)
+    element-write-words returns)

@@ -1,4 +1,5 @@
--- `verdict::judgement::candidates`: a word that is not within the grant's own row has no tie. Of the others all cells of left are candidates, but the grant itself is none.
+-- `verdict::judgement::candidates`: a word that is not within the grant's own row has no tie. Of the others all cells
+-- of left are candidates, but the grant itself is none.
 use borrow.Author.Needs.{needs}
 use native.Mathlib.Omega.{arith}
 use mathlib.Core.Path.{sym, _∙_}
@@ -33,9 +34,12 @@ returns c = λ users inside.
     (sym (c .before .within .ensures) ∙ not-true (c .before .within .result) (c .if1 .taken)))
 
 returns-2 : tie.Need-returns-2
-returns-2 c = λ users inside.
-    let a = c .before .before .before .before .before .before .args in
-    all-but-itself (a .rows .now) (a .left .now) users (a .it .0) (a .i) (c .without .result) (c .before .if2 .taken) (c .without .ensures)
+returns-2 c =
+    let start = c .before .before .before .before .before .before in
+    λ users inside.
+    let a = start .args in
+    all-but-itself (a .rows .now) (a .left .now) users (a .it .0) (a .i) (c .without .result) (c .before .if2 .taken)
+    (c .without .ensures)
 
 returns-3 : tie.Need-returns-3
 returns-3 c = λ users inside.
@@ -44,16 +48,5 @@ returns-3 c = λ users inside.
 
 pub candidates-spec : {M : Type 1} → statement M
 candidates-spec =
-    tie.close
-    (tie.spec
-    mul-w
-    element-copy-out-w
-    (λ c. search needs)
-    (λ c. search needs)
-    (λ c. search needs)
-    element-copy-out-within
-    (λ c κs. search needs)
-    returns
-    (λ c κs. search needs)
-    returns-2
-    returns-3)
+    tie.close (tie.spec mul-w element-copy-out-w (λ c. search needs) (λ c. search needs) (λ c. search needs)
+    element-copy-out-within (λ c κs. search needs) returns (λ c κs. search needs) returns-2 returns-3)

@@ -1,4 +1,5 @@
--- `verdict::judgement::is_single`: the grants of left in the grant's own word all fit it, so a single is the only one there. Else those in the column of its permission are counted.
+-- `verdict::judgement::is_single`: the grants of left in the grant's own word all fit it, so a single is the only one
+-- there. Else those in the column of its permission are counted.
 use borrow.Author.Needs.{needs}
 use native.Mathlib.Omega.{arith}
 use mathlib.Core.Path.{sym, _∙_}
@@ -21,18 +22,14 @@ is-one-requires c κs = some-bit-pos _ _ (c .before .pre .1)
 returns : tie.Need-returns
 returns c = λ users sheet few inside shown part.
     let s = c .before .before .before in
-    sym (ne-eqb _ 1 (λ one. not-both (eq-eqb _ 1 (alone-in-word shown part (s .args .it .0) inside (s .pre .1) one)) (sym (c .before .is-one .ensures) ∙ not-true (c .before .is-one .result) (c .if1 .taken))))
+    sym (ne-eqb _ 1 (λ one. not-both (eq-eqb _ 1 (alone-in-word shown part (s .args .it .0) inside (s .pre .1) one))
+    (sym (c .before .is-one .ensures) ∙ not-true (c .before .is-one .result) (c .if1 .taken))))
 
 returns-2 : tie.Need-returns-2
-returns-2 c = λ users sheet few inside shown part. one-of-two (c .partners-in-column .ensures users sheet few shown part)
+returns-2 c =
+    λ users sheet few inside shown part. one-of-two (c .partners-in-column .ensures users sheet few shown part)
 
 pub is-single-spec : {M : Type 1} → statement M
 is-single-spec =
-    tie.close
-    (tie.spec
-    (λ c. search needs)
-    element-copy-out-is-one
-    is-one-requires
-    returns
-    (λ c κs. search needs)
+    tie.close (tie.spec (λ c. search needs) element-copy-out-is-one is-one-requires returns (λ c κs. search needs)
     returns-2)

@@ -1,4 +1,5 @@
--- `verdict::judgement::judge`: a grant that is the only one of left to fit it is single; else the lowest cell that it dominates decides.
+-- `verdict::judgement::judge`: a grant that is the only one of left to fit it is single; else the lowest cell that it
+-- dominates decides.
 use borrow.Author.Needs.{needs}
 use native.Mathlib.Nat.{lt-of-lt-of-le}
 use mathlib.Core.Path.{_≡_, refl, sym, _∙_}
@@ -17,11 +18,15 @@ use Rattle.verdict.proofs.judgement.judge.Statement.{statement}
 use Rattle.verdict.proofs.judgement.judge.Tie as tie
 
 is-single-requires : tie.Need-is-single-requires
-is-single-requires c κs = let given = c .pre .0 in (lt-of-lt-of-le (given .within) (cells-within (given .few-users)), given .set, c .pre .1)
+is-single-requires c κs =
+    let given = c .pre .0 in
+    (lt-of-lt-of-le (given .within) (cells-within (given .few-users)), given .set, c .pre .1)
 
 -- what the test says of the grants that fit
-fitting-count : (c : tie.After-is-single) (sheet : Sheet) → Shown (c .before .args .rows .now) (c .before .args .users) sheet
-    → c .is-single .result ≡ eqb (length (filter (fits sheet (grant-of (c .before .args .it .0))) (cell-grants sheet (c .before .args .left .now)))) 1
+fitting-count : (c : tie.After-is-single) (sheet : Sheet) → Shown (c .before .args .rows .now)
+    (c .before .args .users) sheet
+    → c .is-single .result ≡ eqb (length (filter (fits sheet (grant-of (c .before .args .it .0)))
+    (cell-grants sheet (c .before .args .left .now)))) 1
 fitting-count c sheet shown =
     let given = c .before .pre .0 in
     c .is-single .ensures (c .before .args .users) sheet (given .few-users) (given .within) shown (given .part)
@@ -38,8 +43,14 @@ returns c =
 
 tie-requires : tie.Need-tie-requires
 tie-requires c κs =
-    let s = c .before .before in
-    (s .pre .0 .few-users, lt-of-lt-of-le (s .pre .0 .within) (cells-within (s .pre .0 .few-users)), s .pre .0 .part, s .pre .1, s .pre .2, s .pre .0 .set)
+    let s = c .before .before in (
+      s .pre .0 .few-users,
+      lt-of-lt-of-le (s .pre .0 .within) (cells-within (s .pre .0 .few-users)),
+      s .pre .0 .part,
+      s .pre .1,
+      s .pre .2,
+      s .pre .0 .set,
+    )
 
 returns-2 : tie.Need-returns-2
 returns-2 c =
@@ -68,12 +79,5 @@ returns-3 c =
 
 pub judge-spec : {M : Type 1} → statement M
 judge-spec =
-    tie.close
-    (tie.spec
-    is-single-requires
-    returns
-    tie-requires
-    (λ c. search needs)
-    (λ c. search needs)
-    returns-2
+    tie.close (tie.spec is-single-requires returns tie-requires (λ c. search needs) (λ c. search needs) returns-2
     returns-3)

@@ -1,4 +1,5 @@
--- `verdict::judgement::tie`: none of the users' words before those at word j of the columns has a tie, so the first found is the lowest.
+-- `verdict::judgement::tie`: none of the users' words before those at word j of the columns has a tie, so the first
+-- found is the lowest.
 use borrow.Author.Needs.{needs}
 use Prim.Native.Nat.{_*_, _-_, _≤_}
 use native.Mathlib.Omega.{arith}
@@ -15,7 +16,8 @@ use Rattle.verdict.proofs.judgement.tie.Statement.{statement}
 use Rattle.verdict.proofs.judgement.tie.Tie as tie
 
 abbrev Inv-loop : tie.InvT-loop
-Inv-loop rows columns inside left users it j₀ j = (j ≤ column-words) × NoneIn (tie-at rows left users (it .0)) 0 (words-before users j * word-bits)
+Inv-loop rows columns inside left users it j₀ j =
+    (j ≤ column-words) × NoneIn (tie-at rows left users (it .0)) 0 (words-before users j * word-bits)
 
 abbrev μ-loop : tie.MeasureT-loop
 μ-loop rows columns inside left users it j₀ j = users * row-words - j * word-bits
@@ -51,7 +53,12 @@ loop-less c = omega arith
 
 loop-again : tie.Need-loop-again Inv-loop μ-loop
 unfolding user-limit row-words
-loop-again c = (omega arith, none-then-none (c .before .before .before .before .loop .inv .1) (rw (c .enum-told .given .1) at (c .before .before .tie-among .ensures)))
+loop-again c =
+    let at-loop = c .before .before .before .before in (
+      omega arith,
+      none-then-none (at-loop .loop .inv .1) (rw (c .enum-told .given .1) at
+          (c .before .before .tie-among .ensures)),
+    )
 
 returns-2 : tie.Need-returns-2 Inv-loop μ-loop
 unfolding row-words
@@ -63,18 +70,5 @@ returns-2 c =
 
 pub tie-spec : {M : Type 1} → statement M
 tie-spec =
-    tie.close
-    (tie.spec
-    Inv-loop
-    μ-loop
-    loop-holds
-    mul-loop
-    mul-loop-2
-    tie-among-requires
-    (λ c. search needs)
-    returns
-    (λ c. search needs)
-    add-j
-    loop-less
-    loop-again
-    returns-2)
+    tie.close (tie.spec Inv-loop μ-loop loop-holds mul-loop mul-loop-2 tie-among-requires (λ c. search needs) returns
+    (λ c. search needs) add-j loop-less loop-again returns-2)

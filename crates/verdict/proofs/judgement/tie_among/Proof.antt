@@ -1,4 +1,5 @@
--- `verdict::judgement::tie_among`: the positions of w are the words still to be tried, and the others have no tie. The lowest is tried next, so the first that has a tie has the lowest.
+-- `verdict::judgement::tie_among`: the positions of w are the words still to be tried, and the others have no tie.
+-- The lowest is tried next, so the first that has a tie has the lowest.
 use borrow.Author.Needs.{needs}
 use native.Mathlib.Omega.{arith}
 use Prim.Native.Nat.{_+_, _*_, _<_}
@@ -43,7 +44,8 @@ loop-holds c =
     let a = s .args in
     let held = c .before .holders .result in
     let word = getD (a .inside .now) (a .j) 0 in
-    insides-untried (a .rows .now) (a .left .now) (a .users) (a .it .0) (s .pre .3) (a .j) held (bitAnd held word) (a .inside .now)
+    insides-untried (a .rows .now) (a .left .now) (a .users) (a .it .0) (s .pre .3) (a .j) held (bitAnd held word)
+    (a .inside .now)
     (c .before .holders .ensures (a .rows .now) (s .pre .4)) (s .pre .5) (s .pre .6) (bit-and held word)
 
 mul-i : tie.Need-mul-i Inv-loop μ-loop
@@ -56,24 +58,33 @@ add-i c = omega (arith, c .lowest .ensures .within)
 
 -- the word to be tried is one of the users'
 within : (c : tie.After-lowest Inv-loop μ-loop) →
-    let a = c .before .before .before .before .before .args in a .j * word-bits + c .lowest .result < a .users * row-words
+    let a = c .before .before .before .before .before .args in a .j * word-bits + c .lowest .result < a .users *
+    row-words
 unfolding row-words row-bits
 within c =
-    let s = c .before .before .before .before .before in
-    let held = c .before .before .before .before .holders .result in
+    let at-holders = c .before .before .before .before in
+    let s = at-holders .before in
+    let held = at-holders .holders .result in
     let word = getD (s .args .inside .now) (s .args .j) 0 in
     let q = c .lowest .result in
-    holder-within (c .before .before .before .before .holders .ensures (s .args .rows .now) (s .pre .4)) (c .lowest .ensures .within)
-    (and-left (bit held q) (bit word q) (sym (bit-and held word q) ∙ c .before .before .loop .inv .kept q (c .lowest .ensures .holds)))
+    holder-within (at-holders .holders .ensures (s .args .rows .now) (s .pre .4)) (c .lowest .ensures .within)
+    (and-left (bit held q) (bit word q) (sym (bit-and held word q) ∙ c .before .before .loop .inv .kept q
+    (c .lowest .ensures .holds)))
 
 tie-in-requires : tie.Need-tie-in-requires Inv-loop μ-loop
-tie-in-requires c κs = let s = c .before .before .before .before .before in (s .pre .0, s .pre .1, within c, s .pre .3, s .pre .4)
+tie-in-requires c κs =
+    let earlier = c .before .before .before .before .before in
+    let s = earlier in
+    (s .pre .0, s .pre .1, within c, s .pre .3, s .pre .4)
 
 returns : tie.Need-returns Inv-loop μ-loop
 returns c =
-    let s = c .before .before .before .before .before .before .before .before .before in
-    lowest-in-column (tie-at (s .args .rows .now) (s .args .left .now) (s .args .users) (s .args .it .0)) (s .args .users) (s .args .j) (s .pre .2)
-    (c .before .before .before .before .before .before .loop .inv) (c .before .before .before .before .lowest .ensures) (within (c .before .before .before .before))
+    let at-lowest = c .before .before .before .before in
+    let at-loop = at-lowest .before .before in
+    let s = at-loop .before .before .before in
+    lowest-in-column (tie-at (s .args .rows .now) (s .args .left .now) (s .args .users) (s .args .it .0))
+    (s .args .users) (s .args .j) (s .pre .2)
+    (at-loop .loop .inv) (at-lowest .lowest .ensures) (within at-lowest)
     (rw (c .before .found .given .1) at (c .before .before .before .tie-in .ensures))
 
 loop-less : tie.Need-loop-less Inv-loop μ-loop
@@ -81,33 +92,21 @@ loop-less c = c .without-lowest .ensures .less
 
 loop-again : tie.Need-loop-again Inv-loop μ-loop
 loop-again c =
-    walk-next (c .before .before .before .before .before .before .loop .inv) (c .before .before .before .before .lowest .ensures)
-    (λ inside. rw (c .before .enum-told .given .1) at (c .before .before .before .tie-in .ensures)) (c .without-lowest .ensures)
+    let at-lowest = c .before .before .before .before in
+    let at-loop = at-lowest .before .before in
+    walk-next (at-loop .loop .inv) (at-lowest .lowest .ensures)
+    (λ inside. rw (c .before .enum-told .given .1) at (c .before .before .before .tie-in .ensures))
+    (c .without-lowest .ensures)
 
 returns-2 : tie.Need-returns-2 Inv-loop μ-loop
 returns-2 c =
     let s = c .before .before .before .before in
-    none-in-column (tie-at (s .args .rows .now) (s .args .left .now) (s .args .users) (s .args .it .0)) (s .args .users) (s .args .j) (s .pre .2)
+    none-in-column (tie-at (s .args .rows .now) (s .args .left .now) (s .args .users) (s .args .it .0))
+    (s .args .users) (s .args .j) (s .pre .2)
     (rw (c .loop-test .left) at (c .before .loop .inv))
 
 pub tie-among-spec : {M : Type 1} → statement M
 tie-among-spec =
-    tie.close
-    (tie.spec
-    Inv-loop
-    μ-loop
-    holders-requires
-    mul-w
-    element-copy-out-w
-    loop-holds
-    mul-i
-    (λ c κs. omega arith)
-    add-i
-    tie-in-requires
-    (λ c. search needs)
-    returns
-    (λ c. search needs)
-    (λ c κs. omega arith)
-    loop-less
-    loop-again
-    returns-2)
+    tie.close (tie.spec Inv-loop μ-loop holders-requires mul-w element-copy-out-w loop-holds mul-i
+    (λ c κs. omega arith) add-i tie-in-requires (λ c. search needs) returns (λ c. search needs) (λ c κs. omega arith)
+    loop-less loop-again returns-2)

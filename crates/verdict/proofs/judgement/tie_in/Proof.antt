@@ -1,4 +1,5 @@
--- `verdict::judgement::tie_in`: the positions of w are the candidates still to be tried. Without a misfit the lowest is the lowest tie; a misfit fails it and all others that its user holds.
+-- `verdict::judgement::tie_in`: the positions of w are the candidates still to be tried. Without a misfit the lowest
+-- is the lowest tie; a misfit fails it and all others that its user holds.
 use borrow.Author.Needs.{needs}
 use native.Mathlib.Omega.{arith}
 use Prim.Native.Nat.{_+_, _*_, _<_}
@@ -37,7 +38,10 @@ add-other c = omega (arith, c .lowest .ensures .within)
 
 misfit-requires : tie.Need-misfit-requires Inv-loop μ-loop
 unfolding user-limit row-words
-misfit-requires c κs = let s = c .before .before .before .before in (s .pre .0, s .pre .1, omega (arith, c .lowest .ensures .within), s .pre .4)
+misfit-requires c κs =
+    let earlier = c .before .before .before .before in
+    let s = earlier in
+    (s .pre .0, s .pre .1, omega (arith, c .lowest .ensures .within), s .pre .4)
 
 mul-if1 : tie.Need-mul-if1 Inv-loop μ-loop
 unfolding user-limit row-words
@@ -46,11 +50,14 @@ mul-if1 c = omega arith
 returns : tie.Need-returns Inv-loop μ-loop
 unfolding user-limit row-words
 returns c =
-    let a = c .before .before .before .before .before .before .args in
+    let at-loop = c .before .before .before .before in
+    let start = at-loop .before .before in
+    let a = start .args in
     let low = c .before .before .lowest in
     let all : c .before .misfit .result ≡ a .users * row-words = omega arith in
-    lowest-untried (a .rows .now) (a .left .now) (a .users) (a .it .0) (a .i) (c .before .before .before .before .loop .inv) (low .ensures)
-    (unless-misfit (a .rows .now) (a .left .now) (a .it .0) (a .i * word-bits + low .result) (a .users) (rw all at (c .before .misfit .ensures .earlier)))
+    lowest-untried (a .rows .now) (a .left .now) (a .users) (a .it .0) (a .i) (at-loop .loop .inv) (low .ensures)
+    (unless-misfit (a .rows .now) (a .left .now) (a .it .0) (a .i * word-bits + low .result) (a .users)
+    (rw all at (c .before .misfit .ensures .earlier)))
 
 mul-apart : tie.Need-mul-apart Inv-loop μ-loop
 unfolding user-limit row-words
@@ -75,51 +82,51 @@ apart-requires c κs = tt
 found : (c : tie.Else1 Inv-loop μ-loop) →
     let a = c .before .before .before .before .before .before .args in
     let j = c .before .misfit .result in
-    (j < a .users * row-words) × So (misfit-at (a .rows .now) (a .left .now) (a .it .0) (a .i * word-bits + c .before .before .lowest .result) j)
+    (j < a .users * row-words) × So (misfit-at (a .rows .now) (a .left .now) (a .it .0)
+    (a .i * word-bits + c .before .before .lowest .result) j)
 unfolding row-words
 found c =
-    let within : c .before .misfit .result < c .before .before .before .before .before .before .args .users * row-words = omega (arith, c .if1 .left, c .before .misfit .ensures .within) in
+    let start = c .before .before .before .before .before .before in
+    let within : c .before .misfit .result < start .args .users * row-words = omega (
+      arith,
+      c .if1 .left,
+      c .before .misfit .ensures .within,
+    ) in
     (within, c .before .misfit .ensures .passes within)
 
 loop-less : tie.Need-loop-less Inv-loop μ-loop
 unfolding row-words
 loop-less c =
-    let a = c .before .before .before .before .before .before .before .before .args in
-    fewer-untried (a .rows .now) (a .left .now) (a .users) (a .it .0) (a .i) (c .before .before .before .before .before .before .loop .w) (c .before .before .before .before .lowest .result)
-    (c .before .before .before .misfit .result) (c .apart .result) (c .before .before .before .before .lowest .ensures) (found (c .before .before) .1) (c .apart .ensures .1) (c .apart .ensures .0)
+    let at-lowest = c .before .before .before .before in
+    let at-loop = at-lowest .before .before in
+    let start = at-loop .before .before in
+    let a = start .args in
+    fewer-untried (a .rows .now) (a .left .now) (a .users) (a .it .0) (a .i) (at-loop .loop .w)
+    (at-lowest .lowest .result)
+    (c .before .before .before .misfit .result) (c .apart .result) (at-lowest .lowest .ensures)
+    (found (c .before .before) .1) (c .apart .ensures .1) (c .apart .ensures .0)
 
 loop-again : tie.Need-loop-again Inv-loop μ-loop
 unfolding row-words
 loop-again c =
-    let a = c .before .before .before .before .before .before .before .before .args in
-    misfit-tried (a .rows .now) (a .left .now) (a .users) (a .it .0) (a .i) (c .before .before .before .before .before .before .loop .w) (c .before .before .before .before .lowest .result)
-    (c .before .before .before .misfit .result) (c .apart .result) (c .before .before .before .before .lowest .ensures) (found (c .before .before) .1) (c .apart .ensures .1) (found (c .before .before) .0)
-    (c .before .before .before .before .before .before .loop .inv)
+    let at-lowest = c .before .before .before .before in
+    let at-loop = at-lowest .before .before in
+    let start = at-loop .before .before in
+    let a = start .args in
+    misfit-tried (a .rows .now) (a .left .now) (a .users) (a .it .0) (a .i) (at-loop .loop .w)
+    (at-lowest .lowest .result)
+    (c .before .before .before .misfit .result) (c .apart .result) (at-lowest .lowest .ensures)
+    (found (c .before .before) .1) (c .apart .ensures .1) (found (c .before .before) .0)
+    (at-loop .loop .inv)
 
 returns-2 : tie.Need-returns-2 Inv-loop μ-loop
 returns-2 c =
     let a = c .before .before .before .args in
-    none-untried (a .rows .now) (a .left .now) (a .users) (a .it .0) (a .i) (rw (c .loop-test .left) at (c .before .loop .inv))
+    none-untried (a .rows .now) (a .left .now) (a .users) (a .it .0) (a .i)
+    (rw (c .loop-test .left) at (c .before .loop .inv))
 
 pub tie-in-spec : {M : Type 1} → statement M
 tie-in-spec =
-    tie.close
-    (tie.spec
-    Inv-loop
-    μ-loop
-    candidates-requires
-    loop-holds
-    mul-other
-    (λ c κs. omega arith)
-    add-other
-    misfit-requires
-    mul-if1
-    returns
-    mul-apart
-    add-apart
-    mul-apart-2
-    element-copy-out-apart
-    apart-requires
-    loop-less
-    loop-again
-    returns-2)
+    tie.close (tie.spec Inv-loop μ-loop candidates-requires loop-holds mul-other (λ c κs. omega arith) add-other
+    misfit-requires mul-if1 returns mul-apart add-apart mul-apart-2 element-copy-out-apart apart-requires loop-less
+    loop-again returns-2)

@@ -1,4 +1,5 @@
--- `witness::choice::better_in_word`: the cells at the positions of w are still to be passed. The lowest is next, and its position is dropped.
+-- `witness::choice::better_in_word`: the cells at the positions of w are still to be passed. The lowest is next, and
+-- its position is dropped.
 use borrow.Author.Needs.{needs}
 use Prim.Native.Nat.{ℕ, _*_, _≤_, _<_}
 use native.Mathlib.Omega.{arith}
@@ -51,9 +52,11 @@ loop-less c = c .without-lowest .ensures .less
 
 loop-again : tie.Need-loop-again Inv-loop μ-loop
 loop-again c rows users few inside counted walked =
-    let at = c .before .before .before .before .before .loop in
+    let at-loop = c .before .before .before .before .before in
+    let at = at-loop .loop in
     rw (c .before .better .ensures)
-    (word-goes-on _ _ _ _ (at .it) (at .inv rows users few inside counted walked) (c .before .before .before .lowest .ensures) (c .without-lowest .ensures) few inside _ counted)
+    (word-goes-on _ _ _ _ (at .it) (at .inv rows users few inside counted walked)
+    (c .before .before .before .lowest .ensures) (c .without-lowest .ensures) few inside _ counted)
 
 returns : tie.Need-returns Inv-loop μ-loop
 returns c rows users few inside counted walked =
@@ -61,20 +64,5 @@ returns c rows users few inside counted walked =
 
 pub better-in-word-spec : {M : Type 1} → statement M
 better-in-word-spec =
-    tie.close
-    (tie.spec
-    Inv-loop
-    μ-loop
-    mul-from
-    mul-w
-    element-copy-out-w
-    loop-holds
-    (λ c κs. omega arith)
-    add-n
-    mul-better
-    element-copy-out-better
-    (λ c κs. search needs)
-    (λ c κs. omega arith)
-    loop-less
-    loop-again
-    returns)
+    tie.close (tie.spec Inv-loop μ-loop mul-from mul-w element-copy-out-w loop-holds (λ c κs. omega arith) add-n
+    mul-better element-copy-out-better (λ c κs. search needs) (λ c κs. omega arith) loop-less loop-again returns)

@@ -1,4 +1,5 @@
--- `witness::choice::dropped`: a word of left without the fitting word of the grant has the cells of left that do not fit it.
+-- `witness::choice::dropped`: a word of left without the fitting word of the grant has the cells of left that do not
+-- fit it.
 use borrow.Author.Needs.{needs}
 use Prim.Native.Nat.{_*_, _-_, _≤_}
 use native.Mathlib.Omega.{arith}
@@ -13,7 +14,8 @@ use Rattle.witness.proofs.choice.dropped.Statement.{statement}
 use Rattle.witness.proofs.choice.dropped.Tie as tie
 
 abbrev Inv-loop : tie.InvT-loop
-Inv-loop rows left users it words₀ i₀ words i = (i ≤ users * row-words) × (length words ≡ cell-words) × MadeWords (left-over rows left (it .0)) i words
+Inv-loop rows left users it words₀ i₀ words i =
+    (i ≤ users * row-words) × (length words ≡ cell-words) × MadeWords (left-over rows left (it .0)) i words
 
 abbrev μ-loop : tie.MeasureT-loop
 μ-loop rows left users it words₀ i₀ words i = users * row-words - i
@@ -52,12 +54,15 @@ loop-less c = omega arith
 loop-again : tie.Need-loop-again Inv-loop μ-loop
 unfolding row-words
 loop-again c =
-    let a = c .before .before .before .before .before .args in
-    let at = c .before .before .before .before .loop in (
+    let at-loop = c .before .before .before .before in
+    let start = at-loop .before in
+    let a = start .args in
+    let at = at-loop .loop in (
       omega arith,
       simp length-set (at .inv .1),
       one-made _ (at .i) (at .words) _ (at .inv .2) (omega arith)
-          (left-over-word (a .rows .now) (a .left .now) (a .it .0) (at .i) _ _ (c .before .fitting .ensures) (c .less .ensures)),
+          (left-over-word (a .rows .now) (a .left .now) (a .it .0) (at .i) _ _ (c .before .fitting .ensures)
+          (c .less .ensures)),
     )
 
 returns : tie.Need-returns Inv-loop μ-loop
@@ -70,19 +75,5 @@ returns c =
 
 pub dropped-spec : {M : Type 1} → statement M
 dropped-spec =
-    tie.close
-    (tie.spec
-    Inv-loop
-    μ-loop
-    loop-holds
-    (λ c. omega arith)
-    mul-less
-    element-copy-out-less
-    fitting-requires
-    less-requires
-    mul-words
-    array-write-words
-    (λ c. omega arith)
-    loop-less
-    loop-again
-    returns)
+    tie.close (tie.spec Inv-loop μ-loop loop-holds (λ c. omega arith) mul-less element-copy-out-less fitting-requires
+    less-requires mul-words array-write-words (λ c. omega arith) loop-less loop-again returns)

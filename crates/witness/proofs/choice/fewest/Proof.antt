@@ -12,7 +12,8 @@ use Rattle.witness.proofs.choice.fewest.Tie as tie
 
 abbrev Inv-loop : tie.InvT-loop
 Inv-loop left counts users best₀ i₀ best i =
-    (i ≤ users * row-words) × ((rows : List ℕ) → Counted rows left users counts → Walked rows left users best (i * word-bits))
+    (i ≤ users * row-words) × ((rows : List ℕ) → Counted rows left users counts → Walked rows left users best
+    (i * word-bits))
 
 abbrev μ-loop : tie.MeasureT-loop
 μ-loop left counts users best₀ i₀ best i = users * row-words - i
@@ -40,8 +41,11 @@ loop-again : tie.Need-loop-again Inv-loop μ-loop
 unfolding row-words
 loop-again c =
     let start = c .before .before .before in
-    let at = c .before .before .loop in
-    (omega arith, λ rows counted. c .better-in-word .ensures rows (start .args .users) (start .pre) (omega arith) counted (at .inv .1 rows counted))
+    let at = c .before .before .loop in (
+      omega arith,
+      λ rows counted. c .better-in-word .ensures rows (start .args .users) (start .pre) (omega arith)
+          counted (at .inv .1 rows counted),
+    )
 
 returns : tie.Need-returns Inv-loop μ-loop
 unfolding row-bits row-words
@@ -51,14 +55,5 @@ returns c rows counted =
 
 pub fewest-spec : {M : Type 1} → statement M
 fewest-spec =
-    tie.close
-    (tie.spec
-    Inv-loop
-    μ-loop
-    loop-holds
-    mul-loop
-    better-in-word-requires
-    add-i
-    loop-less
-    loop-again
+    tie.close (tie.spec Inv-loop μ-loop loop-holds mul-loop better-in-word-requires add-i loop-less loop-again
     returns)

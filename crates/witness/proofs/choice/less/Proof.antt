@@ -8,4 +8,5 @@ returns : tie.Need-returns
 returns c = bit-and-not word-bits (c .args .word) (c .args .other) (c .fits .word .fits) (c .fits .other .fits)
 
 pub less-spec : {M : Type 1} → statement M
-less-spec = tie.close (tie.spec returns)
+less-spec =
+    tie.close (tie.spec returns)

@@ -1,5 +1,5 @@
--- `witness::counts::add`: the words of the columns are passed one after the other. The counts of the users still to come are as they were, and a user whom no
--- column reaches has no grant that fits.
+-- `witness::counts::add`: the words of the columns are passed one after the other. The counts of the users still to
+-- come are as they were, and a user whom no column reaches has no grant that fits.
 use Prim.Native.Nat.{_+_, _*_, _-_, _/_, _≤_}
 use native.Mathlib.Nat.{add-zero}
 use native.Mathlib.Omega.{arith}
@@ -15,7 +15,8 @@ use Rattle.witness.proofs.counts.add.Statement.{statement}
 use Rattle.witness.proofs.counts.add.Tie as tie
 
 abbrev Inv-loop : tie.InvT-loop
-Inv-loop counts₀ rows columns left i word j₀ counts j = (j ≤ column-words) × WordChanged (_+_) rows left i word (j * word-bits) counts₀ counts
+Inv-loop counts₀ rows columns left i word j₀ counts j =
+    (j ≤ column-words) × WordChanged (_+_) rows left i word (j * word-bits) counts₀ counts
 
 abbrev μ-loop : tie.MeasureT-loop
 μ-loop counts₀ rows columns left i word j₀ counts j = column-words - j
@@ -50,10 +51,12 @@ loop-less c = omega arith
 loop-again : tie.Need-loop-again Inv-loop μ-loop
 unfolding user-limit row-words
 loop-again c =
-    let start = c .before .before .before .before .before .before in
-    let at = c .before .before .before .before .loop in (
+    let at-loop = c .before .before .before .before in
+    let start = at-loop .before .before in
+    let at = at-loop .loop in (
       omega arith,
-      next-users-changed _ _ _ _ _ add-zero (at .j) (c .before .union-of .result) _ (at .counts) _ (c .before .union-of .ensures _ (start .pre .1)) (at .inv .1)
+      next-users-changed _ _ _ _ _ add-zero (at .j) (c .before .union-of .result) _ (at .counts) _
+          (c .before .union-of .ensures _ (start .pre .1)) (at .inv .1)
           (c .add-to-users .ensures),
     )
 
@@ -66,15 +69,5 @@ returns-2 c =
 
 pub add-spec : {M : Type 1} → statement M
 add-spec =
-    tie.close
-    (tie.spec
-    Inv-loop
-    μ-loop
-    returns
-    loop-holds
-    union-of-requires
-    add-to-users-requires
-    (λ c. omega arith)
-    loop-less
-    loop-again
-    returns-2)
+    tie.close (tie.spec Inv-loop μ-loop returns loop-holds union-of-requires add-to-users-requires (λ c. omega arith)
+    loop-less loop-again returns-2)

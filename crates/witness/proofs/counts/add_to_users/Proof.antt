@@ -1,4 +1,5 @@
--- `witness::counts::add_to_users`: the counts of the users at the positions of w are still as they were. The lowest is next, and its position is dropped.
+-- `witness::counts::add_to_users`: the counts of the users at the positions of w are still as they were. The lowest
+-- is next, and its position is dropped.
 use Prim.Native.Nat.{_+_, _/_}
 use native.Mathlib.Omega.{arith}
 use mathlib.Core.Path.{_∙_}
@@ -37,7 +38,8 @@ add-to-user-requires c κs =
       omega (arith, c .lowest .ensures .within, start .pre .1),
       at .inv .sized ∙ start .pre .2,
       λ n e p.
-          let here : So (at-position (start .args .j) (at .w) (n / word-bits)) = rw e (lowest-at (start .args .j) (at .w) (c .lowest .ensures)) in
+          let here : So (at-position (start .args .j) (at .w) (n / word-bits)) = rw e
+          (lowest-at (start .args .j) (at .w) (c .lowest .ensures)) in
           rw (at .inv .still n here) (start .pre .3 n (at .inv .among (n / word-bits) here) p),
     )
 
@@ -47,24 +49,15 @@ loop-less c = c .without-lowest .ensures .less
 loop-again : tie.Need-loop-again Inv-loop μ-loop
 unfolding user-limit row-words
 loop-again c =
-    let at = c .before .before .before .before .before .loop in
-    users-go-on _ _ _ _ _ _ _ _ (at .counts) _ (at .inv) (c .before .before .lowest .ensures) (c .without-lowest .ensures) (c .before .add-to-user .ensures)
+    let at-loop = c .before .before .before .before .before in
+    let at = at-loop .loop in
+    users-go-on _ _ _ _ _ _ _ _ (at .counts) _ (at .inv) (c .before .before .lowest .ensures)
+    (c .without-lowest .ensures) (c .before .add-to-user .ensures)
 
 returns : tie.Need-returns Inv-loop μ-loop
 returns c = users-end _ _ _ _ _ _ _ _ _ (rw (c .loop-test .left) at (c .before .loop .inv))
 
 pub add-to-users-spec : {M : Type 1} → statement M
 add-to-users-spec =
-    tie.close
-    (tie.spec
-    Inv-loop
-    μ-loop
-    mul-from
-    loop-holds
-    (λ c κs. omega arith)
-    add-add-to-user
-    add-to-user-requires
-    (λ c κs. omega arith)
-    loop-less
-    loop-again
-    returns)
+    tie.close (tie.spec Inv-loop μ-loop mul-from loop-holds (λ c κs. omega arith) add-add-to-user add-to-user-requires
+    (λ c κs. omega arith) loop-less loop-again returns)

@@ -38,7 +38,8 @@ add-requires c κs =
       omega arith,
       start .pre .1,
       at .inv .1 .sized,
-      growth-fits (start .args .rows .now) (start .args .left .now) (start .args .users) (at .i) (at .counts) (at .inv .1) (omega arith),
+      growth-fits (start .args .rows .now) (start .args .left .now) (start .args .users) (at .i) (at .counts)
+          (at .inv .1) (omega arith),
     )
 
 add-i : tie.Need-add-i Inv-loop μ-loop
@@ -52,9 +53,14 @@ loop-less c = omega arith
 loop-again : tie.Need-loop-again Inv-loop μ-loop
 unfolding row-words
 loop-again c =
-    let a = c .before .before .before .before .before .args in
-    let at = c .before .before .before .before .loop in
-    (omega arith, growth-goes-on (a .rows .now) (a .left .now) (a .users) (at .i) (at .counts) (at .inv .1) _ (c .add .ensures))
+    let at-loop = c .before .before .before .before in
+    let still-start = at-loop .before in
+    let a = still-start .args in
+    let at = at-loop .loop in (
+      omega arith,
+      growth-goes-on (a .rows .now) (a .left .now) (a .users) (at .i) (at .counts) (at .inv .1) _
+          (c .add .ensures),
+    )
 
 returns : tie.Need-returns Inv-loop μ-loop
 unfolding row-words
@@ -66,16 +72,5 @@ returns c =
 
 pub first-counts-spec : {M : Type 1} → statement M
 first-counts-spec =
-    tie.close
-    (tie.spec
-    Inv-loop
-    μ-loop
-    loop-holds
-    mul-loop
-    mul-add
-    element-copy-out-add
-    add-requires
-    add-i
-    loop-less
-    loop-again
-    returns)
+    tie.close (tie.spec Inv-loop μ-loop loop-holds mul-loop mul-add element-copy-out-add add-requires add-i loop-less
+    loop-again returns)

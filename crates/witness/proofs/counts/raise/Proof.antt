@@ -1,4 +1,5 @@
--- `witness::counts::raise`: the counts at the positions of w are still to be raised. The lowest is next, and its position is dropped.
+-- `witness::counts::raise`: the counts at the positions of w are still to be raised. The lowest is next, and its
+-- position is dropped.
 use Prim.Native.Nat.{_+_, _*_}
 use native.Mathlib.Omega.{arith}
 use Rattle.spec.specs.Limits.{user-limit}
@@ -56,10 +57,12 @@ loop-less c = c .without-lowest .ensures .less
 loop-again : tie.Need-loop-again Inv-loop μ-loop
 unfolding user-limit row-words
 loop-again c =
-    let start = c .before .before .before .before .before in
-    let at = c .before .before .before .before .loop in
+    let at-loop = c .before .before .before .before in
+    let start = at-loop .before in
+    let at = at-loop .loop in
     let low = c .before .before .lowest .ensures in
-    change-goes-on _ (start .args .u) (start .args .some) (start .args .by) _ (at .counts) (at .inv) low (c .without-lowest .ensures)
+    change-goes-on _ (start .args .u) (start .args .some) (start .args .by) _ (at .counts) (at .inv) low
+    (c .without-lowest .ensures)
     (omega (arith, low .within, start .pre .0, start .pre .1, at .inv .sized))
 
 returns : tie.Need-returns Inv-loop μ-loop
@@ -67,20 +70,6 @@ returns c = change-ends _ _ _ _ _ _ (rw (c .loop-test .left) at (c .before .loop
 
 pub raise-spec : {M : Type 1} → statement M
 raise-spec =
-    tie.close
-    (tie.spec
-    Inv-loop
-    μ-loop
-    mul-from
-    loop-holds
-    (λ c κs. omega arith)
-    add-n
-    mul-counts
-    element-copy-out-counts
-    add-counts
-    mul-counts-2
-    element-write-counts
-    (λ c κs. omega arith)
-    loop-less
-    loop-again
+    tie.close (tie.spec Inv-loop μ-loop mul-from loop-holds (λ c κs. omega arith) add-n mul-counts
+    element-copy-out-counts add-counts mul-counts-2 element-write-counts (λ c κs. omega arith) loop-less loop-again
     returns)

@@ -9,7 +9,8 @@ use Rattle.witness.proofs.counts.recount.Statement.{statement}
 use Rattle.witness.proofs.counts.recount.Tie as tie
 
 abbrev Inv-loop : tie.InvT-loop
-Inv-loop counts₀ rows columns left rest users i₀ counts i = (i ≤ users * row-words) × Recounting rows left rest users i counts
+Inv-loop counts₀ rows columns left rest users i₀ counts i =
+    (i ≤ users * row-words) × Recounting rows left rest users i counts
 
 abbrev μ-loop : tie.MeasureT-loop
 μ-loop counts₀ rows columns left rest users i₀ counts i = users * row-words - i
@@ -43,13 +44,15 @@ less-requires c κs = tt
 take-requires : tie.Need-take-requires Inv-loop μ-loop
 unfolding user-limit row-words
 take-requires c κs =
-    let start = c .before .before .before .before .before .before in
+    let at-loop = c .before .before .before .before .before in
+    let start = at-loop .before in
     let a = start .args in
-    let at = c .before .before .before .before .before .loop in (
+    let at = at-loop .loop in (
       omega arith,
       start .pre .1,
       at .inv .1 .sized,
-      recount-enough (a .rows .now) (a .left .now) (a .rest .now) (a .users) (start .pre .3) (at .i) (c .less .result) (at .counts) (at .inv .1) (omega arith) (c .less .ensures),
+      recount-enough (a .rows .now) (a .left .now) (a .rest .now) (a .users) (start .pre .3) (at .i) (c .less .result)
+          (at .counts) (at .inv .1) (omega arith) (c .less .ensures),
     )
 
 add-i : tie.Need-add-i Inv-loop μ-loop
@@ -63,11 +66,13 @@ loop-less c = omega arith
 loop-again : tie.Need-loop-again Inv-loop μ-loop
 unfolding row-words
 loop-again c =
-    let start = c .before .before .before .before .before .before .before in
+    let at-loop = c .before .before .before .before .before .before in
+    let start = at-loop .before in
     let a = start .args in
-    let at = c .before .before .before .before .before .before .loop in (
+    let at = at-loop .loop in (
       omega arith,
-      recount-goes-on (a .rows .now) (a .left .now) (a .rest .now) (a .users) (start .pre .3) (at .i) (c .before .less .result) (at .counts) (at .inv .1) (omega arith)
+      recount-goes-on (a .rows .now) (a .left .now) (a .rest .now) (a .users) (start .pre .3) (at .i)
+          (c .before .less .result) (at .counts) (at .inv .1) (omega arith)
           (c .before .less .ensures) _ (c .take .ensures),
     )
 
@@ -81,19 +86,5 @@ returns c =
 
 pub recount-spec : {M : Type 1} → statement M
 recount-spec =
-    tie.close
-    (tie.spec
-    Inv-loop
-    μ-loop
-    loop-holds
-    mul-loop
-    mul-less
-    element-copy-out-less
-    mul-less-2
-    element-copy-out-less-2
-    less-requires
-    take-requires
-    add-i
-    loop-less
-    loop-again
-    returns)
+    tie.close (tie.spec Inv-loop μ-loop loop-holds mul-loop mul-less element-copy-out-less mul-less-2
+    element-copy-out-less-2 less-requires take-requires add-i loop-less loop-again returns)

@@ -1,4 +1,5 @@
--- `witness::counts::take_from_user`: the open grants that can fit lose the same number each, and where there are none nothing fits.
+-- `witness::counts::take_from_user`: the open grants that can fit lose the same number each, and where there are none
+-- nothing fits.
 use borrow.Author.Needs.{needs}
 use Prim.Native.Nat.{_-_, _≤_}
 use native.Mathlib.Nat.{sub-zero}
@@ -54,26 +55,18 @@ lower-requires c κs =
 
 returns : tie.Need-returns
 returns c =
-    let a = c .before .before .before .before .before .before .before .args in
-    user-changed (a .rows .now) (a .left .now) (a .i) (a .word) (a .u) (_-_) sub-zero _ _ (rw (c .before .count .ensures) at (c .lower .ensures))
+    let still-start = c .before .before .before .before .before .before .before in
+    let a = still-start .args in
+    user-changed (a .rows .now) (a .left .now) (a .i) (a .word) (a .u) (_-_) sub-zero _ _
+    (rw (c .before .count .ensures) at (c .lower .ensures))
 
 returns-2 : tie.Need-returns-2
 returns-2 c =
     let a = c .before .before .before .args in
-    user-changed (a .rows .now) (a .left .now) (a .i) (a .word) (a .u) (_-_) sub-zero _ _ (rw (c .if1 .left) (nothing-changed (_-_) (a .u) (shared (a .rows .now) (a .word) (a .u)) (a .counts .now)))
+    user-changed (a .rows .now) (a .left .now) (a .i) (a .word) (a .u) (_-_) sub-zero _ _
+    (rw (c .if1 .left) (nothing-changed (_-_) (a .u) (shared (a .rows .now) (a .word) (a .u)) (a .counts .now)))
 
 pub take-from-user-spec : {M : Type 1} → statement M
 take-from-user-spec =
-    tie.close
-    (tie.spec
-    mul-some
-    element-copy-out-some
-    mul-some-2
-    element-copy-out-some-2
-    mul-count
-    element-copy-out-count
-    (λ c κs. search needs)
-    cast-lower
-    lower-requires
-    returns
-    returns-2)
+    tie.close (tie.spec mul-some element-copy-out-some mul-some-2 element-copy-out-some-2 mul-count
+    element-copy-out-count (λ c κs. search needs) cast-lower lower-requires returns returns-2)

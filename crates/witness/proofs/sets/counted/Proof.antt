@@ -61,17 +61,5 @@ returns c =
 
 pub counted-spec : {M : Type 1} → statement M
 counted-spec =
-    tie.close
-    (tie.spec
-    Inv-loop
-    μ-loop
-    loop-holds
-    (λ c. omega arith)
-    mul-count
-    element-copy-out-count
-    (λ c κs. search needs)
-    add-n
-    (λ c. omega arith)
-    loop-less
-    loop-again
-    returns)
+    tie.close (tie.spec Inv-loop μ-loop loop-holds (λ c. omega arith) mul-count element-copy-out-count
+    (λ c κs. search needs) add-n (λ c. omega arith) loop-less loop-again returns)

@@ -12,7 +12,8 @@ use Rattle.witness.proofs.sets.joined.Statement.{statement}
 use Rattle.witness.proofs.sets.joined.Tie as tie
 
 abbrev Inv-loop : tie.InvT-loop
-Inv-loop some others users words₀ i₀ words i = (i ≤ users * row-words) × (length words ≡ cell-words) × MadeWords (either some others) i words
+Inv-loop some others users words₀ i₀ words i =
+    (i ≤ users * row-words) × (length words ≡ cell-words) × MadeWords (either some others) i words
 
 abbrev μ-loop : tie.MeasureT-loop
 μ-loop some others users words₀ i₀ words i = users * row-words - i
@@ -69,19 +70,5 @@ returns c =
 
 pub joined-spec : {M : Type 1} → statement M
 joined-spec =
-    tie.close
-    (tie.spec
-    Inv-loop
-    μ-loop
-    loop-holds
-    (λ c. omega arith)
-    mul-words
-    element-copy-out-words
-    mul-words-2
-    element-copy-out-words-2
-    mul-words-3
-    array-write-words
-    (λ c. omega arith)
-    loop-less
-    loop-again
-    returns)
+    tie.close (tie.spec Inv-loop μ-loop loop-holds (λ c. omega arith) mul-words element-copy-out-words mul-words-2
+    element-copy-out-words-2 mul-words-3 array-write-words (λ c. omega arith) loop-less loop-again returns)

@@ -27,4 +27,5 @@ returns c =
 
 pub with-cell-spec : {M : Type 1} → statement M
 with-cell-spec =
-    tie.close (tie.spec (λ c. search needs) array-read-with (λ c κs. search needs) (λ c. search needs) array-write-more returns)
+    tie.close (tie.spec (λ c. search needs) array-read-with (λ c κs. search needs) (λ c. search needs)
+    array-write-more returns)

@@ -24,9 +24,11 @@ returns-2 c sheet shown part =
     let a = c .before .before .args in
     let next = c .before .next-cell in
     let end : next .result ≡ a .users * row-bits = omega (arith, next .ensures .not-past) in
-    let passed = walk-passes (a .rows .now) (a .kernel .now) (a .users) no-choice 0 (walk-starts _ _ _) (next .result) (next .ensures .not-before) (next .ensures .skipped) in
+    let passed = walk-passes (a .rows .now) (a .kernel .now) (a .users) no-choice 0 (walk-starts _ _ _) (next .result)
+    (next .ensures .not-before) (next .ensures .skipped) in
     let none = walk-ends _ _ _ no-choice (next .result) passed end .is-fewest sheet shown part in
-    greedy-ends sheet _ _ _ _ grant-limit (greedy-starts sheet _ _ cell-words part) (none-taken sheet grant-limit (cell-grants sheet (a .kernel .now)) none)
+    greedy-ends sheet _ _ _ _ grant-limit (greedy-starts sheet _ _ cell-words part)
+    (none-taken sheet grant-limit (cell-grants sheet (a .kernel .now)) none)
 
 pub chosen-spec : {M : Type 1} → statement M
 chosen-spec =

@@ -1,5 +1,5 @@
--- `witness::witness::chosen_by_counts`: each turn takes the grant with the fewest partners among those left, as the definition does. The turns end when none is left, or
--- with as many as a sheet can have grants.
+-- `witness::witness::chosen_by_counts`: each turn takes the grant with the fewest partners among those left, as the
+-- definition does. The turns end when none is left, or with as many as a sheet can have grants.
 use borrow.Author.Needs.{needs}
 use Prim.Native.Nat.{suc, _+_, _-_, _≤_, _<_}
 use native.Mathlib.Nat.{sub-zero}
@@ -23,7 +23,8 @@ abbrev Inv-loop : tie.InvT-loop
 Inv-loop rows kernel users columns counts₀ left₀ taken₀ count₀ counts left taken count =
     (count ≤ grant-limit)
     × Counted rows left users counts
-    × ((sheet : Sheet) → Shown rows users sheet → Part kernel rows → Greedy sheet rows kernel left taken (grant-limit - count))
+    × ((sheet : Sheet) → Shown rows users sheet → Part kernel rows → Greedy sheet rows kernel left taken
+    (grant-limit - count))
 
 abbrev μ-loop : tie.MeasureT-loop
 μ-loop rows kernel users columns counts₀ left₀ taken₀ count₀ counts left taken count = grant-limit - count
@@ -36,15 +37,22 @@ first-counts-requires c κs = (search needs, c .before .columns-of .ensures)
 
 loop-holds : tie.Need-loop-holds Inv-loop μ-loop
 unfolding user-limit row-words
-loop-holds c = (omega arith, c .before .first-counts .ensures, λ sheet shown part. rw (sub-zero grant-limit) (greedy-starts sheet _ _ cell-words part))
+loop-holds c = (
+  omega arith,
+  c .before .first-counts .ensures,
+  λ sheet shown part. rw (sub-zero grant-limit)
+      (greedy-starts sheet _ _ cell-words part),
+)
 
 returns : tie.Need-returns Inv-loop μ-loop
 returns c sheet shown part =
-    let at = c .before .before .before .before .before .before .before .loop in
+    let at-loop = c .before .before .before .before .before .before .before in
+    let at = at-loop .loop in
     let greedy = at .inv .2 sheet shown part in
     let found = c .before .before .before .fewest .ensures _ (at .inv .1) .is-fewest sheet shown (greedy .left-part) in
     greedy-ends sheet _ _ (at .left) (at .taken) _ greedy
-    (none-taken sheet (grant-limit - at .count) (cell-grants sheet (at .left)) (found ∙ rw (eq-eqb _ _ (c .if1 .taken))))
+    (none-taken sheet (grant-limit - at .count) (cell-grants sheet (at .left))
+    (found ∙ rw (eq-eqb _ _ (c .if1 .taken))))
 
 -- there is a grant to take
 found : (c : tie.Else1 Inv-loop μ-loop) → 0 < c .before .before .before .fewest .result .partners
@@ -53,9 +61,10 @@ found c = omega arith
 inside : (c : tie.Else1 Inv-loop μ-loop) → c .before .before .before .fewest .result .cell .0 < cell-limit
 unfolding row-bits row-words
 inside c =
+    let at-loop = c .before .before .before .before .before .before .before in
     omega (
       arith,
-      c .before .before .before .fewest .ensures _ (c .before .before .before .before .before .before .before .loop .inv .1) .standing .within (found c),
+      c .before .before .before .fewest .ensures _ (at-loop .loop .inv .1) .standing .within (found c),
     )
 
 with-cell-requires : tie.Need-with-cell-requires Inv-loop μ-loop
@@ -66,13 +75,18 @@ dropped-requires c κs = (search needs, inside (c .before .before))
 
 recount-requires : tie.Need-recount-requires Inv-loop μ-loop
 recount-requires c κs =
-    let start = c .before .before .before .before .before .before .before .before .before .before .before .before .before .before .before .before .before .before .before in
-    let at = c .before .before .before .before .before .before .before .before .before .before .before .before .before .before .loop in
-    let dropped = c .before .before .before .before .dropped in (
+    let at-dropped = c .before .before .before .before in
+    let between = at-dropped .before .before .before .before .before .before .before .before in
+    let at-loop = between .before .before in
+    let at-columns-of = at-loop .before .before .before .before in
+    let start = at-columns-of .before in
+    let at = at-loop .loop in
+    let dropped = at-dropped .dropped in (
       start .pre,
-      c .before .before .before .before .before .before .before .before .before .before .before .before .before .before .before .before .before .before .columns-of .ensures,
+      at-columns-of .columns-of .ensures,
       at .inv .1,
-      left-over-part (start .args .rows .now) (at .left) _ (cells-of (start .args .users)) (dropped .result) (dropped .ensures) .held,
+      left-over-part (start .args .rows .now) (at .left) _ (cells-of (start .args .users)) (dropped .result)
+          (dropped .ensures) .held,
     )
 
 loop-less : tie.Need-loop-less Inv-loop μ-loop
@@ -80,7 +94,8 @@ unfolding grant-limit
 loop-less c = omega arith
 
 -- one choice fewer is left
-one-fewer : (c : tie.In-loop Inv-loop μ-loop) → grant-limit - c .before .loop .count ≡ suc (grant-limit - (c .before .loop .count + 1))
+one-fewer : (c : tie.In-loop Inv-loop μ-loop) → grant-limit - c .before .loop .count ≡ suc
+    (grant-limit - (c .before .loop .count + 1))
 unfolding grant-limit
 one-fewer c = omega arith
 
@@ -97,8 +112,10 @@ loop-again c =
       c .recount .ensures,
       λ sheet shown part.
           let greedy = rw more at (at .inv .2 sheet shown part) in
-          greedy-goes-on shown _ (at .left) (at .taken) _ greedy (fewest .result .cell .0) (best .standing .is-set (found turn))
-          (best .is-fewest sheet shown (greedy .left-part) ∙ rw (ne-eqb _ _ (turn .if1 .left))) _ (dropping .dropped .ensures) _
+          greedy-goes-on shown _ (at .left) (at .taken) _ greedy (fewest .result .cell .0)
+          (best .standing .is-set (found turn))
+          (best .is-fewest sheet shown (greedy .left-part) ∙ rw (ne-eqb _ _ (turn .if1 .left))) _
+          (dropping .dropped .ensures) _
           (dropping .before .before .with-cell .ensures),
     )
 
@@ -111,19 +128,5 @@ returns-2 c sheet shown part =
 
 pub chosen-by-counts-spec : {M : Type 1} → statement M
 chosen-by-counts-spec =
-    tie.close
-    (tie.spec
-    Inv-loop
-    μ-loop
-    columns-of-requires
-    first-counts-requires
-    loop-holds
-    (λ c κs. search needs)
-    returns
-    with-cell-requires
-    dropped-requires
-    recount-requires
-    (λ c. omega arith)
-    loop-less
-    loop-again
-    returns-2)
+    tie.close (tie.spec Inv-loop μ-loop columns-of-requires first-counts-requires loop-holds (λ c κs. search needs)
+    returns with-cell-requires dropped-requires recount-requires (λ c. omega arith) loop-less loop-again returns-2)

@@ -43,8 +43,13 @@ element-copy-out-if1 c = omega arith
 
 -- the cell is one of the sheet's words
 inside : (c : tie.Then1 Inv-loop μ-loop)
-    → getD (c .before .before .before .before .before .args .removed .now) (c .before .before .before .before .loop .i) 0 < cell-limit
-inside c = c .before .before .before .before .before .pre .1 (c .before .before .before .before .loop .i) (c .before .before .before .loop-test .taken)
+    → let at-loop = c .before .before .before .before in
+    let start = at-loop .before in
+    getD (start .args .removed .now) (at-loop .loop .i) 0 < cell-limit
+inside c =
+    let at-loop = c .before .before .before .before in
+    let start = at-loop .before in
+    start .pre .1 (at-loop .loop .i) (c .before .before .before .loop-test .taken)
 
 cast-cell : tie.Need-cast-cell Inv-loop μ-loop
 unfolding user-limit row-words
@@ -55,36 +60,29 @@ with-cell-requires c κs = inside c
 
 loop-again : tie.Need-loop-again Inv-loop μ-loop
 loop-again c =
-    let a = c .before .before .before .before .before .args in
-    let at = c .before .before .before .before .loop in
+    let at-loop = c .before .before .before .before in
+    let start = at-loop .before in
+    let a = start .args in
+    let at = at-loop .loop in
     ⊎-elim
     (λ w. (
       omega arith,
-      rw (w .2, add-one (at .i)) (single-put-in (a .removed .now) (a .partner .now) (at .i) (at .cells) (at .inv .1) (w .0 .taken) _ (w .1 .ensures)),
+      rw (w .2, add-one (at .i)) (single-put-in (a .removed .now) (a .partner .now) (at .i) (at .cells) (at .inv .1)
+          (w .0 .taken) _ (w .1 .ensures)),
     ))
     (λ w. (
       omega arith,
-      rw (w .1, add-one (at .i)) (tied-left-out (a .removed .now) (a .partner .now) (at .i) (at .cells) (at .inv .1) (ne-eqb _ _ (w .0 .left))),
+      rw (w .1, add-one (at .i)) (tied-left-out (a .removed .now) (a .partner .now) (at .i) (at .cells) (at .inv .1)
+          (ne-eqb _ _ (w .0 .left))),
     ))
     (c .if1 .came)
 
 returns : tie.Need-returns Inv-loop μ-loop
-returns c = let end : c .before .loop .i ≡ c .before .before .args .count = omega arith in rw end at (c .before .loop .inv .1)
+returns c =
+    let end : c .before .loop .i ≡ c .before .before .args .count = omega arith in
+    rw end at (c .before .loop .inv .1)
 
 pub single-cells-spec : {M : Type 1} → statement M
 single-cells-spec =
-    tie.close
-    (tie.spec
-    Inv-loop
-    μ-loop
-    loop-holds
-    mul-at
-    element-copy-out-at
-    mul-if1
-    element-copy-out-if1
-    cast-cell
-    with-cell-requires
-    (λ c. omega arith)
-    (λ c. omega arith)
-    loop-again
-    returns)
+    tie.close (tie.spec Inv-loop μ-loop loop-holds mul-at element-copy-out-at mul-if1 element-copy-out-if1 cast-cell
+    with-cell-requires (λ c. omega arith) (λ c. omega arith) loop-again returns)

@@ -1,4 +1,5 @@
--- `witness::witness::witness_of`: the cells of the grants taken and of the singles are those of the witness, and there are w of them.
+-- `witness::witness::witness_of`: the cells of the grants taken and of the singles are those of the witness, and
+-- there are w of them.
 use borrow.Author.Needs.{needs}
 use Rattle.witness.specs.WitnessRows.{witnessed}
 use Rattle.witness.proofs.witness.witness_of.Statement.{statement}
@@ -13,4 +14,5 @@ returns c sheet shown reduced =
     witnessed shown reduced chosen-cells (c .before .before .joined .ensures) (c .counted .result) (c .counted .ensures)
 
 pub witness-of-spec : {M : Type 1} → statement M
-witness-of-spec = tie.close (tie.spec chosen-requires (λ c κs. search needs) (λ c κs. search needs) returns)
+witness-of-spec =
+    tie.close (tie.spec chosen-requires (λ c κs. search needs) (λ c κs. search needs) returns)

@@ -10,6 +10,4 @@ returns c = refl
 
 pub none-spec : {M : Type 1} → statement M
 none-spec =
-    tie.close
-    (tie.spec
-    returns)
+    tie.close (tie.spec returns)

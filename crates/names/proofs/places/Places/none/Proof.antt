@@ -9,4 +9,5 @@ unfolding user-limit
 returns c = record { from-room = refl; to-room = refl }
 
 pub none-spec : {M : Type 1} → statement M
-none-spec = tie.close (tie.spec returns)
+none-spec =
+    tie.close (tie.spec returns)

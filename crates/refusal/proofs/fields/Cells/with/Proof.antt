@@ -10,25 +10,17 @@ add-t10 c = omega (arith, c .before .one-if .ensures, one-if-small (c .before .b
 
 returns : tie.Need-returns
 returns c =
+    let at-name-length = c .before .before .before .before .before .before in
     rw (
       c .before .one-if .ensures,
       c .before .before .is-one .ensures,
       c .before .before .before .both2 .ensures,
       c .before .before .before .before .is-bit .ensures,
       c .before .before .before .before .before .both .ensures,
-      c .before .before .before .before .before .before .name-length .ensures,
+      at-name-length .name-length .ensures,
     )
 
 pub with-spec : {M : Type 1} → statement M
 with-spec =
-    tie.close
-    (tie.spec
-    (λ c. search needs)
-    (λ c κs. search needs)
-    (λ c κs. search needs)
-    (λ c κs. search needs)
-    (λ c κs. search needs)
-    (λ c κs. search needs)
-    (λ c κs. search needs)
-    add-t10
-    returns)
+    tie.close (tie.spec (λ c. search needs) (λ c κs. search needs) (λ c κs. search needs) (λ c κs. search needs)
+    (λ c κs. search needs) (λ c κs. search needs) (λ c κs. search needs) add-t10 returns)

@@ -1,5 +1,5 @@
--- `Cursor::placed`: the next class is one more in use, and the grant that opens it is marked; any other class is in use already, and the grant is not
--- marked.
+-- `Cursor::placed`: the next class is one more in use, and the grant that opens it is marked; any other class is in
+-- use already, and the grant is not marked.
 use mathlib.Core.Path.{_≡_, refl, _∙_}
 use mathlib.Core.Bool.{Bool, true, false, not, _&&_, _||_, cond}
 use native.Mathlib.Numerals.{add-one}
@@ -50,4 +50,6 @@ returns-2 c =
     }
 
 pub placed-spec : {M : Type 1} → statement M
-placed-spec = tie.close (tie.spec (λ c. search needs) (λ c. search needs) (λ c κs. search needs) returns (λ c κs. search needs) returns-2)
+placed-spec =
+    tie.close (tie.spec (λ c. search needs) (λ c. search needs) (λ c κs. search needs) returns (λ c κs. search needs)
+    returns-2)

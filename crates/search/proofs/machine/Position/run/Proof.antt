@@ -1,5 +1,6 @@
--- `Position::run`: at each turn the run is the steps made and the run of the budget left (`Running`), which one step more keeps, and all is ready for the next
--- step. The measure is the budget left. The loop ends when there is none, or when the cursor is finished.
+-- `Position::run`: at each turn the run is the steps made and the run of the budget left (`Running`), which one step
+-- more keeps, and all is ready for the next step. The measure is the budget left. The loop ends when there is none,
+-- or when the cursor is finished.
 use Prim.Native.Nat.{_-_}
 use mathlib.Core.Path.{_≡_}
 use mathlib.Core.Logic.{⊎-elim}
@@ -17,7 +18,8 @@ use Rattle.search.proofs.machine.Position.run.Tie as tie
 
 abbrev Inv-loop : tie.InvT-loop
 Inv-loop fit size singles witness budget at₀ classes₀ best₀ members₀ steps₀ at classes best members steps =
-    Running (kernel-given fit size singles witness) budget (view (at-position at₀ classes₀ best₀) size) (at-position at classes best) steps
+    Running (kernel-given fit size singles witness) budget (view (at-position at₀ classes₀ best₀) size)
+    (at-position at classes best) steps
     × Ready size at classes best members
 
 abbrev μ-loop : tie.MeasureT-loop
@@ -39,32 +41,42 @@ loop-holds c =
     )
 
 advanced-requires : tie.Need-advanced-requires Inv-loop μ-loop
-advanced-requires c κs = c .before .before .before .before .before .before .loop .inv .1
+advanced-requires c κs =
+    let at-loop = c .before .before .before .before .before .before in
+    at-loop .loop .inv .1
 
 loop-again : tie.Need-loop-again Inv-loop μ-loop
 loop-again c =
-    let a = c .before .before .before .before .before .before .before .before .before .before .before .before .before .args in
-    let loop = c .before .before .before .before .before .before .before .loop in
+    let at-if1 = c .before .before .before .before in
+    let at-loop-test = at-if1 .before .before in
+    let at-loop = at-loop-test .before in
+    let still-start = at-loop .before .before .before .before .before .before in
+    let a = still-start .args in
+    let loop = at-loop .loop in
     let moved = c .advanced .ensures in (
-      running-more (kernel-given (a .fit .now) (a .size) (a .singles) (a .witness)) (a .budget) (view (a .self) (a .size)) (loop .inv .0)
-          (at-position (c .advanced .result) (c .advanced .last .1 .0) (c .advanced .last .1 .1 .0)) (c .before .before .before .before .before .before .loop-test .taken)
-          (not-true (loop .at .finished) (c .before .before .before .before .if1 .taken)) (moved .stepped) (moved .ready .stands),
+      running-more (kernel-given (a .fit .now) (a .size) (a .singles) (a .witness)) (a .budget)
+          (view (a .self) (a .size)) (loop .inv .0)
+          (at-position (c .advanced .result) (c .advanced .last .1 .0) (c .advanced .last .1 .1 .0))
+          (at-loop-test .loop-test .taken)
+          (not-true (loop .at .finished) (at-if1 .if1 .taken)) (moved .stepped) (moved .ready .stands),
       moved .ready,
     )
 
 returns : tie.Need-returns Inv-loop μ-loop
 returns c =
-    let a = c .before .before .before .before .before .before .before .before .args in
+    let still-start = c .before .before .before .before .before .before .before .before in
+    let a = still-start .args in
     let kernel = kernel-given (a .fit .now) (a .size) (a .singles) (a .witness) in
     let from = view (a .self) (a .size) in
     let loop = c .before .before .loop in
     rw (c .of .ensures) (
-      ⊎-elim (λ other. running-finished kernel (a .budget) from (loop .inv .0) (not-false (loop .at .finished) (other .2 .left)))
+      ⊎-elim (λ other. running-finished kernel (a .budget) from (loop .inv .0) (not-false (loop .at .finished)
+          (other .2 .left)))
           (λ spent. running-spent kernel (a .budget) from (loop .inv .0) (spent .left)) (c .before .loop-test .came),
       loop .inv .1 .stands,
     )
 
 pub run-spec : {M : Type 1} → statement M
 run-spec =
-    tie.close
-    (tie.spec Inv-loop μ-loop gathered-requires loop-holds advanced-requires (λ c. omega arith) (λ c. omega arith) loop-again (λ c κs. search needs) returns)
+    tie.close (tie.spec Inv-loop μ-loop gathered-requires loop-holds advanced-requires (λ c. omega arith)
+    (λ c. omega arith) loop-again (λ c κs. search needs) returns)

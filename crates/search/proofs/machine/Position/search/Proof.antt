@@ -35,4 +35,5 @@ returns-2 c =
     )
 
 pub search-spec : {M : Type 1} → statement M
-search-spec = tie.close (tie.spec returns run-requires returns-2)
+search-spec =
+    tie.close (tie.spec returns run-requires returns-2)

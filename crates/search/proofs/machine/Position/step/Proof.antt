@@ -1,4 +1,5 @@
--- `Position::step`: the members of each class are gathered from the placed grants' classes, and the step over them is the machine's.
+-- `Position::step`: the members of each class are gathered from the placed grants' classes, and the step over them is
+-- the machine's.
 use mathlib.Core.Path.{_≡_}
 use borrow.Author.Needs.{needs}
 use lib.ListN.{length}
@@ -16,7 +17,13 @@ whole-array c = search needs
 
 moved-requires : tie.Need-moved-requires
 moved-requires c κs =
-    record { stands = c .before .before .before .before .before .before .before .before .pre; classes-sized = whole-array (c .before .before .before .before .before .before .before .before); gathered = c .before .before .before .gathered .ensures }
+    let start = c .before .before .before .before .before .before .before .before in
+    record {
+      stands = start .pre;
+      classes-sized = whole-array start;
+      gathered =
+          c .before .before .before .gathered .ensures;
+    }
 
 returns : tie.Need-returns
 returns c =
@@ -24,4 +31,5 @@ returns c =
     rw (c .of .ensures) (moved .stepped, moved .ready .stands)
 
 pub step-spec : {M : Type 1} → statement M
-step-spec = tie.close (tie.spec gathered-requires moved-requires (λ c κs. search needs) returns)
+step-spec =
+    tie.close (tie.spec gathered-requires moved-requires (λ c κs. search needs) returns)

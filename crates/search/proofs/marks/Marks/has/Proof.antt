@@ -12,4 +12,5 @@ returns-2 : tie.Need-returns-2
 returns-2 c = c .has2 .ensures ∙ sym (marked-high (c .before .before .args .self) (c .before .if1 .left))
 
 pub has-spec : {M : Type 1} → statement M
-has-spec = tie.close (tie.spec (λ c κs. search needs) (λ c κs. search needs) returns returns-2)
+has-spec =
+    tie.close (tie.spec (λ c κs. search needs) (λ c κs. search needs) returns returns-2)

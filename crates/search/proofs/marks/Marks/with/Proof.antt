@@ -17,4 +17,5 @@ returns-2 c =
     changed-high _||_ or-false (a .self) _ (a .p) (c .before .if1 .left) refl (c .with2 .ensures)
 
 pub with-spec : {M : Type 1} → statement M
-with-spec = tie.close (tie.spec (λ c κs. search needs) (λ c κs. search needs) returns returns-2)
+with-spec =
+    tie.close (tie.spec (λ c κs. search needs) (λ c κs. search needs) returns returns-2)

@@ -1,4 +1,5 @@
--- `Marks::within`: the numbers of the low word come first, then those of the high one, and each word is tested by itself.
+-- `Marks::within`: the numbers of the low word come first, then those of the high one, and each word is tested by
+-- itself.
 use mathlib.Core.Path.{sym, _∙_}
 use borrow.Author.Needs.{needs}
 use borrow.Author.Tests.{not-true, not-false}
@@ -15,8 +16,10 @@ returns c =
 returns-2 : tie.Need-returns-2
 returns-2 c =
     let a = c .before .before .before .args in
-    let passes = sym (c .before .before .within .ensures) ∙ not-false (c .before .before .within .result) (c .before .if1 .left) in
+    let passes = sym (c .before .before .within .ensures) ∙ not-false (c .before .before .within .result)
+    (c .before .if1 .left) in
     rw (within-words (a .self) (a .other), passes) (c .within2 .ensures)
 
 pub within-spec : {M : Type 1} → statement M
-within-spec = tie.close (tie.spec (λ c κs. search needs) returns (λ c κs. search needs) returns-2)
+within-spec =
+    tie.close (tie.spec (λ c κs. search needs) returns (λ c κs. search needs) returns-2)

@@ -17,4 +17,5 @@ returns-2 c =
     changed-high (λ b t. b && not t) and-true (a .self) _ (a .p) (c .before .if1 .left) refl (c .without2 .ensures)
 
 pub without-spec : {M : Type 1} → statement M
-without-spec = tie.close (tie.spec (λ c κs. search needs) (λ c κs. search needs) returns returns-2)
+without-spec =
+    tie.close (tie.spec (λ c κs. search needs) (λ c κs. search needs) returns returns-2)

@@ -13,4 +13,5 @@ returns c text found =
     )
 
 pub counts-spec : {M : Type 1} → statement M
-counts-spec = tie.close (tie.spec returns)
+counts-spec =
+    tie.close (tie.spec returns)

@@ -11,4 +11,5 @@ unfolding user-limit grant-limit row-words table-row
 returns c = refl
 
 pub none-spec : {M : Type 1} → statement M
-none-spec = tie.close (tie.spec returns)
+none-spec =
+    tie.close (tie.spec returns)

@@ -10,4 +10,5 @@ unfolding user-limit row-words
 returns c = refl
 
 pub refused-spec : {M : Type 1} → statement M
-refused-spec = tie.close (tie.spec returns)
+refused-spec =
+    tie.close (tie.spec returns)
