@@ -1,7 +1,7 @@
 // The blocks of a role book: how long each is, and a writer for each.
 //
-// A writer is lent a buffer, writes its bytes at the front and answers how many they are; past them the buffer keeps its own
-// bytes (`Written` of text). A writer that follows another is lent the rest from where that one ended.
+// A writer is lent a buffer, writes its bytes at the front and answers how many they are; past them the buffer keeps
+// its own bytes (`Written` of text). A writer that follows another is lent the rest from where that one ended.
 mod counts;
 mod role_block;
 mod role_names;

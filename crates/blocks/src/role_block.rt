@@ -25,8 +25,10 @@ ghost use Rattle.text.specs.Written.{Written};
 // Writes the permission names, a comma before each.
 fn put_permission_fields(out: &mut [u8], s: &[u8], layout: Layout) -> usize
     requires { ⌜ LaidOut (now s) layout ⌝ }
-    requires { ⌜ length (listed (layout .permissions) (λ p. behind-comma (permission-name (sheet-of (now s)) p))) ≤ length (now out) ⌝ }
-    ensures { λ r. ⌜ Written (listed (layout .permissions) (λ p. behind-comma (permission-name (sheet-of (now (s .entry))) p)))
+    requires { ⌜ length (listed (layout .permissions) (λ p. behind-comma (permission-name (sheet-of (now s)) p))) ≤
+        length (now out) ⌝ }
+    ensures { λ r. ⌜ Written (listed (layout .permissions)
+        (λ p. behind-comma (permission-name (sheet-of (now (s .entry))) p)))
         (now (out .entry)) (now (out .exit)) r ⌝ }
 {
     let permissions = layout.permissions;
@@ -45,8 +47,10 @@ fn put_permission_fields(out: &mut [u8], s: &[u8], layout: Layout) -> usize
 
 // Writes the line of names.
 fn put_roles_heading(out: &mut [u8], s: &[u8], layout: Layout) -> usize
-    requires { ⌜ LaidOut (now s) layout × (length (roles-heading (sheet-of (now s)) (layout .permissions)) ≤ length (now out)) ⌝ }
-    ensures { λ r. ⌜ Written (roles-heading (sheet-of (now (s .entry))) (layout .permissions)) (now (out .entry)) (now (out .exit)) r ⌝ }
+    requires { ⌜ LaidOut (now s) layout × (length (roles-heading (sheet-of (now s)) (layout .permissions)) ≤ length
+        (now out)) ⌝ }
+    ensures { λ r. ⌜ Written (roles-heading (sheet-of (now (s .entry))) (layout .permissions)) (now (out .entry))
+        (now (out .exit)) r ⌝ }
 {
     let names = put_bytes(out, b"role");
     let end = names + put_permission_fields(&mut out[names..], s, layout);
@@ -58,7 +62,8 @@ fn put_roles_heading(out: &mut [u8], s: &[u8], layout: Layout) -> usize
 fn put_role_line(out: &mut [u8], gives: &[u64], role: RoleNo, permissions: usize) -> usize
     requires { ⌜ (role .0 < row-bits) × (permissions ≤ row-bits) × ((role .0 + 1) * row-words ≤ length (now gives)) ⌝ }
     requires { ⌜ length (line-text (role-line (now gives) permissions (role .0))) ≤ length (now out) ⌝ }
-    ensures { λ r. ⌜ Written (line-text (role-line (now (gives .entry)) permissions (role .0))) (now (out .entry)) (now (out .exit)) r ⌝ }
+    ensures { λ r. ⌜ Written (line-text (role-line (now (gives .entry)) permissions (role .0))) (now (out .entry))
+        (now (out .exit)) r ⌝ }
 {
     let name = put_role_name(out, role);
     let row = role.0;
@@ -71,7 +76,8 @@ fn put_role_line(out: &mut [u8], gives: &[u64], role: RoleNo, permissions: usize
 fn put_role_lines(out: &mut [u8], gives: &[u64], roles: usize, permissions: usize) -> usize
     requires { ⌜ (roles ≤ row-bits) × (permissions ≤ row-bits) × (roles * row-words ≤ length (now gives)) ⌝ }
     requires { ⌜ length (listed roles (λ r. line-text (role-line (now gives) permissions r))) ≤ length (now out) ⌝ }
-    ensures { λ r. ⌜ Written (listed roles (λ r. line-text (role-line (now (gives .entry)) permissions r))) (now (out .entry)) (now (out .exit)) r ⌝ }
+    ensures { λ r. ⌜ Written (listed roles (λ r. line-text (role-line (now (gives .entry)) permissions r)))
+        (now (out .entry)) (now (out .exit)) r ⌝ }
 {
     let mut at = 0;
     let mut i = 0;
@@ -92,7 +98,8 @@ pub fn put_roles<'a>(
 ) -> usize
     requires { ⌜ LaidOut (now s) layout × (roles ≤ row-bits) × (roles * row-words ≤ length (now gives)) ⌝ }
     requires { ⌜ length (text-of (shown-roles (sheet-of (now s)) (now gives) roles)) ≤ length (now out) ⌝ }
-    ensures { λ r. ⌜ Written (text-of (shown-roles (sheet-of (now (s .entry))) (now (gives .entry)) roles)) (now (out .entry)) (now (out .exit)) r ⌝ }
+    ensures { λ r. ⌜ Written (text-of (shown-roles (sheet-of (now (s .entry))) (now (gives .entry)) roles))
+        (now (out .entry)) (now (out .exit)) r ⌝ }
 {
     let lines = put_roles_heading(out, s, layout);
     let permissions = layout.permissions;
@@ -102,7 +109,8 @@ pub fn put_roles<'a>(
 // How long the permission names are, with a comma before each.
 fn permission_fields_length(s: &[u8], layout: Layout) -> usize
     requires { ⌜ LaidOut (now s) layout ⌝ }
-    ensures { λ r. ⌜ Measured (listed (layout .permissions) (λ p. behind-comma (permission-name (sheet-of (now (s .entry))) p))) line-most r ⌝ }
+    ensures { λ r. ⌜ Measured (listed (layout .permissions)
+        (λ p. behind-comma (permission-name (sheet-of (now (s .entry))) p))) line-most r ⌝ }
 {
     let permissions = layout.permissions;
     let places = layout.permission_places;
@@ -121,7 +129,8 @@ fn permission_fields_length(s: &[u8], layout: Layout) -> usize
 // How long the lines of so many roles are, whatever they hold.
 fn role_lines_length(roles: usize, permissions: usize) -> usize
     requires { ⌜ (roles ≤ row-bits) × (permissions ≤ row-bits) ⌝ }
-    ensures { λ r. ⌜ ((gives : List ℕ) → Measured (listed roles (λ r. line-text (role-line gives permissions r))) block-most r) ⌝ }
+    ensures { λ r. ⌜ ((gives : List ℕ) → Measured (listed roles (λ r. line-text (role-line gives permissions r)))
+        block-most r) ⌝ }
 {
     let mut total = 0;
     let mut i = 0;
@@ -135,7 +144,8 @@ fn role_lines_length(roles: usize, permissions: usize) -> usize
 // How long block 2 is, whatever its roles hold.
 pub fn roles_length(s: &[u8], layout: Layout, roles: usize) -> usize
     requires { ⌜ LaidOut (now s) layout × (roles ≤ row-bits) ⌝ }
-    ensures { λ r. ⌜ ((gives : List ℕ) → Measured (text-of (shown-roles (sheet-of (now (s .entry))) gives roles)) (2 * block-most) r) ⌝ }
+    ensures { λ r. ⌜ ((gives : List ℕ) → Measured (text-of (shown-roles (sheet-of (now (s .entry))) gives roles))
+        (2 * block-most) r) ⌝ }
 {
     let permissions = layout.permissions;
     let heading = b"role".len() + permission_fields_length(s, layout) + 1;

@@ -41,9 +41,11 @@ fn put_user_line<'a, 'b>(
     user: UserNo,
     roles: usize,
 ) -> usize
-    requires { ⌜ UsersAt (now s) (now from) (now to) × (user .0 < user-count (sheet-of (now s))) × (roles ≤ row-bits) × ((user .0 + 1) * row-words ≤ length (now has)) ⌝ }
+    requires { ⌜ UsersAt (now s) (now from) (now to) × (user .0 < user-count (sheet-of (now s))) × (roles ≤ row-bits)
+        × ((user .0 + 1) * row-words ≤ length (now has)) ⌝ }
     requires { ⌜ length (line-text (user-line (sheet-of (now s)) (now has) roles (user .0))) ≤ length (now out) ⌝ }
-    ensures { λ r. ⌜ Written (line-text (user-line (sheet-of (now (s .entry))) (now (has .entry)) roles (user .0))) (now (out .entry)) (now (out .exit)) r ⌝ }
+    ensures { λ r. ⌜ Written (line-text (user-line (sheet-of (now (s .entry))) (now (has .entry)) roles (user .0)))
+        (now (out .entry)) (now (out .exit)) r ⌝ }
 {
     let row = user.0;
     let name = user_name_in(s, from, to, user);
@@ -62,8 +64,10 @@ fn put_user_lines<'a>(
     roles: usize,
 ) -> usize
     requires { ⌜ LaidOut (now s) layout × (roles ≤ row-bits) × (layout .users * row-words ≤ length (now has)) ⌝ }
-    requires { ⌜ length (listed (layout .users) (λ u. line-text (user-line (sheet-of (now s)) (now has) roles u))) ≤ length (now out) ⌝ }
-    ensures { λ r. ⌜ Written (listed (layout .users) (λ u. line-text (user-line (sheet-of (now (s .entry))) (now (has .entry)) roles u)))
+    requires { ⌜ length (listed (layout .users) (λ u. line-text (user-line (sheet-of (now s)) (now has) roles u))) ≤
+        length (now out) ⌝ }
+    ensures { λ r. ⌜ Written (listed (layout .users)
+        (λ u. line-text (user-line (sheet-of (now (s .entry))) (now (has .entry)) roles u)))
         (now (out .entry)) (now (out .exit)) r ⌝ }
 {
     let users = layout.users;
@@ -89,7 +93,8 @@ pub fn put_users<'a>(
 ) -> usize
     requires { ⌜ LaidOut (now s) layout × (roles ≤ row-bits) × (layout .users * row-words ≤ length (now has)) ⌝ }
     requires { ⌜ length (text-of (shown-users (sheet-of (now s)) (now has) roles)) ≤ length (now out) ⌝ }
-    ensures { λ r. ⌜ Written (text-of (shown-users (sheet-of (now (s .entry))) (now (has .entry)) roles)) (now (out .entry)) (now (out .exit)) r ⌝ }
+    ensures { λ r. ⌜ Written (text-of (shown-users (sheet-of (now (s .entry))) (now (has .entry)) roles))
+        (now (out .entry)) (now (out .exit)) r ⌝ }
 {
     let lines = put_users_heading(out, roles);
     lines + put_user_lines(&mut out[lines..], s, layout, has, roles)
@@ -98,7 +103,9 @@ pub fn put_users<'a>(
 // How long the lines of all users are, whatever they have.
 fn user_lines_length(s: &[u8], layout: Layout, roles: usize) -> usize
     requires { ⌜ LaidOut (now s) layout × (roles ≤ row-bits) ⌝ }
-    ensures { λ r. ⌜ ((has : List ℕ) → Measured (listed (layout .users) (λ u. line-text (user-line (sheet-of (now (s .entry))) has roles u))) block-most r) ⌝ }
+    ensures { λ r. ⌜ ((has : List ℕ) → Measured
+        (listed (layout .users) (λ u. line-text (user-line (sheet-of (now (s .entry))) has roles u))) block-most
+        r) ⌝ }
 {
     let users = layout.users;
     let places = layout.user_places;
@@ -117,7 +124,8 @@ fn user_lines_length(s: &[u8], layout: Layout, roles: usize) -> usize
 // How long block 3 is, whatever its users have.
 pub fn users_length(s: &[u8], layout: Layout, roles: usize) -> usize
     requires { ⌜ LaidOut (now s) layout × (roles ≤ row-bits) ⌝ }
-    ensures { λ r. ⌜ ((has : List ℕ) → Measured (text-of (shown-users (sheet-of (now (s .entry))) has roles)) (2 * block-most) r) ⌝ }
+    ensures { λ r. ⌜ ((has : List ℕ) → Measured (text-of (shown-users (sheet-of (now (s .entry))) has roles))
+        (2 * block-most) r) ⌝ }
 {
     let heading = b"user".len() + role_fields_length(roles) + 1;
     heading + user_lines_length(s, layout, roles)

@@ -33,10 +33,12 @@ fn put_grant_line<'a, 'b>(
     user: UserNo,
     permission: PermissionNo,
 ) -> usize
-    requires { ⌜ UsersAt (now s) (now «user_from») (now «user_to») × PermissionsAt (now s) (now «permission_from») (now «permission_to»)
+    requires { ⌜ UsersAt (now s) (now «user_from») (now «user_to») × PermissionsAt (now s) (now «permission_from»)
+        (now «permission_to»)
         × (user .0 < user-count (sheet-of (now s))) × (permission .0 < permission-count (sheet-of (now s))) ⌝ }
     requires { ⌜ length (cell-line (sheet-of (now s)) (user .0) (permission .0)) ≤ length (now out) ⌝ }
-    ensures { λ r. ⌜ Written (cell-line (sheet-of (now (s .entry))) (user .0) (permission .0)) (now (out .entry)) (now (out .exit)) r ⌝ }
+    ensures { λ r. ⌜ Written (cell-line (sheet-of (now (s .entry))) (user .0) (permission .0)) (now (out .entry))
+        (now (out .exit)) r ⌝ }
 {
     let name = user_name_in(s, user_from, user_to, user);
     let held = permission_name_in(s, permission_from, permission_to, permission);
@@ -58,7 +60,8 @@ fn put_witness_row<'a, 'b>(
     user: UserNo,
     permissions: usize,
 ) -> usize
-    requires { ⌜ UsersAt (now s) (now «user_from») (now «user_to») × PermissionsAt (now s) (now «permission_from») (now «permission_to»)
+    requires { ⌜ UsersAt (now s) (now «user_from») (now «user_to») × PermissionsAt (now s) (now «permission_from»)
+        (now «permission_to»)
         × (user .0 < user-count (sheet-of (now s))) × (permissions ≤ permission-count (sheet-of (now s)))
         × (user-count (sheet-of (now s)) * row-words ≤ length (now witness)) ⌝ }
     requires { ⌜ length (witness-row (sheet-of (now s)) (now witness) permissions (user .0)) ≤ length (now out) ⌝ }
@@ -87,8 +90,10 @@ fn put_witness_row<'a, 'b>(
 // Writes the lines of all users.
 fn put_witness_rows<'a>(out: &mut [u8], s: &'a [u8], layout: Layout, witness: &'a [u64]) -> usize
     requires { ⌜ LaidOut (now s) layout × (layout .users * row-words ≤ length (now witness)) ⌝ }
-    requires { ⌜ length (listed (layout .users) (witness-row (sheet-of (now s)) (now witness) (layout .permissions))) ≤ length (now out) ⌝ }
-    ensures { λ r. ⌜ Written (listed (layout .users) (witness-row (sheet-of (now (s .entry))) (now (witness .entry)) (layout .permissions)))
+    requires { ⌜ length (listed (layout .users) (witness-row (sheet-of (now s)) (now witness) (layout .permissions)))
+        ≤ length (now out) ⌝ }
+    ensures { λ r. ⌜ Written (listed (layout .users) (witness-row (sheet-of (now (s .entry))) (now (witness .entry))
+        (layout .permissions)))
         (now (out .entry)) (now (out .exit)) r ⌝ }
 {
     let users = layout.users;
@@ -120,9 +125,12 @@ fn put_witness_rows<'a>(out: &mut [u8], s: &'a [u8], layout: Layout, witness: &'
 
 // Writes block 4.
 pub fn put_witness<'a>(out: &mut [u8], s: &'a [u8], layout: Layout, witness: &'a [u64]) -> usize
-    requires { ⌜ LaidOut (now s) layout × (layout .users * row-words ≤ length (now witness)) × GrantCells (now witness) (sheet-of (now s)) ⌝ }
-    requires { ⌜ length (text-of (witness-block (sheet-of (now s)) (cell-grants (sheet-of (now s)) (now witness)))) ≤ length (now out) ⌝ }
-    ensures { λ r. ⌜ Written (text-of (witness-block (sheet-of (now (s .entry))) (cell-grants (sheet-of (now (s .entry))) (now (witness .entry)))))
+    requires { ⌜ LaidOut (now s) layout × (layout .users * row-words ≤ length (now witness))
+        × GrantCells (now witness) (sheet-of (now s)) ⌝ }
+    requires { ⌜ length (text-of (witness-block (sheet-of (now s)) (cell-grants (sheet-of (now s)) (now witness)))) ≤
+        length (now out) ⌝ }
+    ensures { λ r. ⌜ Written (text-of (witness-block (sheet-of (now (s .entry)))
+        (cell-grants (sheet-of (now (s .entry))) (now (witness .entry)))))
         (now (out .entry)) (now (out .exit)) r ⌝ }
 {
     let lines = put_bytes(out, b"user,permission\n");
@@ -139,7 +147,8 @@ fn grant_line_length<'a, 'b>(
     user: UserNo,
     permission: PermissionNo,
 ) -> usize
-    requires { ⌜ UsersAt (now s) (now «user_from») (now «user_to») × PermissionsAt (now s) (now «permission_from») (now «permission_to»)
+    requires { ⌜ UsersAt (now s) (now «user_from») (now «user_to») × PermissionsAt (now s) (now «permission_from»)
+        (now «permission_to»)
         × (user .0 < user-count (sheet-of (now s))) × (permission .0 < permission-count (sheet-of (now s))) ⌝ }
     ensures { λ r. ⌜ Measured (cell-line (sheet-of (now (s .entry))) (user .0) (permission .0)) piece-most r ⌝ }
 {
@@ -159,10 +168,12 @@ fn witness_row_length<'a, 'b>(
     user: UserNo,
     permissions: usize,
 ) -> usize
-    requires { ⌜ UsersAt (now s) (now «user_from») (now «user_to») × PermissionsAt (now s) (now «permission_from») (now «permission_to»)
+    requires { ⌜ UsersAt (now s) (now «user_from») (now «user_to») × PermissionsAt (now s) (now «permission_from»)
+        (now «permission_to»)
         × (user .0 < user-count (sheet-of (now s))) × (permissions ≤ permission-count (sheet-of (now s)))
         × (user-count (sheet-of (now s)) * row-words ≤ length (now witness)) ⌝ }
-    ensures { λ r. ⌜ Measured (witness-row (sheet-of (now (s .entry))) (now (witness .entry)) permissions (user .0)) line-most r ⌝ }
+    ensures { λ r. ⌜ Measured (witness-row (sheet-of (now (s .entry))) (now (witness .entry)) permissions (user .0))
+        line-most r ⌝ }
 {
     let row = user.0;
     let mut total = 0;
@@ -185,7 +196,8 @@ fn witness_row_length<'a, 'b>(
 // How long the lines of all users are.
 fn witness_rows_length<'a>(s: &'a [u8], layout: Layout, witness: &'a [u64]) -> usize
     requires { ⌜ LaidOut (now s) layout × (layout .users * row-words ≤ length (now witness)) ⌝ }
-    ensures { λ r. ⌜ Measured (listed (layout .users) (witness-row (sheet-of (now (s .entry))) (now (witness .entry)) (layout .permissions))) block-most r ⌝ }
+    ensures { λ r. ⌜ Measured (listed (layout .users) (witness-row (sheet-of (now (s .entry))) (now (witness .entry))
+        (layout .permissions))) block-most r ⌝ }
 {
     let users = layout.users;
     let permissions = layout.permissions;
@@ -215,8 +227,10 @@ fn witness_rows_length<'a>(s: &'a [u8], layout: Layout, witness: &'a [u64]) -> u
 
 // How long block 4 is.
 pub fn witness_length<'a>(s: &'a [u8], layout: Layout, witness: &'a [u64]) -> usize
-    requires { ⌜ LaidOut (now s) layout × (layout .users * row-words ≤ length (now witness)) × GrantCells (now witness) (sheet-of (now s)) ⌝ }
-    ensures { λ r. ⌜ Measured (text-of (witness-block (sheet-of (now (s .entry))) (cell-grants (sheet-of (now (s .entry))) (now (witness .entry)))))
+    requires { ⌜ LaidOut (now s) layout × (layout .users * row-words ≤ length (now witness))
+        × GrantCells (now witness) (sheet-of (now s)) ⌝ }
+    ensures { λ r. ⌜ Measured (text-of (witness-block (sheet-of (now (s .entry)))
+        (cell-grants (sheet-of (now (s .entry))) (now (witness .entry)))))
         (2 * block-most) r ⌝ }
 {
     b"user,permission\n".len() + witness_rows_length(s, layout, witness)

@@ -1,4 +1,5 @@
-// The whole book: four blocks, one empty line between each two. Each block is written where the one before ended, plus that empty line.
+// The whole book: four blocks, one empty line between each two. Each block is written where the one before ended,
+// plus that empty line.
 use blocks::Counts;
 use blocks::counts_length;
 use blocks::put_counts;
@@ -10,7 +11,7 @@ use blocks::users_length;
 use blocks::witness_length;
 use names::Layout;
 use numbers::CELL_WORDS;
-use roles::ROLE_WORDS;
+use numbers::ROLE_WORDS;
 use text::put_empty_line;
 ghost use mathlib.Core.Path.{_≡_};
 ghost use mathlib.Core.List.{List};
@@ -31,7 +32,8 @@ pub fn book_length<'a>(
     counts: Counts,
 ) -> usize
     requires { ⌜ LaidOut (now s) layout × (counts .roles ≤ row-bits) × GrantCells (now witness) (sheet-of (now s)) ⌝ }
-    ensures { λ r. ⌜ ((has gives : List ℕ) → r ≡ length (rows-book (now (s .entry)) has gives (now (witness .entry)) counts)) ⌝ }
+    ensures { λ r. ⌜ ((has gives : List ℕ) → r ≡ length (rows-book (now (s .entry)) has gives (now (witness .entry))
+        counts)) ⌝ }
 {
     let roles = counts.roles;
     let first = counts_length(counts) + 1;
@@ -52,7 +54,8 @@ pub fn write_book<'a>(
 ) -> usize
     requires { ⌜ LaidOut (now s) layout × (counts .roles ≤ row-bits) × GrantCells (now witness) (sheet-of (now s)) ⌝ }
     requires { ⌜ length (rows-book (now s) (now has) (now gives) (now witness) counts) ≤ length (now out) ⌝ }
-    ensures { λ r. ⌜ Written (rows-book (now (s .entry)) (now (has .entry)) (now (gives .entry)) (now (witness .entry)) counts)
+    ensures { λ r. ⌜ Written (rows-book (now (s .entry)) (now (has .entry)) (now (gives .entry))
+        (now (witness .entry)) counts)
         (now (out .entry)) (now (out .exit)) r ⌝ }
 {
     let roles = counts.roles;

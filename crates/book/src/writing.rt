@@ -4,7 +4,7 @@ use crate::book::write_book;
 use blocks::Counts;
 use names::Layout;
 use numbers::CELL_WORDS;
-use roles::ROLE_WORDS;
+use numbers::ROLE_WORDS;
 ghost use Prim.Native.Nat.{_≤_};
 ghost use Rattle.spec.specs.Sheet.{sheet-of};
 ghost use Rattle.cells.specs.Rows.{row-bits};
@@ -30,7 +30,8 @@ pub fn write_if_room<'a>(
     counts: Counts,
 ) -> Writing
     requires { ⌜ LaidOut (now s) layout × (counts .roles ≤ row-bits) × GrantCells (now witness) (sheet-of (now s)) ⌝ }
-    ensures { λ r. ⌜ Writes (rows-book (now (s .entry)) (now (has .entry)) (now (gives .entry)) (now (witness .entry)) counts)
+    ensures { λ r. ⌜ Writes (rows-book (now (s .entry)) (now (has .entry)) (now (gives .entry)) (now (witness .entry))
+        counts)
         (now (out .entry)) (writing-said r) (now (out .exit)) ⌝ }
 {
     if out.len() < book_length(s, layout, witness, counts) {

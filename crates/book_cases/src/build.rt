@@ -1,4 +1,5 @@
-// Books and sheets made in a lent buffer. Each function answers the place after what it put; what would stand past the buffer's end is dropped.
+// Books and sheets made in a lent buffer. Each function answers the place after what it put; what would stand past
+// the buffer's end is dropped.
 use numbers::PERMISSION_LIMIT;
 ghost use Prim.Native.Nat.{_≤_};
 ghost use lib.ListN.{length};

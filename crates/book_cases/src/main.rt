@@ -1,5 +1,5 @@
-// Checks good and damaged books. A line of the output says what is checked, and the number, the roles and the witness lines that the checker answers. What it
-// has to answer was worked out from document 01; the file `stdout` has it.
+// Checks good and damaged books. A line of the output says what is checked, and the number, the roles and the witness
+// lines that the checker answers. What it has to answer was worked out from document 01; the file `stdout` has it.
 mod build;
 mod show;
 mod texts;

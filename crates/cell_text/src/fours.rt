@@ -56,7 +56,8 @@ fn put_eight(out: &mut [u8], n: u64) -> usize
 pub fn put_fours(out: &mut [u8], word: u64, fours: usize) -> usize
     requires { ⌜ 4 * fours ≤ word-bits ⌝ }
     requires { ⌜ length (listed (4 * fours) (λ p. cell-field (bit word p))) ≤ length (now out) ⌝ }
-    ensures { λ r. ⌜ Written (listed (4 * fours) (λ p. cell-field (bit word p))) (now (out .entry)) (now (out .exit)) r ⌝ }
+    ensures { λ r. ⌜ Written (listed (4 * fours) (λ p. cell-field (bit word p))) (now (out .entry)) (now (out .exit))
+        r ⌝ }
 {
     let mut at = 0;
     let mut i = 0;

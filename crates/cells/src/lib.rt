@@ -1,10 +1,7 @@
 // Cells as rows of words: cells by number, sets of cells, and the cells of a set in order.
-mod cell;
 mod listing;
 mod rows;
 
-pub use cell::CellNo;
-pub use cell::ROW_BITS;
 pub use listing::Kernel;
 pub use listing::holds;
 pub use listing::listed;

@@ -1,9 +1,9 @@
 // The kernel's grants in order.
-use crate::cell::ROW_BITS;
 use bits::WORD_BITS;
 use numbers::CELL_WORDS;
 use numbers::GRANT_LIMIT;
 use numbers::PermissionNo;
+use numbers::ROW_BITS;
 use numbers::ROW_WORDS;
 use numbers::UserNo;
 ghost use mathlib.Core.Path.{_≡_};

@@ -35,7 +35,8 @@ fn bound_agrees(standing: Standing, bound: usize, roles: usize, lines: usize) ->
 
 // Whether the counts agree with so many roles and witness lines.
 pub fn counts_agree(counts: Counts, roles: usize, lines: usize) -> bool
-    ensures { λ r. ⌜ r ≡ (eqb (counts .roles) roles && bound-agrees (standing-case (counts .standing)) (counts .bound) roles lines) ⌝ }
+    ensures { λ r. ⌜ r ≡ (eqb (counts .roles) roles && bound-agrees (standing-case (counts .standing)) (counts .bound)
+        roles lines) ⌝ }
 {
     if counts.roles != roles {
         return false;

@@ -35,7 +35,8 @@ fn check_from_users<'a>(
     roles: usize,
     gives: &'a [u64],
 ) -> Checked
-    requires { ⌜ LaidOut (now sheet) layout × RowsRead (now rows) (sheet-of (now sheet)) × (layout .users * row-words ≤ length (now rows)) ⌝ }
+    requires { ⌜ LaidOut (now sheet) layout × RowsRead (now rows) (sheet-of (now sheet))
+        × (layout .users * row-words ≤ length (now rows)) ⌝ }
     requires { ⌜ (length (now book) ≤ book-limit) × (role-limit * row-words ≤ length (now gives)) ⌝ }
     requires { ⌜ FrontRead (sheet-of (now sheet)) (now book) counts (now gives) roles at ⌝ }
     ensures { λ r. ⌜ Checks (now (sheet .entry)) (now (book .entry)) (answer-of r) ⌝ }
@@ -63,7 +64,8 @@ fn check_from_users<'a>(
 
 // Checks a book that is not too long against an accepted sheet, which has been read.
 fn check_book<'a>(sheet: &'a [u8], layout: Layout, rows: &'a [u64], book: &'a [u8]) -> Checked
-    requires { ⌜ LaidOut (now sheet) layout × RowsRead (now rows) (sheet-of (now sheet)) × (layout .users * row-words ≤ length (now rows)) ⌝ }
+    requires { ⌜ LaidOut (now sheet) layout × RowsRead (now rows) (sheet-of (now sheet))
+        × (layout .users * row-words ≤ length (now rows)) ⌝ }
     requires { ⌜ length (now book) ≤ book-limit ⌝ }
     ensures { λ r. ⌜ Checks (now (sheet .entry)) (now (book .entry)) (answer-of r) ⌝ }
 {
@@ -77,8 +79,8 @@ fn check_book<'a>(sheet: &'a [u8], layout: Layout, rows: &'a [u64], book: &'a [u
     check_from_users(sheet, layout, rows, book, third, counts, roles, &gives)
 }
 
-// Whether a book is right for a sheet: the lowest of document 01's numbers that applies, with counts 0; or 0, with the roles and the witness lines. The
-// sheet is judged first.
+// Whether a book is right for a sheet: the lowest of document 01's numbers that applies, with counts 0; or 0, with
+// the roles and the witness lines. The sheet is judged first.
 pub fn check<'a>(sheet: &'a [u8], book: &'a [u8]) -> Checked
     ensures { λ answer. ⌜ Checks (now (sheet .entry)) (now (book .entry)) (answer-of answer) ⌝ }
 {

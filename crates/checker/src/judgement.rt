@@ -15,7 +15,8 @@ ghost use Rattle.cells.specs.Rows.{row-words};
 ghost use Rattle.cells.specs.RowsRead.{RowsRead};
 ghost use Rattle.checker.specs.BookSays.{BookSays, answer-of, JudgedAs};
 
-// The answer: document 01's number, 0 where none applies, with the roles and the witness lines; a number above 0 comes with counts 0.
+// The answer: document 01's number, 0 where none applies, with the roles and the witness lines; a number above 0
+// comes with counts 0.
 #[repr(C)]
 pub struct Checked {
     pub number: usize,
@@ -34,7 +35,8 @@ pub fn refused(number: usize) -> Checked
     }
 }
 
-// Judges what was read of a book that is of the form, by 13, 14 and 15 in turn. The rows are those of the sheet, and the users as many.
+// Judges what was read of a book that is of the form, by 13, 14 and 15 in turn. The rows are those of the sheet, and
+// the users as many.
 pub fn judge_book<'a>(
     sheet: &'a [u8],
     rows: &'a [u64],
@@ -45,10 +47,13 @@ pub fn judge_book<'a>(
     gives: &'a [u64],
     witness: Witness,
 ) -> Checked
-    requires { ⌜ So (accepted (now sheet)) × RowsRead (now rows) (sheet-of (now sheet)) × (users ≡ user-count (sheet-of (now sheet))) ⌝ }
+    requires { ⌜ So (accepted (now sheet)) × RowsRead (now rows) (sheet-of (now sheet))
+        × (users ≡ user-count (sheet-of (now sheet))) ⌝ }
     requires { ⌜ BookSays (sheet-of (now sheet)) counts roles (now has) (now gives) witness ⌝ }
-    requires { ⌜ (users * row-words ≤ length (now rows)) × (users * row-words ≤ length (now has)) × (roles * row-words ≤ length (now gives)) ⌝ }
-    ensures { λ r. ⌜ JudgedAs (sheet-of (now (sheet .entry))) counts roles (now (has .entry)) (now (gives .entry)) witness (answer-of r) ⌝ }
+    requires { ⌜ (users * row-words ≤ length (now rows)) × (users * row-words ≤ length (now has))
+        × (roles * row-words ≤ length (now gives)) ⌝ }
+    ensures { λ r. ⌜ JudgedAs (sheet-of (now (sheet .entry))) counts roles (now (has .entry)) (now (gives .entry))
+        witness (answer-of r) ⌝ }
 {
     if !counts_agree(counts, roles, witness.lines) {
         return refused(13);

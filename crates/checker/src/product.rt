@@ -21,7 +21,8 @@ fn roles_word(has: &[u64], roles: usize, u: usize, j: usize) -> u64
     has[u * ROW_WORDS + j] & bits::full(cells_in_word(roles, j))
 }
 
-// A word, and word k of what the roles at the positions of some give, role after role. The positions are counted from `first` on.
+// A word, and word k of what the roles at the positions of some give, role after role. The positions are counted from
+// `first` on.
 fn with_given(start: u64, gives: &[u64], first: usize, some: u64, k: usize) -> u64
     requires { ⌜ (k < row-words) × GivenWithin (now gives) first some ⌝ }
     ensures { λ r. ⌜ ((q : ℕ) → bit r q ≡ (bit start q || some-given (now (gives .entry)) first k q some)) ⌝ }
@@ -38,7 +39,8 @@ fn with_given(start: u64, gives: &[u64], first: usize, some: u64, k: usize) -> u
 
 // Word k of what the roles of a user give together.
 fn given_word(has: &[u64], gives: &[u64], roles: usize, u: usize, k: usize) -> u64
-    requires { ⌜ (roles ≤ row-bits) × (k < row-words) × ((u + 1) * row-words ≤ length (now has)) × (roles * row-words ≤ length (now gives)) ⌝ }
+    requires { ⌜ (roles ≤ row-bits) × (k < row-words) × ((u + 1) * row-words ≤ length (now has))
+        × (roles * row-words ≤ length (now gives)) ⌝ }
     ensures { λ r. ⌜ GivenWord (now (has .entry)) (now (gives .entry)) roles u k r ⌝ }
 {
     let mut word = 0;
@@ -53,7 +55,8 @@ fn given_word(has: &[u64], gives: &[u64], roles: usize, u: usize, k: usize) -> u
 
 // Whether the roles of a user give together what the user's row has.
 fn row_agrees(rows: &[u64], has: &[u64], gives: &[u64], roles: usize, u: usize) -> bool
-    requires { ⌜ (roles ≤ row-bits) × ((u + 1) * row-words ≤ length (now rows)) × ((u + 1) * row-words ≤ length (now has)) × (roles * row-words ≤ length (now gives)) ⌝ }
+    requires { ⌜ (roles ≤ row-bits) × ((u + 1) * row-words ≤ length (now rows))
+        × ((u + 1) * row-words ≤ length (now has)) × (roles * row-words ≤ length (now gives)) ⌝ }
     ensures { λ r. ⌜ r ≡ row-agrees (now (rows .entry)) (roles-in (now (has .entry)) (now (gives .entry)) roles) u ⌝ }
 {
     let mut k = 0;
@@ -68,8 +71,10 @@ fn row_agrees(rows: &[u64], has: &[u64], gives: &[u64], roles: usize, u: usize) 
 
 // Whether the roles of each user give together what the user's row has.
 pub fn rows_agree(rows: &[u64], has: &[u64], gives: &[u64], roles: usize, users: usize) -> bool
-    requires { ⌜ (roles ≤ row-bits) × (users * row-words ≤ length (now rows)) × (users * row-words ≤ length (now has)) × (roles * row-words ≤ length (now gives)) ⌝ }
-    ensures { λ r. ⌜ r ≡ every-below users (row-agrees (now (rows .entry)) (roles-in (now (has .entry)) (now (gives .entry)) roles)) ⌝ }
+    requires { ⌜ (roles ≤ row-bits) × (users * row-words ≤ length (now rows)) × (users * row-words ≤ length (now has))
+        × (roles * row-words ≤ length (now gives)) ⌝ }
+    ensures { λ r. ⌜ r ≡ every-below users (row-agrees (now (rows .entry))
+        (roles-in (now (has .entry)) (now (gives .entry)) roles)) ⌝ }
 {
     let mut u = 0;
     while u < users {

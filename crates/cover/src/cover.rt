@@ -1,11 +1,11 @@
 // The first cover: the first best of the groupings of the kernel in grant order.
 use bits::WORD_BITS;
 use cells::Kernel;
-use cells::ROW_BITS;
 use cells::permission_of;
 use cells::user_of;
 use numbers::CELL_WORDS;
 use numbers::GRANT_LIMIT;
+use numbers::ROW_BITS;
 use numbers::ROW_WORDS;
 ghost use mathlib.Core.Path.{_≡_};
 ghost use mathlib.Core.Bool.{true};
@@ -68,7 +68,8 @@ fn counted(count: usize, c: u16) -> usize
 // The grouping of the kernel by permission.
 fn grouped_by_permission(cells: &[u16]) -> Placement
     requires { ⌜ length (now cells) ≤ grant-limit ⌝ }
-    ensures { λ r. ⌜ (r .used ≤ row-bits) × Placed (by-key (permission-at-cell (now (cells .entry))) (length (now (cells .entry))))
+    ensures { λ r. ⌜ (r .used ≤ row-bits) × Placed (by-key (permission-at-cell (now (cells .entry)))
+        (length (now (cells .entry))))
         (r .classes) (length (now (cells .entry))) (r .used) × BlankFrom (length (now (cells .entry))) (r .classes) ⌝ }
 {
     let mut table = [NO_CLASS; ROW_BITS];
@@ -153,7 +154,8 @@ fn allowed_next<'a>(
     most: usize,
 ) -> [u64; ROW_WORDS]
     requires { ⌜ (v < user-room) × (most ≤ row-bits) ⌝ }
-    ensures { λ r. ⌜ (AllowedTo (now (rows .entry)) (now (asked .entry)) u most allowed → AllowedTo (now (rows .entry)) (now (asked .entry)) v most r) ⌝ }
+    ensures { λ r. ⌜ (AllowedTo (now (rows .entry)) (now (asked .entry)) u most allowed
+        → AllowedTo (now (rows .entry)) (now (asked .entry)) v most r) ⌝ }
 {
     if u == v {
         allowed
@@ -170,7 +172,8 @@ fn is_lacked(lacked: &[u64; CLASS_WORDS], c: usize, p: usize) -> bool
     bits::has(lacked[c * ROW_WORDS + p / WORD_BITS], p % WORD_BITS)
 }
 
-// The lowest position of word j of the allowed classes whose class has no member that lacks permission p, else the end of the word.
+// The lowest position of word j of the allowed classes whose class has no member that lacks permission p, else the
+// end of the word.
 fn free_in_word(lacked: &[u64; CLASS_WORDS], word: u64, j: usize, p: usize) -> usize
     requires { ⌜ (j < row-words) × (p < row-bits) ⌝ }
     ensures { λ r. ⌜ FirstBelow word-bits (free-in-word word (now (lacked .entry)) p j) r ⌝ }
@@ -266,9 +269,11 @@ fn grouped_by_fit<'a>(rows: &'a [u64], cells: &'a [u16], most: usize) -> Placeme
 
 // The one of two placements with fewer classes, the earlier on a tie.
 fn with_fewer(earlier: Placement, later: Placement) -> Placement
-    ensures { λ r. ⌜ ((n : ℕ) (p q : List ℕ) → PlacedOrMore p (earlier .classes) n (earlier .used) (later .used) → Placed q (later .classes) n (later .used)
+    ensures { λ r. ⌜ ((n : ℕ) (p q : List ℕ) → PlacedOrMore p (earlier .classes) n (earlier .used) (later .used)
+        → Placed q (later .classes) n (later .used)
         → Placed (fewer p q) (r .classes) n (r .used)) ⌝ }
-    ensures { λ r. ⌜ ((n : ℕ) → BlankFrom n (earlier .classes) → BlankFrom n (later .classes) → BlankFrom n (r .classes)) ⌝ }
+    ensures { λ r. ⌜ ((n : ℕ) → BlankFrom n (earlier .classes) → BlankFrom n (later .classes)
+        → BlankFrom n (r .classes)) ⌝ }
 {
     if earlier.used <= later.used {
         earlier
@@ -277,10 +282,12 @@ fn with_fewer(earlier: Placement, later: Placement) -> Placement
     }
 }
 
-// The first best of the groupings of the grants at some cells, by fit and by permission. By user there are never fewer classes than by fit.
+// The first best of the groupings of the grants at some cells, by fit and by permission. By user there are never
+// fewer classes than by fit.
 fn best_of<'a>(rows: &'a [u64], cells: &'a [u16]) -> Placement
     requires { ⌜ length (now cells) ≤ grant-limit ⌝ }
-    ensures { λ r. ⌜ ((users : ℕ) (sheet : Sheet) → Shown (now (rows .entry)) users sheet → map grant-of (now (cells .entry)) ≡ kernel sheet
+    ensures { λ r. ⌜ ((users : ℕ) (sheet : Sheet) → Shown (now (rows .entry)) users sheet
+        → map grant-of (now (cells .entry)) ≡ kernel sheet
         → Placed (first-best sheet) (r .classes) (length (now (cells .entry))) (r .used)) ⌝ }
     ensures { λ r. ⌜ BlankFrom (length (now (cells .entry))) (r .classes) ⌝ }
 {

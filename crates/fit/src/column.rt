@@ -1,9 +1,9 @@
 // The words in which grants can fit one: those of the users who hold its permission.
 use crate::fit::fitting;
 use bits::WORD_BITS;
-use cells::CellNo;
-use cells::ROW_BITS;
 use numbers::CELL_WORDS;
+use numbers::CellNo;
+use numbers::ROW_BITS;
 use numbers::ROW_WORDS;
 ghost use mathlib.Core.Path.{_≡_};
 ghost use mathlib.Core.List.{List};
@@ -68,7 +68,8 @@ pub fn union_of(columns: &[u64; PLACE_WORDS], word: u64, j: usize) -> u64
     some
 }
 
-// The count so far, and how many grants of left fit the grant at a cell in the words at the positions of some. The count ends once it reaches most.
+// The count so far, and how many grants of left fit the grant at a cell in the words at the positions of some. The
+// count ends once it reaches most.
 fn partners_among<'a>(
     rows: &'a [u64; CELL_WORDS],
     left: &'a [u64; CELL_WORDS],
@@ -80,7 +81,8 @@ fn partners_among<'a>(
 ) -> usize
     requires { ⌜ (it .0 < cell-limit) × (from + word-bits ≤ cell-words) × (start ≤ cell-limit) ⌝ }
     ensures { λ r. ⌜ CountedBelow most
-        (start + sum-below word-bits (λ (q : ℕ). near-if (bit some q) (now (rows .entry)) (now (left .entry)) (it .0) (from + q))) r ⌝ }
+        (start + sum-below word-bits (λ (q : ℕ). near-if (bit some q) (now (rows .entry)) (now (left .entry)) (it .0)
+        (from + q))) r ⌝ }
 {
     let mut n = start;
     let mut w = some;
@@ -92,8 +94,8 @@ fn partners_among<'a>(
     n
 }
 
-// How many grants of left fit the grant at a cell, itself among them where it is in left, counted in the words of its permission's column. The count ends
-// once it reaches most.
+// How many grants of left fit the grant at a cell, itself among them where it is in left, counted in the words of its
+// permission's column. The count ends once it reaches most.
 pub fn partners_in_column<'a>(
     rows: &'a [u64; CELL_WORDS],
     columns: &'a [u64; PLACE_WORDS],
@@ -102,8 +104,10 @@ pub fn partners_in_column<'a>(
     most: usize,
 ) -> usize
     requires { ⌜ (it .0 < cell-limit) × Columns (now rows) (now columns) ⌝ }
-    ensures { λ r. ⌜ ((users : ℕ) (sheet : Sheet) → users ≤ user-limit → Shown (now (rows .entry)) users sheet → Part (now (left .entry)) (now (rows .entry))
-        → CountedBelow most (length (filter (fits sheet (grant-of (it .0))) (cell-grants sheet (now (left .entry))))) r) ⌝ }
+    ensures { λ r. ⌜ ((users : ℕ) (sheet : Sheet) → users ≤ user-limit → Shown (now (rows .entry)) users sheet
+        → Part (now (left .entry)) (now (rows .entry))
+        → CountedBelow most (length (filter (fits sheet (grant-of (it .0))) (cell-grants sheet (now (left .entry)))))
+        r) ⌝ }
 {
     let p = it.0 % ROW_BITS;
     let mut n = 0;

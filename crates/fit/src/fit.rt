@@ -1,8 +1,8 @@
 // Which grants fit one, word by word.
 use bits::WORD_BITS;
-use cells::CellNo;
-use cells::ROW_BITS;
 use numbers::CELL_WORDS;
+use numbers::CellNo;
+use numbers::ROW_BITS;
 use numbers::ROW_WORDS;
 ghost use Prim.Native.Nat.{_<_};
 ghost use Rattle.cells.specs.CellPlaces.{cell-words, cell-limit, FittingWord};

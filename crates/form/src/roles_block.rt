@@ -32,7 +32,8 @@ pub enum RolesRead {
 fn role_line(book: &[u8], at: usize, gives: &mut [u64], role: RoleNo, permissions: usize) -> Step
     requires { ⌜ (at ≤ length (now book)) × (role .0 < role-limit) × (permissions ≤ row-bits) ⌝ }
     requires { ⌜ ((role .0 + 1) * row-words ≤ length (now gives)) × Blank (now gives) (role .0) ⌝ }
-    ensures { λ r. ⌜ LineReads (now (book .entry)) at (role-name (role .0)) (role .0) permissions (now (gives .entry)) (now (gives .exit)) r ⌝ }
+    ensures { λ r. ⌜ LineReads (now (book .entry)) at (role-name (role .0)) (role .0) permissions (now (gives .entry))
+        (now (gives .exit)) r ⌝ }
 {
     let Step::On(cells) = expect_role_name(book, at, role) else {
         return Step::Off;
@@ -43,7 +44,8 @@ fn role_line(book: &[u8], at: usize, gives: &mut [u64], role: RoleNo, permission
 
 // Reads the lines of the roles in order, up to the empty line behind them.
 fn role_lines(book: &[u8], at: usize, gives: &mut [u64], permissions: usize) -> RolesRead
-    requires { ⌜ (at ≤ length (now book)) × (permissions ≤ row-bits) × (role-limit * row-words ≤ length (now gives)) × AllBlank (now gives) ⌝ }
+    requires { ⌜ (at ≤ length (now book)) × (permissions ≤ row-bits) × (role-limit * row-words ≤ length (now gives))
+        × AllBlank (now gives) ⌝ }
     ensures { λ r. ⌜ RoleLinesRead (now (book .entry)) at permissions (now (gives .exit)) r ⌝ }
 {
     let mut next = at;

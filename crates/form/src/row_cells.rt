@@ -26,7 +26,8 @@ pub fn cells_in_word(count: usize, k: usize) -> usize
 
 // Reads so many cells into a row that has none set.
 pub fn read_cells(book: &[u8], at: usize, rows: &mut [u64], row: usize, count: usize) -> Step
-    requires { ⌜ (at ≤ length (now book)) × (count ≤ row-bits) × ((row + 1) * row-words ≤ length (now rows)) × Blank (now rows) row ⌝ }
+    requires { ⌜ (at ≤ length (now book)) × (count ≤ row-bits) × ((row + 1) * row-words ≤ length (now rows))
+        × Blank (now rows) row ⌝ }
     ensures { λ r. ⌜ CellsRead (now (book .entry)) at row count (now (rows .entry)) (now (rows .exit)) r ⌝ }
 {
     let mut next = at;

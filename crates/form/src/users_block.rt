@@ -45,9 +45,11 @@ fn user_line<'a, 'b>(
     u: UserNo,
     roles: usize,
 ) -> Step
-    requires { ⌜ (at ≤ length (now book)) × UsersAt (now sheet) (now from) (now to) × (u .0 < user-count (sheet-of (now sheet))) × (roles ≤ row-bits) ⌝ }
+    requires { ⌜ (at ≤ length (now book)) × UsersAt (now sheet) (now from) (now to)
+        × (u .0 < user-count (sheet-of (now sheet))) × (roles ≤ row-bits) ⌝ }
     requires { ⌜ ((u .0 + 1) * row-words ≤ length (now has)) × Blank (now has) (u .0) ⌝ }
-    ensures { λ r. ⌜ LineReads (now (book .entry)) at (user-name (sheet-of (now (sheet .entry))) (u .0)) (u .0) roles (now (has .entry)) (now (has .exit)) r ⌝ }
+    ensures { λ r. ⌜ LineReads (now (book .entry)) at (user-name (sheet-of (now (sheet .entry))) (u .0)) (u .0) roles
+        (now (has .entry)) (now (has .exit)) r ⌝ }
 {
     let name = names::user_name_in(sheet, from, to, u);
     let Step::On(cells) = expect(book, at, name) else {

@@ -58,7 +58,8 @@ impl Witness {
     }
 }
 
-// Reads a witness line: a user's name, a comma, a permission's name and a line feed. The users from number `first` on are looked at first.
+// Reads a witness line: a user's name, a comma, a permission's name and a line feed. The users from number `first` on
+// are looked at first.
 fn witness_line<'a, 'b>(
     book: &'a [u8],
     at: usize,
@@ -73,7 +74,8 @@ fn witness_line<'a, 'b>(
 ) -> WitnessRead
     requires { ⌜ at ≤ length (now book) ⌝ }
     requires { ⌜ UsersAt (now sheet) (now «user_from») (now «user_to») × (users ≡ user-count (sheet-of (now sheet))) ⌝ }
-    requires { ⌜ PermissionsAt (now sheet) (now «permission_from») (now «permission_to») × (permissions ≡ permission-count (sheet-of (now sheet))) ⌝ }
+    requires { ⌜ PermissionsAt (now sheet) (now «permission_from») (now «permission_to»)
+        × (permissions ≡ permission-count (sheet-of (now sheet))) ⌝ }
     ensures { λ r. ⌜ WitnessReads (sheet-of (now (sheet .entry))) (now (book .entry)) at r ⌝ }
 {
     let Step::On(comma) = part_end(book, at, b',') else {
@@ -108,7 +110,8 @@ fn witness_line<'a, 'b>(
     WitnessRead::Line(WitnessLine { user, permission }, end + 1)
 }
 
-// Reads witness lines up to the end of the book. The grants of a witness are mostly in order, so a user is looked for from the last one on.
+// Reads witness lines up to the end of the book. The grants of a witness are mostly in order, so a user is looked for
+// from the last one on.
 fn witness_lines<'a>(book: &'a [u8], at: usize, sheet: &'a [u8], layout: Layout) -> WitnessesRead
     requires { ⌜ (at ≤ length (now book)) × LaidOut (now sheet) layout ⌝ }
     ensures { λ r. ⌜ WitnessLinesRead (sheet-of (now (sheet .entry))) (now (book .entry)) at r ⌝ }

@@ -57,7 +57,8 @@ fn meets_word<'a, 'b>(
     name: &'a [u8],
 ) -> bool
     requires { ⌜ ((p : ℕ) → p < word-bits → So (bit word p) → PartThere (now s) (now from) (now to) (first + p)) ⌝ }
-    ensures { λ r. ⌜ r ≡ meets-word (now (s .entry)) (places-of (now (from .entry)) (now (to .entry))) word first (now (name .entry)) ⌝ }
+    ensures { λ r. ⌜ r ≡ meets-word (now (s .entry)) (places-of (now (from .entry)) (now (to .entry))) word first
+        (now (name .entry)) ⌝ }
 {
     let mut w = word;
     while w != 0 {
@@ -80,8 +81,10 @@ fn meets_bucket<'a, 'b>(
     words: usize,
     name: &'a [u8],
 ) -> bool
-    requires { ⌜ BitsNamed (now table) (now s) (now from) (now to) × (bucket < bucket-count) × (words ≤ bucket-words) ⌝ }
-    ensures { λ r. ⌜ r ≡ meets-bucket (now (s .entry)) (places-of (now (from .entry)) (now (to .entry))) (now (table .entry)) bucket words (now (name .entry)) ⌝ }
+    requires { ⌜ BitsNamed (now table) (now s) (now from) (now to) × (bucket < bucket-count)
+        × (words ≤ bucket-words) ⌝ }
+    ensures { λ r. ⌜ r ≡ meets-bucket (now (s .entry)) (places-of (now (from .entry)) (now (to .entry)))
+        (now (table .entry)) bucket words (now (name .entry)) ⌝ }
 {
     let mut k = 0;
     while k < words {
@@ -102,7 +105,8 @@ fn repeated_few<'a>(
     count: usize,
 ) -> bool
     requires { ⌜ Inside (now s) (places-of (now from) (now to)) count × (count ≤ word-bits) ⌝ }
-    ensures { λ r. ⌜ r ≡ repeats same-name (names-at (now (s .entry)) (places-of (now (from .entry)) (now (to .entry))) count) ⌝ }
+    ensures { λ r. ⌜ r ≡ repeats same-name
+        (names-at (now (s .entry)) (places-of (now (from .entry)) (now (to .entry))) count) ⌝ }
 {
     let mut i = 0;
     while i < count {
@@ -115,7 +119,8 @@ fn repeated_few<'a>(
     false
 }
 
-// Whether two of the first `count` names are equal, by buckets: the table has a bit for each name before number i, in the bucket of that name.
+// Whether two of the first `count` names are equal, by buckets: the table has a bit for each name before number i, in
+// the bucket of that name.
 fn repeated_by_buckets<'a>(
     s: &'a [u8],
     from: &'a [usize; USER_LIMIT],
@@ -123,7 +128,8 @@ fn repeated_by_buckets<'a>(
     count: usize,
 ) -> bool
     requires { ⌜ Inside (now s) (places-of (now from) (now to)) count ⌝ }
-    ensures { λ r. ⌜ r ≡ repeats same-name (names-at (now (s .entry)) (places-of (now (from .entry)) (now (to .entry))) count) ⌝ }
+    ensures { λ r. ⌜ r ≡ repeats same-name
+        (names-at (now (s .entry)) (places-of (now (from .entry)) (now (to .entry))) count) ⌝ }
 {
     let mut table = [0; TABLE_WORDS];
     let mut i = 0;
@@ -149,7 +155,8 @@ pub fn repeated_in<'a>(
     count: usize,
 ) -> bool
     requires { ⌜ Inside (now s) (places-of (now from) (now to)) count ⌝ }
-    ensures { λ r. ⌜ r ≡ repeats same-name (names-at (now (s .entry)) (places-of (now (from .entry)) (now (to .entry))) count) ⌝ }
+    ensures { λ r. ⌜ r ≡ repeats same-name
+        (names-at (now (s .entry)) (places-of (now (from .entry)) (now (to .entry))) count) ⌝ }
 {
     if count <= FEW {
         return repeated_few(s, from, to, count);

@@ -61,8 +61,8 @@ pub fn permission_name_in<'a, 'b>(
     part_at(s, from, to, p.0)
 }
 
-// The number of the user of this name, with the users' places lent. The users from number `first` on are looked at first: a caller whose names rise
-// says the last number, and the answer is the same whatever it says.
+// The number of the user of this name, with the users' places lent. The users from number `first` on are looked at
+// first: a caller whose names rise says the last number, and the answer is the same whatever it says.
 pub fn find_user_in<'a, 'b>(
     s: &'a [u8],
     from: &'b [usize; USER_LIMIT],
@@ -80,7 +80,8 @@ pub fn find_user_in<'a, 'b>(
     }
 }
 
-// The number of the permission of this name, with the permissions' places lent. Those from number `first` on are looked at first.
+// The number of the permission of this name, with the permissions' places lent. Those from number `first` on are
+// looked at first.
 pub fn find_permission_in<'a, 'b>(
     s: &'a [u8],
     from: &'b [usize; USER_LIMIT],

@@ -1,4 +1,5 @@
-// Names as parts of the sheet itself: where they stand, one by its number, the number of one, and whether one stands twice.
+// Names as parts of the sheet itself: where they stand, one by its number, the number of one, and whether one stands
+// twice.
 mod buckets;
 mod layout;
 mod lookup;

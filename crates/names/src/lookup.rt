@@ -45,7 +45,8 @@ fn find_between<'a, 'b>(
     name: &'a [u8],
 ) -> Found
     requires { ⌜ Inside (now s) (places-of (now from) (now to)) high ⌝ }
-    ensures { λ r. ⌜ FoundBetween (now (s .entry)) (places-of (now (from .entry)) (now (to .entry))) (now (name .entry)) low high r ⌝ }
+    ensures { λ r. ⌜ FoundBetween (now (s .entry)) (places-of (now (from .entry)) (now (to .entry)))
+        (now (name .entry)) low high r ⌝ }
 {
     let mut i = low;
     while i < high {
@@ -66,8 +67,10 @@ pub fn find_from<'a, 'b>(
     first: usize,
     name: &'a [u8],
 ) -> Found
-    requires { ⌜ Inside (now s) (places-of (now from) (now to)) count × Apart (now s) (places-of (now from) (now to)) count ⌝ }
-    ensures { λ r. ⌜ r ≡ found (name-number (names-at (now (s .entry)) (places-of (now (from .entry)) (now (to .entry))) count) (now (name .entry))) ⌝ }
+    requires { ⌜ Inside (now s) (places-of (now from) (now to)) count × Apart (now s) (places-of (now from) (now to))
+        count ⌝ }
+    ensures { λ r. ⌜ r ≡ found (name-number (names-at (now (s .entry)) (places-of (now (from .entry)) (now (to .entry)))
+        count) (now (name .entry))) ⌝ }
 {
     let late = find_between(s, from, to, first, count, name);
     if let Found::At(i) = late {

@@ -11,3 +11,6 @@ pub struct GrantNo(pub usize);
 
 // The number of a role, from 0 by its lowest grant.
 pub struct RoleNo(pub usize);
+
+// The number of a cell: that of user u and permission p is u * ROW_BITS + p.
+pub struct CellNo(pub usize);

@@ -1,4 +1,5 @@
-// The calls of a script. Each hands back the session after it, of a writing the one before it, which came from the calls if the one before did.
+// The calls of a script. Each hands back the session after it, of a writing the one before it, which came from the
+// calls if the one before did.
 use crate::say;
 use crate::space::SPACE_LIMIT;
 use crate::space::patterned;

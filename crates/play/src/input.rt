@@ -11,7 +11,8 @@ enum Input {
     End,
 }
 
-// How many bytes a line has without its line feed, and whether there is no line any more. A line that is too long has none.
+// How many bytes a line has without its line feed, and whether there is no line any more. A line that is too long has
+// none.
 pub struct LineRead {
     pub ended: bool,
     pub count: usize,

@@ -14,7 +14,17 @@ ghost use Rattle.io.specs.Digits.{digits};
 ghost use Rattle.session.specs.Said.{load-said, state-said, search-said, write-said};
 ghost use Rattle.checker.specs.BookSays.{answer-of};
 ghost use Rattle.text.specs.Written.{Written};
-ghost use Rattle.play.specs.Answers.{blank, load-line, state-word, search-line, digest-digits, answer-most, write-line, check-line, no-call-line};
+ghost use Rattle.play.specs.Answers.{
+  blank,
+  load-line,
+  state-word,
+  search-line,
+  digest-digits,
+  answer-most,
+  write-line,
+  check-line,
+  no-call-line,
+};
 ghost use Rattle.play.specs.AnswerParts.{number-most, state-most, numbers-text, front-text};
 
 // The bytes of an answer, at most.
@@ -41,7 +51,8 @@ fn put_numbers(out: &mut [u8], numbers: &[usize]) -> usize
 // Writes the first word of an answer, and numbers behind it.
 fn put_front<'a>(out: &mut [u8], word: &'a [u8], numbers: &'a [usize]) -> usize
     requires { ⌜ length (now word) + length (now numbers) * number-most ≤ length (now out) ⌝ }
-    ensures { λ r. ⌜ Written (front-text (now (word .entry)) (now (numbers .entry))) (now (out .entry)) (now (out .exit)) r ⌝ }
+    ensures { λ r. ⌜ Written (front-text (now (word .entry)) (now (numbers .entry))) (now (out .entry))
+        (now (out .exit)) r ⌝ }
     ensures { λ r. ⌜ r ≤ length (now (word .entry)) + length (now (numbers .entry)) * number-most ⌝ }
 {
     let at = text::put_bytes(out, word);
@@ -51,7 +62,8 @@ fn put_front<'a>(out: &mut [u8], word: &'a [u8], numbers: &'a [usize]) -> usize
 // Writes an answer whose further words are numbers.
 fn put_numbers_line<'a>(out: &mut [u8], word: &'a [u8], numbers: &'a [usize]) -> usize
     requires { ⌜ length (now word) + length (now numbers) * number-most + 1 ≤ length (now out) ⌝ }
-    ensures { λ r. ⌜ Written (front-text (now (word .entry)) (now (numbers .entry)) ++ line-feed ∷ []) (now (out .entry)) (now (out .exit)) r ⌝ }
+    ensures { λ r. ⌜ Written (front-text (now (word .entry)) (now (numbers .entry)) ++ line-feed ∷ [])
+        (now (out .entry)) (now (out .exit)) r ⌝ }
 {
     let end = put_front(out, word, numbers);
     out[end] = b'\n';
@@ -61,7 +73,8 @@ fn put_numbers_line<'a>(out: &mut [u8], word: &'a [u8], numbers: &'a [usize]) ->
 // Writes a digest as the last word of an answer.
 fn put_digest(out: &mut [u8], sum: u32) -> usize
     requires { ⌜ digest-digits + 2 ≤ length (now out) ⌝ }
-    ensures { λ r. ⌜ Written ((blank ∷ digits 16 digest-digits sum) ++ line-feed ∷ []) (now (out .entry)) (now (out .exit)) r ⌝ }
+    ensures { λ r. ⌜ Written ((blank ∷ digits 16 digest-digits sum) ++ line-feed ∷ []) (now (out .entry))
+        (now (out .exit)) r ⌝ }
 {
     let mut text = [0u8; 16];
     let count = io::hex(sum as u64, DIGEST_DIGITS, &mut text);
@@ -74,7 +87,8 @@ fn put_digest(out: &mut [u8], sum: u32) -> usize
 // Writes a state as the last word of an answer.
 fn put_state(out: &mut [u8], named: Named) -> usize
     requires { ⌜ state-most ≤ length (now out) ⌝ }
-    ensures { λ r. ⌜ Written (blank ∷ state-word (state-said named) ++ line-feed ∷ []) (now (out .entry)) (now (out .exit)) r ⌝ }
+    ensures { λ r. ⌜ Written (blank ∷ state-word (state-said named) ++ line-feed ∷ []) (now (out .entry))
+        (now (out .exit)) r ⌝ }
 {
     match named {
         Named::Nothing => text::put_bytes(out, b" -\n"),
@@ -119,7 +133,8 @@ pub fn put_searched(out: &mut [u8], answer: SearchAnswer) -> usize
 // The answer of a writing, and the digest of the bytes that it was lent.
 pub fn put_written(out: &mut [u8], answer: WriteAnswer, lent: &[u8]) -> usize
     requires { ⌜ answer-most ≤ length (now out) ⌝ }
-    ensures { λ r. ⌜ Written (write-line (write-said answer) (now (lent .entry))) (now (out .entry)) (now (out .exit)) r ⌝ }
+    ensures { λ r. ⌜ Written (write-line (write-said answer) (now (lent .entry))) (now (out .entry)) (now (out .exit))
+        r ⌝ }
 {
     let numbers = [answer.number, answer.count];
     let sum = adler_32(lent);

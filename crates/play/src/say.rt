@@ -1,4 +1,5 @@
-// Answers, each a line on standard output. What a line has is said where it is built, in lines.rt; what is here only writes it.
+// Answers, each a line on standard output. What a line has is said where it is built, in lines.rt; what is here only
+// writes it.
 use crate::lines;
 use crate::lines::ANSWER_BUFFER;
 use checker::Checked;

@@ -11,7 +11,8 @@ pub struct BookNumbers {
     pub count: usize,
 }
 
-// The book of a sheet, after one search within the budget, at the front of the buffer. A refusal leaves every byte of the buffer.
+// The book of a sheet, after one search within the budget, at the front of the buffer. A refusal leaves every byte of
+// the buffer.
 #[no_mangle]
 pub extern "C" fn porvuund_book(sheet: &[u8], budget: u32, out: &mut [u8]) -> BookNumbers
     ensures { λ r. ⌜ Books (now (sheet .entry)) budget (now (out .entry)) (book-said r) (now (out .exit)) ⌝ }

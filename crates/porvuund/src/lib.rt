@@ -1,5 +1,6 @@
-// The library for programs: what the book program and the check program print, a whole task in one call over bytes, and a session's calls for other
-// languages. `rt staticlib porvuund` writes its functions `porvuund_..` for Rust or C to link.
+// The library for programs: what the book program and the check program print, a whole task in one call over bytes,
+// and a session's calls for other languages. `rt staticlib porvuund` writes its functions `porvuund_..` for Rust or C
+// to link.
 mod budget;
 mod calls;
 mod lines;

@@ -13,10 +13,11 @@ ghost use Rattle.porvuund.specs.CheckOutput.{check-output};
 // The bytes of the book program's buffer: as many as the greatest book that the checker takes.
 pub const PROGRAM_BUFFER: usize = BOOK_LIMIT;
 
-// Puts what the book program prints for a sheet and its argument at the front of the buffer: the book, or the number of the refusal and a line
-// feed. Without an argument the word is empty.
+// Puts what the book program prints for a sheet and its argument at the front of the buffer: the book, or the number
+// of the refusal and a line feed. Without an argument the word is empty.
 pub fn book_output<'a>(sheet: &'a [u8], word: &'a [u8], out: &mut [u8; PROGRAM_BUFFER]) -> usize
-    ensures { λ r. ⌜ Written (program-output (now (sheet .entry)) (now (word .entry) ∷ [])) (now (out .entry)) (now (out .exit)) r ⌝ }
+    ensures { λ r. ⌜ Written (program-output (now (sheet .entry)) (now (word .entry) ∷ [])) (now (out .entry))
+        (now (out .exit)) r ⌝ }
 {
     let budget = budget_of(word);
     let answer = porvuund_book(sheet, budget, out);
@@ -29,10 +30,11 @@ pub fn book_output<'a>(sheet: &'a [u8], word: &'a [u8], out: &mut [u8; PROGRAM_B
 // The bytes of a line of two numbers, at most.
 pub const CHECK_BUFFER: usize = 64;
 
-// Puts what the check program prints for a sheet and a book at the front of the buffer: roles and witness lines with a comma between, or the number
-// of the refusal, and a line feed.
+// Puts what the check program prints for a sheet and a book at the front of the buffer: roles and witness lines with
+// a comma between, or the number of the refusal, and a line feed.
 pub fn check_output<'a>(sheet: &'a [u8], book: &'a [u8], out: &mut [u8; CHECK_BUFFER]) -> usize
-    ensures { λ r. ⌜ Written (check-output (now (sheet .entry)) (now (book .entry))) (now (out .entry)) (now (out .exit)) r ⌝ }
+    ensures { λ r. ⌜ Written (check-output (now (sheet .entry)) (now (book .entry))) (now (out .entry))
+        (now (out .exit)) r ⌝ }
 {
     let answer = porvuund_check(sheet, book);
     if answer.number == 0 {

@@ -1,5 +1,6 @@
-// A session held by another language: each function is the session's own call of that name. Other languages keep what `Sound` asks by handing in
-// only sessions that these functions gave. A writing gives none: the session that was handed in is the one after it.
+// A session held by another language: each function is the session's own call of that name. Other languages keep what
+// `Sound` asks by handing in only sessions that these functions gave. A writing gives none: the session that was
+// handed in is the one after it.
 use roles::Standing;
 use session::Loaded;
 use session::Named;

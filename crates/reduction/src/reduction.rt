@@ -1,10 +1,10 @@
 // The reduction: sweeps that remove singles and tie dominating grants, until one removes nothing.
 use bits::WORD_BITS;
-use cells::CellNo;
 use fit::COLUMN_WORDS;
 use fit::PLACE_WORDS;
 use fit::columns_of;
 use numbers::CELL_WORDS;
+use numbers::CellNo;
 use numbers::GRANT_LIMIT;
 use numbers::ROW_WORDS;
 use verdict::Verdict;
@@ -28,7 +28,8 @@ ghost use Rattle.verdict.specs.NearCells.{cells-of};
 ghost use Rattle.reduction.specs.ReductionResult.{ReducedFrom};
 ghost use Rattle.verdict.specs.ReductionWork.{work-of, word-cells, WorkReady, Visited, Settled, Removable, Removed};
 
-// The cells of the kernel, and the removals in order: the cell of each, and its partner's, which is its own where it was removed as single.
+// The cells of the kernel, and the removals in order: the cell of each, and its partner's, which is its own where it
+// was removed as single.
 #[repr(C)]
 pub struct Reduced {
     pub left: [u64; CELL_WORDS],
@@ -48,7 +49,8 @@ fn remove<'a>(
     other: CellNo,
 ) -> usize
     requires { ⌜ Removable (it .0) (other .0) (work-of (now left) (now removed) (now partner) count) ⌝ }
-    ensures { λ r. ⌜ Removed (it .0) (other .0) (work-of (now (left .entry)) (now (removed .entry)) (now (partner .entry)) count)
+    ensures { λ r. ⌜ Removed (it .0) (other .0) (work-of (now (left .entry)) (now (removed .entry))
+        (now (partner .entry)) count)
         (work-of (now (left .exit)) (now (removed .exit)) (now (partner .exit)) r) ⌝ }
 {
     let at = it.0;
@@ -71,9 +73,12 @@ fn visit<'a>(
     count: usize,
     it: CellNo,
 ) -> usize
-    requires { ⌜ WorkReady (now rows) users (work-of (now left) (now removed) (now partner) count) × Columns (now rows) (now columns)
-        × (it .0 < cells-of users) × So (marked (now left) (it .0)) × Insides (now rows) (now left) users (it .0 / word-bits) (now inside) ⌝ }
-    ensures { λ r. ⌜ Visited (now (rows .entry)) users (it .0 ∷ []) (work-of (now (left .entry)) (now (removed .entry)) (now (partner .entry)) count)
+    requires { ⌜ WorkReady (now rows) users (work-of (now left) (now removed) (now partner) count)
+        × Columns (now rows) (now columns)
+        × (it .0 < cells-of users) × So (marked (now left) (it .0)) × Insides (now rows) (now left) users
+        (it .0 / word-bits) (now inside) ⌝ }
+    ensures { λ r. ⌜ Visited (now (rows .entry)) users (it .0 ∷ [])
+        (work-of (now (left .entry)) (now (removed .entry)) (now (partner .entry)) count)
         (work-of (now (left .exit)) (now (removed .exit)) (now (partner .exit)) r) ⌝ }
 {
     match judge(rows, columns, inside, left, users, it) {
@@ -94,7 +99,8 @@ fn sweep_word<'a>(
     count: usize,
     i: usize,
 ) -> usize
-    requires { ⌜ WorkReady (now rows) users (work-of (now left) (now removed) (now partner) count) × Columns (now rows) (now columns)
+    requires { ⌜ WorkReady (now rows) users (work-of (now left) (now removed) (now partner) count)
+        × Columns (now rows) (now columns)
         × (i < users * row-words) ⌝ }
     ensures { λ r. ⌜ Visited (now (rows .entry)) users (word-cells i (getD (now (left .entry)) i 0))
         (work-of (now (left .entry)) (now (removed .entry)) (now (partner .entry)) count)
@@ -134,7 +140,8 @@ fn sweep<'a>(
     users: usize,
     count: usize,
 ) -> usize
-    requires { ⌜ WorkReady (now rows) users (work-of (now left) (now removed) (now partner) count) × Columns (now rows) (now columns) ⌝ }
+    requires { ⌜ WorkReady (now rows) users (work-of (now left) (now removed) (now partner) count)
+        × Columns (now rows) (now columns) ⌝ }
     ensures { λ r. ⌜ Visited (now (rows .entry)) users (passing-below (cells-of users) (marked (now (left .entry))))
         (work-of (now (left .entry)) (now (removed .entry)) (now (partner .entry)) count)
         (work-of (now (left .exit)) (now (removed .exit)) (now (partner .exit)) r) ⌝ }
@@ -157,8 +164,10 @@ fn sweeps<'a>(
     partner: &'a mut [u16; GRANT_LIMIT],
     users: usize,
 ) -> usize
-    requires { ⌜ WorkReady (now rows) users (work-of (now left) (now removed) (now partner) 0) × Columns (now rows) (now columns) × (now left ≡ now rows) ⌝ }
-    ensures { λ r. ⌜ Settled (now (rows .entry)) users (work-of (now (left .exit)) (now (removed .exit)) (now (partner .exit)) r) ⌝ }
+    requires { ⌜ WorkReady (now rows) users (work-of (now left) (now removed) (now partner) 0)
+        × Columns (now rows) (now columns) × (now left ≡ now rows) ⌝ }
+    ensures { λ r. ⌜ Settled (now (rows .entry)) users (work-of (now (left .exit)) (now (removed .exit))
+        (now (partner .exit)) r) ⌝ }
 {
     let mut count = 0;
     loop {

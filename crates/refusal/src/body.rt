@@ -9,8 +9,8 @@ ghost use lib.ListN.{length, drop};
 ghost use Rattle.spec.specs.Text.{lines-of};
 ghost use Rattle.refusal.specs.Body.{no-lines, add-read-line, body-of};
 
-// How many lines there are, whether each name is as long as a name, whether each line has as many fields as asked after its name, whether each of those is
-// `0` or `1`, and how many are `1`.
+// How many lines there are, whether each name is as long as a name, whether each line has as many fields as asked
+// after its name, whether each of those is `0` or `1`, and how many are `1`.
 pub struct Body {
     pub users: usize,
     pub names: bool,
@@ -33,7 +33,8 @@ impl Body {
         }
     }
 
-    // These lines and one more, of which it is known whether its name is as long as a name, and what its other fields say.
+    // These lines and one more, of which it is known whether its name is as long as a name, and what its other fields
+    // say.
     pub fn with(self, width: usize, named: bool, cells: Cells) -> Self
         requires { ⌜ (self .users < 2 ^ 63) × (self .ones + cells .ones < 2 ^ 64) ⌝ }
         ensures { λ r. ⌜ r ≡ add-read-line width self named cells ⌝ }

@@ -94,7 +94,8 @@ fn all_allowed(s: &[u8]) -> bool
 // Whether the first field of the first line is `user`, and as many fields follow as there can be permissions.
 fn good_first_line(s: &[u8], head: LineRead) -> bool
     requires { ⌜ head .to ≤ length (now s) ⌝ }
-    ensures { λ r. ⌜ r ≡ (same-bytes (part 0 (head .to) (now (s .entry))) (ascii "user") && between 1 permission-limit (head .cells .count)) ⌝ }
+    ensures { λ r. ⌜ r ≡ (same-bytes (part 0 (head .to) (now (s .entry))) (ascii "user") && between 1 permission-limit
+        (head .cells .count)) ⌝ }
 {
     let to = head.to;
     if same_bytes(&s[0..to], b"user") {
@@ -118,7 +119,8 @@ fn has_name_twice(s: &[u8], head: LineRead, users: usize) -> bool
     requires { ⌜ ReadLine (now s) 0 head ⌝ }
     requires { ⌜ users ≡ length (lines-of (drop (head .next) (now s))) ⌝ }
     requires { ⌜ (users ≤ user-limit) × (head .cells .count ≤ permission-limit) ⌝ }
-    ensures { λ r. ⌜ r ≡ (repeats same-name (map first-field (lines-of (drop (head .next) (now (s .entry))))) || repeats same-name (tail (line-fields (now (s .entry))))) ⌝ }
+    ensures { λ r. ⌜ r ≡ (repeats same-name (map first-field (lines-of (drop (head .next) (now (s .entry)))))
+        || repeats same-name (tail (line-fields (now (s .entry))))) ⌝ }
 {
     if repeated(s, user_places(s, head.next), users) {
         return true;

@@ -1,6 +1,6 @@
-// The checker as a program: `rolecheck SHEETFILE BOOKFILE` prints the book's roles and witness lines with a comma between, or the number of the
-// refusal, and a line feed. What it prints is `check-output` (porvuund, CheckOutput); what is here only reads and writes. Where a file cannot be
-// read it prints nothing, and standard error says why.
+// The checker as a program: `rolecheck SHEETFILE BOOKFILE` prints the book's roles and witness lines with a comma
+// between, or the number of the refusal, and a line feed. What it prints is `check-output` (porvuund, CheckOutput);
+// what is here only reads and writes. Where a file cannot be read it prints nothing, and standard error says why.
 use files::FileRead;
 use libc::PATH_MAX;
 use libc::STDERR_FILENO;

@@ -1,5 +1,5 @@
 // The classes of all grants, by cell: the kernel's placement, and the removals gone back over.
-use crate::limits::CELL_LIMIT;
+use numbers::CELL_LIMIT;
 use numbers::GRANT_LIMIT;
 ghost use mathlib.Core.Path.{_≡_};
 ghost use mathlib.Core.List.{[]};
@@ -45,8 +45,8 @@ fn put_back(class: &mut [u16; CELL_LIMIT], count: usize, cell: u16, partner: u16
     count
 }
 
-// Puts the classes of all grants into an array that has no class yet, from a placement of the kernel and the removals, the latest gone back over first. How
-// many classes there are.
+// Puts the classes of all grants into an array that has no class yet, from a placement of the kernel and the
+// removals, the latest gone back over first. How many classes there are.
 pub fn all_classes<'a>(
     class: &mut [u16; CELL_LIMIT],
     kernel: &'a [u16; GRANT_LIMIT],

@@ -7,8 +7,6 @@ mod numbering;
 mod rows;
 mod standing;
 
-pub use limits::ROLE_LIMIT;
-pub use limits::ROLE_WORDS;
 pub use matrices::RoleMatrices;
 pub use matrices::roles_of;
 pub use standing::Standing;

@@ -1,11 +1,11 @@
 // The roles of a sheet, from a placement of its kernel.
 use crate::classes::all_classes;
-use crate::limits::CELL_LIMIT;
-use crate::limits::ROLE_WORDS;
 use crate::numbering::number_roles;
 use crate::rows::role_rows;
+use numbers::CELL_LIMIT;
 use numbers::CELL_WORDS;
 use numbers::GRANT_LIMIT;
+use numbers::ROLE_WORDS;
 ghost use mathlib.Core.List.{List};
 ghost use Prim.Native.Nat.{ℕ, _≤_};
 ghost use Rattle.spec.specs.Limits.{grant-limit};
@@ -36,7 +36,8 @@ fn roles_of_classes<'a>(
     requires { ⌜ used (by-key (class-key (now class) (now cells)) n) ≤ row-bits ⌝ }
     ensures { λ r. ⌜ ((members : List Classed) (users : ℕ) → ClassAt (now (class .entry)) members
         → RolesAt (r .has) (r .gives) (r .count) users (roles-of-classes (listed (now (cells .entry)) n) members)) ⌝ }
-    ensures { λ r. ⌜ ((users : ℕ) → UsersBelow users n (now (cells .entry)) → RolesOnly (r .has) (r .gives) (r .count) users) ⌝ }
+    ensures { λ r. ⌜ ((users : ℕ) → UsersBelow users n (now (cells .entry)) → RolesOnly (r .has) (r .gives) (r .count)
+        users) ⌝ }
 {
     let numbers = number_roles(cells, n, class);
     let rows = role_rows(cells, &numbers.roles, n);

@@ -1,6 +1,6 @@
 // Roles numbered by their lowest grant: the grants in order, each with the role of its class.
-use crate::limits::CELL_LIMIT;
 use crate::limits::CLASS_LIMIT;
+use numbers::CELL_LIMIT;
 use numbers::GRANT_LIMIT;
 ghost use mathlib.Core.Path.{_≡_};
 ghost use Prim.Native.Nat.{suc, _<_, _≤_, _^_, max};

@@ -1,5 +1,4 @@
 // The two matrices of roles as rows of words: for each user the roles, for each role the permissions.
-use crate::limits::ROLE_WORDS;
 use bits::WORD_BITS;
 use cells::permission_of;
 use cells::user_of;
@@ -7,6 +6,7 @@ use numbers::CELL_WORDS;
 use numbers::GRANT_LIMIT;
 use numbers::GrantNo;
 use numbers::PermissionNo;
+use numbers::ROLE_WORDS;
 use numbers::ROW_WORDS;
 use numbers::RoleNo;
 use numbers::UserNo;

@@ -1,6 +1,6 @@
 // The class in which the next grant is placed: the lowest that is not tried already and all of whose members fit it.
-use crate::TABLE_WORDS;
 use crate::members;
+use numbers::TABLE_WORDS;
 ghost use mathlib.Core.Path.{_≡_};
 ghost use mathlib.Core.Option.{Option·getD};
 ghost use Prim.Native.Nat.{_<_, _≤_};
@@ -32,7 +32,8 @@ pub fn class_for<'a>(
 ) -> usize
     requires { ⌜ end ≤ mark-limit ⌝ }
     requires { ⌜ (0 < end → d < mark-limit) ⌝ }
-    ensures { λ r. ⌜ r ≡ Option·getD (lowest-below end (open-to (now (fit .entry)) (now (members .entry)) d next)) end ⌝ }
+    ensures { λ r. ⌜ r ≡ Option·getD (lowest-below end (open-to (now (fit .entry)) (now (members .entry)) d next))
+        end ⌝ }
 {
     if end <= next {
         return end;

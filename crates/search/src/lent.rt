@@ -1,9 +1,9 @@
-// The search's own position moved forward: the small struct of depth, next try and best count is lent to one thin step function. Both functions are proved
-// by hand, and all that they do is what `moved` does.
+// The search's own position moved forward: the small struct of depth, next try and best count is lent to one thin
+// step function. Both functions are proved by hand, and all that they do is what `moved` does.
 use crate::Cursor;
-use crate::KERNEL_LIMIT;
-use crate::TABLE_WORDS;
 use crate::moves;
+use numbers::KERNEL_LIMIT;
+use numbers::TABLE_WORDS;
 ghost use Rattle.search.specs.Lent.{Ready, Moved};
 
 // One step: the lent cursor is moved forward.
@@ -18,7 +18,8 @@ pub fn advance<'s, 'a>(
     witness: usize,
 )
     requires { ⌜ Ready size (now at) (now classes) (now best) (now members) ⌝ }
-    ensures { λ _. ⌜ Moved (now (fit .entry)) size singles witness (now (at .entry)) (now (classes .entry)) (now (best .entry)) (now (at .exit)) (now (classes .exit)) (now (best .exit)) (now (members .exit)) ⌝ }
+    ensures { λ _. ⌜ Moved (now (fit .entry)) size singles witness (now (at .entry)) (now (classes .entry))
+        (now (best .entry)) (now (at .exit)) (now (classes .exit)) (now (best .exit)) (now (members .exit)) ⌝ }
 {
     let after = moves::moved(*at, classes, best, members, fit, size, singles, witness);
     *at = after;
@@ -36,7 +37,8 @@ pub fn advanced<'a>(
     witness: usize,
 ) -> Cursor
     requires { ⌜ Ready size at (now classes) (now best) (now members) ⌝ }
-    ensures { λ r. ⌜ Moved (now (fit .entry)) size singles witness at (now (classes .entry)) (now (best .entry)) r (now (classes .exit)) (now (best .exit)) (now (members .exit)) ⌝ }
+    ensures { λ r. ⌜ Moved (now (fit .entry)) size singles witness at (now (classes .entry)) (now (best .entry)) r
+        (now (classes .exit)) (now (best .exit)) (now (members .exit)) ⌝ }
 {
     let mut place = at;
     advance(

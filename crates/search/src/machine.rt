@@ -1,17 +1,18 @@
 // Where the machine stands, one step from there, and a run within a budget.
-use crate::KERNEL_LIMIT;
 use crate::Marks;
-use crate::TABLE_WORDS;
 use crate::lent;
 use crate::members;
 use crate::moves;
+use numbers::KERNEL_LIMIT;
+use numbers::TABLE_WORDS;
 ghost use mathlib.Core.Path.{_≡_};
 ghost use Prim.Native.Nat.{_<_, _≤_};
 ghost use Rattle.spec.specs.Limits.{search-limit};
 ghost use Rattle.spec.specs.Machine.{step, run, search};
 ghost use Rattle.search.specs.View.{kernel-given, view, view-ran, PositionStands, started};
 
-// Depth d, next try t, classes in use, class count b of the best placement, finished or not, and which grants opened a class.
+// Depth d, next try t, classes in use, class count b of the best placement, finished or not, and which grants opened
+// a class.
 #[repr(C)]
 pub struct Cursor {
     pub depth: usize,
@@ -22,8 +23,9 @@ pub struct Cursor {
     pub opened: Marks,
 }
 
-// The state of the machine: a cursor, the classes of the grants placed, and the best placement. Which positions stand for a state is said by `PositionStands`;
-// whoever makes one otherwise than by `start` and the steps from there has to show it.
+// The state of the machine: a cursor, the classes of the grants placed, and the best placement. Which positions stand
+// for a state is said by `PositionStands`; whoever makes one otherwise than by `start` and the steps from there has
+// to show it.
 #[repr(C)]
 pub struct Position {
     pub cursor: Cursor,
@@ -69,7 +71,8 @@ impl Position {
         Position::of(cursor, [0u8; KERNEL_LIMIT], first)
     }
 
-    // One step: it places one grant, takes one back, or closes the search. The members of each class are gathered for it.
+    // One step: it places one grant, takes one back, or closes the search. The members of each class are gathered for
+    // it.
     pub fn step(
         self,
         fit: &[u64; TABLE_WORDS],
@@ -108,7 +111,8 @@ impl Position {
         budget: u32,
     ) -> Ran
         requires { ⌜ PositionStands size self ⌝ }
-        ensures { λ r. ⌜ view-ran r size ≡ run (kernel-given (now (fit .entry)) size singles witness) budget (view self size) ⌝ }
+        ensures { λ r. ⌜ view-ran r size ≡ run (kernel-given (now (fit .entry)) size singles witness) budget
+            (view self size) ⌝ }
         ensures { λ r. ⌜ PositionStands size (r .position) ⌝ }
     {
         let mut at = self.cursor;
@@ -143,7 +147,8 @@ impl Position {
         budget: u32,
     ) -> Ran
         requires { ⌜ (size ≤ search-limit → PositionStands size self) ⌝ }
-        ensures { λ r. ⌜ view-ran r size ≡ search (kernel-given (now (fit .entry)) size singles witness) budget (view self size) ⌝ }
+        ensures { λ r. ⌜ view-ran r size ≡ search (kernel-given (now (fit .entry)) size singles witness) budget
+            (view self size) ⌝ }
         ensures { λ r. ⌜ (size ≤ search-limit → PositionStands size (r .position)) ⌝ }
         ensures { λ r. ⌜ (search-limit < size → r .position ≡ self) ⌝ }
     {

@@ -1,4 +1,5 @@
-// A set of numbers below KERNEL_LIMIT in two words: number p is position p of the low word, or position p - 64 of the high one.
+// A set of numbers below KERNEL_LIMIT in two words: number p is position p of the low word, or position p - 64 of the
+// high one.
 use bits::WORD_BITS;
 ghost use mathlib.Core.Path.{_≡_};
 ghost use mathlib.Core.Bool.{not, _&&_, _||_};

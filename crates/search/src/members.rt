@@ -1,10 +1,10 @@
-// The members of each class as a table of words: bit i of class c's words says that grant i is in class c, as in the fit table bit j of grant i's
-// words says that i and j fit.
-use crate::KERNEL_LIMIT;
-use crate::KERNEL_WORDS;
+// The members of each class as a table of words: bit i of class c's words says that grant i is in class c, as in the
+// fit table bit j of grant i's words says that i and j fit.
 use crate::Marks;
-use crate::TABLE_WORDS;
 use bits::WORD_BITS;
+use numbers::KERNEL_LIMIT;
+use numbers::KERNEL_WORDS;
+use numbers::TABLE_WORDS;
 ghost use mathlib.Core.Path.{_≡_};
 ghost use Prim.Native.Nat.{ℕ, _<_, _≤_};
 ghost use lib.ListN.{getD, length};

@@ -1,9 +1,10 @@
-// What a step does, over a cursor by value and lent arrays: the next grant is placed, the latest is taken back, or the search is closed.
+// What a step does, over a cursor by value and lent arrays: the next grant is placed, the latest is taken back, or
+// the search is closed.
 use crate::Cursor;
-use crate::KERNEL_LIMIT;
-use crate::TABLE_WORDS;
 use crate::choice;
 use crate::members;
+use numbers::KERNEL_LIMIT;
+use numbers::TABLE_WORDS;
 ghost use mathlib.Core.Path.{_≡_};
 ghost use Prim.Native.Nat.{_+_, _<_, _≤_};
 ghost use lib.Dec.{eqb};
@@ -64,7 +65,8 @@ impl Cursor {
     }
 }
 
-// One step: the cursor that it leads to. The classes, the best placement and the members of each class are then as that cursor has them.
+// One step: the cursor that it leads to. The classes, the best placement and the members of each class are then as
+// that cursor has them.
 pub fn moved<'a>(
     at: Cursor,
     classes: &'a mut [u8; KERNEL_LIMIT],
@@ -76,7 +78,8 @@ pub fn moved<'a>(
     witness: usize,
 ) -> Cursor
     requires { ⌜ Ready size at (now classes) (now best) (now members) ⌝ }
-    ensures { λ r. ⌜ Moved (now (fit .entry)) size singles witness at (now (classes .entry)) (now (best .entry)) r (now (classes .exit)) (now (best .exit)) (now (members .exit)) ⌝ }
+    ensures { λ r. ⌜ Moved (now (fit .entry)) size singles witness at (now (classes .entry)) (now (best .entry)) r
+        (now (classes .exit)) (now (best .exit)) (now (members .exit)) ⌝ }
 {
     let d = at.depth;
     let end = choice::class_end(d, size, at.used, at.count);

@@ -1,7 +1,7 @@
 // The kernel: grants by user, then permission, where each user lacks the permission of the same number.
-use search::KERNEL_LIMIT;
-use search::KERNEL_WORDS;
-use search::TABLE_WORDS;
+use numbers::KERNEL_LIMIT;
+use numbers::KERNEL_WORDS;
+use numbers::TABLE_WORDS;
 ghost use mathlib.Core.Path.{_≡_};
 ghost use Rattle.spec.specs.Cover.{used};
 ghost use Rattle.search_cases.specs.Crown.{users, grants};

@@ -1,14 +1,15 @@
-// Closes the search of the kernel of four users who hold every permission but their own: 12 grants, a first placement of 4 classes, a witness of 3
-// and no singles. For one search of 124 steps, for one of 125, and for searches of 7 steps that each go on where the one before came to, a line has
-// the steps made, the searches, whether the machine is then finished, and the classes of the best placement. Then, for both budgets, a line has
-// whether the steps made one by one came to the same as the one search.
+// Closes the search of the kernel of four users who hold every permission but their own: 12 grants, a first placement
+// of 4 classes, a witness of 3 and no singles. For one search of 124 steps, for one of 125, and for searches of 7
+// steps that each go on where the one before came to, a line has the steps made, the searches, whether the machine is
+// then finished, and the classes of the best placement. Then, for both budgets, a line has whether the steps made one
+// by one came to the same as the one search.
 mod crown;
 mod one_by_one;
 mod print;
 
+use numbers::TABLE_WORDS;
 use one_by_one::as_the_search;
 use search::Position;
-use search::TABLE_WORDS;
 ghost use Rattle.search_cases.specs.Crown.{grants};
 ghost use Rattle.search.specs.View.{PositionStands};
 

@@ -1,9 +1,10 @@
-// The steps of a search made one by one, each a position that is handed the next, and whether they come to the same as the search.
+// The steps of a search made one by one, each a position that is handed the next, and whether they come to the same
+// as the search.
 use crate::crown;
-use search::KERNEL_LIMIT;
+use numbers::KERNEL_LIMIT;
+use numbers::TABLE_WORDS;
 use search::Position;
 use search::Ran;
-use search::TABLE_WORDS;
 ghost use mathlib.Core.Path.{_≡_};
 ghost use mathlib.Core.Bool.{true};
 ghost use Prim.Native.Nat.{_≤_};
@@ -16,7 +17,8 @@ ghost use Rattle.search_cases.specs.Same.{Tells};
 // As many steps as the budget, or those left until finished if fewer.
 pub fn steps_from(from: Position, fit: &[u64; TABLE_WORDS], budget: u32) -> Ran
     requires { ⌜ PositionStands grants from ⌝ }
-    ensures { λ r. ⌜ view-ran r grants ≡ run (kernel-given (now (fit .entry)) grants singles witness) budget (view from grants) ⌝ }
+    ensures { λ r. ⌜ view-ran r grants ≡ run (kernel-given (now (fit .entry)) grants singles witness) budget
+        (view from grants) ⌝ }
 {
     let mut position = from;
     let mut steps = 0;

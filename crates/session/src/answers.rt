@@ -1,4 +1,5 @@
-// What the calls of a session answer: a result comes with the number 0, a refusal with document 01's number and counts 0.
+// What the calls of a session answer: a result comes with the number 0, a refusal with document 01's number and
+// counts 0.
 use crate::prepared::Prepared;
 use blocks::Counts;
 use book::Writing;

@@ -1,7 +1,7 @@
 // Class numbers as the first cover has them, two bytes each, and as a position has them, one byte each.
 use cover::Placement;
 use numbers::GRANT_LIMIT;
-use search::KERNEL_LIMIT;
+use numbers::KERNEL_LIMIT;
 ghost use mathlib.Core.Path.{_≡_};
 ghost use Prim.Native.Nat.{ℕ, _≤_, _<_};
 ghost use lib.ListN.{getD};

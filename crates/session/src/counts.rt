@@ -6,7 +6,8 @@ ghost use Rattle.spec.specs.Limits.{permission-limit};
 ghost use Rattle.session.specs.CodeSession.{Holds};
 ghost use Rattle.session.specs.Counted.{CountsFrom, CountsIn};
 
-// Roles, bound and state, from the classes of the best placement, the singles, the witness's count and whether the search is finished.
+// Roles, bound and state, from the classes of the best placement, the singles, the witness's count and whether the
+// search is finished.
 pub fn counts_at(classes: usize, singles: usize, w: usize, finished: bool) -> Counts
     requires { ⌜ classes + singles ≤ permission-limit ⌝ }
     ensures { λ r. ⌜ CountsFrom (classes + singles) w finished r ⌝ }

@@ -1,13 +1,14 @@
-// What a load finds of an accepted sheet: all of it follows from the sheet's bytes, and is kept so that no later call finds it again.
+// What a load finds of an accepted sheet: all of it follows from the sheet's bytes, and is kept so that no later call
+// finds it again.
 use cells::Kernel;
 use cover::Placement;
 use names::Layout;
 use names::Places;
 use numbers::CELL_WORDS;
 use numbers::GRANT_LIMIT;
+use numbers::TABLE_WORDS;
 use numbers::USER_LIMIT;
 use reduction::Reduced;
-use table::TABLE_WORDS;
 use witness::Witness;
 ghost use mathlib.Core.Path.{_≡_};
 ghost use Prim.Native.Nat.{_≤_};

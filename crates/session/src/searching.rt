@@ -29,8 +29,8 @@ impl Session {
         position.search(&table, size, singles, self.prepared.witness.count, budget)
     }
 
-    // Moves the session's own position forward by as many steps as the budget, or by those left until finished if fewer; with a kernel too great to be
-    // searched by none. Refused without an accepted sheet.
+    // Moves the session's own position forward by as many steps as the budget, or by those left until finished if
+    // fewer; with a kernel too great to be searched by none. Refused without an accepted sheet.
     pub fn search(self, budget: u32) -> Searched
         requires { ⌜ Sound self ⌝ }
         ensures { λ r. ⌜ Searches (view self) budget (search-said (r .answer)) (view (r .session)) ⌝ }

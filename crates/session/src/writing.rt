@@ -1,4 +1,5 @@
-// Writings: the book of the sheet where the search stands, into a lent buffer. A writing changes no session, so none is handed back.
+// Writings: the book of the sheet where the search stands, into a lent buffer. A writing changes no session, so none
+// is handed back.
 use crate::Session;
 use crate::answers::WriteAnswer;
 use crate::classes::best_of;
@@ -7,7 +8,7 @@ use blocks::Counts;
 use book::Writing;
 use names::Layout;
 use numbers::CELL_WORDS;
-use roles::ROLE_WORDS;
+use numbers::ROLE_WORDS;
 ghost use Prim.Native.Nat.{_≤_};
 ghost use lib.ListN.{length, take};
 ghost use Rattle.spec.specs.Sheet.{sheet-of};
@@ -33,14 +34,16 @@ fn book_into<'a>(
 ) -> Writing
     requires { ⌜ (count ≤ length (now text)) × LaidOut (take count (now text)) layout × (counts .roles ≤ row-bits)
         × GrantCells (now witness) (sheet-of (take count (now text))) ⌝ }
-    ensures { λ r. ⌜ writing.Writes (rows-book (take count (now (text .entry))) (now (has .entry)) (now (gives .entry)) (now (witness .entry)) counts)
+    ensures { λ r. ⌜ writing.Writes (rows-book (take count (now (text .entry))) (now (has .entry))
+        (now (gives .entry)) (now (witness .entry)) counts)
         (now (out .entry)) (writing.writing-said r) (now (out .exit)) ⌝ }
 {
     book::write_if_room(out, &text[..count], layout, has, gives, witness, counts)
 }
 
 impl Session {
-    // Writes the book at the front of the buffer, or refuses and leaves every byte of it. The session after it is the one before.
+    // Writes the book at the front of the buffer, or refuses and leaves every byte of it. The session after it is the
+    // one before.
     pub fn write(self, out: &mut [u8]) -> WriteAnswer
         requires { ⌜ Sound self ⌝ }
         ensures { λ r. ⌜ Writes (view self) (now (out .entry)) (write-said r) (now (out .exit)) (view self) ⌝ }

@@ -10,7 +10,8 @@ ghost use mathlib.Core.Path.{_≡_};
 ghost use mathlib.Core.Bool.{false};
 ghost use Rattle.sheet.specs.FirstLine.{says-user, NamesRoom, FirstLineRead};
 
-// Whether such a line stands there with some names and no more than there can be permissions, how many there are, and where the next line starts.
+// Whether such a line stands there with some names and no more than there can be permissions, how many there are, and
+// where the next line starts.
 pub struct FirstLine {
     pub good: bool,
     pub permissions: usize,

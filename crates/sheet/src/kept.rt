@@ -36,7 +36,8 @@ impl Counts {
     }
 }
 
-// Reads a sheet line by line, and notes where its names stand and the words of its cells. Whether a name stands twice is not asked here.
+// Reads a sheet line by line, and notes where its names stand and the words of its cells. Whether a name stands twice
+// is not asked here.
 pub fn read_lines<'a>(
     s: &[u8],
     permission_from: &'a mut [usize; USER_LIMIT],
@@ -45,7 +46,8 @@ pub fn read_lines<'a>(
     user_to: &'a mut [usize; USER_LIMIT],
     rows: &'a mut [u64; CELL_WORDS],
 ) -> Counts
-    requires { ⌜ SheetRoom (now «permission_from») (now «permission_to») (now «user_from») (now «user_to») (now rows) ⌝ }
+    requires { ⌜ SheetRoom (now «permission_from») (now «permission_to») (now «user_from») (now «user_to»)
+        (now rows) ⌝ }
     ensures { λ r. ⌜ SheetLines (now (s .entry)) (notes-of (now («permission_from» .exit)) (now («permission_to» .exit))
         (now («user_from» .exit)) (now («user_to» .exit)) (now (rows .exit)) r) (r .good) ⌝ }
 {
@@ -76,7 +78,8 @@ pub fn read_lines<'a>(
 
 // Whether the lines are such lines, and no name stands twice.
 pub fn is_kept(s: &[u8], counts: Counts, users: Places, permissions: Places) -> bool
-    requires { ⌜ (So (counts .good) → Inside (now s) users (counts .users) × Inside (now s) permissions (counts .permissions)) ⌝ }
+    requires { ⌜ (So (counts .good) → Inside (now s) users (counts .users) × Inside (now s) permissions
+        (counts .permissions)) ⌝ }
     ensures { λ r. ⌜ r ≡ (counts .good && (not (repeats same-name (names-at (now (s .entry)) users (counts .users)))
         && not (repeats same-name (names-at (now (s .entry)) permissions (counts .permissions))))) ⌝ }
 {

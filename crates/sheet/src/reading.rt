@@ -46,11 +46,12 @@ impl SheetRead {
     }
 }
 
-// The lowest number of 1 to 9 that applies to the sheet, or 0 with its layout and its rows. A sheet that keeps all rules is read in one pass, and only one
-// that does not is judged cause by cause.
+// The lowest number of 1 to 9 that applies to the sheet, or 0 with its layout and its rows. A sheet that keeps all
+// rules is read in one pass, and only one that does not is judged cause by cause.
 pub fn read(s: &[u8]) -> SheetRead
     ensures { λ r. ⌜ r .number ≡ refusal (now (s .entry)) ⌝ }
-    ensures { λ r. ⌜ (r .number ≡ 0 → LaidOut (now (s .entry)) (r .layout) × RowsRead (r .rows) (sheet-of (now (s .entry)))
+    ensures { λ r. ⌜ (r .number ≡ 0 → LaidOut (now (s .entry)) (r .layout)
+        × RowsRead (r .rows) (sheet-of (now (s .entry)))
         × OnlyNames (r .layout)) ⌝ }
     ensures { λ r. ⌜ (0 < r .number → r ≡ refused-as (r .number)) ⌝ }
 {

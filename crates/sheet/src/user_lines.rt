@@ -9,7 +9,8 @@ ghost use lib.ListN.{length};
 ghost use Rattle.bits.specs.Bit.{word-bits};
 ghost use Rattle.sheet.specs.UserLines.{Room, UserLinesRead};
 
-// Whether they are all such lines and no more than there can be users, how many there are, and how many of their cells are `1`.
+// Whether they are all such lines and no more than there can be users, how many there are, and how many of their
+// cells are `1`.
 pub struct UserLines {
     pub good: bool,
     pub users: usize,
@@ -39,7 +40,8 @@ pub fn read_user_lines<'a>(
     rows: &'a mut [u64; CELL_WORDS],
 ) -> UserLines
     requires { ⌜ (start ≤ length (now s)) × (width ≤ word-bits) × Room (now from) (now to) (now rows) ⌝ }
-    ensures { λ r. ⌜ UserLinesRead (now (s .entry)) start width (now (from .exit)) (now (to .exit)) (now (rows .exit)) r ⌝ }
+    ensures { λ r. ⌜ UserLinesRead (now (s .entry)) start width (now (from .exit)) (now (to .exit)) (now (rows .exit))
+        r ⌝ }
 {
     let mut users = 0;
     let mut grants = 0;

@@ -1,5 +1,6 @@
-// Runs the judgement of a sheet at its limits, on each number alone, on several at once and on damaged sheets. A line of the output says what the sheet is, the number
-// that was answered, and, where that is 0, the counts of the sheet that was read.
+// Runs the judgement of a sheet at its limits, on each number alone, on several at once and on damaged sheets. A line
+// of the output says what the sheet is, the number that was answered, and, where that is 0, the counts of the sheet
+// that was read.
 mod build;
 mod show;
 

@@ -1,12 +1,15 @@
-// The fit table of a kernel that can be searched.
+// The fit table of a kernel that can be searched: bit j of grant i's words says that grants i and j fit.
 use bits::WORD_BITS;
 use cells::Kernel;
-use cells::ROW_BITS;
 use cells::holds;
 use cells::permission_of;
 use cells::user_of;
 use numbers::CELL_WORDS;
+use numbers::KERNEL_LIMIT;
+use numbers::KERNEL_WORDS;
 use numbers::PermissionNo;
+use numbers::ROW_BITS;
+use numbers::TABLE_WORDS;
 ghost use mathlib.Core.Path.{_≡_};
 ghost use mathlib.Core.Bool.{So};
 ghost use mathlib.Core.List.{map};
@@ -21,15 +24,6 @@ ghost use Rattle.cells.specs.KernelArray.{KernelListed};
 ghost use Rattle.table.specs.TableWords.{table-limit, FirstBits, Table};
 ghost use Rattle.table.specs.TableParts.{CellsFrom, user-holds, permission-held, ColumnsOf};
 ghost use Rattle.table.specs.TableHeld.{HeldBy};
-
-// The words of a grant: bit j of grant i's words says that grants i and j fit.
-pub const TABLE_ROW: usize = 2;
-
-// The most grants that a table has room for.
-pub const TABLE_LIMIT: usize = TABLE_ROW * WORD_BITS;
-
-// The words of a table.
-pub const TABLE_WORDS: usize = TABLE_LIMIT * TABLE_ROW;
 
 // The cells of a word from a place on: as many as there are, or as the word has positions.
 fn cells_from(size: usize, from: usize) -> usize
@@ -64,7 +58,8 @@ fn holders<'a>(rows: &'a [u64], cells: &'a [u16], from: usize, p: usize) -> u64
 // The cells of a word whose permissions the user of a cell holds.
 fn held_word<'a>(rows: &'a [u64], cells: &'a [u16], from: usize, it: u16) -> u64
     requires { ⌜ from < table-limit ⌝ }
-    ensures { λ r. ⌜ FirstBits (permission-held (now (rows .entry)) (now (cells .entry)) from (it / row-bits)) word-bits r ⌝ }
+    ensures { λ r. ⌜ FirstBits (permission-held (now (rows .entry)) (now (cells .entry)) from (it / row-bits))
+        word-bits r ⌝ }
 {
     let count = cells_from(cells.len(), from);
     let mut word = 0;
@@ -143,17 +138,18 @@ fn held_again<'a>(last: HolderCells, rows: &'a [u64], cells: &'a [u16], it: u16)
 fn limited(size: usize) -> usize
     ensures { λ r. ⌜ (r ≤ size) × (r ≤ table-limit) × (r < table-limit → r ≡ size) ⌝ }
 {
-    if size < TABLE_LIMIT {
+    if size < KERNEL_LIMIT {
         size
     } else {
-        TABLE_LIMIT
+        KERNEL_LIMIT
     }
 }
 
-// The fit table of the grants at some cells, as far as it has room: those that fit a grant are the cells whose permissions its user holds and whose users
-// hold its permission.
+// The fit table of the grants at some cells, as far as it has room: those that fit a grant are the cells whose
+// permissions its user holds and whose users hold its permission.
 fn table_of<'a>(rows: &'a [u64], cells: &'a [u16]) -> [u64; TABLE_WORDS]
-    ensures { λ r. ⌜ ((users : ℕ) (sheet : Sheet) → Shown (now (rows .entry)) users sheet → Table sheet (map grant-of (now (cells .entry))) r) ⌝ }
+    ensures { λ r. ⌜ ((users : ℕ) (sheet : Sheet) → Shown (now (rows .entry)) users sheet
+        → Table sheet (map grant-of (now (cells .entry))) r) ⌝ }
 {
     let count = limited(cells.len());
     let some = permissions_among(cells, count);
@@ -166,14 +162,14 @@ fn table_of<'a>(rows: &'a [u64], cells: &'a [u16]) -> [u64; TABLE_WORDS]
         let it = cells[i];
         last = held_again(last, rows, cells, it);
         let p = permission_of(it).0;
-        words[i * TABLE_ROW] = last.low & low[p];
-        words[i * TABLE_ROW + 1] = last.high & high[p];
+        words[i * KERNEL_WORDS] = last.low & low[p];
+        words[i * KERNEL_WORDS + 1] = last.high & high[p];
         i += 1;
     }
     words
 }
 
-// The fit table of the kernel of the sheet that the rows show, or of its first grants if it has more than TABLE_LIMIT.
+// The fit table of the kernel of the sheet that the rows show, or of its first grants if it has more than KERNEL_LIMIT.
 pub fn fit_table(rows: &[u64; CELL_WORDS], grants: Kernel) -> [u64; TABLE_WORDS]
     requires { ⌜ KernelListed (now rows) (grants .cells) (grants .size) ⌝ }
     ensures { λ r. ⌜ ((users : ℕ) (sheet : Sheet) → Shown (now (rows .entry)) users sheet

@@ -1,5 +1,5 @@
-// A sheet is read from front to back, field after field and line after line: the loops keep a cursor by value, and a reader that holds the sheet and its place
-// gives the field that stands there.
+// A sheet is read from front to back, field after field and line after line: the loops keep a cursor by value, and a
+// reader that holds the sheet and its place gives the field that stands there.
 use crate::bytes::COMMA;
 use crate::bytes::is_separator;
 ghost use mathlib.Core.Path.{_≡_};

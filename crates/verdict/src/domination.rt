@@ -1,12 +1,12 @@
-// What keeps the grant at a cell from dominating another: grants that fit the other one and not it. They are in the words of the users who hold the
-// other's permission, and in its user's row.
+// What keeps the grant at a cell from dominating another: grants that fit the other one and not it. They are in the
+// words of the users who hold the other's permission, and in its user's row.
 use bits::WORD_BITS;
-use cells::CellNo;
-use cells::ROW_BITS;
 use fit::COLUMN_WORDS;
 use fit::PLACE_WORDS;
 use fit::fitting;
 use numbers::CELL_WORDS;
+use numbers::CellNo;
+use numbers::ROW_BITS;
 use numbers::ROW_WORDS;
 ghost use mathlib.Core.Path.{_≡_};
 ghost use mathlib.Core.Bool.{not, _&&_};
@@ -39,11 +39,12 @@ pub fn apart(w: u64, others: u64) -> u64
     w & !others
 }
 
-// Word j of the column of the other grant's permission, without users who cannot have a grant that fits it and not the grant at a cell: where both have one
-// user, those who hold both permissions.
+// Word j of the column of the other grant's permission, without users who cannot have a grant that fits it and not
+// the grant at a cell: where both have one user, those who hold both permissions.
 fn suspects(columns: &[u64; PLACE_WORDS], users: usize, it: CellNo, other: CellNo, j: usize) -> u64
     requires { ⌜ (users ≤ user-limit) × (j * word-bits < users * row-words) ⌝ }
-    ensures { λ r. ⌜ ((rows left : List ℕ) → Columns rows (now (columns .entry)) → SuspectsWord rows left users (it .0) (other .0) j r) ⌝ }
+    ensures { λ r. ⌜ ((rows left : List ℕ) → Columns rows (now (columns .entry)) → SuspectsWord rows left users
+        (it .0) (other .0) j r) ⌝ }
 {
     let at = it.0;
     let g = other.0;
@@ -69,7 +70,8 @@ fn row_fits<'a>(
     bits::within(left[j] & row, fitting(rows, it, j))
 }
 
-// The first position of some whose word has a grant of left in the row of user v that does not fit the grant at a cell, else the end of a word.
+// The first position of some whose word has a grant of left in the row of user v that does not fit the grant at a
+// cell, else the end of a word.
 fn misfit_among<'a>(
     rows: &'a [u64; CELL_WORDS],
     left: &'a [u64; CELL_WORDS],
@@ -79,7 +81,8 @@ fn misfit_among<'a>(
     some: u64,
 ) -> usize
     requires { ⌜ (it .0 < cell-limit) × (v < user-limit) × (from + word-bits ≤ cell-words) ⌝ }
-    ensures { λ r. ⌜ FirstBelow (λ (q : ℕ). bit some q && not (row-fits (now (rows .entry)) (now (left .entry)) (it .0) v (from + q))) word-bits r ⌝ }
+    ensures { λ r. ⌜ FirstBelow (λ (q : ℕ). bit some q && not (row-fits (now (rows .entry)) (now (left .entry))
+        (it .0) v (from + q))) word-bits r ⌝ }
 {
     let mut w = some;
     while w != 0 {
@@ -92,7 +95,8 @@ fn misfit_among<'a>(
     WORD_BITS
 }
 
-// The first word with a grant of left that fits the other grant and does not fit the grant at a cell, else the end of the users' words.
+// The first word with a grant of left that fits the other grant and does not fit the grant at a cell, else the end of
+// the users' words.
 pub fn misfit<'a>(
     rows: &'a [u64; CELL_WORDS],
     columns: &'a [u64; PLACE_WORDS],
@@ -101,8 +105,10 @@ pub fn misfit<'a>(
     it: CellNo,
     other: CellNo,
 ) -> usize
-    requires { ⌜ (users ≤ user-limit) × (it .0 < cell-limit) × (other .0 < cell-limit) × Columns (now rows) (now columns) ⌝ }
-    ensures { λ r. ⌜ FirstBelow (misfit-at (now (rows .entry)) (now (left .entry)) (it .0) (other .0)) (users * row-words) r ⌝ }
+    requires { ⌜ (users ≤ user-limit) × (it .0 < cell-limit) × (other .0 < cell-limit)
+        × Columns (now rows) (now columns) ⌝ }
+    ensures { λ r. ⌜ FirstBelow (misfit-at (now (rows .entry)) (now (left .entry)) (it .0) (other .0))
+        (users * row-words) r ⌝ }
 {
     let v = other.0 / ROW_BITS;
     let mut j = 0;

@@ -19,7 +19,8 @@ ghost use Rattle.verdict.specs.Insides.{may-tie};
 
 // Whether w has a position, and own all of w's.
 fn is_inside(w: u64, own: u64) -> bool
-    ensures { λ r. ⌜ r ≡ (some-below word-bits (bit w) && every-below word-bits (λ (q : ℕ). implies (bit w q) (bit own q))) ⌝ }
+    ensures { λ r. ⌜ r ≡ (some-below word-bits (bit w) && every-below word-bits
+        (λ (q : ℕ). implies (bit w q) (bit own q))) ⌝ }
 {
     if w == 0 {
         return false;
@@ -30,7 +31,8 @@ fn is_inside(w: u64, own: u64) -> bool
 // Word k is put into a set of words.
 fn put_word(words: &mut [u64; COLUMN_WORDS], k: usize)
     requires { ⌜ (k < cell-words) × (length (now words) ≡ column-words) ⌝ }
-    ensures { λ r. ⌜ (length (now (words .exit)) ≡ column-words) × ((m : ℕ) → marked (now (words .exit)) m ≡ (marked (now (words .entry)) m || eqb m k)) ⌝ }
+    ensures { λ r. ⌜ (length (now (words .exit)) ≡ column-words)
+        × ((m : ℕ) → marked (now (words .exit)) m ≡ (marked (now (words .entry)) m || eqb m k)) ⌝ }
 {
     let j = k / WORD_BITS;
     words[j] = bits::with(words[j], k % WORD_BITS);
@@ -44,7 +46,8 @@ pub fn insides<'a>(
     i: usize,
 ) -> [u64; COLUMN_WORDS]
     requires { ⌜ (users ≤ user-limit) × (i < cell-words) ⌝ }
-    ensures { λ r. ⌜ ((m : ℕ) → marked r m ≡ (ltb m (users * row-words) && may-tie (now (rows .entry)) (now (left .entry)) (i / row-words) m)) ⌝ }
+    ensures { λ r. ⌜ ((m : ℕ) → marked r m ≡ (ltb m (users * row-words) && may-tie (now (rows .entry))
+        (now (left .entry)) (i / row-words) m)) ⌝ }
 {
     let mut words = [0; COLUMN_WORDS];
     let mut k = 0;

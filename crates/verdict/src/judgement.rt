@@ -3,12 +3,12 @@ use crate::domination::apart;
 use crate::domination::holders;
 use crate::domination::misfit;
 use bits::WORD_BITS;
-use cells::CellNo;
-use cells::ROW_BITS;
 use fit::COLUMN_WORDS;
 use fit::PLACE_WORDS;
 use fit::partners_in_column;
 use numbers::CELL_WORDS;
+use numbers::CellNo;
+use numbers::ROW_BITS;
 use numbers::ROW_WORDS;
 ghost use mathlib.Core.Path.{_≡_};
 ghost use mathlib.Core.Bool.{So};
@@ -60,7 +60,8 @@ fn is_single<'a>(
     it: CellNo,
 ) -> bool
     requires { ⌜ (it .0 < cell-limit) × So (marked (now left) (it .0)) × Columns (now rows) (now columns) ⌝ }
-    ensures { λ r. ⌜ ((users : ℕ) (sheet : Sheet) → users ≤ user-limit → it .0 < cells-of users → Shown (now (rows .entry)) users sheet
+    ensures { λ r. ⌜ ((users : ℕ) (sheet : Sheet) → users ≤ user-limit → it .0 < cells-of users
+        → Shown (now (rows .entry)) users sheet
         → Part (now (left .entry)) (now (rows .entry))
         → r ≡ eqb (length (filter (fits sheet (grant-of (it .0))) (cell-grants sheet (now (left .entry))))) 1) ⌝ }
 {
@@ -71,7 +72,8 @@ fn is_single<'a>(
     partners_in_column(rows, columns, left, it, 2) == 1
 }
 
-// The positions of word i whose cells of left the grant at a cell may be tied to. There are none unless all cells of left in the word are in the grant's row.
+// The positions of word i whose cells of left the grant at a cell may be tied to. There are none unless all cells of
+// left in the word are in the grant's row.
 fn candidates<'a>(
     rows: &'a [u64; CELL_WORDS],
     left: &'a [u64; CELL_WORDS],
@@ -94,7 +96,8 @@ fn candidates<'a>(
     }
 }
 
-// The lowest cell of word i to which the grant at a cell is tied. A word that keeps it from one candidate keeps it from all that the word's user holds.
+// The lowest cell of word i to which the grant at a cell is tied. A word that keeps it from one candidate keeps it
+// from all that the word's user holds.
 fn tie_in<'a>(
     rows: &'a [u64; CELL_WORDS],
     columns: &'a [u64; PLACE_WORDS],
@@ -103,8 +106,10 @@ fn tie_in<'a>(
     it: CellNo,
     i: usize,
 ) -> Found
-    requires { ⌜ (users ≤ user-limit) × (it .0 < cell-limit) × (i < users * row-words) × Part (now left) (now rows) × Columns (now rows) (now columns) ⌝ }
-    ensures { λ r. ⌜ FoundIn (tie-at (now (rows .entry)) (now (left .entry)) users (it .0)) (i * word-bits) ((i + 1) * word-bits) r ⌝ }
+    requires { ⌜ (users ≤ user-limit) × (it .0 < cell-limit) × (i < users * row-words) × Part (now left) (now rows)
+        × Columns (now rows) (now columns) ⌝ }
+    ensures { λ r. ⌜ FoundIn (tie-at (now (rows .entry)) (now (left .entry)) users (it .0)) (i * word-bits)
+        ((i + 1) * word-bits) r ⌝ }
 {
     let mut w = candidates(rows, left, it, i);
     while w != 0 {
@@ -118,7 +123,8 @@ fn tie_in<'a>(
     Found::Nothing
 }
 
-// The lowest cell to which the grant at a cell is tied, among the users' words at word j of the columns. Only a word in its row, of a user who holds its permission, has one.
+// The lowest cell to which the grant at a cell is tied, among the users' words at word j of the columns. Only a word
+// in its row, of a user who holds its permission, has one.
 fn tie_among<'a>(
     rows: &'a [u64; CELL_WORDS],
     columns: &'a [u64; PLACE_WORDS],
@@ -128,8 +134,10 @@ fn tie_among<'a>(
     it: CellNo,
     j: usize,
 ) -> Found
-    requires { ⌜ (users ≤ user-limit) × (it .0 < cell-limit) × (j * word-bits < users * row-words) × Part (now left) (now rows)
-        × Columns (now rows) (now columns) × Insides (now rows) (now left) users (it .0 / word-bits) (now inside) × So (marked (now left) (it .0)) ⌝ }
+    requires { ⌜ (users ≤ user-limit) × (it .0 < cell-limit) × (j * word-bits < users * row-words)
+        × Part (now left) (now rows)
+        × Columns (now rows) (now columns) × Insides (now rows) (now left) users (it .0 / word-bits) (now inside)
+        × So (marked (now left) (it .0)) ⌝ }
     ensures { λ r. ⌜ FoundIn (tie-at (now (rows .entry)) (now (left .entry)) users (it .0))
         (words-before users j * word-bits) (words-before users (j + 1) * word-bits) r ⌝ }
 {
@@ -155,7 +163,8 @@ fn tie<'a>(
     users: usize,
     it: CellNo,
 ) -> Found
-    requires { ⌜ (users ≤ user-limit) × (it .0 < cell-limit) × Part (now left) (now rows) × Columns (now rows) (now columns)
+    requires { ⌜ (users ≤ user-limit) × (it .0 < cell-limit) × Part (now left) (now rows)
+        × Columns (now rows) (now columns)
         × Insides (now rows) (now left) users (it .0 / word-bits) (now inside) × So (marked (now left) (it .0)) ⌝ }
     ensures { λ r. ⌜ FoundIn (tie-at (now (rows .entry)) (now (left .entry)) users (it .0)) 0 (cells-of users) r ⌝ }
 {

@@ -1,9 +1,9 @@
 // The remaining grant with the fewest partners, and what is left once it is taken.
-use crate::counts::CELL_LIMIT;
 use bits::WORD_BITS;
-use cells::CellNo;
 use fit::fitting;
+use numbers::CELL_LIMIT;
 use numbers::CELL_WORDS;
+use numbers::CellNo;
 use numbers::ROW_WORDS;
 ghost use mathlib.Core.Path.{_≡_};
 ghost use mathlib.Core.Bool.{not, _&&_};
@@ -48,8 +48,10 @@ fn better_in_word<'a>(
     i: usize,
 ) -> Choice
     requires { ⌜ i < cell-words ⌝ }
-    ensures { λ r. ⌜ ((rows : List ℕ) (users : ℕ) → users ≤ user-limit → i < users * row-words → Counted rows (now (left .entry)) users (now (counts .entry))
-        → Walked rows (now (left .entry)) users best (i * word-bits) → Walked rows (now (left .entry)) users r ((i + 1) * word-bits)) ⌝ }
+    ensures { λ r. ⌜ ((rows : List ℕ) (users : ℕ) → users ≤ user-limit → i < users * row-words
+        → Counted rows (now (left .entry)) users (now (counts .entry))
+        → Walked rows (now (left .entry)) users best (i * word-bits) → Walked rows (now (left .entry)) users r
+        ((i + 1) * word-bits)) ⌝ }
 {
     let from = i * WORD_BITS;
     let mut it = best;

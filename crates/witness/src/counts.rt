@@ -1,10 +1,11 @@
-// How many of the grants open to choice fit each of them, by their cells. What stands at other cells says nothing. A row is one word, so a word of a set is a
-// user's.
+// How many of the grants open to choice fit each of them, by their cells. What stands at other cells says nothing. A
+// row is one word, so a word of a set is a user's.
 use crate::choice::less;
 use bits::WORD_BITS;
 use fit::COLUMN_WORDS;
 use fit::PLACE_WORDS;
 use fit::union_of;
+use numbers::CELL_LIMIT;
 use numbers::CELL_WORDS;
 use numbers::ROW_WORDS;
 ghost use mathlib.Core.Path.{_≡_};
@@ -18,9 +19,6 @@ ghost use Rattle.witness.specs.CountChange.{at-position, Changed};
 ghost use Rattle.witness.specs.FitCounts.{fit-count, UserChanged, UsersChanged, WordChanged};
 ghost use Rattle.fit.specs.Columns.{column-words, Columns};
 ghost use Rattle.witness.specs.Counts.{Counted};
-
-// As many counts as cells.
-pub const CELL_LIMIT: usize = CELL_WORDS * WORD_BITS;
 
 // Adds to the counts at the positions of word u.
 fn raise(counts: &mut [u16; CELL_LIMIT], u: usize, some: u64, by: u16)
@@ -52,7 +50,8 @@ fn lower(counts: &mut [u16; CELL_LIMIT], u: usize, some: u64, by: u16)
     }
 }
 
-// Adds the grants at the positions of word i to the counts of user u's open grants. They fit those whose permission the user of word i holds, if u holds theirs.
+// Adds the grants at the positions of word i to the counts of user u's open grants. They fit those whose permission
+// the user of word i holds, if u holds theirs.
 fn add_to_user<'a>(
     counts: &mut [u16; CELL_LIMIT],
     rows: &'a [u64; CELL_WORDS],
@@ -62,8 +61,10 @@ fn add_to_user<'a>(
     u: usize,
 )
     requires { ⌜ (i < cell-words) × (u < cell-words) × (length (now counts) ≡ cell-limit)
-        × ((n : ℕ) → n / word-bits ≡ u → So (marked (now left) n) → getD (now counts) n 0 + fit-count (now rows) i word n ≤ cell-limit) ⌝ }
-    ensures { λ r. ⌜ UserChanged (_+_) (now (rows .entry)) (now (left .entry)) i word u (now (counts .entry)) (now (counts .exit)) ⌝ }
+        × ((n : ℕ) → n / word-bits ≡ u → So (marked (now left) n) → getD (now counts) n 0 + fit-count (now rows) i
+        word n ≤ cell-limit) ⌝ }
+    ensures { λ r. ⌜ UserChanged (_+_) (now (rows .entry)) (now (left .entry)) i word u (now (counts .entry))
+        (now (counts .exit)) ⌝ }
 {
     let some = left[u] & rows[i];
     if some != 0 {
@@ -81,8 +82,10 @@ fn take_from_user<'a>(
     u: usize,
 )
     requires { ⌜ (i < cell-words) × (u < cell-words) × (length (now counts) ≡ cell-limit)
-        × ((n : ℕ) → n / word-bits ≡ u → So (marked (now left) n) → fit-count (now rows) i word n ≤ getD (now counts) n 0) ⌝ }
-    ensures { λ r. ⌜ UserChanged (_-_) (now (rows .entry)) (now (left .entry)) i word u (now (counts .entry)) (now (counts .exit)) ⌝ }
+        × ((n : ℕ) → n / word-bits ≡ u → So (marked (now left) n) → fit-count (now rows) i word n ≤ getD (now counts)
+        n 0) ⌝ }
+    ensures { λ r. ⌜ UserChanged (_-_) (now (rows .entry)) (now (left .entry)) i word u (now (counts .entry))
+        (now (counts .exit)) ⌝ }
 {
     let some = left[u] & rows[i];
     if some != 0 {
@@ -101,8 +104,10 @@ fn add_to_users<'a>(
     some: u64,
 )
     requires { ⌜ (i < cell-words) × (j < column-words) × (length (now counts) ≡ cell-limit)
-        × ((n : ℕ) → So (at-position j some (n / word-bits)) → So (marked (now left) n) → getD (now counts) n 0 + fit-count (now rows) i word n ≤ cell-limit) ⌝ }
-    ensures { λ r. ⌜ UsersChanged (_+_) (now (rows .entry)) (now (left .entry)) i word j some (now (counts .entry)) (now (counts .exit)) ⌝ }
+        × ((n : ℕ) → So (at-position j some (n / word-bits)) → So (marked (now left) n) → getD (now counts) n 0 +
+        fit-count (now rows) i word n ≤ cell-limit) ⌝ }
+    ensures { λ r. ⌜ UsersChanged (_+_) (now (rows .entry)) (now (left .entry)) i word j some (now (counts .entry))
+        (now (counts .exit)) ⌝ }
 {
     let from = j * WORD_BITS;
     let mut w = some;
@@ -123,8 +128,10 @@ fn take_from_users<'a>(
     some: u64,
 )
     requires { ⌜ (i < cell-words) × (j < column-words) × (length (now counts) ≡ cell-limit)
-        × ((n : ℕ) → So (at-position j some (n / word-bits)) → So (marked (now left) n) → fit-count (now rows) i word n ≤ getD (now counts) n 0) ⌝ }
-    ensures { λ r. ⌜ UsersChanged (_-_) (now (rows .entry)) (now (left .entry)) i word j some (now (counts .entry)) (now (counts .exit)) ⌝ }
+        × ((n : ℕ) → So (at-position j some (n / word-bits)) → So (marked (now left) n) → fit-count (now rows) i word
+        n ≤ getD (now counts) n 0) ⌝ }
+    ensures { λ r. ⌜ UsersChanged (_-_) (now (rows .entry)) (now (left .entry)) i word j some (now (counts .entry))
+        (now (counts .exit)) ⌝ }
 {
     let from = j * WORD_BITS;
     let mut w = some;
@@ -134,7 +141,8 @@ fn take_from_users<'a>(
     }
 }
 
-// Adds the grants at the positions of word i to the counts of the open grants. Only users who hold a permission of these have any that fit.
+// Adds the grants at the positions of word i to the counts of the open grants. Only users who hold a permission of
+// these have any that fit.
 fn add<'a>(
     counts: &mut [u16; CELL_LIMIT],
     rows: &'a [u64; CELL_WORDS],
@@ -144,8 +152,10 @@ fn add<'a>(
     word: u64,
 )
     requires { ⌜ (i < cell-words) × Columns (now rows) (now columns) × (length (now counts) ≡ cell-limit)
-        × ((n : ℕ) → n / word-bits < cell-words → So (marked (now left) n) → getD (now counts) n 0 + fit-count (now rows) i word n ≤ cell-limit) ⌝ }
-    ensures { λ r. ⌜ WordChanged (_+_) (now (rows .entry)) (now (left .entry)) i word cell-words (now (counts .entry)) (now (counts .exit)) ⌝ }
+        × ((n : ℕ) → n / word-bits < cell-words → So (marked (now left) n) → getD (now counts) n 0 + fit-count
+        (now rows) i word n ≤ cell-limit) ⌝ }
+    ensures { λ r. ⌜ WordChanged (_+_) (now (rows .entry)) (now (left .entry)) i word cell-words (now (counts .entry))
+        (now (counts .exit)) ⌝ }
 {
     if word == 0 {
         return;
@@ -157,7 +167,8 @@ fn add<'a>(
     }
 }
 
-// Takes the grants at the positions of word i off the counts of the open grants. Only users who hold a permission of these have any that fit.
+// Takes the grants at the positions of word i off the counts of the open grants. Only users who hold a permission of
+// these have any that fit.
 fn take<'a>(
     counts: &mut [u16; CELL_LIMIT],
     rows: &'a [u64; CELL_WORDS],
@@ -167,8 +178,10 @@ fn take<'a>(
     word: u64,
 )
     requires { ⌜ (i < cell-words) × Columns (now rows) (now columns) × (length (now counts) ≡ cell-limit)
-        × ((n : ℕ) → n / word-bits < cell-words → So (marked (now left) n) → fit-count (now rows) i word n ≤ getD (now counts) n 0) ⌝ }
-    ensures { λ r. ⌜ WordChanged (_-_) (now (rows .entry)) (now (left .entry)) i word cell-words (now (counts .entry)) (now (counts .exit)) ⌝ }
+        × ((n : ℕ) → n / word-bits < cell-words → So (marked (now left) n) → fit-count (now rows) i word n ≤ getD
+        (now counts) n 0) ⌝ }
+    ensures { λ r. ⌜ WordChanged (_-_) (now (rows .entry)) (now (left .entry)) i word cell-words (now (counts .entry))
+        (now (counts .exit)) ⌝ }
 {
     if word == 0 {
         return;
@@ -208,7 +221,8 @@ pub fn recount<'a>(
     rest: &'a [u64; CELL_WORDS],
     users: usize,
 )
-    requires { ⌜ (users ≤ user-limit) × Columns (now rows) (now columns) × Counted (now rows) (now left) users (now counts)
+    requires { ⌜ (users ≤ user-limit) × Columns (now rows) (now columns) × Counted (now rows) (now left) users
+        (now counts)
         × ((n : ℕ) → So (marked (now rest) n) → So (marked (now left) n)) ⌝ }
     ensures { λ r. ⌜ Counted (now (rows .entry)) (now (rest .entry)) users (now (counts .exit)) ⌝ }
 {

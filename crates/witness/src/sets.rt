@@ -1,7 +1,7 @@
 // Sets of cells as rows of words.
 use bits::WORD_BITS;
-use cells::CellNo;
 use numbers::CELL_WORDS;
+use numbers::CellNo;
 use numbers::ROW_WORDS;
 ghost use mathlib.Core.Path.{_≡_};
 ghost use mathlib.Core.Bool.{_||_};

@@ -6,12 +6,12 @@ use crate::counts::recount;
 use crate::sets::counted;
 use crate::sets::joined;
 use crate::sets::with_cell;
-use cells::CellNo;
-use cells::ROW_BITS;
 use cells::next_cell;
 use fit::columns_of;
 use numbers::CELL_WORDS;
+use numbers::CellNo;
 use numbers::GRANT_LIMIT;
+use numbers::ROW_BITS;
 ghost use Prim.Native.Nat.{ℕ, _≤_, _<_};
 ghost use lib.ListN.{getD};
 ghost use Rattle.spec.specs.Limits.{grant-limit, user-limit};
@@ -23,14 +23,16 @@ ghost use Rattle.witness.specs.WitnessGreedy.{Chosen};
 ghost use Rattle.witness.specs.WitnessSingles.{CellsOf};
 ghost use Rattle.witness.specs.WitnessRows.{ReducedTo, ReducedRows, Witnessed};
 
-// The grants taken from a set one after the other, each with the fewest partners among those left, and dropped with them.
+// The grants taken from a set one after the other, each with the fewest partners among those left, and dropped with
+// them.
 fn chosen_by_counts<'a>(
     rows: &'a [u64; CELL_WORDS],
     kernel: &'a [u64; CELL_WORDS],
     users: usize,
 ) -> [u64; CELL_WORDS]
     requires { ⌜ users ≤ user-limit ⌝ }
-    ensures { λ r. ⌜ ((sheet : Sheet) → Shown (now (rows .entry)) users sheet → Part (now (kernel .entry)) (now (rows .entry))
+    ensures { λ r. ⌜ ((sheet : Sheet) → Shown (now (rows .entry)) users sheet → Part (now (kernel .entry))
+        (now (rows .entry))
         → Chosen sheet (now (rows .entry)) (now (kernel .entry)) r) ⌝ }
 {
     let columns = columns_of(rows);
@@ -61,7 +63,8 @@ fn chosen<'a>(
     users: usize,
 ) -> [u64; CELL_WORDS]
     requires { ⌜ users ≤ user-limit ⌝ }
-    ensures { λ r. ⌜ ((sheet : Sheet) → Shown (now (rows .entry)) users sheet → Part (now (kernel .entry)) (now (rows .entry))
+    ensures { λ r. ⌜ ((sheet : Sheet) → Shown (now (rows .entry)) users sheet → Part (now (kernel .entry))
+        (now (rows .entry))
         → Chosen sheet (now (rows .entry)) (now (kernel .entry)) r) ⌝ }
 {
     let first = next_cell(kernel, users, 0);

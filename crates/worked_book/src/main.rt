@@ -3,7 +3,7 @@ use blocks::Counts;
 use book::Writing;
 use libc::STDOUT_FILENO;
 use numbers::CELL_WORDS;
-use roles::ROLE_WORDS;
+use numbers::ROLE_WORDS;
 use roles::Standing;
 ghost use Prim.Native.Nat.{_≤_};
 ghost use Rattle.spec.specs.Sheet.{sheet-of};

@@ -25,7 +25,7 @@ use Rattle.verdict.specs.ReductionWork.{Work, state-of, WorkReady, Visit
 use Rattle.verdict.specs.Laws.ReductionWork.{part-all, part-of-part}
 use Rattle.verdict.specs.Laws.ReductionRemove.{removal-of, without-cell, log-grown, logged-grown, one-fewer}
 use Rattle.verdict.specs.declared.judgement.Verdict.the-variants.{Stays, Single, Tied}
-use Rattle.cells.specs.declared.cell.CellNo.{CellNo}
+use Rattle.numbers.specs.declared.numbers.CellNo.{CellNo}
 
 -- the cells of these users are cells
 pub cells-within : {users : ℕ} → users ≤ user-limit → cells-of users ≤ cell-limit
