@@ -1,7 +1,8 @@
 #!/usr/bin/env bash
-# Proves every crate, tries every must-fail edit, runs every program and compares its output, then runs the Rust tests, which hold the proved
-# programs and the proved library to the second implementation.
-# The last line counts all of them: 'N passed, M failed'. Exit status 0 only if M is 0 and every part ran to its end.
+# Proves every crate, tries every must-fail edit, runs every program and compares its output, then runs the Rust tests,
+# which hold the proved programs and the proved library to the second implementation. What is tried has a line each.
+# The log ends with the seconds of each crate, the slowest ten, and the counts of all: 'N passed, M failed'. Exit status
+# 0 only if M is 0 and every part ran to its end.
 set -uo pipefail
 cd "$(dirname "$0")" || exit 2
 export PATH="$HOME/.cargo/bin:$PATH"
@@ -16,18 +17,33 @@ tally() { # STATUS PASSED FAILED
     if [ "$1" -ne 0 ] && [ "$3" -eq 0 ]; then failed=$((failed + 1)); fi
 }
 
+# says how long a part took that began at the given second
+took() { # SINCE WHAT
+    echo "gate: $2 ($((SECONDS - $1)) s)" | tee -a "$log/times"
+}
+
+began=$SECONDS
 rt ci 2>&1 | tee "$log/rattle"
 status=$?
 counts=$(tail -n 1 "$log/rattle" | sed -n 's/^\([0-9]*\) passed, \([0-9]*\) failed$/\1 \2/p')
 [ -n "$counts" ] || { counts='0 0'; [ "$status" -ne 0 ] || status=1; }
 # shellcheck disable=SC2086
 tally "$status" $counts
+took "$began" "proofs, must-fail edits and programs"
+
+# what the programs tried that write a line for each case, and what came of it; play's cases are the calls of its script
+for program in sheet_cases search_cases book_cases; do
+    sed "s/^/$program: /" "target/log/$program.stdout"
+done
+paste -d '>' crates/play/stdin target/log/play.stdout | sed 's/^/play: /; s/>/ -> /'
 
 # rt ci leaves the programs; the library is made from what it proved. Where one of them is missing the Rust tests fail
+began=$SECONDS
 for program in rolebook rolecheck play; do
     [ -x "target/bin/$program" ] || rt check "$program"
 done
 rt staticlib porvuund
+took "$began" "the library"
 
 # the shell front for people: what it prints, and its exit status
 front() { # STATUS OUTPUT ARGUMENT..
@@ -42,6 +58,7 @@ front() { # STATUS OUTPUT ARGUMENT..
         tally 0 0 1
     fi
 }
+began=$SECONDS
 printf 'user,a\nann,2\n' >"$log/broken sheet"
 front 0 "$(cat crates/rolecheck/data/roosts.book)" book examples/roosts.csv
 front 0 5,5 check examples/roosts.csv crates/rolecheck/data/roosts.book
@@ -49,15 +66,25 @@ front 1 7 book "$log/broken sheet"
 front 1 12 check examples/roosts.csv examples/roosts.csv
 front 2 '' book "$log/no such sheet"
 front 2 '' book examples/roosts.csv many
+took "$began" "the shell front"
 
-if [ -f second/Cargo.toml ]; then
-    (cd second && cargo test --offline --workspace --no-fail-fast 2>&1) | tee "$log/rust"
+# the Rust tests, a crate of them after the other: each line names its crate
+began=$SECONDS
+(cd rust && cargo test --offline --workspace --no-run 2>&1)
+took "$began" "the Rust tests built"
+for part in trials programs baseline compare bench; do
+    began=$SECONDS
+    (cd rust && cargo test --offline --no-fail-fast -p "$part" 2>&1) | tee "$log/rust" |
+        sed "s/^test \(.* \.\.\. \)/rust, $part: \1/"
     status=$?
     counts=$(awk '/^test result:/ { p += $4; f += $6 } END { print p + 0, f + 0 }' "$log/rust")
     [ "${counts%% *}" -gt 0 ] || status=1
     # shellcheck disable=SC2086
     tally "$status" $counts
-fi
+    took "$began" "the Rust tests of $part"
+done
 
+took 0 "all of it" >/dev/null
+bash .ci/times "$log/rattle" "$log/times"
 echo "$passed passed, $failed failed"
 [ "$failed" -eq 0 ]

@@ -1,6 +1,6 @@
 //! The library of the proved implementation held to the second one, byte for byte.
 
-use compare::library::{Library, book, session_bytes, with_room};
+use compare::library::{Library, book, with_room, wrong_size};
 use second::refusal::Refusal;
 use second::script::lent_buffer;
 use second::session::Session;
@@ -13,13 +13,7 @@ use trials::tally::Tally;
 
 #[test]
 fn a_session_has_the_size_that_the_library_gives_it() {
-    with_room(|| {
-        let (declared, given) = session_bytes();
-        assert_eq!(
-            declared, given,
-            "the structs of compare/src/library/session.rs are not those of the library"
-        );
-    });
+    with_room(|| assert_eq!(wrong_size(), None));
 }
 
 #[test]

@@ -10,7 +10,7 @@ mod table;
 use std::hint::black_box;
 
 use baseline::session::Session;
-use compare::library::{Library, with_room};
+use compare::library::{Library, SESSION_BYTES, with_room};
 use second::implementation::Implementation;
 use second::limits::BOOK_BYTES;
 
@@ -28,6 +28,7 @@ fn main() {
     let rounds =
         std::env::args().nth(1).map_or(ROUNDS, |text| text.parse().expect("the rounds are a number"));
     with_room(move || {
+        println!("A session of the proved library has {SESSION_BYTES} bytes.\n");
         print_sizes();
         print_calls("Load", rounds, |sheet| Pair {
             baseline: load::<Session>(sheet),

@@ -1,5 +1,8 @@
-//! The static library of the proved implementation. Nothing checks these declarations against its source, the
-//! crate `porvuund`: the functions have its names, and the structs have the fields of its structs in their order.
+//! The static library of the proved implementation. The functions have the names that its source, the crate
+//! `porvuund`, gives them, and the structs have the fields of its structs in their order. Of all that only the sizes
+//! can be checked here, and they are, before the first session is made.
+
+use std::sync::OnceLock;
 
 use second::checker::CheckAnswer;
 use second::implementation::Implementation;
@@ -10,6 +13,7 @@ use second::session::{LoadAnswer, SearchAnswer};
 mod session;
 
 use session::Session;
+pub use session::{SESSION_BYTES, wrong_size};
 
 #[repr(C)]
 struct LoadNumbers {
@@ -56,6 +60,8 @@ struct CheckNumbers {
     witness_lines: usize,
 }
 
+// Three of these are declared once more where the sizes are asked for, as they are called on x86-64.
+#[allow(clashing_extern_declarations)]
 unsafe extern "C" {
     fn porvuund_fresh() -> Session;
     fn porvuund_load(session: Session, sheet: *const u8, sheet_length: usize) -> Loaded;
@@ -76,16 +82,6 @@ unsafe extern "C" {
     ) -> WriteNumbers;
 }
 
-/// `porvuund_fresh` as it is called on x86-64, with the place for the session that it hands back as its argument: so the
-/// caller can see which bytes of that place the library writes.
-#[allow(clashing_extern_declarations)]
-mod into_place {
-    unsafe extern "C" {
-        #[link_name = "porvuund_fresh"]
-        pub fn fresh(place: *mut u8) -> *mut u8;
-    }
-}
-
 /// A session of the proved implementation. It is a value that goes into each call, and comes back from a load and
 /// a search; only the calls make one.
 #[derive(Clone)]
@@ -93,7 +89,11 @@ pub struct Library(Box<Session>);
 
 impl Implementation for Library {
     fn fresh() -> Library {
-        // SAFETY: the function takes nothing and asks nothing of its caller.
+        static WRONG_SIZE: OnceLock<Option<String>> = OnceLock::new();
+        if let Some(change) = WRONG_SIZE.get_or_init(wrong_size) {
+            panic!("{change}");
+        }
+        // SAFETY: the function takes nothing and asks nothing of its caller, and a session has the size declared.
         Library(Box::new(unsafe { porvuund_fresh() }))
     }
 
@@ -134,20 +134,6 @@ impl Implementation for Library {
         let CheckNumbers { number, roles, witness_lines } = checked;
         result(number, &[roles, witness_lines], CheckAnswer { roles, witness_lines })
     }
-}
-
-/// The bytes of a session as this crate declares it, and the bytes that the library itself gives one: the place of the last
-/// byte that a fresh session writes, whatever stood there before.
-pub fn session_bytes() -> (usize, usize) {
-    let declared = size_of::<Session>();
-    let written = |fill: u8| {
-        let mut place = vec![fill as u64 * 0x0101_0101_0101_0101; declared / 4];
-        // SAFETY: the place is aligned for a session and twice as long as one is declared to be.
-        unsafe { into_place::fresh(place.as_mut_ptr().cast()) };
-        let bytes: Vec<u8> = place.iter().flat_map(|word| word.to_ne_bytes()).collect();
-        bytes.iter().rposition(|byte| *byte != fill).map_or(0, |last| last + 1)
-    };
-    (declared, written(0x5a).max(written(0xa5)))
 }
 
 /// The book of a sheet after one search, written into a buffer by one call.
