@@ -3,7 +3,7 @@
 -- Assumes nothing.
 use mathlib.Core.Path.{_≡_}
 use mathlib.Core.Bool.{Bool, true, false, So}
-use Prim.Native.Nat.{ℕ, zero, suc, _+_, _<_}
+use Prim.Native.Nat.{ℕ, zero, suc, _+_, _≤_, _<_}
 
 -- 1 where the test passes, and 0 where it fails
 abbrev pub one-if : Bool → ℕ
@@ -37,3 +37,14 @@ pub record Lowest (n : ℕ) (f : ℕ → Bool) (i : ℕ) : Type 0 where
   pub within : i < n
   pub holds : So (f i)
   pub first : (j : ℕ) → j < i → f j ≡ false
+
+-- no number from one place up to another passes
+abbrev pub Skipped : (ℕ → Bool) → ℕ → ℕ → Type 0
+Skipped test from next = (n : ℕ) → from ≤ n → n < next → test n ≡ false
+
+-- the lowest number from a place on that passes, else the end
+pub record NextFrom (test : ℕ → Bool) (from end next : ℕ) : Type 0 where
+  pub not-before : from ≤ next
+  pub not-past : next ≤ end
+  pub skipped : Skipped test from next
+  pub passes : next < end → So (test next)

@@ -8,5 +8,7 @@ pub mod CountJoin
 pub mod Sum
 pub mod Block
 pub mod Bit
+pub mod Next
+pub mod Walk
 pub mod Word
 pub mod Computed

@@ -9,9 +9,11 @@ mod whole;
 pub use position::has;
 pub use position::with;
 pub use position::without;
+pub use whole::apart;
 pub use whole::count;
 pub use whole::full;
 pub use whole::lowest;
+pub use whole::lowest_from;
 pub use whole::within;
 pub use whole::without_lowest;
 

@@ -4,3 +4,4 @@ pub mod Name
 pub mod Counts
 pub mod Laid
 pub mod SkippedParts
+pub mod Shown

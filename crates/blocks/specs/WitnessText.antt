@@ -4,23 +4,25 @@
 use Prim.Native.Nat.{ℕ, suc, _+_, _<_}
 use native.Mathlib.Nat.{add-zero, zero-add}
 use native.Mathlib.Omega.{arith}
-use mathlib.Core.Path.{_≡_, refl, sym, ap, _∙_}
+use mathlib.Core.Path.{_≡_, refl, ap, _∙_}
 use mathlib.Core.Logic.{⊎-elim}
-use mathlib.Core.Bool.{Bool, true, false, _&&_, cond, and-false}
+use mathlib.Core.Bool.{Bool, true, false, So, _&&_, cond, and-false}
 use mathlib.Core.List.{List, [], _∷_, _++_, map, map-append}
 use lib.ListN.{length, getD}
 use Rattle.spec.specs.Vocabulary.{keep, filter, list-from, concat}
 use Rattle.spec.specs.Text.{ascii, Bytes, Line, line-text, text-of}
 use Rattle.spec.specs.Sheet.{Sheet, Grant, user-count, permission-count, holds, grants-of-row, grants-of-rows}
+use Rattle.spec.specs.Sheet.{user-name, permission-name}
 use Rattle.spec.specs.Book.{witness-line, witness-block}
 use Rattle.bits.specs.Truth.{passes-or-fails}
-use Rattle.lists.specs.FilterLaws.{filter-append}
+use Rattle.lists.specs.AppendLaws.{filter-append}
 use Rattle.lists.specs.Listed.{listed, listed-same}
 use Rattle.cells.specs.Rows.{cell}
 use Rattle.rules.specs.AcceptedFacts.{Lawful}
 use Rattle.cells.specs.CellSets.{in-cells, cell-grants}
+use Rattle.blocks.specs.Lines.{pair-line}
 use Rattle.blocks.specs.RowsSaid.{GrantCells}
-use Rattle.text.specs.LineLaws.{text-append}
+use Rattle.text.specs.Laws.Line.{text-append}
 
 -- the line of a cell
 abbrev pub cell-line : Sheet → ℕ → ℕ → Bytes
@@ -31,8 +33,14 @@ abbrev pub line-if : Bool → Bytes → Bytes
 line-if held line = cond held line []
 
 -- the lines of a user's row of cells
-abbrev pub witness-row : Sheet → List ℕ → ℕ → ℕ → Bytes
-witness-row sheet words permissions u = listed permissions (λ p. line-if (cell words u p) (cell-line sheet u p))
+abbrev pub witness-row : Sheet → List ℕ → ℕ → Bytes
+witness-row sheet words u = listed (permission-count sheet) (λ p. line-if (cell words u p) (cell-line sheet u p))
+
+-- what a cell that is set says is the line of its two names
+pub cell-said : (sheet : Sheet) (u p : ℕ) {set : Bool} {user permission : Bytes} → So set
+    → user ≡ user-name sheet u → permission ≡ permission-name sheet p
+    → pair-line user permission ≡ line-if set (cell-line sheet u p)
+cell-said sheet u p set e f = rw (set, e, f)
 
 module _ (sheet : Sheet) (words : List ℕ) where
   -- the lines of some grants
@@ -94,19 +102,17 @@ module _ (sheet : Sheet) (words : List ℕ) where
       ⊎-elim (λ e. rw (e, within .held u p h k e)) (λ e. rw e (and-false (holds sheet u p)))
       (passes-or-fails (cell words u p))
 
-  -- block 4 of a sheet with so many users and permissions
-  pub witness-parts : {users permissions : ℕ} → users ≡ user-count sheet → permissions ≡ permission-count sheet
-      → Lawful sheet
-      → GrantCells words sheet
+  -- block 4
+  pub witness-parts : Lawful sheet → GrantCells words sheet
       → text-of (witness-block sheet (cell-grants sheet words))
-      ≡ ascii "user,permission\n" ++ listed users (witness-row sheet words permissions)
-  witness-parts {users} {permissions} e f lawful within =
+      ≡ ascii "user,permission\n" ++ listed (user-count sheet) (witness-row sheet words)
+  witness-parts lawful within =
       ap (λ (l : Bytes). ascii "user,permission\n" ++ l)
-      (rows-lines 0 permissions (sheet .rows) (holds sheet)
-      (λ i l. lawful .a-cell-each i (omega (arith, lawful .a-row-each)) ∙ sym f) (λ i q l. rw (zero-add i))
-      ∙ ap (λ (n : ℕ). listed n (λ u. listed permissions (λ p. line-if (holds sheet u p && cell words u p)
-      (cell-line sheet u p))))
-      (lawful .a-row-each ∙ sym e)
-      ∙ listed-same users _ _ (λ u h.
-      listed-same permissions _ _ (λ p k.
-      ap (λ (b : Bool). line-if b (cell-line sheet u p)) (held-if-set within u p (omega arith) (omega arith)))))
+      (rows-lines 0 (permission-count sheet) (sheet .rows) (holds sheet)
+      (λ i l. lawful .a-cell-each i (omega (arith, lawful .a-row-each))) (λ i q l. rw (zero-add i))
+      ∙ ap (λ (n : ℕ). listed n (λ u. listed (permission-count sheet) (λ p.
+      line-if (holds sheet u p && cell words u p) (cell-line sheet u p))))
+      (lawful .a-row-each)
+      ∙ listed-same (user-count sheet) _ _ (λ u h.
+      listed-same (permission-count sheet) _ _ (λ p k.
+      ap (λ (b : Bool). line-if b (cell-line sheet u p)) (held-if-set within u p h k))))

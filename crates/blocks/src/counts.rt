@@ -1,5 +1,4 @@
 // Block 1: roles, bound and state.
-use decimal::decimal_length;
 use decimal::put_counted;
 use roles::Standing;
 use text::put_bytes;
@@ -7,7 +6,6 @@ ghost use Prim.Native.Nat.{_≤_};
 ghost use lib.ListN.{length};
 ghost use Rattle.roles.specs.StandingCases.{standing-case};
 ghost use Rattle.blocks.specs.CountsText.{standing-text, counts-text};
-ghost use Rattle.decimal.specs.Measured.{Measured, piece-most, line-most};
 ghost use Rattle.text.specs.Written.{Written};
 
 // What block 1 says.
@@ -38,25 +36,4 @@ pub fn put_counts(out: &mut [u8], counts: Counts) -> usize
     let bound = roles + put_counted(&mut out[roles..], b",", counts.bound);
     let standing = counts.standing;
     bound + put_standing(&mut out[bound..], standing)
-}
-
-// How long the state is as the last field of a line.
-fn standing_length(standing: Standing) -> usize
-    ensures { λ r. ⌜ Measured (standing-text (standing-case standing)) piece-most r ⌝ }
-{
-    match standing {
-        Standing::Witnessed => b",witnessed\n".len(),
-        Standing::Searched => b",searched\n".len(),
-        Standing::Open => b",open\n".len(),
-    }
-}
-
-// How long block 1 is.
-pub fn counts_length(counts: Counts) -> usize
-    ensures { λ r. ⌜ Measured (counts-text counts) line-most r ⌝ }
-{
-    let roles = b"roles,bound,state\n".len() + decimal_length(counts.roles);
-    let bound = b",".len() + decimal_length(counts.bound);
-    let standing = counts.standing;
-    roles + bound + standing_length(standing)
 }

@@ -12,19 +12,8 @@ use Rattle.spec.specs.Witness.{witness}
 use Rattle.spec.specs.Machine.{State}
 use Rattle.spec.specs.RoleSet.{RoleSet}
 use Rattle.spec.specs.Roles.{Standing, roles-of, role-count, standing, bound}
-use Rattle.spec.specs.Book.{
-  role-name,
-  Block,
-  text-of-blocks,
-  counts-block,
-  roles-block,
-  users-block,
-  witness-block,
-  blocks-saying,
-  book-text,
-  said-in,
-  book,
-}
+use Rattle.spec.specs.Book.{role-name, Block, text-of-blocks, counts-block, roles-block, users-block, witness-block}
+use Rattle.spec.specs.Book.{blocks-saying, book-text, said-in, book}
 use Rattle.lists.specs.ListOfLaws.{list-of-same}
 use Rattle.cells.specs.Rows.{row-bits}
 use Rattle.cells.specs.CellSets.{cell-grants}
@@ -33,7 +22,8 @@ use Rattle.roles.specs.RolesShown.{RolesAt}
 use Rattle.roles.specs.StandingCases.{standing-case}
 use Rattle.blocks.specs.CountsText.{counts-text}
 use Rattle.blocks.specs.RowsSaid.{said-by, shown-roles, shown-users}
-use Rattle.text.specs.LineLaws.{line-end, four-blocks}
+use Rattle.text.specs.Line.{line-end}
+use Rattle.text.specs.Laws.Line.{four-blocks}
 use Rattle.blocks.specs.declared.counts.Counts.{Counts}
 
 -- the book of a sheet's bytes

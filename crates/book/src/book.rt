@@ -1,21 +1,15 @@
 // The whole book: four blocks, one empty line between each two. Each block is written where the one before ended,
 // plus that empty line.
 use blocks::Counts;
-use blocks::counts_length;
 use blocks::put_counts;
 use blocks::put_roles;
 use blocks::put_users;
 use blocks::put_witness;
-use blocks::roles_length;
-use blocks::users_length;
-use blocks::witness_length;
 use names::Layout;
 use numbers::CELL_WORDS;
 use numbers::ROLE_WORDS;
 use text::put_empty_line;
-ghost use mathlib.Core.Path.{_≡_};
-ghost use mathlib.Core.List.{List};
-ghost use Prim.Native.Nat.{ℕ, _≤_};
+ghost use Prim.Native.Nat.{_≤_};
 ghost use lib.ListN.{length};
 ghost use Rattle.spec.specs.Sheet.{sheet-of};
 ghost use Rattle.cells.specs.Rows.{row-bits};
@@ -23,24 +17,6 @@ ghost use Rattle.names.specs.LaidOut.{LaidOut};
 ghost use Rattle.blocks.specs.RowsSaid.{GrantCells};
 ghost use Rattle.book.specs.BookRows.{rows-book};
 ghost use Rattle.text.specs.Written.{Written};
-
-// How long the book is.
-pub fn book_length<'a>(
-    s: &'a [u8],
-    layout: Layout,
-    witness: &'a [u64; CELL_WORDS],
-    counts: Counts,
-) -> usize
-    requires { ⌜ LaidOut (now s) layout × (counts .roles ≤ row-bits) × GrantCells (now witness) (sheet-of (now s)) ⌝ }
-    ensures { λ r. ⌜ ((has gives : List ℕ) → r ≡ length (rows-book (now (s .entry)) has gives (now (witness .entry))
-        counts)) ⌝ }
-{
-    let roles = counts.roles;
-    let first = counts_length(counts) + 1;
-    let second = roles_length(s, layout, roles) + 1;
-    let third = users_length(s, layout, roles) + 1;
-    first + second + third + witness_length(s, layout, witness)
-}
 
 // Writes the book at the front of the buffer, and answers how long it is.
 pub fn write_book<'a>(
@@ -59,11 +35,29 @@ pub fn write_book<'a>(
         (now (out .entry)) (now (out .exit)) r ⌝ }
 {
     let roles = counts.roles;
+    let users = layout.users;
+    let permissions = layout.permissions;
+    let user_places = layout.user_places.at;
+    let permission_places = layout.permission_places.at;
     let first = put_counts(out, counts);
     let from = first + put_empty_line(&mut out[first..]);
-    let second = from + put_roles(&mut out[from..], s, layout, gives, roles);
+    let second = from
+        + put_roles(
+            &mut out[from..],
+            s,
+            &permission_places[..permissions],
+            gives,
+            roles,
+        );
     let from = second + put_empty_line(&mut out[second..]);
-    let third = from + put_users(&mut out[from..], s, layout, has, roles);
+    let third = from + put_users(&mut out[from..], s, &user_places[..users], has, roles);
     let from = third + put_empty_line(&mut out[third..]);
-    from + put_witness(&mut out[from..], s, layout, witness)
+    from
+        + put_witness(
+            &mut out[from..],
+            s,
+            &user_places[..users],
+            &permission_places[..permissions],
+            witness,
+        )
 }

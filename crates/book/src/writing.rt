@@ -1,6 +1,6 @@
 // A book into a buffer that may be too short for it.
-use crate::book::book_length;
 use crate::book::write_book;
+use crate::length::book_length;
 use blocks::Counts;
 use names::Layout;
 use numbers::CELL_WORDS;

@@ -4,13 +4,23 @@ use crate::build::put;
 use crate::build::put_full_sheet;
 use crate::build::put_roles;
 use crate::build::put_times;
+use crate::fields::field_behind;
+use crate::fields::field_end;
 use crate::texts::BOOK;
 use crate::texts::SHEET;
 use crate::texts::SHEET_OF_ONE;
 use libc::STDOUT_FILENO;
+ghost use Prim.Native.Nat.{_≤_};
+ghost use lib.ListN.{length};
 
 // Room for a book above the limit.
 const SPACE: usize = 66_000;
+
+// What a case damages: the book of document 01, or its sheet.
+pub enum Damages {
+    Book,
+    Sheet,
+}
 
 // Writes what is checked, and the number, the roles and the witness lines that are answered.
 pub fn show<'a>(what: &'a [u8], sheet: &'a [u8], book: &'a [u8]) {
@@ -26,6 +36,12 @@ pub fn show<'a>(what: &'a [u8], sheet: &'a [u8], book: &'a [u8]) {
 fn figure(word: &[u8], n: usize) {
     io::write_all(STDOUT_FILENO, word);
     io::print_decimal(STDOUT_FILENO, n as u64);
+}
+
+// The buffer was too short, or what was to be damaged is not there.
+fn unmade(what: &[u8]) {
+    io::write_all(STDOUT_FILENO, what);
+    io::write_all(STDOUT_FILENO, b": not made\n");
 }
 
 // Checks the book at the front of a buffer, and says so where none was made.
@@ -46,26 +62,27 @@ fn show_sheet<'a>(what: &'a [u8], space: &'a [u8], n: usize) {
     }
 }
 
-// The buffer was too short, or what was to be damaged is not there.
-fn unmade(what: &[u8]) {
-    io::write_all(STDOUT_FILENO, what);
-    io::write_all(STDOUT_FILENO, b": not made\n");
-}
-
-// Checks a book against the sheet of document 01, with one part of the book replaced.
-fn show_damaged_book<'a>(what: &'a [u8], book: &'a [u8], old: &'a [u8], new: &'a [u8]) {
+// Checks the book or the sheet of document 01 with one part replaced, against the other of the two.
+fn show_damaged<'a>(of: Damages, what: &'a [u8], text: &'a [u8], old: &'a [u8], new: &'a [u8]) {
     let mut space = [0u8; SPACE];
-    let n = damaged(&mut space, book, old, new);
-    show_book(what, &SHEET, &space, n);
+    let n = damaged(&mut space, text, old, new);
+    match of {
+        Damages::Book => show_book(what, &SHEET, &space, n),
+        Damages::Sheet => show_sheet(what, &space, n),
+    }
 }
 
-// The same for the book of document 01.
-pub fn show_damaged<'a>(what: &'a [u8], old: &'a [u8], new: &'a [u8]) {
-    show_damaged_book(what, &BOOK, old, new);
+// Puts the book or the sheet of document 01 with one part replaced into a buffer. Answers its length.
+fn put_damaged<'a>(out: &mut [u8], of: Damages, old: &'a [u8], new: &'a [u8]) -> usize {
+    match of {
+        Damages::Book => damaged(out, &BOOK, old, new),
+        Damages::Sheet => damaged(out, &SHEET, old, new),
+    }
 }
 
-// The same with two parts replaced.
-pub fn show_both<'a>(
+// Checks it with two parts replaced.
+fn show_both<'a>(
+    of: Damages,
     what: &'a [u8],
     old: &'a [u8],
     new: &'a [u8],
@@ -73,15 +90,51 @@ pub fn show_both<'a>(
     with: &'a [u8],
 ) {
     let mut space = [0u8; 1024];
-    let n = damaged(&mut space, &BOOK, old, new);
+    let n = put_damaged(&mut space, of, old, new);
     if n < space.len() {
-        show_damaged_book(what, &space[..n], other, with);
+        show_damaged(of, what, &space[..n], other, with);
     } else {
         unmade(what);
     }
 }
 
-// The same with one part replaced by a word that stands many times between two others.
+// The case that starts at this place of a table. Answers where the next one starts.
+fn show_case(of: Damages, cases: &[u8], at: usize) -> usize
+    requires { ⌜ at ≤ length (now cases) ⌝ }
+{
+    let what = field_end(cases, at);
+    let old = field_behind(cases, what);
+    let old_end = field_end(cases, old);
+    let new = field_behind(cases, old_end);
+    let new_end = field_end(cases, new);
+    let other = field_behind(cases, new_end);
+    let other_end = field_end(cases, other);
+    let with = field_behind(cases, other_end);
+    let with_end = field_end(cases, with);
+    show_both(
+        of,
+        &cases[at..what],
+        &cases[old..old_end],
+        &cases[new..new_end],
+        &cases[other..other_end],
+        &cases[with..with_end],
+    );
+    field_behind(cases, with_end)
+}
+
+// The cases of a table, as long as one starts behind the other.
+pub fn show_cases(of: Damages, cases: &[u8]) {
+    let mut at = 0;
+    while at < cases.len() {
+        let next = show_case(of, cases, at);
+        if next <= at {
+            return;
+        }
+        at = next;
+    }
+}
+
+// Checks the book of document 01 with one part replaced by a word that stands many times between two others.
 pub fn show_long<'a>(
     what: &'a [u8],
     old: &'a [u8],
@@ -95,7 +148,7 @@ pub fn show_long<'a>(
     let end = put_times(&mut space, words, word, times);
     let n = put(&mut space, end, tail);
     if n < space.len() {
-        show_damaged(what, old, &space[..n]);
+        show_damaged(Damages::Book, what, &BOOK, old, &space[..n]);
     } else {
         unmade(what);
     }
@@ -108,14 +161,8 @@ pub fn show_roles(what: &[u8], roles: usize) {
     show_book(what, &SHEET_OF_ONE, &space, n);
 }
 
-// Checks the book of document 01 against its sheet with one part replaced.
-pub fn show_damaged_sheet<'a>(what: &'a [u8], old: &'a [u8], new: &'a [u8]) {
-    let mut space = [0u8; 1024];
-    let n = damaged(&mut space, &SHEET, old, new);
-    show_sheet(what, &space, n);
-}
-
-// Checks it against a sheet of as many users as asked, who hold as many permissions as there can be.
+// Checks the book of document 01 against a sheet of as many users as asked, who hold as many permissions as there can
+// be.
 pub fn show_full_sheet(what: &[u8], users: usize) {
     let mut space = [0u8; SPACE];
     let n = put_full_sheet(&mut space, users);

@@ -22,7 +22,7 @@ byte-in n k = n / 2 ^ (8 * k) % 256
 abbrev pub eight-bytes : ℕ → Bytes
 eight-bytes n = list-of 8 (byte-in n)
 
--- four cells that are not set
+-- four cells that are not set: the bytes `,0,0,0,0`
 abbrev pub no-cells : ℕ
 no-cells = 3471202379140706348
 

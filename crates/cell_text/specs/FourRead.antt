@@ -1,6 +1,6 @@
 -- Four cells, each behind a comma, read from the eight bytes of one number, the lowest byte first. Assumes nothing.
-use Prim.Native.Nat.{ℕ, _+_, _*_, _/_, _%_, _^_, _≤_, _<_}
-use native.Mathlib.Nat.{add-zero, zero-mul, one-mul}
+use Prim.Native.Nat.{ℕ, _+_, _*_, _%_, _^_, _<_}
+use native.Mathlib.Nat.{zero-mul, one-mul}
 use native.Mathlib.Omega.{arith}
 use mathlib.Core.Path.{_≡_, refl, sym, ap, _∙_}
 use mathlib.Core.Logic.{⊎-elim}
@@ -10,14 +10,11 @@ use lib.Bits.{bitAnd, and-lt}
 use lib.Dec.{eqb}
 use lib.Pow.{pow-pos, pow-lt}
 use Rattle.bits.specs.Truth.{not-both, passes-or-fails}
-use Rattle.bits.specs.Laws.Bit.{first-digit, bit-shift, bit-and, bit-ext, bit-of-zero, bit-one-shifted, one-shifted}
+use Rattle.bits.specs.Laws.Bit.{bit-and, bit-ext, bit-of-zero, bit-one-shifted, one-shifted}
 use Rattle.bits.specs.Counting.{one-if}
 use Rattle.bits.specs.Bit.{bit}
+use Rattle.cell_text.specs.FourCells.{no-cells, one-if-small}
 use Rattle.cell_text.specs.declared.line_cells.CellsWord.{CellsWord}
-
--- four cells that are not set
-abbrev pub no-cells : ℕ
-no-cells = 3471202379140706348
 
 -- what cells that are set add to them
 abbrev pub four-set : Bool → Bool → Bool → Bool → ℕ
@@ -42,10 +39,6 @@ pub record FourOf (n : ℕ) (r : CellsWord) : Type 0 where
       (bit (r .word) 3)
   pub off : r .good ≡ false → (a b c d : Bool) → n ≡ no-cells + four-set a b c d → ⊥
   pub blank : r .good ≡ false → r .word ≡ 0
-
-pub one-if-small : (b : Bool) → one-if b ≤ 1
-one-if-small true = omega arith
-one-if-small false = omega arith
 
 -- the positions of four cells say which are set
 pub set-digits : (a b c d : Bool) → let n = four-set a b c d in four-set (bit n 8) (bit n 24) (bit n 40) (bit n 56) ≡ n
@@ -90,10 +83,6 @@ word-digits false false false false = refl
 
 pub word-small : (a b c d : Bool) → four-word a b c d < 2 ^ 4
 word-small a b c d = omega (arith, one-if-small a, one-if-small b, one-if-small c, one-if-small d)
-
--- a binary digit of a number
-pub digit-is : (n p : ℕ) → n / 2 ^ p % 2 ≡ one-if (bit n p)
-digit-is n p = first-digit (n / 2 ^ p) ∙ ap one-if (bit-shift n p 0 ∙ ap (bit n) (add-zero p))
 
 -- a digit at its place has that position alone
 bit-placed : (b : Bool) (p q : ℕ) → bit (one-if b * 2 ^ p) q ≡ (b && eqb q p)

@@ -1,5 +1,5 @@
 -- The laws behind what contracts cite.
-pub mod ListedWritten
+pub mod Parts
 pub mod NextSet
 pub mod CellsWritten
 pub mod CellsWord

@@ -1,5 +1,7 @@
 // Four cells read at once: their eight bytes as one number.
 use crate::line_cells::CellsWord;
+use crate::number::NO_CELLS;
+use crate::number::digit_at;
 ghost use mathlib.Core.Path.{_≡_};
 ghost use Prim.Native.Nat.{_+_, _*_, _^_, _≤_, _<_};
 ghost use lib.Dec.{eqb};
@@ -8,17 +10,6 @@ ghost use Rattle.bits.specs.Counting.{one-if};
 ghost use Rattle.bits.specs.Bit.{bit, word-bits};
 ghost use Rattle.cell_text.specs.CellsWord.{WordOfCells};
 ghost use Rattle.cell_text.specs.FourRead.{four-set, four-word, FourBytes, FourOf};
-
-// Four cells that are not set, each behind a comma, the first in the lowest bytes.
-const NO_CELLS: u64 = 0x302c_302c_302c_302c;
-
-// The digit of a number at a position.
-fn digit_at(n: u64, p: usize) -> u64
-    requires { ⌜ p < word-bits ⌝ }
-    ensures { λ r. ⌜ r ≡ one-if (bit n p) ⌝ }
-{
-    (n >> p) % 2
-}
 
 // A number without its other positions.
 fn kept_at(n: u64, p: usize) -> u64

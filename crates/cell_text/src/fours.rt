@@ -1,24 +1,14 @@
 // Four cells at once: their eight bytes are made as one number and written from it.
+use crate::number::NO_CELLS;
+use crate::number::digit_at;
 ghost use mathlib.Core.Path.{_≡_};
 ghost use Prim.Native.Nat.{_*_, _≤_, _<_};
 ghost use lib.ListN.{length};
-ghost use Rattle.bits.specs.Counting.{one-if};
 ghost use Rattle.bits.specs.Bit.{bit, word-bits};
 ghost use Rattle.lists.specs.Listed.{listed};
 ghost use Rattle.cell_text.specs.CellsText.{cell-field};
 ghost use Rattle.cell_text.specs.FourCells.{byte-in, eight-bytes, four-cells};
 ghost use Rattle.text.specs.Written.{Written};
-
-// Four cells that are not set, each behind a comma, the first in the lowest bytes.
-const NO_CELLS: u64 = 0x302c_302c_302c_302c;
-
-// The digit of a word at a position.
-fn digit_at(word: u64, p: usize) -> u64
-    requires { ⌜ p < word-bits ⌝ }
-    ensures { λ r. ⌜ r ≡ one-if (bit word p) ⌝ }
-{
-    (word >> p) % 2
-}
 
 // The bytes of the four lowest cells of a word, as one number.
 fn four_lowest(word: u64) -> u64

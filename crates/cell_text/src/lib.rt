@@ -3,6 +3,7 @@ mod four_cells;
 mod fours;
 mod line_cells;
 mod next;
+mod number;
 mod row;
 
 pub use line_cells::CellsWord;

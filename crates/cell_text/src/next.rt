@@ -1,23 +1,9 @@
 // The set cells of a row, one after the other.
-use bits::WORD_BITS;
 use numbers::ROW_WORDS;
 ghost use Prim.Native.Nat.{_+_, _*_, _≤_, _<_};
 ghost use lib.ListN.{length};
-ghost use Rattle.bits.specs.Bit.{bit, word-bits};
+ghost use Rattle.bits.specs.Counting.{NextFrom};
 ghost use Rattle.cells.specs.Rows.{row-words, row-bits, cell};
-ghost use Rattle.cells.specs.KernelWalk.{NextFrom};
-
-// The lowest position of a word from a place on, else the end of the word.
-fn next_position(word: u64, from: usize) -> usize
-    requires { ⌜ from < word-bits ⌝ }
-    ensures { λ r. ⌜ NextFrom (bit word) from word-bits r ⌝ }
-{
-    let rest = word >> from;
-    if rest == 0 {
-        return WORD_BITS;
-    }
-    from + bits::lowest(rest)
-}
 
 // The lowest cell of a row from a place on that is set, of its first `count` cells, else `count`. A row is one word.
 pub fn next_set(words: &[u64], row: usize, from: usize, count: usize) -> usize
@@ -27,6 +13,6 @@ pub fn next_set(words: &[u64], row: usize, from: usize, count: usize) -> usize
     if from == count {
         return count;
     }
-    let next = next_position(words[row * ROW_WORDS], from);
+    let next = bits::lowest_from(words[row * ROW_WORDS], from);
     if next < count { next } else { count }
 }

@@ -18,6 +18,10 @@ cell-words = user-limit * row-words
 abbrev pub cell-limit : ℕ
 cell-limit = cell-words * word-bits
 
+-- the cells of these users
+abbrev pub cells-of : ℕ → ℕ
+cells-of users = users * row-words * word-bits
+
 -- the grant at a cell
 abbrev pub grant-of : ℕ → Grant
 grant-of n = record { user = n / row-bits; permission = n % row-bits }

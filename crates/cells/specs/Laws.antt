@@ -7,3 +7,6 @@ pub mod CellLawful
 pub mod Grant
 pub mod GrantOrder
 pub mod WordRows
+pub mod CellAdded
+pub mod PositionSet
+pub mod MadeCells

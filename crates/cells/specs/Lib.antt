@@ -5,8 +5,8 @@ pub mod KernelWalk
 pub mod KernelList
 pub mod CellSets
 pub mod CellPlaces
+pub mod MadeCells
 pub mod Rows
 pub mod RowsRead
 pub mod CellAdded
-pub mod CellLaws
 pub mod Laws

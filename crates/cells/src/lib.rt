@@ -8,4 +8,5 @@ pub use listing::listed;
 pub use listing::next_cell;
 pub use listing::permission_of;
 pub use listing::user_of;
+pub use rows::mark;
 pub use rows::no_rows;

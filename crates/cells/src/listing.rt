@@ -1,6 +1,7 @@
 // The kernel's grants in order.
 use bits::WORD_BITS;
 use numbers::CELL_WORDS;
+use numbers::CellNo;
 use numbers::GRANT_LIMIT;
 use numbers::PermissionNo;
 use numbers::ROW_BITS;
@@ -11,12 +12,12 @@ ghost use mathlib.Core.List.{List};
 ghost use Prim.Native.Nat.{ℕ, _+_, _*_, _/_, _%_, _^_, _≤_, _<_};
 ghost use lib.ListN.{getD};
 ghost use Rattle.spec.specs.Limits.{user-limit};
-ghost use Rattle.bits.specs.Bit.{bit, word-bits};
+ghost use Rattle.bits.specs.Bit.{word-bits};
+ghost use Rattle.bits.specs.Counting.{NextFrom};
 ghost use Rattle.cells.specs.Rows.{row-words, row-bits, cell};
 ghost use Rattle.cells.specs.CellPlaces.{cell-words, marked};
 ghost use Rattle.cells.specs.KernelArray.{Roomy, Listed};
 ghost use Rattle.cells.specs.KernelList.{ListedTo};
-ghost use Rattle.cells.specs.KernelWalk.{NextFrom};
 
 // Grants in order: the cell of each by its number, and how many there are.
 #[repr(C)]
@@ -25,34 +26,22 @@ pub struct Kernel {
     pub size: usize,
 }
 
-// The lowest position of a word from a place on, else the end of the word.
-fn next_position(word: u64, from: usize) -> usize
-    requires { ⌜ from < word-bits ⌝ }
-    ensures { λ r. ⌜ NextFrom (bit word) from word-bits r ⌝ }
-{
-    let rest = word >> from;
-    if 0 < rest {
-        from + bits::lowest(rest)
-    } else {
-        WORD_BITS
-    }
-}
-
 // The lowest cell from a place on that is set, else the end of the users' rows.
-pub fn next_cell(words: &[u64; CELL_WORDS], users: usize, from: usize) -> usize
-    requires { ⌜ (users ≤ user-limit) × (from ≤ users * row-bits) ⌝ }
-    ensures { λ r. ⌜ NextFrom (marked (now (words .entry))) from (users * row-bits) r ⌝ }
+pub fn next_cell(words: &[u64; CELL_WORDS], users: usize, from: CellNo) -> CellNo
+    requires { ⌜ (users ≤ user-limit) × (from .0 ≤ users * row-bits) ⌝ }
+    ensures { λ r. ⌜ NextFrom (marked (now (words .entry))) (from .0) (users * row-bits) (r .0) ⌝ }
 {
-    let mut n = from;
+    let mut n = from.0;
     while n < users * ROW_BITS {
         let i = n / WORD_BITS;
-        let p = next_position(words[i], n % WORD_BITS);
+        let p = bits::lowest_from(words[i], n % WORD_BITS);
         if p < WORD_BITS {
-            return i * WORD_BITS + p;
+            let found = i * WORD_BITS + p;
+            return CellNo(found);
         }
         n = (i + 1) * WORD_BITS;
     }
-    n
+    CellNo(n)
 }
 
 // The cells of word i of a set, put in behind those that are there, as far as there is room. How many there are then.
@@ -87,17 +76,17 @@ pub fn listed(left: &[u64; CELL_WORDS], users: usize) -> Kernel
 }
 
 // The user of a cell.
-pub fn user_of(cell: u16) -> UserNo
-    ensures { λ r. ⌜ r .0 ≡ cell / row-bits ⌝ }
+pub fn user_of(cell: CellNo) -> UserNo
+    ensures { λ r. ⌜ r .0 ≡ cell .0 / row-bits ⌝ }
 {
-    UserNo(cell as usize / ROW_BITS)
+    UserNo(cell.0 / ROW_BITS)
 }
 
 // The permission of a cell.
-pub fn permission_of(cell: u16) -> PermissionNo
-    ensures { λ r. ⌜ r .0 ≡ cell % row-bits ⌝ }
+pub fn permission_of(cell: CellNo) -> PermissionNo
+    ensures { λ r. ⌜ r .0 ≡ cell .0 % row-bits ⌝ }
 {
-    PermissionNo(cell as usize % ROW_BITS)
+    PermissionNo(cell.0 % ROW_BITS)
 }
 
 // Whether a user holds a permission, as the rows say.

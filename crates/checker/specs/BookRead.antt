@@ -15,7 +15,7 @@ use Rattle.cells.specs.Rows.{cell}
 use Rattle.roles.specs.StandingCases.{standing-case}
 use Rattle.decimal.specs.Laws.Count.{decimal-is-count, count-is-decimal}
 use Rattle.blocks.specs.RowsSaid.{roles-in}
-use Rattle.form.specs.declared.counts_block.Counts.{Counts}
+use Rattle.blocks.specs.declared.counts.Counts.{Counts}
 use Rattle.form.specs.declared.witness_block.Witness.{Witness}
 use Rattle.right.specs.WrittenLines.{Sayable}
 use Rattle.form.specs.Steps.{Reads}

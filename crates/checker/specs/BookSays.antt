@@ -23,7 +23,7 @@ use Rattle.rules.specs.AcceptedFacts.{Lawful}
 use Rattle.roles.specs.StandingCases.{standing-case}
 use Rattle.blocks.specs.RowsSaid.{roles-in}
 use Rattle.right.specs.CheckParts.{counts-agree-elim}
-use Rattle.form.specs.declared.counts_block.Counts.{Counts}
+use Rattle.blocks.specs.declared.counts.Counts.{Counts}
 use Rattle.form.specs.declared.witness_block.Witness.{Witness}
 use Rattle.checker.specs.declared.judgement.Checked.{Checked}
 use Rattle.decimal.specs.Capped.{count-cap, capped, capped-test}

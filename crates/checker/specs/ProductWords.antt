@@ -14,15 +14,8 @@ use Rattle.spec.specs.Sheet.{Sheet, user-count, permission-count, holds}
 use Rattle.spec.specs.RoleSet.{RoleSet, product}
 use Rattle.spec.specs.Refusal.{product-agrees}
 use Rattle.bits.specs.Truth.{fails-unless, same-truth, and-intro}
-use Rattle.bits.specs.Laws.Below.{
-  below-or-from,
-  some-below-ext,
-  none-below-intro,
-  every-below-intro,
-  every-below-elim,
-  every-below-ext,
-  every-below-add,
-}
+use Rattle.bits.specs.Laws.Below.{below-or-from, some-below-ext, none-below-intro, every-below-intro}
+use Rattle.bits.specs.Laws.Below.{every-below-elim, every-below-ext, every-below-add}
 use Rattle.bits.specs.Bit.{bit, word-bits}
 use Rattle.bits.specs.Laws.Bit.{bit-ext}
 use Rattle.cells.specs.Rows.{row-words, row-bits, cell, RowsOf}

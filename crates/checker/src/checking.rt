@@ -1,8 +1,8 @@
 // The check of a book against a sheet.
 use crate::judgement::Checked;
+use crate::judgement::Front;
 use crate::judgement::judge_book;
 use crate::judgement::refused;
-use form::Counts;
 use form::CountsRead;
 use form::RolesRead;
 use form::Step;
@@ -30,19 +30,18 @@ fn check_from_users<'a>(
     layout: Layout,
     rows: &'a [u64],
     book: &'a [u8],
-    at: usize,
-    counts: Counts,
-    roles: usize,
+    front: Front,
     gives: &'a [u64],
 ) -> Checked
     requires { ⌜ LaidOut (now sheet) layout × RowsRead (now rows) (sheet-of (now sheet))
         × (layout .users * row-words ≤ length (now rows)) ⌝ }
     requires { ⌜ (length (now book) ≤ book-limit) × (role-limit * row-words ≤ length (now gives)) ⌝ }
-    requires { ⌜ FrontRead (sheet-of (now sheet)) (now book) counts (now gives) roles at ⌝ }
+    requires { ⌜ FrontRead (sheet-of (now sheet)) (now book) (front .counts) (now gives) (front .roles)
+        (front .next) ⌝ }
     ensures { λ r. ⌜ Checks (now (sheet .entry)) (now (book .entry)) (answer-of r) ⌝ }
 {
     let mut has = cells::no_rows();
-    let Step::On(last) = read_users(book, at, sheet, layout, &mut has, roles) else {
+    let Step::On(last) = read_users(book, front.next, sheet, layout, &mut has, front.roles) else {
         return refused(12);
     };
     let read = read_witness(book, last, sheet, layout);
@@ -50,16 +49,7 @@ fn check_from_users<'a>(
         return refused(12);
     }
     let witness = read.witness;
-    judge_book(
-        sheet,
-        rows,
-        layout.users,
-        counts,
-        roles,
-        &has,
-        gives,
-        witness,
-    )
+    judge_book(sheet, rows, layout.users, front, &has, gives, witness)
 }
 
 // Checks a book that is not too long against an accepted sheet, which has been read.
@@ -76,7 +66,12 @@ fn check_book<'a>(sheet: &'a [u8], layout: Layout, rows: &'a [u64], book: &'a [u
     let RolesRead::Roles(roles, third) = read_roles(book, second, sheet, layout, &mut gives) else {
         return refused(12);
     };
-    check_from_users(sheet, layout, rows, book, third, counts, roles, &gives)
+    let front = Front {
+        counts,
+        roles,
+        next: third,
+    };
+    check_from_users(sheet, layout, rows, book, front, &gives)
 }
 
 // Whether a book is right for a sheet: the lowest of document 01's numbers that applies, with counts 0; or 0, with

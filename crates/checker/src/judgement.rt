@@ -2,7 +2,7 @@
 use crate::agree::counts_agree;
 use crate::product::rows_agree;
 use crate::witness_lines::witness_stands;
-use form::Counts;
+use blocks::Counts;
 use form::Witness;
 ghost use mathlib.Core.Path.{_≡_};
 ghost use mathlib.Core.Bool.{So};
@@ -24,6 +24,13 @@ pub struct Checked {
     pub witness_lines: usize,
 }
 
+// What was read of blocks 1 and 2: what block 1 says, how many roles block 2 has, and where to go on.
+pub struct Front {
+    pub counts: Counts,
+    pub roles: usize,
+    pub next: usize,
+}
+
 // A number with counts 0.
 pub fn refused(number: usize) -> Checked
     ensures { λ r. ⌜ answer-of r ≡ check-refused number ⌝ }
@@ -41,20 +48,21 @@ pub fn judge_book<'a>(
     sheet: &'a [u8],
     rows: &'a [u64],
     users: usize,
-    counts: Counts,
-    roles: usize,
+    front: Front,
     has: &'a [u64],
     gives: &'a [u64],
     witness: Witness,
 ) -> Checked
     requires { ⌜ So (accepted (now sheet)) × RowsRead (now rows) (sheet-of (now sheet))
         × (users ≡ user-count (sheet-of (now sheet))) ⌝ }
-    requires { ⌜ BookSays (sheet-of (now sheet)) counts roles (now has) (now gives) witness ⌝ }
+    requires { ⌜ BookSays (sheet-of (now sheet)) (front .counts) (front .roles) (now has) (now gives) witness ⌝ }
     requires { ⌜ (users * row-words ≤ length (now rows)) × (users * row-words ≤ length (now has))
-        × (roles * row-words ≤ length (now gives)) ⌝ }
-    ensures { λ r. ⌜ JudgedAs (sheet-of (now (sheet .entry))) counts roles (now (has .entry)) (now (gives .entry))
-        witness (answer-of r) ⌝ }
+        × (front .roles * row-words ≤ length (now gives)) ⌝ }
+    ensures { λ r. ⌜ JudgedAs (sheet-of (now (sheet .entry))) (front .counts) (front .roles) (now (has .entry))
+        (now (gives .entry)) witness (answer-of r) ⌝ }
 {
+    let counts = front.counts;
+    let roles = front.roles;
     if !counts_agree(counts, roles, witness.lines) {
         return refused(13);
     }

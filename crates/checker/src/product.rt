@@ -2,6 +2,7 @@
 use bits::WORD_BITS;
 use form::cells_in_word;
 use numbers::ROW_WORDS;
+use numbers::UserNo;
 ghost use mathlib.Core.Path.{_≡_};
 ghost use mathlib.Core.Bool.{_||_};
 ghost use Prim.Native.Nat.{ℕ, _+_, _*_, _≤_, _<_};
@@ -14,11 +15,11 @@ ghost use Rattle.checker.specs.ProductWords.{GivenWord, row-agrees};
 ghost use Rattle.checker.specs.GivenRoles.{RolesWord, GivenWithin, some-given};
 
 // The roles of a user at the positions of word j, of which only those below `roles` count.
-fn roles_word(has: &[u64], roles: usize, u: usize, j: usize) -> u64
-    requires { ⌜ (j < row-words) × ((u + 1) * row-words ≤ length (now has)) ⌝ }
-    ensures { λ r. ⌜ RolesWord (now (has .entry)) roles u j r ⌝ }
+fn roles_word(has: &[u64], roles: usize, u: UserNo, j: usize) -> u64
+    requires { ⌜ (j < row-words) × ((u .0 + 1) * row-words ≤ length (now has)) ⌝ }
+    ensures { λ r. ⌜ RolesWord (now (has .entry)) roles (u .0) j r ⌝ }
 {
-    has[u * ROW_WORDS + j] & bits::full(cells_in_word(roles, j))
+    has[u.0 * ROW_WORDS + j] & bits::full(cells_in_word(roles, j))
 }
 
 // A word, and word k of what the roles at the positions of some give, role after role. The positions are counted from
@@ -38,10 +39,10 @@ fn with_given(start: u64, gives: &[u64], first: usize, some: u64, k: usize) -> u
 }
 
 // Word k of what the roles of a user give together.
-fn given_word(has: &[u64], gives: &[u64], roles: usize, u: usize, k: usize) -> u64
-    requires { ⌜ (roles ≤ row-bits) × (k < row-words) × ((u + 1) * row-words ≤ length (now has))
+fn given_word(has: &[u64], gives: &[u64], roles: usize, u: UserNo, k: usize) -> u64
+    requires { ⌜ (roles ≤ row-bits) × (k < row-words) × ((u .0 + 1) * row-words ≤ length (now has))
         × (roles * row-words ≤ length (now gives)) ⌝ }
-    ensures { λ r. ⌜ GivenWord (now (has .entry)) (now (gives .entry)) roles u k r ⌝ }
+    ensures { λ r. ⌜ GivenWord (now (has .entry)) (now (gives .entry)) roles (u .0) k r ⌝ }
 {
     let mut word = 0;
     let mut j = 0;
@@ -54,14 +55,15 @@ fn given_word(has: &[u64], gives: &[u64], roles: usize, u: usize, k: usize) -> u
 }
 
 // Whether the roles of a user give together what the user's row has.
-fn row_agrees(rows: &[u64], has: &[u64], gives: &[u64], roles: usize, u: usize) -> bool
-    requires { ⌜ (roles ≤ row-bits) × ((u + 1) * row-words ≤ length (now rows))
-        × ((u + 1) * row-words ≤ length (now has)) × (roles * row-words ≤ length (now gives)) ⌝ }
-    ensures { λ r. ⌜ r ≡ row-agrees (now (rows .entry)) (roles-in (now (has .entry)) (now (gives .entry)) roles) u ⌝ }
+fn row_agrees(rows: &[u64], has: &[u64], gives: &[u64], roles: usize, u: UserNo) -> bool
+    requires { ⌜ (roles ≤ row-bits) × ((u .0 + 1) * row-words ≤ length (now rows))
+        × ((u .0 + 1) * row-words ≤ length (now has)) × (roles * row-words ≤ length (now gives)) ⌝ }
+    ensures { λ r. ⌜ r ≡ row-agrees (now (rows .entry)) (roles-in (now (has .entry)) (now (gives .entry)) roles)
+        (u .0) ⌝ }
 {
     let mut k = 0;
     while k < ROW_WORDS {
-        if given_word(has, gives, roles, u, k) != rows[u * ROW_WORDS + k] {
+        if given_word(has, gives, roles, u, k) != rows[u.0 * ROW_WORDS + k] {
             return false;
         }
         k += 1;
@@ -78,7 +80,7 @@ pub fn rows_agree(rows: &[u64], has: &[u64], gives: &[u64], roles: usize, users:
 {
     let mut u = 0;
     while u < users {
-        if !row_agrees(rows, has, gives, roles, u) {
+        if !row_agrees(rows, has, gives, roles, UserNo(u)) {
             return false;
         }
         u += 1;

@@ -8,14 +8,8 @@ ghost use mathlib.Core.Path.{_≡_};
 ghost use Prim.Native.Nat.{_+_, _*_, _≤_, _<_};
 ghost use lib.ListN.{length};
 ghost use Rattle.cells.specs.Rows.{row-words, row-bits, cell};
-ghost use Rattle.checker.specs.WitnessWords.{
-  LineWithin,
-  LinesWithin,
-  line-held,
-  lines-fit,
-  fits-earlier,
-  lines-stand,
-};
+ghost use Rattle.checker.specs.WitnessWords.{LineWithin, LinesWithin, line-held, lines-fit, fits-earlier};
+ghost use Rattle.checker.specs.WitnessWords.{lines-stand};
 
 // Whether a user holds a permission.
 fn holds(rows: &[u64], user: UserNo, permission: PermissionNo) -> bool

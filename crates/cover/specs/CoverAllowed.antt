@@ -16,8 +16,8 @@ use Rattle.bits.specs.Laws.Below.{below-or-from, every-below-intro, every-below
 use Rattle.bits.specs.Bit.{bit, word-bits}
 use Rattle.bits.specs.Laws.Bit.{bit-of-zero, bit-full}
 use Rattle.cells.specs.Rows.{row-words, row-bits, cell}
-use Rattle.cells.specs.CellAdded.{CellAdded}
-use Rattle.cells.specs.CellLaws.{word-of, word-below, cell-set}
+use Rattle.cells.specs.CellAdded.{CellAdded, word-of}
+use Rattle.cells.specs.Laws.CellAdded.{word-below, cell-set}
 use Rattle.cover.specs.CoverMembers.{class-words, joinable}
 use Rattle.cover.specs.CoverWords.{held-at}
 use Rattle.cover.specs.CoverFree.{free}

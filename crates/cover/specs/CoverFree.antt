@@ -1,23 +1,20 @@
 -- The lowest free class, word by word. A class is free for a permission if it is one of a set of allowed classes and
--- none of its members lacks the permission. The positions of a word not yet tried are those of a lesser word: every
--- other position of the word is known to fail. So its lowest position, where it passes, is the lowest of all, and
--- where it fails it is dropped.
+-- none of its members lacks the permission. A walk over the positions of a word knows of every position that it has
+-- passed that it fails, so the first that passes is the lowest of all.
 use Prim.Native.Nat.{ℕ, _+_, _-_, _*_, _≤_, _<_}
 use native.Mathlib.Nat.{le-refl, zero-mul, zero-add, add-sub-of-le}
 use native.Mathlib.Omega.{arith}
-use mathlib.Core.Path.{_≡_, sym, _∙_}
+use mathlib.Core.Path.{_≡_}
 use mathlib.Core.Logic.{⊎-elim}
-use mathlib.Core.Bool.{Bool, false, So, not, _&&_, and-false, and-true}
+use mathlib.Core.Bool.{Bool, false, So, not, _&&_, and-false}
 use mathlib.Core.List.{List}
-use borrow.Author.Tests.{eqb-true}
 use lib.Arith.{digits-div, digits-mod}
-use lib.Dec.{eqb}
 use lib.ListN.{getD}
-use Rattle.bits.specs.Truth.{passes-or-fails, and-intro, and-left}
+use Rattle.bits.specs.Truth.{and-intro}
 use Rattle.bits.specs.Counting.{Lowest}
 use Rattle.bits.specs.Laws.Below.{below-or-from}
 use Rattle.bits.specs.Bit.{bit, word-bits}
-use Rattle.bits.specs.Laws.Bit.{bit-of-zero}
+use Rattle.bits.specs.Laws.Walk.{Walk, walk-begun, walk-before, walk-next, walk-ended}
 use Rattle.bits.specs.Word.{LowestDropped}
 use Rattle.cells.specs.Rows.{row-words, row-bits, cell}
 
@@ -37,39 +34,32 @@ pub record FirstBelow (n : ℕ) (test : ℕ → Bool) (r : ℕ) : Type 0 where
 
 -- ---- in a word
 
--- the positions of rest are those of word that are still to be tried
-pub record Left (word : ℕ) (test : ℕ → Bool) (rest : ℕ) : Type 0 where
-  pub inside : (x : ℕ) → So (bit rest x) → So (bit word x)
-  pub tried : (x : ℕ) → bit rest x ≡ false → (bit word x && test x) ≡ false
+-- position x is none of the word's, or fails the test
+abbrev pub Fails : ℕ → (ℕ → Bool) → ℕ → Type 0
+Fails word test x = (bit word x && test x) ≡ false
 
 module _ (word : ℕ) (test : ℕ → Bool) where
-  pub all-left : Left word test word
-  all-left = record { inside = λ x p. p; tried = λ x e. rw e }
+  pub none-tried : Walk word (Fails word test) word
+  none-tried = walk-begun (λ x l e. rw e)
 
-  pub lowest-left : {rest x : ℕ} → Left word test rest → Lowest word-bits (bit rest) x → So (test x)
+  -- the next position passes
+  pub lowest-passes : {rest x : ℕ} → Walk word (Fails word test) rest → Lowest word-bits (bit rest) x → So (test x)
       → FirstBelow word-bits (λ y. bit word y && test y) x
-  lowest-left {rest} {x} left low p = record {
+  lowest-passes {rest} {x} walk low p = record {
     not-past = omega (arith, low .within);
-    skipped = λ i l. left .tried i (low .first i l);
-    passes = λ l. and-intro (bit word x) (test x) (left .inside x (low .holds)) p;
+    skipped = walk-before walk low;
+    passes = λ l. and-intro (bit word x) (test x) (walk .kept x (low .holds)) p;
   }
 
-  pub one-tried : {rest x next : ℕ} → Left word test rest → Lowest word-bits (bit rest) x → test x ≡ false
-      → LowestDropped rest next
-      → Left word test next
-  one-tried {rest} {x} {next} left low fails dropped = record {
-    inside = λ y p. left .inside y (and-left (bit rest y) (not (eqb y x)) (sym (dropped .others low y) ∙ p));
-    tried = λ y e. ⊎-elim (λ same. rw (eqb-true y x same, fails) (and-false (bit word x)))
-        (λ other. left .tried y (kept y other e)) (passes-or-fails (eqb y x));
-  }
-    where
-      kept : (y : ℕ) → eqb y x ≡ false → bit next y ≡ false → bit rest y ≡ false
-      kept y other e = sym (and-true (bit rest y)) ∙ (rw other at (sym (dropped .others low y) ∙ e))
+  -- the next position fails
+  pub one-tried : {rest x next : ℕ} → Walk word (Fails word test) rest → Lowest word-bits (bit rest) x
+      → test x ≡ false → LowestDropped rest next → Walk word (Fails word test) next
+  one-tried {rest} {x} walk low fails = walk-next walk low (rw fails (and-false (bit word x)))
 
-  pub none-left : Left word test 0 → FirstBelow word-bits (λ y. bit word y && test y) word-bits
-  none-left left = record {
+  pub all-tried : Walk word (Fails word test) 0 → FirstBelow word-bits (λ y. bit word y && test y) word-bits
+  all-tried walk = record {
     not-past = le-refl word-bits;
-    skipped = λ i l. left .tried i (bit-of-zero i);
+    skipped = walk-ended walk;
     passes = λ l. absurd (omega arith);
   }
 

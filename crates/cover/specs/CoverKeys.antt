@@ -14,90 +14,78 @@ use lib.Dec.{eqb}
 use lib.ListN.{length, getD, set, replicate, length-set, length-replicate, getD-replicate}
 use lib.Seq.{getD-set-same, getD-set-other}
 use Rattle.spec.specs.Limits.{grant-limit}
-use Rattle.spec.specs.Cover.{used}
 use Rattle.bits.specs.Truth.{passes-or-fails, not-both, fails-unless}
 use Rattle.bits.specs.Laws.Below.{last-or-below, some-below-intro, some-below-elim, some-below-more}
 use Rattle.lists.specs.Classing.{class-in}
-use Rattle.lists.specs.GrownLaws.{grown-used-le}
 use Rattle.lists.specs.PlacementLaws.{class-below-used}
-use Rattle.lists.specs.GroupingLaws.{grouping-length, grouping-grown}
+use Rattle.lists.specs.GroupingLaws.{grouping-length}
 use Rattle.lists.specs.KeyLaws.{same-key, has-key, by-key, grouping-used-le}
 use Rattle.lists.specs.KeyStep.{next-class, keyed-next, keyed-before, next-class-known, next-class-new}
-use Rattle.cells.specs.Rows.{row-bits}
 use Rattle.cells.specs.Blank.{BlankFrom, zeros-blank, set-blank}
 use Rattle.cover.specs.CoverPlaced.{Placed, none-placed, few-classes, one-placed}
 
--- what the table has for a key with no class yet: no class has this number
-abbrev pub no-class : ℕ
-no-class = grant-limit
-
--- the class of a key: the one that the table has, else the next one
-abbrev pub class-from : List ℕ → ℕ → ℕ → ℕ
-class-from table count k = cond (eqb (getD table k 0) no-class) count (getD table k 0)
+-- the class of a key: the one that the table has, else the next one; `none` stands in the table where there is none
+abbrev pub class-from : ℕ → List ℕ → ℕ → ℕ → ℕ
+class-from none table count k = cond (eqb (getD table k 0) none) count (getD table k 0)
 
 -- the first i numbers have their classes, and the table has the classes of their keys
-pub record Keyed (key : ℕ → ℕ) (i : ℕ) (table classes : List ℕ) (count : ℕ) : Type 0 where
+pub record Keyed (key : ℕ → ℕ) (i width none : ℕ) (table classes : List ℕ) (count : ℕ) : Type 0 where
   pub room : length classes ≡ grant-limit
-  pub wide : length table ≡ row-bits
+  pub wide : length table ≡ width
   pub placed : Placed (by-key key i) classes i count
   pub named : (j : ℕ) → j < i → getD table (key j) 0 ≡ class-in (by-key key i) j
-  pub unnamed : (k : ℕ) → k < row-bits → has-key key i k ≡ false → getD table k 0 ≡ no-class
+  pub unnamed : (k : ℕ) → k < width → has-key key i k ≡ false → getD table k 0 ≡ none
   pub past : BlankFrom i classes
 
-pub none-keyed : (key : ℕ → ℕ) (n m : ℕ) → n ≡ grant-limit → m ≡ row-bits → Keyed key 0 (replicate m no-class)
-    (replicate n 0) 0
-none-keyed key n m room wide =
+pub none-keyed : (key : ℕ → ℕ) (n width none : ℕ) → n ≡ grant-limit
+    → Keyed key 0 width none (replicate width none) (replicate n 0) 0
+none-keyed key n width none room =
     record {
       room = length-replicate n 0 ∙ room;
-      wide = length-replicate m no-class ∙ wide;
+      wide = length-replicate width none;
       placed = none-placed (replicate n 0);
       named = λ j l. absurd (not-suc-le-zero l);
-      unnamed = λ k l f. getD-replicate m k no-class 0 (omega arith);
+      unnamed = λ k l f. getD-replicate width k none 0 l;
       past = zeros-blank 0 n;
     }
 
--- there are no more classes than numbers
-keyed-used-le : (key : ℕ → ℕ) (i : ℕ) → used (by-key key i) ≤ i
-keyed-used-le key i =
-    rw (grouping-length (same-key key) i) at (grown-used-le (by-key key i) (grouping-grown (same-key key) i))
-
-pub keyed-count-le : {key : ℕ → ℕ} {i : ℕ} {table classes : List ℕ} {count : ℕ} → Keyed key i table classes count
-    → count ≤ i
+pub keyed-count-le : {key : ℕ → ℕ} {i width none : ℕ} {table classes : List ℕ} {count : ℕ}
+    → Keyed key i width none table classes count → count ≤ i
 keyed-count-le {key} {i} {classes} {count} so-far = few-classes (same-key key) classes i count (so-far .placed)
 
 -- and no more than there can be keys
-pub keyed-count-below : {key : ℕ → ℕ} {i : ℕ} {table classes : List ℕ} {count : ℕ} → Keyed key i table classes count
-    → ((j : ℕ) → j < i → key j < row-bits) → count ≤ row-bits
-keyed-count-below {key} {i} so-far within = rw (so-far .placed .in-use) (grouping-used-le key i row-bits within)
+pub keyed-count-below : {key : ℕ → ℕ} {i width none : ℕ} {table classes : List ℕ} {count : ℕ}
+    → Keyed key i width none table classes count → ((j : ℕ) → j < i → key j < width) → count ≤ width
+keyed-count-below {key} {i} {width} so-far within = rw (so-far .placed .in-use) (grouping-used-le key i width within)
 
-module _ {key : ℕ → ℕ} {i : ℕ} {table classes : List ℕ} {count : ℕ} (so-far : Keyed key i table classes count)
-    (room : i < grant-limit)
-    (fits : key i < row-bits) where
+module _ {key : ℕ → ℕ} {i width none : ℕ} {table classes : List ℕ} {count : ℕ}
+    (so-far : Keyed key i width none table classes count) (room : i < grant-limit) (fits : key i < width)
+    (few : count ≤ none) where
   -- a key that has a class
   known-class : (j : ℕ) → j < i → key i ≡ key j → (getD table (key i) 0 ≡ next-class key i)
-      × (next-class key i < no-class)
+      × (next-class key i < none)
   known-class j l e =
       let known = next-class-known key i j l e in
       let below = class-below-used (by-key key i) {i = j} (rw (grouping-length (same-key key) i) l) in
-      (rw e (so-far .named j l) ∙ sym known, omega (arith, known, below, keyed-used-le key i))
+      (rw e (so-far .named j l) ∙ sym known, omega (arith, known, below, so-far .placed .in-use))
 
   -- the number takes the class that the grouping gives it
-  pub class-from-is-next : class-from table count (key i) ≡ next-class key i
+  pub class-from-is-next : class-from none table count (key i) ≡ next-class key i
   class-from-is-next = ⊎-elim known new (passes-or-fails (has-key key i (key i)))
     where
-      known : So (has-key key i (key i)) → class-from table count (key i) ≡ next-class key i
+      known : So (has-key key i (key i)) → class-from none table count (key i) ≡ next-class key i
       known p =
           let r = some-below-elim i (λ j. eqb (key j) (key i)) p in
           let k = known-class (r .place) (r .within) (sym (eqb-true (key (r .place)) (key i) (r .holds))) in
-          rw (ne-eqb (getD table (key i) 0) no-class (omega (arith, k .0, k .1))) (k .0)
+          rw (ne-eqb (getD table (key i) 0) none (omega (arith, k .0, k .1))) (k .0)
 
-      new : has-key key i (key i) ≡ false → class-from table count (key i) ≡ next-class key i
+      new : has-key key i (key i) ≡ false → class-from none table count (key i) ≡ next-class key i
       new f =
-          rw (eq-eqb (getD table (key i) 0) no-class (so-far .unnamed (key i) fits f)) (so-far .placed .in-use
+          rw (eq-eqb (getD table (key i) 0) none (so-far .unnamed (key i) fits f)) (so-far .placed .in-use
           ∙ sym (next-class-new key i f))
 
   -- and the next number follows
-  pub one-keyed : (c : ℕ) → c ≡ next-class key i → Keyed key (i + 1) (set table (key i) c) (set classes i c)
+  pub one-keyed : (c : ℕ) → c ≡ next-class key i → Keyed key (i + 1) width none (set table (key i) c) (set classes i c)
       (max (suc c) count)
   one-keyed c e = rw (add-one i)
       (record {

@@ -15,35 +15,18 @@ use lib.ListN.{length, getD, set, replicate, length-replicate, getD-replicate}
 use lib.Seq.{getD-set-same, getD-set-other}
 use Rattle.spec.specs.Vocabulary.{some-below, every-below}
 use Rattle.spec.specs.Cover.{joins}
-use Rattle.bits.specs.Truth.{
-  passes-or-fails,
-  not-both,
-  fails-unless,
-  same-truth,
-  implies,
-  implies-intro,
-  implies-elim,
-  not-passes,
-  not-fails,
-  and-intro,
-  and-left,
-  and-right,
-}
+use Rattle.bits.specs.Truth.{passes-or-fails, not-both, fails-unless, same-truth, implies, implies-intro}
+use Rattle.bits.specs.Truth.{implies-elim, not-passes, not-fails, and-intro, and-left, and-right}
 use Rattle.bits.specs.Counting.{Found}
-use Rattle.bits.specs.Laws.Below.{
-  some-below-intro,
-  some-below-elim,
-  some-below-ext,
-  every-below-intro,
-  every-below-elim,
-}
+use Rattle.bits.specs.Laws.Below.{some-below-intro, some-below-elim, some-below-ext, every-below-intro}
+use Rattle.bits.specs.Laws.Below.{every-below-elim}
 use Rattle.bits.specs.Bit.{word-bits}
 use Rattle.bits.specs.Laws.Bit.{bit-of-zero}
 use Rattle.lists.specs.PlacementLaws.{joins-intro, joins-elim}
 use Rattle.lists.specs.LatestFirst.{latest-first, latest-first-length, latest-first-class}
 use Rattle.cells.specs.Rows.{row-words, row-bits, cell}
-use Rattle.cells.specs.CellAdded.{CellAdded}
-use Rattle.cells.specs.CellLaws.{word-of, word-below}
+use Rattle.cells.specs.CellAdded.{CellAdded, word-of}
+use Rattle.cells.specs.Laws.CellAdded.{word-below}
 use Rattle.cells.specs.CellPlaces.{grant-of, fit-in}
 use Rattle.cells.specs.Laws.CellPlace.{row-bits-pos}
 use Rattle.cover.specs.CoverRelation.{fit-at-cells}
@@ -153,7 +136,8 @@ module _ {rows cells classes : List ℕ} {d : ℕ} {asked lacked : List ℕ} (m 
           (and-intro (eqb c (getD classes i 0)) (lacks rows cells i q) s t)
 
       -- and only that
-      asked-by : (q : ℕ) → q < row-bits → So (cell asked c q) → Found d (λ i. eqb c (getD classes i 0) && asks cells i q)
+      asked-by : (q : ℕ) → q < row-bits → So (cell asked c q) → Found d (λ i. eqb c (getD classes i 0)
+          && asks cells i q)
       asked-by q k t = some-below-elim d (λ i. eqb c (getD classes i 0) && asks cells i q)
           (sym (m .asking .gathers c q below k) ∙ t)
 

@@ -4,9 +4,12 @@ use cells::Kernel;
 use cells::permission_of;
 use cells::user_of;
 use numbers::CELL_WORDS;
+use numbers::CellNo;
 use numbers::GRANT_LIMIT;
+use numbers::PermissionNo;
 use numbers::ROW_BITS;
 use numbers::ROW_WORDS;
+use numbers::UserNo;
 ghost use mathlib.Core.Path.{_≡_};
 ghost use mathlib.Core.Bool.{true};
 ghost use mathlib.Core.List.{List, map};
@@ -32,11 +35,11 @@ ghost use Rattle.cover.specs.CoverFree.{free, free-in-word, FirstBelow};
 ghost use Rattle.cover.specs.CoverAllowed.{AllowedTo};
 ghost use Rattle.cover.specs.CoverPlaced.{Placed, PlacedOrMore};
 
-// What the table has for a permission with no class yet: no class has this number.
-const NO_CLASS: u16 = GRANT_LIMIT as u16;
-
 // As many classes as permissions: a grouping with more is not the best.
 const CLASS_LIMIT: usize = ROW_BITS;
+
+// What the table has for a permission with no class yet: no class has this number.
+const NO_CLASS: u8 = CLASS_LIMIT as u8;
 
 // A row of words for each class.
 const CLASS_WORDS: usize = CLASS_LIMIT * ROW_WORDS;
@@ -44,21 +47,22 @@ const CLASS_WORDS: usize = CLASS_LIMIT * ROW_WORDS;
 // A placement of the kernel: the class of each grant by its number, and how many classes there are.
 #[repr(C)]
 pub struct Placement {
-    pub classes: [u16; GRANT_LIMIT],
+    pub classes: [u8; GRANT_LIMIT],
     pub used: usize,
 }
 
 // The class of a permission: the one that the table has, else the next one.
-fn class_of_permission(table: &[u16; ROW_BITS], count: usize, p: usize) -> u16
-    requires { ⌜ (count < 2 ^ 16) × (p < row-bits) ⌝ }
-    ensures { λ r. ⌜ r ≡ class-from (now (table .entry)) count p ⌝ }
+fn class_of_permission(table: &[u8; ROW_BITS], count: usize, permission: PermissionNo) -> u8
+    requires { ⌜ (count < 2 ^ 8) × (permission .0 < row-bits) ⌝ }
+    ensures { λ r. ⌜ r ≡ class-from row-bits (now (table .entry)) count (permission .0) ⌝ }
 {
+    let p = permission.0;
     let c = table[p];
-    if c == NO_CLASS { count as u16 } else { c }
+    if c == NO_CLASS { count as u8 } else { c }
 }
 
 // How many classes there are once c is among them.
-fn counted(count: usize, c: u16) -> usize
+fn counted(count: usize, c: u8) -> usize
     ensures { λ r. ⌜ r ≡ max (suc c) count ⌝ }
 {
     let next = c as usize + 1;
@@ -77,8 +81,10 @@ fn grouped_by_permission(cells: &[u16]) -> Placement
     let mut count = 0;
     let mut d = 0;
     while d < cells.len() {
-        let p = permission_of(cells[d]).0;
-        let c = class_of_permission(&table, count, p);
+        let at = cells[d] as usize;
+        let permission = permission_of(CellNo(at));
+        let c = class_of_permission(&table, count, permission);
+        let p = permission.0;
         table[p] = c;
         classes[d] = c;
         count = counted(count, c);
@@ -97,11 +103,12 @@ fn word_at(rows: &[u64], i: usize) -> u64
     if i < rows.len() { rows[i] } else { 0 }
 }
 
-// Whether user u holds every permission that the members of class c ask.
-fn holds_asked<'a>(rows: &'a [u64], asked: &'a [u64; CLASS_WORDS], u: usize, c: usize) -> bool
-    requires { ⌜ (u < user-room) × (c < row-bits) ⌝ }
-    ensures { λ r. ⌜ r ≡ every-below row-bits (held-at (now (rows .entry)) (now (asked .entry)) u c) ⌝ }
+// Whether a user holds every permission that the members of class c ask.
+fn holds_asked<'a>(rows: &'a [u64], asked: &'a [u64; CLASS_WORDS], user: UserNo, c: usize) -> bool
+    requires { ⌜ (user .0 < user-room) × (c < row-bits) ⌝ }
+    ensures { λ r. ⌜ r ≡ every-below row-bits (held-at (now (rows .entry)) (now (asked .entry)) (user .0) c) ⌝ }
 {
+    let u = user.0;
     let mut j = 0;
     while j < ROW_WORDS {
         let held = word_at(rows, u * ROW_WORDS + j);
@@ -124,64 +131,65 @@ fn put_if(allowed: &mut [u64; ROW_WORDS], c: usize, yes: bool)
     }
 }
 
-// Of the classes below most, those whose members ask only what user u holds.
+// Of the classes below most, those whose members ask only what a user holds.
 fn allowed_to<'a>(
     rows: &'a [u64],
     asked: &'a [u64; CLASS_WORDS],
-    u: usize,
+    user: UserNo,
     most: usize,
 ) -> [u64; ROW_WORDS]
-    requires { ⌜ (u < user-room) × (most ≤ row-bits) ⌝ }
-    ensures { λ r. ⌜ AllowedTo (now (rows .entry)) (now (asked .entry)) u most r ⌝ }
+    requires { ⌜ (user .0 < user-room) × (most ≤ row-bits) ⌝ }
+    ensures { λ r. ⌜ AllowedTo (now (rows .entry)) (now (asked .entry)) (user .0) most r ⌝ }
 {
     let mut allowed = [0; ROW_WORDS];
     let mut c = 0;
     while c < most {
-        let yes = holds_asked(rows, asked, u, c);
+        let yes = holds_asked(rows, asked, user, c);
         put_if(&mut allowed, c, yes);
         c += 1;
     }
     allowed
 }
 
-// The classes allowed to user v: those allowed to user u where they are one.
+// The classes allowed to the next user: those allowed to the latest where they are one.
 fn allowed_next<'a>(
     rows: &'a [u64],
     asked: &'a [u64; CLASS_WORDS],
     allowed: [u64; ROW_WORDS],
-    u: usize,
-    v: usize,
+    latest: UserNo,
+    next: UserNo,
     most: usize,
 ) -> [u64; ROW_WORDS]
-    requires { ⌜ (v < user-room) × (most ≤ row-bits) ⌝ }
-    ensures { λ r. ⌜ (AllowedTo (now (rows .entry)) (now (asked .entry)) u most allowed
-        → AllowedTo (now (rows .entry)) (now (asked .entry)) v most r) ⌝ }
+    requires { ⌜ (next .0 < user-room) × (most ≤ row-bits) ⌝ }
+    ensures { λ r. ⌜ (AllowedTo (now (rows .entry)) (now (asked .entry)) (latest .0) most allowed
+        → AllowedTo (now (rows .entry)) (now (asked .entry)) (next .0) most r) ⌝ }
 {
-    if u == v {
+    if latest.0 == next.0 {
         allowed
     } else {
-        allowed_to(rows, asked, v, most)
+        allowed_to(rows, asked, next, most)
     }
 }
 
-// Whether a member of class c lacks permission p.
-fn is_lacked(lacked: &[u64; CLASS_WORDS], c: usize, p: usize) -> bool
-    requires { ⌜ (c < row-bits) × (p < row-bits) ⌝ }
-    ensures { λ r. ⌜ r ≡ cell (now (lacked .entry)) c p ⌝ }
+// Whether a member of class c lacks a permission.
+fn is_lacked(lacked: &[u64; CLASS_WORDS], c: usize, permission: PermissionNo) -> bool
+    requires { ⌜ (c < row-bits) × (permission .0 < row-bits) ⌝ }
+    ensures { λ r. ⌜ r ≡ cell (now (lacked .entry)) c (permission .0) ⌝ }
 {
+    let p = permission.0;
     bits::has(lacked[c * ROW_WORDS + p / WORD_BITS], p % WORD_BITS)
 }
 
-// The lowest position of word j of the allowed classes whose class has no member that lacks permission p, else the
+// The lowest position of word j of the allowed classes whose class has no member that lacks a permission, else the
 // end of the word.
-fn free_in_word(lacked: &[u64; CLASS_WORDS], word: u64, j: usize, p: usize) -> usize
-    requires { ⌜ (j < row-words) × (p < row-bits) ⌝ }
-    ensures { λ r. ⌜ FirstBelow word-bits (free-in-word word (now (lacked .entry)) p j) r ⌝ }
+fn free_in_word(lacked: &[u64; CLASS_WORDS], word: u64, j: usize, permission: PermissionNo) -> usize
+    requires { ⌜ (j < row-words) × (permission .0 < row-bits) ⌝ }
+    ensures { λ r. ⌜ FirstBelow word-bits (free-in-word word (now (lacked .entry)) (permission .0) j) r ⌝ }
 {
     let mut rest = word;
     while rest != 0 {
         let x = bits::lowest(rest);
-        if !is_lacked(lacked, j * WORD_BITS + x, p) {
+        if !is_lacked(lacked, j * WORD_BITS + x, permission) {
             return x;
         }
         rest = bits::without_lowest(rest);
@@ -189,14 +197,18 @@ fn free_in_word(lacked: &[u64; CLASS_WORDS], word: u64, j: usize, p: usize) -> u
     WORD_BITS
 }
 
-// The lowest allowed class with no member that lacks permission p, else as many as there can be.
-fn class_for<'a>(allowed: &'a [u64; ROW_WORDS], lacked: &'a [u64; CLASS_WORDS], p: usize) -> usize
-    requires { ⌜ p < row-bits ⌝ }
-    ensures { λ r. ⌜ FirstBelow row-bits (free (now (allowed .entry)) (now (lacked .entry)) p) r ⌝ }
+// The lowest allowed class with no member that lacks a permission, else as many as there can be.
+fn class_for<'a>(
+    allowed: &'a [u64; ROW_WORDS],
+    lacked: &'a [u64; CLASS_WORDS],
+    permission: PermissionNo,
+) -> usize
+    requires { ⌜ permission .0 < row-bits ⌝ }
+    ensures { λ r. ⌜ FirstBelow row-bits (free (now (allowed .entry)) (now (lacked .entry)) (permission .0)) r ⌝ }
 {
     let mut j = 0;
     while j < ROW_WORDS {
-        let x = free_in_word(lacked, allowed[j], j, p);
+        let x = free_in_word(lacked, allowed[j], j, permission);
         if x < WORD_BITS {
             return j * WORD_BITS + x;
         }
@@ -205,22 +217,25 @@ fn class_for<'a>(allowed: &'a [u64; ROW_WORDS], lacked: &'a [u64; CLASS_WORDS], 
     CLASS_LIMIT
 }
 
-// Adds permission p to what class c asks.
-fn add_asked(asked: &mut [u64; CLASS_WORDS], c: usize, p: usize)
-    requires { ⌜ (c < row-bits) × (p < row-bits) ⌝ }
+// Adds a permission to what class c asks.
+fn add_asked(asked: &mut [u64; CLASS_WORDS], c: usize, permission: PermissionNo)
+    requires { ⌜ (c < row-bits) × (permission .0 < row-bits) ⌝ }
     requires { ⌜ length (now asked) ≡ class-words ⌝ }
-    ensures { λ _. ⌜ CellAdded (now (asked .entry)) (now (asked .exit)) c p true ⌝ }
+    ensures { λ _. ⌜ CellAdded (now (asked .entry)) (now (asked .exit)) c (permission .0) true ⌝ }
 {
+    let p = permission.0;
     let i = c * ROW_WORDS + p / WORD_BITS;
     asked[i] = bits::with(asked[i], p % WORD_BITS);
 }
 
-// Adds to class c the permissions that user u lacks.
-fn add_lacked(rows: &[u64], lacked: &mut [u64; CLASS_WORDS], c: usize, u: usize)
-    requires { ⌜ (c < row-bits) × (u < user-room) ⌝ }
+// Adds to class c the permissions that a user lacks.
+fn add_lacked(rows: &[u64], lacked: &mut [u64; CLASS_WORDS], c: usize, user: UserNo)
+    requires { ⌜ (c < row-bits) × (user .0 < user-room) ⌝ }
     requires { ⌜ length (now lacked) ≡ class-words ⌝ }
-    ensures { λ _. ⌜ LacksAdded (now (rows .entry)) (now (lacked .entry)) (now (lacked .exit)) c u row-bits ⌝ }
+    ensures { λ _. ⌜ LacksAdded (now (rows .entry)) (now (lacked .entry)) (now (lacked .exit)) c (user .0)
+        row-bits ⌝ }
 {
+    let u = user.0;
     let mut j = 0;
     while j < ROW_WORDS {
         let held = word_at(rows, u * ROW_WORDS + j);
@@ -242,23 +257,24 @@ fn grouped_by_fit<'a>(rows: &'a [u64], cells: &'a [u16], most: usize) -> Placeme
     let mut lacked = [0; CLASS_WORDS];
     let mut classes = [0; GRANT_LIMIT];
     let mut allowed = [!0; ROW_WORDS];
-    let mut u = 0;
+    let mut latest = UserNo(0);
     let mut count = 0;
     let mut d = 0;
     while d < cells.len() {
-        let v = user_of(cells[d]).0;
-        let p = permission_of(cells[d]).0;
-        allowed = allowed_next(rows, &asked, allowed, u, v, most);
-        u = v;
-        let c = class_for(&allowed, &lacked, p);
+        let at = cells[d] as usize;
+        let user = user_of(CellNo(at));
+        let permission = permission_of(CellNo(at));
+        allowed = allowed_next(rows, &asked, allowed, latest, user, most);
+        latest = user;
+        let c = class_for(&allowed, &lacked, permission);
         if c >= most {
             let used = c + 1;
             return Placement { classes, used };
         }
-        add_asked(&mut asked, c, p);
-        add_lacked(rows, &mut lacked, c, v);
-        classes[d] = c as u16;
-        count = counted(count, c as u16);
+        add_asked(&mut asked, c, permission);
+        add_lacked(rows, &mut lacked, c, user);
+        classes[d] = c as u8;
+        count = counted(count, c as u8);
         d += 1;
     }
     Placement {

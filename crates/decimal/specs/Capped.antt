@@ -1,7 +1,7 @@
--- A count read into a number of the machine, which stops at a bound that no number of lines of a book reaches. A
--- count that says a lesser number is read as that number, and any other as the bound, so a comparison with a number
--- of lines comes out as it should whatever the length of the count is.
-use Prim.Native.Nat.{ℕ, suc, _+_, _-_, _*_, _<_, min}
+-- Digits read into a number of the machine, which stops at a cap. Digits that say a lesser number are read as that
+-- number, and any others as the cap, whatever their length is. A count of a book stops at a bound that no number of
+-- lines of a book reaches, so a comparison with a number of lines comes out as it should.
+use Prim.Native.Nat.{ℕ, suc, _+_, _-_, _*_, _^_, _<_, min}
 use Prim.Native.Char.{code}
 use native.Mathlib.Numerals.{add-one}
 use native.Mathlib.Omega.{arith}
@@ -25,52 +25,58 @@ unfoldable pub count-cap : ℕ
 unfolding book-limit
 count-cap = suc book-limit
 
--- a number, or the bound where it is greater
-abbrev pub capped : ℕ → ℕ
-capped n = min count-cap n
+-- no cap of a reader is greater, so that ten times a number up to it, and a digit more, is a number of the machine
+abbrev pub cap-most : ℕ
+cap-most = 2 ^ 32
+
+-- a number, or the cap where it is greater
+abbrev pub up-to : ℕ → ℕ → ℕ
+up-to cap n = min cap n
 
 -- what digits say, after those that said n
-abbrev pub digits-read : ℕ → Bytes → CountRead
-digits-read n digits = cond (all is-digit digits) (Count (capped (number-after n digits))) Off
+abbrev pub digits-read : ℕ → ℕ → Bytes → CountRead
+digits-read cap n digits = cond (all is-digit digits) (Count (up-to cap (number-after n digits))) Off
 
--- what a count says
+-- what a count says, read up to the bound
+abbrev pub capped : ℕ → ℕ
+capped n = up-to count-cap n
+
 abbrev pub count-read : Bytes → CountRead
 count-read digits = cond (is-count digits) (Count (capped (number-of digits))) Off
 
 -- ---- digit by digit
 
--- numbers that are read alike are read alike with digits behind them
-capped-after : (m n : ℕ) (digits : Bytes) → capped m ≡ capped n → capped (number-after m digits) ≡ capped
-    (number-after n digits)
-capped-after m n [] e = e
-capped-after m n (b ∷ digits) e = capped-after (10 * m + (b - code "0")) (10 * n + (b - code "0")) digits
-    (more (b - code "0"))
-  where
-    more : (d : ℕ) → capped (10 * m + d) ≡ capped (10 * n + d)
-    more d = omega arith
+module _ (cap : ℕ) where
+  -- numbers that are read alike are read alike with digits behind them
+  up-to-after : (m n : ℕ) (digits : Bytes) → up-to cap m ≡ up-to cap n
+      → up-to cap (number-after m digits) ≡ up-to cap (number-after n digits)
+  up-to-after m n [] e = e
+  up-to-after m n (b ∷ digits) e = up-to-after (10 * m + (b - code "0")) (10 * n + (b - code "0")) digits
+      (more (b - code "0"))
+    where
+      more : (d : ℕ) → up-to cap (10 * m + d) ≡ up-to cap (10 * n + d)
+      more d = omega arith
 
-capped-twice : (n : ℕ) → capped (capped n) ≡ capped n
-capped-twice n = omega arith
+  up-to-twice : (n : ℕ) → up-to cap (up-to cap n) ≡ up-to cap n
+  up-to-twice n = omega arith
 
-digits-next : (n b : ℕ) (digits : Bytes) → So (is-digit b)
-    → digits-read n (b ∷ digits) ≡ digits-read (capped (10 * n + (b - code "0"))) digits
-digits-next n b digits e =
-    rw (
-      e,
-      capped-after (10 * n + (b - code "0")) (capped (10 * n + (b - code "0"))) digits
-          (sym (capped-twice (10 * n + (b - code "0")))),
-    )
+  digits-next : (n b : ℕ) (digits : Bytes) → So (is-digit b)
+      → digits-read cap n (b ∷ digits) ≡ digits-read cap (up-to cap (10 * n + (b - code "0"))) digits
+  digits-next n b digits e =
+      let m = 10 * n + (b - code "0") in
+      rw (e, up-to-after m (up-to cap m) digits (sym (up-to-twice m)))
 
--- the digits from a place on, where there is one
-pub digits-next-at : (n : ℕ) (field : Bytes) (i : ℕ) → i < length field → So (is-digit (getD field i 0))
-    → digits-read n (drop i field) ≡ digits-read (capped (10 * n + (getD field i 0 - code "0"))) (drop (i + 1) field)
-digits-next-at n field i h e =
-    rw (add-one i, drop-cons field i 0 h) (digits-next n (getD field i 0) (drop (suc i) field) e)
+  -- the digits from a place on, where there is one
+  pub digits-next-at : (n : ℕ) (field : Bytes) (i : ℕ) → i < length field → So (is-digit (getD field i 0))
+      → digits-read cap n (drop i field)
+      ≡ digits-read cap (up-to cap (10 * n + (getD field i 0 - code "0"))) (drop (i + 1) field)
+  digits-next-at n field i h e =
+      rw (add-one i, drop-cons field i 0 h) (digits-next n (getD field i 0) (drop (suc i) field) e)
 
--- and where there is none
-pub digits-off-at : (n : ℕ) (field : Bytes) (i : ℕ) → i < length field → (So (is-digit (getD field i 0)) → ⊥)
-    → digits-read n (drop i field) ≡ Off
-digits-off-at n field i h e = rw (drop-cons field i 0 h, fails-unless (is-digit (getD field i 0)) e)
+  -- and where there is none
+  pub digits-off-at : (n : ℕ) (field : Bytes) (i : ℕ) → i < length field → (So (is-digit (getD field i 0)) → ⊥)
+      → digits-read cap n (drop i field) ≡ Off
+  digits-off-at n field i h e = rw (drop-cons field i 0 h, fails-unless (is-digit (getD field i 0)) e)
 
 -- ---- the first digit
 
@@ -93,7 +99,7 @@ leading-zero (b ∷ []) h e some = absurd (h refl)
 leading-zero (b ∷ next ∷ digits) h e some = rw e
 
 pub no-leading-zero : (digits : Bytes) → (length digits ≡ 0 → ⊥) → (getD digits 0 0 ≡ code "0" → ⊥)
-    → count-read digits ≡ digits-read 0 digits
+    → count-read digits ≡ digits-read count-cap 0 digits
 no-leading-zero [] some other = absurd (some refl)
 no-leading-zero (b ∷ digits) some other = rw (ne-eqb b (code "0") other)
 

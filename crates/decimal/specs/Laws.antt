@@ -3,3 +3,4 @@ pub mod Decimal
 pub mod Count
 pub mod DigitsWritten
 pub mod DigitsMeasured
+pub mod Digit

@@ -5,7 +5,7 @@ ghost use mathlib.Core.List.{_++_};
 ghost use Prim.Native.Nat.{_≤_, _<_};
 ghost use lib.ListN.{length};
 ghost use Rattle.spec.specs.Decimal.{digit, decimal};
-ghost use Rattle.decimal.specs.DigitLaws.{word-digits};
+ghost use Rattle.decimal.specs.WordDigits.{word-digits};
 ghost use Rattle.decimal.specs.Measured.{Measured};
 ghost use Rattle.text.specs.Written.{Written};
 

@@ -1,27 +1,28 @@
-// Counts in decimal, of any length.
+// Digits of any length, read up to a cap.
 use numbers::COUNT_CAP;
 ghost use mathlib.Core.Path.{_≡_};
 ghost use Prim.Native.Nat.{_+_, _-_, _*_, _≤_};
-ghost use Rattle.decimal.specs.Capped.{count-cap, capped, digits-read, count-read};
+ghost use Rattle.decimal.specs.Capped.{cap-most, up-to, digits-read, count-read};
 
-// What reading a count finds: the number that it says, or COUNT_CAP where that is greater.
+// What reading digits finds: the number that they say, or the cap where that is greater.
 pub enum CountRead {
     Count(usize),
     Off,
 }
 
-// The number n with a digit behind it, no greater than COUNT_CAP.
-fn with_digit(n: usize, digit: u8) -> usize
-    requires { ⌜ (n ≤ count-cap) × (48 ≤ digit) ⌝ }
-    ensures { λ r. ⌜ r ≡ capped (10 * n + (digit - 48)) ⌝ }
+// The number n with a digit behind it, no greater than the cap.
+fn with_digit(n: usize, digit: u8, cap: usize) -> usize
+    requires { ⌜ (n ≤ cap) × (cap ≤ cap-most) × (48 ≤ digit) ⌝ }
+    ensures { λ r. ⌜ r ≡ up-to cap (10 * n + (digit - 48)) ⌝ }
 {
     let m = 10 * n + (digit - b'0') as usize;
-    if m < COUNT_CAP { m } else { COUNT_CAP }
+    if m < cap { m } else { cap }
 }
 
-// What digits say.
-fn digits_of(field: &[u8]) -> CountRead
-    ensures { λ r. ⌜ r ≡ digits-read 0 (now (field .entry)) ⌝ }
+// What digits say, no greater than the cap.
+pub fn digits_of(field: &[u8], cap: usize) -> CountRead
+    requires { ⌜ cap ≤ cap-most ⌝ }
+    ensures { λ r. ⌜ r ≡ digits-read cap 0 (now (field .entry)) ⌝ }
 {
     let mut n = 0;
     let mut i = 0;
@@ -33,7 +34,7 @@ fn digits_of(field: &[u8]) -> CountRead
         if b'9' < b {
             return CountRead::Off;
         }
-        n = with_digit(n, b);
+        n = with_digit(n, b, cap);
         i += 1;
     }
     CountRead::Count(n)
@@ -47,7 +48,7 @@ pub fn count_of(field: &[u8]) -> CountRead
         return CountRead::Off;
     }
     if field[0] != b'0' {
-        return digits_of(field);
+        return digits_of(field, COUNT_CAP);
     }
     if field.len() == 1 {
         return CountRead::Count(0);

@@ -15,18 +15,8 @@ use Rattle.spec.specs.Machine.{State}
 use Rattle.spec.specs.Book.{book}
 use Rattle.spec.specs.Session.{Session, no-sheet, loaded, session-book}
 use Rattle.spec.specs.Refusal.{first-number, refusal, accepted, write-causes}
-use Rattle.spec.specs.Calls.{
-  LoadAnswer,
-  load-answer,
-  search-answer,
-  search-refused,
-  WriteAnswer,
-  write-refused,
-  write-answer,
-  buffer-after,
-  Loads,
-  Writes,
-}
+use Rattle.spec.specs.Calls.{LoadAnswer, load-answer, search-answer, search-refused, WriteAnswer, write-refused}
+use Rattle.spec.specs.Calls.{write-answer, buffer-after, Loads, Writes}
 use Rattle.spec.specs.Sequence.{WriteOutcome, brought-out}
 use Rattle.spec.specs.Demands.{LoadOwed}
 use Rattle.bits.specs.Truth.{not-both, passes-or-fails}

@@ -23,16 +23,8 @@ use Rattle.right.specs.Exact.{answers-counts}
 use Rattle.right.specs.OwnBook.{OwnFacts, own-book-right}
 use Rattle.minimality.specs.GrantClassing.{Even}
 use Rattle.minimality.specs.WitnessLaws.{witness-granted, witness-independent}
-use Rattle.minimality.specs.StateBound.{
-  Searching,
-  searching-start,
-  searching-on,
-  state-multiplies,
-  state-le-permissions,
-  witness-le-state,
-  settled-is-smallest,
-  bound-bounds,
-}
+use Rattle.minimality.specs.StateBound.{Searching, searching-start, searching-on, state-multiplies}
+use Rattle.minimality.specs.StateBound.{state-le-permissions, witness-le-state, settled-is-smallest, bound-bounds}
 use Rattle.demands.specs.Reached.{reached}
 
 -- whatever was given, the state is one that searches come to

@@ -10,24 +10,9 @@ use lib.Dec.{eqb}
 use Rattle.spec.specs.Text.{Bytes}
 use Rattle.spec.specs.Session.{Session, no-sheet, loaded}
 use Rattle.spec.specs.Refusal.{first-number, sheet-causes, refusal, accepted, search-causes, write-causes}
-use Rattle.spec.specs.Calls.{
-  LoadAnswer,
-  load-answer,
-  load-refused,
-  after-load,
-  SearchAnswer,
-  search-answer,
-  search-refused,
-  after-search,
-  WriteAnswer,
-  write-answer,
-  write-refused,
-  buffer-after,
-  check,
-  Loads,
-  Searches,
-  Writes,
-}
+use Rattle.spec.specs.Calls.{LoadAnswer, load-answer, load-refused, after-load, SearchAnswer, search-answer}
+use Rattle.spec.specs.Calls.{search-refused, after-search, WriteAnswer, write-answer, write-refused, buffer-after}
+use Rattle.spec.specs.Calls.{check, Loads, Searches, Writes}
 use Rattle.spec.specs.Demands.{Judged, Demand1}
 use Rattle.bits.specs.Truth.{passes-or-fails}
 use Rattle.rules.specs.CauseLaws.{rising, sheet-causes-rise}

@@ -15,41 +15,15 @@ use Rattle.spec.specs.Roles.{standing, unsettled}
 use Rattle.spec.specs.Book.{book}
 use Rattle.spec.specs.Session.{Session, no-sheet, loaded, session-book}
 use Rattle.spec.specs.Calls.{SearchAnswer, search-answer, searched-on, WriteAnswer, write-answer, Searches, Writes}
-use Rattle.spec.specs.Sequence.{
-  Call,
-  load,
-  search,
-  write,
-  WriteOutcome,
-  Event,
-  Happens,
-  Led,
-  Outcome,
-  last-accepted,
-  budgets-given,
-  calls,
-  brought-out,
-}
+use Rattle.spec.specs.Sequence.{Call, load, search, write, WriteOutcome, Event, Happens, Led, Outcome, last-accepted}
+use Rattle.spec.specs.Sequence.{budgets-given, calls, brought-out}
 use Rattle.spec.specs.Demands.{BudgetsSuffice, SearchOwed, WriteOwed, BookOwed, Owed, OwedOfAll}
-use Rattle.demands.specs.Answers.{
-  load-owed,
-  sheetless-search,
-  sheetless-write,
-  loaded-search,
-  loaded-book,
-  loaded-write,
-  brings-the-book,
-}
+use Rattle.demands.specs.Answers.{load-owed, sheetless-search, sheetless-write, loaded-search, loaded-book}
+use Rattle.demands.specs.Answers.{loaded-write, brings-the-book}
 use Rattle.demands.specs.Believed.{book-believed, book-says}
 use Rattle.demands.specs.Settled.{ended-settles}
-use Rattle.demands.specs.Reached.{
-  reached,
-  reached-further,
-  session-of,
-  session-after,
-  led-session,
-  last-is-accepted,
-}
+use Rattle.demands.specs.Reached.{reached, reached-further, session-of, session-after, led-session}
+use Rattle.demands.specs.Reached.{last-is-accepted}
 
 module _ (earlier : List Call) (before : Session) (e : before ≡ session-after earlier) where
   -- the session before a call, where no load was accepted and where one was

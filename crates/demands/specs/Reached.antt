@@ -18,19 +18,8 @@ use Rattle.spec.specs.Roles.{kernel-of, start-of}
 use Rattle.spec.specs.Session.{Session, no-sheet, loaded}
 use Rattle.spec.specs.Refusal.{accepted}
 use Rattle.spec.specs.Calls.{searched-on, after-load, after-search}
-use Rattle.spec.specs.Sequence.{
-  Call,
-  load,
-  search,
-  write,
-  Event,
-  Happens,
-  Outcome,
-  Led,
-  last-accepted,
-  budgets-given,
-  calls,
-}
+use Rattle.spec.specs.Sequence.{Call, load, search, write, Event, Happens, Outcome, Led, last-accepted, budgets-given}
+use Rattle.spec.specs.Sequence.{calls}
 use Rattle.bits.specs.Truth.{passes-or-fails}
 use Rattle.bits.specs.Laws.Below.{below-or-from}
 use Rattle.search.specs.Laws.Runs.{run-none, search-within, search-above, search-add}

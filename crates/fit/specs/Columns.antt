@@ -8,7 +8,7 @@ use Rattle.bits.specs.Bit.{word-bits}
 use Rattle.bits.specs.Counting.{count-below}
 use Rattle.cells.specs.Rows.{row-words, row-bits, cell}
 use Rattle.cells.specs.CellPlaces.{cell-words, near}
-use Rattle.fit.specs.WitnessWords.{MadeCells}
+use Rattle.cells.specs.MadeCells.{MadeCells}
 
 -- the words of a permission
 abbrev pub column-words : ℕ

@@ -18,7 +18,7 @@ use Rattle.bits.specs.Laws.Bit.{bit-of-zero}
 use Rattle.bits.specs.Word.{LowestDropped}
 use Rattle.cells.specs.Rows.{row-words, row-bits}
 use Rattle.cells.specs.CellPlaces.{cell-words, marked}
-use Rattle.fit.specs.WitnessWords.{no-cells}
+use Rattle.cells.specs.Laws.MadeCells.{no-cells}
 use Rattle.fit.specs.Columns.{column-words, place-limit, place-held, Columns}
 
 -- a place is that of word i and of a permission at a position of some

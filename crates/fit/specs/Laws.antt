@@ -3,3 +3,4 @@ pub mod Fit
 pub mod Among
 pub mod Column
 pub mod FitWord
+pub mod ColumnUnion

@@ -1,5 +1,4 @@
 -- Which grants fit, over rows and columns of words.
-pub mod WitnessWords
 pub mod Columns
 pub mod ColumnsMade
 pub mod ColumnUnion

@@ -1,26 +1,21 @@
 // The words in which grants can fit one: those of the users who hold its permission.
 use crate::fit::fitting;
 use bits::WORD_BITS;
+use cells::mark;
 use numbers::CELL_WORDS;
 use numbers::CellNo;
 use numbers::ROW_BITS;
 use numbers::ROW_WORDS;
 ghost use mathlib.Core.Path.{_≡_};
-ghost use mathlib.Core.List.{List};
-ghost use Prim.Native.Nat.{ℕ, _+_, _*_, _≤_, _<_};
+ghost use Prim.Native.Nat.{ℕ, min, _+_, _*_, _≤_, _<_};
 ghost use lib.ListN.{length};
-ghost use Rattle.spec.specs.Vocabulary.{filter};
-ghost use Rattle.spec.specs.Limits.{user-limit};
-ghost use Rattle.spec.specs.Sheet.{Sheet};
-ghost use Rattle.spec.specs.Fit.{fits};
-ghost use Rattle.bits.specs.Counting.{sum-below};
+ghost use Rattle.bits.specs.Counting.{count-below, sum-below};
 ghost use Rattle.bits.specs.Bit.{bit, word-bits};
 ghost use Rattle.cells.specs.Rows.{row-bits};
-ghost use Rattle.cells.specs.CellSets.{cell-grants};
-ghost use Rattle.cells.specs.CellPlaces.{cell-words, cell-limit, grant-of, CountedBelow, Shown, Part};
+ghost use Rattle.cells.specs.CellPlaces.{cell-words, cell-limit, near, CountedBelow};
 ghost use Rattle.fit.specs.Columns.{column-words, near-if, Columns};
 ghost use Rattle.fit.specs.ColumnsMade.{PutIn};
-ghost use Rattle.fit.specs.ColumnUnion.{Reaches};
+ghost use Rattle.fit.specs.ColumnUnion.{in-union};
 
 // The words of a permission: a position for each word of the rows.
 pub const COLUMN_WORDS: usize = CELL_WORDS / WORD_BITS;
@@ -35,8 +30,7 @@ fn put_in_columns(columns: &mut [u64; PLACE_WORDS], i: usize, some: u64)
 {
     let mut w = some;
     while w != 0 {
-        let t = bits::lowest(w) * COLUMN_WORDS + i / WORD_BITS;
-        columns[t] = bits::with(columns[t], i % WORD_BITS);
+        mark(columns, bits::lowest(w) * CELL_WORDS + i);
         w = bits::without_lowest(w);
     }
 }
@@ -57,7 +51,7 @@ pub fn columns_of(rows: &[u64; CELL_WORDS]) -> [u64; PLACE_WORDS]
 // Word j of the columns of the permissions at the positions of a word, all together.
 pub fn union_of(columns: &[u64; PLACE_WORDS], word: u64, j: usize) -> u64
     requires { ⌜ j < column-words ⌝ }
-    ensures { λ r. ⌜ ((rows : List ℕ) → Columns rows (now (columns .entry)) → Reaches rows word j r) ⌝ }
+    ensures { λ r. ⌜ ((t : ℕ) → bit r t ≡ in-union (now (columns .entry)) word j t) ⌝ }
 {
     let mut some = 0;
     let mut w = word;
@@ -94,8 +88,8 @@ fn partners_among<'a>(
     n
 }
 
-// How many grants of left fit the grant at a cell, itself among them where it is in left, counted in the words of its
-// permission's column. The count ends once it reaches most.
+// How many cells of left are near a cell, itself among them where it is one, counted in the words of its permission's
+// column; most, if there are more.
 pub fn partners_in_column<'a>(
     rows: &'a [u64; CELL_WORDS],
     columns: &'a [u64; PLACE_WORDS],
@@ -104,10 +98,7 @@ pub fn partners_in_column<'a>(
     most: usize,
 ) -> usize
     requires { ⌜ (it .0 < cell-limit) × Columns (now rows) (now columns) ⌝ }
-    ensures { λ r. ⌜ ((users : ℕ) (sheet : Sheet) → users ≤ user-limit → Shown (now (rows .entry)) users sheet
-        → Part (now (left .entry)) (now (rows .entry))
-        → CountedBelow most (length (filter (fits sheet (grant-of (it .0))) (cell-grants sheet (now (left .entry)))))
-        r) ⌝ }
+    ensures { λ r. ⌜ r ≡ min most (count-below cell-limit (near (now (rows .entry)) (now (left .entry)) (it .0))) ⌝ }
 {
     let p = it.0 % ROW_BITS;
     let mut n = 0;
@@ -116,6 +107,9 @@ pub fn partners_in_column<'a>(
         let some = columns[p * COLUMN_WORDS + j];
         n = partners_among(rows, left, it, j * WORD_BITS, some, n, most);
         j += 1;
+    }
+    if most < n {
+        return most;
     }
     n
 }

@@ -14,13 +14,13 @@ use Rattle.form.specs.Laws.Aligned.{Aligned, aligned-same, aligned-then,
 use Rattle.names.specs.Places.{part}
 use Rattle.roles.specs.StandingCases.{standing-case}
 use Rattle.right.specs.WordLaws.{count-field, standing-word-field}
-use Rattle.text.specs.LineLaws.{line-end}
+use Rattle.text.specs.Line.{line-end}
 use Rattle.decimal.specs.declared.digits.CountRead.the-variants as digits
 use Rattle.form.specs.declared.counts_block.CountField.{CountField}
 use Rattle.form.specs.declared.counts_block.CountField.the-variants as count
 use Rattle.form.specs.declared.counts_block.StandingField.{StandingField}
 use Rattle.form.specs.declared.counts_block.StandingField.the-variants as state
-use Rattle.form.specs.declared.counts_block.Counts.{Counts}
+use Rattle.blocks.specs.declared.counts.Counts.{Counts}
 use Rattle.form.specs.declared.counts_block.CountsRead.{CountsRead}
 use Rattle.form.specs.declared.counts_block.CountsRead.the-variants as counts
 use Rattle.form.specs.Steps.{Reads, Misses}

@@ -4,21 +4,9 @@ use Prim.Native.Nat.{ℕ, suc, _+_, _-_, _≤_, _<_}
 use native.Mathlib.Omega.{arith}
 use mathlib.Core.Path.{_≡_, refl, sym, ap, _∙_}
 use mathlib.Core.Logic.{⊎-elim}
-use mathlib.Core.List.{
-  [],
-  _∷_,
-  _++_,
-  append-assoc,
-  append-cancel-left,
-  append-nil,
-  tail-eq-of-cons-eq,
-  List·Memᴰ,
-  List·Memᴰ·head,
-  Memᴰ·append-right,
-  List·Memᴰ·append-cases,
-  List·Memᴰ·eq-of-singleton,
-  List·Memᴰ·not-nil,
-}
+use mathlib.Core.List.{[], _∷_, _++_, append-assoc, append-cancel-left, append-nil, tail-eq-of-cons-eq, List·Memᴰ}
+use mathlib.Core.List.{List·Memᴰ·head, Memᴰ·append-right, List·Memᴰ·append-cases, List·Memᴰ·eq-of-singleton}
+use mathlib.Core.List.{List·Memᴰ·not-nil}
 use borrow.Author.Tests.{eq-eqb, ne-eqb}
 use lib.Dec.{eqb}
 use lib.ListN.{length, getD, drop, length-drop, take-append-drop, drop-of-length-le}

@@ -3,3 +3,4 @@ pub mod RoleLimit
 pub mod Step
 pub mod NameFound
 pub mod Aligned
+pub mod FirstLine

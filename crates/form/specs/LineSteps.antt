@@ -5,7 +5,7 @@ use mathlib.Core.List.{List, _++_}
 use Rattle.spec.specs.Text.{Bytes}
 use Rattle.form.specs.Laws.Aligned.{Aligned, aligned-same, aligned-then}
 use Rattle.cells.specs.Rows.{cell}
-use Rattle.text.specs.LineLaws.{line-end}
+use Rattle.text.specs.Line.{line-end}
 use Rattle.form.specs.declared.cursor.Step.{Step}
 use Rattle.form.specs.declared.cursor.Step.the-variants.{On, Off}
 use Rattle.form.specs.Steps.{Reads, Misses, Expects}

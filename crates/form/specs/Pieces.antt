@@ -11,22 +11,12 @@ use Rattle.spec.specs.Sheet.{Sheet, Grant, cell-text, user-count, permission-co
 use Rattle.spec.specs.RoleSet.{RoleSet}
 use Rattle.spec.specs.Roles.{Standing}
 use Rattle.spec.specs.Decimal.{decimal}
-use Rattle.spec.specs.Book.{
-  standing-word,
-  role-name,
-  Block,
-  Said,
-  counts-block,
-  roles-block,
-  users-block,
-  witness-line,
-  witness-block,
-  blocks-saying,
-  book-text,
-}
+use Rattle.spec.specs.Book.{standing-word, role-name, Block, Said, counts-block, roles-block, users-block}
+use Rattle.spec.specs.Book.{witness-line, witness-block, blocks-saying, book-text}
 use Rattle.lists.specs.Listed.{listed, listed-same}
 use Rattle.cell_text.specs.CellsText.{cell-field}
-use Rattle.text.specs.LineLaws.{behind-comma, line-end, line-parts, line-parts-of, block-parts, four-blocks}
+use Rattle.text.specs.Line.{behind-comma, line-end}
+use Rattle.text.specs.Laws.Line.{line-parts, line-parts-of, block-parts, four-blocks}
 
 -- ---- lines
 

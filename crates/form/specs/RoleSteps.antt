@@ -15,14 +15,15 @@ use Rattle.spec.specs.Book.{role-name}
 use Rattle.form.specs.Laws.Aligned.{Begins, listed-ended}
 use Rattle.cells.specs.Rows.{row-bits, cell}
 use Rattle.right.specs.WordLaws.{role-name-parts}
-use Rattle.text.specs.LineLaws.{line-end}
+use Rattle.text.specs.Line.{line-end}
 use Rattle.form.specs.declared.roles_block.RolesRead.{RolesRead}
 use Rattle.form.specs.declared.roles_block.RolesRead.the-variants as found
 use Rattle.form.specs.Steps.{Reads, Misses}
 use Rattle.form.specs.Laws.Step.{reads-then, misses-first, misses-second}
 use Rattle.form.specs.Pieces.{named-text, named-texts, roles-heading, roles-part}
 use Rattle.form.specs.LineSteps.{named-aligned}
-use Rattle.form.specs.RowSteps.{LinesBelow}
+use Rattle.form.specs.RowGrown.{Blank}
+use Rattle.form.specs.RowSteps.{AllBlank, LinesBelow}
 
 -- the lines of so many roles
 abbrev pub role-texts : ℕ → (ℕ → ℕ → Bool) → ℕ → Bytes
@@ -33,6 +34,7 @@ pub record RolesAt (text : Bytes) (at permissions : ℕ) (words : List ℕ) (cou
   pub few : count ≤ role-limit
   pub reads : Reads text at (role-texts permissions (cell words) count ++ line-end) next
   pub beyond : (r p : ℕ) → r < count → permissions ≤ p → p < row-bits → cell words r p ≡ false
+  pub blank : (r : ℕ) → count ≤ r → Blank words r
 
 -- no lines of roles stand at a place
 abbrev pub NoRoles : Bytes → ℕ → ℕ → Type 0
@@ -44,21 +46,22 @@ abbrev pub RoleLinesRead : Bytes → ℕ → ℕ → List ℕ → RolesRead → 
 RoleLinesRead text at permissions words (found.Roles count next) = RolesAt text at permissions words count next
 RoleLinesRead text at permissions words found.Off = NoRoles text at permissions
 
--- block 2 was read
+-- block 2 was read into rows of words, which have nothing else
 pub record RolesPart (sheet : Sheet) (text : Bytes) (at : ℕ) (words : List ℕ) (count next : ℕ) : Type 0 where
   pub few : count ≤ role-limit
   pub reads : Reads text at (roles-part sheet count (cell words)) next
   pub beyond : (r p : ℕ) → r < count → permission-count sheet ≤ p → p < row-bits → cell words r p ≡ false
+  pub blank : (r : ℕ) → count ≤ r → Blank words r
 
 -- no block 2 stands at a place
 abbrev pub NoRolesPart : Sheet → Bytes → ℕ → Type 0
 NoRolesPart sheet text at =
     (count : ℕ) (gives : ℕ → ℕ → Bool) → count ≤ role-limit → Misses text at (roles-part sheet count gives)
 
--- a step over block 2 and the empty line behind it
+-- a step over block 2 and the empty line behind it; where there is none, the rows have nothing
 abbrev pub RolesReads : Sheet → Bytes → ℕ → List ℕ → RolesRead → Type 0
 RolesReads sheet text at words (found.Roles count next) = RolesPart sheet text at words count next
-RolesReads sheet text at words found.Off = NoRolesPart sheet text at
+RolesReads sheet text at words found.Off = NoRolesPart sheet text at × AllBlank words
 
 -- ---- where the lines end
 
@@ -86,7 +89,7 @@ roles-follow {text} {at} permissions f g r count next rest p e =
 pub roles-end : {text : Bytes} {at permissions r next last : ℕ} {words : List ℕ} → r ≤ role-limit
     → LinesBelow text at role-name permissions words r next
     → Reads text next line-end last → RolesAt text at permissions words r last
-roles-end h b p = record { few = h; reads = reads-then (b .reads) p; beyond = b .beyond }
+roles-end h b p = record { few = h; reads = reads-then (b .reads) p; beyond = b .beyond; blank = b .blank }
 
 -- no role more is allowed, and none ends here
 pub roles-full : {text : Bytes} {at permissions r next : ℕ} {words : List ℕ} → LinesBelow text at role-name
@@ -128,12 +131,14 @@ pub no-roles-heading : (sheet : Sheet) {text : Bytes} {at : ℕ} → Misses text
     → NoRolesPart sheet text at
 no-roles-heading sheet m count gives few = misses-first (role-texts (permission-count sheet) gives count ++ line-end) m
 
-pub heading-then-roles : (sheet : Sheet) {text : Bytes} {at mid : ℕ} (words : List ℕ)
-    → Reads text at (roles-heading sheet) mid
-    → (r : RolesRead) → RoleLinesRead text mid (permission-count sheet) words r → RolesReads sheet text at words r
-heading-then-roles sheet words h (found.Roles count next) p =
-    record { few = p .few; reads = reads-then h (p .reads); beyond = p .beyond }
-heading-then-roles sheet words h found.Off m = λ count gives few. misses-second _ h (m count gives few)
+module _ (sheet : Sheet) {text : Bytes} {at mid : ℕ} (heading : Reads text at (roles-heading sheet) mid) where
+  pub heading-then-roles : {words : List ℕ} {count next : ℕ}
+      → RolesAt text mid (permission-count sheet) words count next → RolesPart sheet text at words count next
+  heading-then-roles p =
+      record { few = p .few; reads = reads-then heading (p .reads); beyond = p .beyond; blank = p .blank }
+
+  pub no-role-lines : NoRoles text mid (permission-count sheet) → NoRolesPart sheet text at
+  no-role-lines m count gives few = misses-second _ heading (m count gives few)
 
 -- what follows block 2, and how many roles it has, are known
 pub roles-part-once : (sheet : Sheet) (f g : ℕ → ℕ → Bool) (r count : ℕ) (l m : Bytes)

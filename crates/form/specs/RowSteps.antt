@@ -5,12 +5,13 @@ use mathlib.Core.Path.{_≡_, sym, ap, _∙_}
 use mathlib.Core.Logic.{⊎-elim}
 use mathlib.Core.Bool.{false}
 use mathlib.Core.List.{List, _++_}
-use lib.ListN.{length}
+use lib.ListN.{length, replicate}
 use Rattle.spec.specs.Text.{Bytes}
 use Rattle.bits.specs.Laws.Below.{below-or-from}
 use Rattle.lists.specs.Listed.{listed-same}
 use Rattle.cells.specs.Rows.{row-bits, cell}
-use Rattle.text.specs.LineLaws.{line-end}
+use Rattle.roles.specs.RoleMatrices.{no-cells}
+use Rattle.text.specs.Line.{line-end}
 use Rattle.cell_text.specs.CellsText.{cell-field}
 use Rattle.form.specs.Steps.{Reads}
 use Rattle.form.specs.Laws.Step.{reads-nothing, reads-more}
@@ -21,6 +22,9 @@ use Rattle.form.specs.LineSteps.{LineRead}
 -- no row has a cell set
 pub record AllBlank (words : List ℕ) : Type 0 where
   pub rows : (row : ℕ) → Blank words row
+
+pub zeros-blank : (n : ℕ) → AllBlank (replicate n 0)
+zeros-blank n = record { rows = λ row. record { none = no-cells n .shown row } }
 
 -- the lines below i have been read: their rows have no cell beyond, and no other row has any
 pub record LinesBelow (text : Bytes) (at : ℕ) (name : ℕ → Bytes) (width : ℕ) (words : List ℕ) (i next : ℕ) : Type 0

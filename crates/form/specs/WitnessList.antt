@@ -1,6 +1,6 @@
 -- The witness as the code keeps it: the number of its lines, and the grants of the first of them, as many as there
 -- can be roles.
-use Prim.Native.Nat.{ℕ, _+_, _≤_, _<_}
+use Prim.Native.Nat.{ℕ, zero, suc, _+_, _≤_, _<_}
 use native.Mathlib.Omega.{arith}
 use mathlib.Core.Path.{_≡_, refl, sym, _∙_}
 use mathlib.Core.Logic.{⊎-elim}
@@ -37,15 +37,26 @@ with-line w line =
           (w .first);
     }
 
--- these are the grants of the lines
+-- these are the grants of the lines, and no place past them names one
 pub record Collects (w : Witness) (grants : List Grant) : Type 0 where
   pub counted : w .lines ≡ length grants
   pub room : length (w .first) ≡ role-limit
   pub named : (i : ℕ) → i < length grants → i < role-limit → named-grant (getD (w .first) i no-line) ≡ grant-at grants i
+  pub past : (i : ℕ) → length grants ≤ i → getD (w .first) i no-line ≡ no-line
 
 pub collects-none : Collects no-witness []
 collects-none =
-    record { counted = refl; room = length-replicate role-limit no-line; named = λ i h. absurd (omega arith) }
+    record {
+      counted = refl;
+      room = length-replicate role-limit no-line;
+      named = λ i h. absurd (omega arith);
+      past = λ i h. none role-limit i;
+    }
+  where
+    none : (n i : ℕ) → getD (replicate n no-line) i no-line ≡ no-line
+    none zero i = refl
+    none (suc n) zero = refl
+    none (suc n) (suc i) = none n i
 
 pub collects-more : {w : Witness} {grants : List Grant} (line : WitnessLine) → Collects w grants
     → Collects (with-line w line) (grants ++ named-grant line ∷ [])
@@ -81,6 +92,10 @@ collects-more {w} {grants} line c = ⊎-elim kept dropped (below-or-from (w .lin
                 last (w .lines) (sym at),
               )))
               (below-or-from i (length grants));
+          past = λ i l.
+              (let m : length grants < i = omega (arith, longer) in
+              getD-set-other (w .first) (w .lines) i line no-line (λ (e : i ≡ w .lines). omega arith)
+              ∙ c .past i (omega arith));
         })
 
     dropped : role-limit ≤ w .lines → Collects (with-line w line) (grants ++ named-grant line ∷ [])
@@ -92,4 +107,5 @@ collects-more {w} {grants} line c = ⊎-elim kept dropped (below-or-from (w .lin
           room = c .room;
           named = λ i l k. (let earlier : i < length grants = omega arith in rw (before i earlier)
               (c .named i earlier k));
+          past = λ i l. c .past i (omega (arith, longer));
         })

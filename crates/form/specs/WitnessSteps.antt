@@ -4,18 +4,8 @@ use Prim.Native.Nat.{ℕ, _≤_, _<_}
 use native.Mathlib.Omega.{arith}
 use mathlib.Core.Path.{_≡_, refl, sym, ap, _∙_}
 use mathlib.Core.Bool.{Bool, true, false}
-use mathlib.Core.List.{
-  List,
-  [],
-  _∷_,
-  _++_,
-  append-assoc,
-  append-nil,
-  List·Memᴰ·head,
-  List·Memᴰ·tail,
-  List·Memᴰ·append-cases,
-  List·Memᴰ·eq-of-singleton,
-}
+use mathlib.Core.List.{List, [], _∷_, _++_, append-assoc, append-nil, List·Memᴰ·head, List·Memᴰ·tail}
+use mathlib.Core.List.{List·Memᴰ·append-cases, List·Memᴰ·eq-of-singleton}
 use mathlib.Core.Logic.{⊎-elim}
 use lib.ListN.{length, drop, length-append, length-drop, drop-of-length-le}
 use Rattle.spec.specs.Text.{ascii, Bytes, comma, line-feed}
@@ -46,7 +36,7 @@ pub record NoWitnesses (sheet : Sheet) (bytes : Bytes) : Type 0 where
 
 abbrev pub WitnessesIn : Sheet → Bytes → Bool → Witness → Type 0
 WitnessesIn sheet bytes true w = WitnessesAt sheet bytes w
-WitnessesIn sheet bytes false w = NoWitnesses sheet bytes
+WitnessesIn sheet bytes false w = NoWitnesses sheet bytes × (w ≡ no-witness)
 
 -- reading witness lines to the end
 abbrev pub WitnessLinesRead : Sheet → Bytes → ℕ → WitnessesRead → Type 0
@@ -62,9 +52,10 @@ pub record WitnessPart (sheet : Sheet) (text : Bytes) (at : ℕ) (w : Witness) :
 pub record NoWitnessPart (sheet : Sheet) (text : Bytes) (at : ℕ) : Type 0 where
   pub none : (grants : List Grant) → Each (Known sheet) grants → drop at text ≡ witness-part sheet grants → ⊥
 
+-- where there is no block 4, no line is answered
 abbrev PartIn : Sheet → Bytes → ℕ → Bool → Witness → Type 0
 PartIn sheet text at true w = WitnessPart sheet text at w
-PartIn sheet text at false w = NoWitnessPart sheet text at
+PartIn sheet text at false w = NoWitnessPart sheet text at × (w ≡ no-witness)
 
 abbrev pub WitnessPartReads : Sheet → Bytes → ℕ → WitnessesRead → Type 0
 WitnessPartReads sheet text at r = PartIn sheet text at (r .«of_form») (r .witness)
@@ -199,4 +190,4 @@ heading-then-lines sheet h true w p =
       there = h .reads ∙ ap (λ (l : Bytes). ascii "user,permission\n" ++ l) (p .there);
     }
 heading-then-lines sheet h false w p =
-    record { none = λ grants k e. p .none grants k (sym (reads-rest h (witness-texts sheet grants) e)) }
+    (record { none = λ grants k e. p .0 .none grants k (sym (reads-rest h (witness-texts sheet grants) e)) }, p .1)

@@ -3,6 +3,7 @@ use crate::cursor::Step;
 use crate::cursor::expect;
 use crate::cursor::expect_byte;
 use crate::cursor::part_end;
+use blocks::Counts;
 use decimal::CountRead;
 use decimal::count_of;
 use roles::Standing;
@@ -22,14 +23,7 @@ pub enum StandingField {
     Off,
 }
 
-// What block 1 says; its counts are read as `count_of` reads them.
-pub struct Counts {
-    pub roles: usize,
-    pub bound: usize,
-    pub standing: Standing,
-}
-
-// What reading block 1 finds: what it says, and where to go on.
+// What reading block 1 finds: what it says, its counts as `count_of` reads them, and where to go on.
 pub enum CountsRead {
     Counts(Counts, usize),
     Off,

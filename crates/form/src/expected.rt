@@ -1,19 +1,15 @@
-// Names that are known before they are read: those of roles, and those of the sheet.
+// The names of roles, which are known before they are read.
 use crate::cursor::Step;
 use crate::cursor::expect;
 use crate::cursor::expect_byte;
 use blocks::put_role_name;
-use names::Layout;
-use numbers::PermissionNo;
 use numbers::RoleNo;
 ghost use Prim.Native.Nat.{_≤_, _<_};
 ghost use lib.ListN.{length};
 ghost use Rattle.spec.specs.Limits.{role-limit};
-ghost use Rattle.spec.specs.Sheet.{sheet-of};
 ghost use Rattle.spec.specs.Book.{role-name};
-ghost use Rattle.names.specs.LaidOut.{LaidOut};
 ghost use Rattle.form.specs.Steps.{Expects};
-ghost use Rattle.form.specs.Pieces.{name-fields, role-fields};
+ghost use Rattle.form.specs.Pieces.{role-fields};
 
 // The bytes of the longest name of a role.
 const ROLE_NAME_BYTES: usize = 3;
@@ -44,31 +40,6 @@ pub fn expect_roles(book: &[u8], at: usize, roles: usize) -> Step
         };
         next = after;
         r += 1;
-    }
-    Step::On(next)
-}
-
-// Goes past the names of the sheet's permissions, a comma before each.
-pub fn expect_permissions<'a>(book: &'a [u8], at: usize, sheet: &'a [u8], layout: Layout) -> Step
-    requires { ⌜ (at ≤ length (now book)) × LaidOut (now sheet) layout ⌝ }
-    ensures { λ r. ⌜ Expects (now (book .entry)) at (name-fields (sheet-of (now (sheet .entry)) .permissions)) r ⌝ }
-{
-    let permissions = layout.permissions;
-    let places = layout.permission_places;
-    let from = places.from;
-    let to = places.to;
-    let mut next = at;
-    let mut p = 0;
-    while p < permissions {
-        let Step::On(start) = expect_byte(book, next, b',') else {
-            return Step::Off;
-        };
-        let name = names::permission_name_in(sheet, &from, &to, PermissionNo(p));
-        let Step::On(after) = expect(book, start, name) else {
-            return Step::Off;
-        };
-        next = after;
-        p += 1;
     }
     Step::On(next)
 }

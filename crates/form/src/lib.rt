@@ -8,7 +8,6 @@ mod row_cells;
 mod users_block;
 mod witness_block;
 
-pub use counts_block::Counts;
 pub use counts_block::CountsRead;
 pub use counts_block::read_counts;
 pub use cursor::Step;
@@ -18,4 +17,5 @@ pub use row_cells::cells_in_word;
 pub use users_block::read_users;
 pub use witness_block::Witness;
 pub use witness_block::WitnessLine;
+pub use witness_block::WitnessesRead;
 pub use witness_block::read_witness;

@@ -2,16 +2,19 @@
 use crate::cursor::Step;
 use crate::cursor::expect;
 use crate::cursor::expect_byte;
-use crate::expected::expect_permissions;
+use crate::cursor::part_end;
 use crate::expected::expect_role_name;
 use crate::line::read_line_cells;
+use crate::row_cells::clear_rows;
 use names::Layout;
 use numbers::ROLE_LIMIT;
 use numbers::RoleNo;
 ghost use Prim.Native.Nat.{_+_, _*_, _≤_, _<_};
 ghost use lib.ListN.{length};
+ghost use mathlib.Core.Bool.{So};
 ghost use Rattle.spec.specs.Limits.{role-limit};
 ghost use Rattle.spec.specs.Sheet.{sheet-of};
+ghost use Rattle.spec.specs.Refusal.{accepted};
 ghost use Rattle.spec.specs.Book.{role-name};
 ghost use Rattle.cells.specs.Rows.{row-words, row-bits};
 ghost use Rattle.names.specs.LaidOut.{LaidOut};
@@ -21,6 +24,9 @@ ghost use Rattle.form.specs.RowGrown.{Blank};
 ghost use Rattle.form.specs.LineSteps.{LineReads};
 ghost use Rattle.form.specs.RowSteps.{AllBlank};
 ghost use Rattle.form.specs.RoleSteps.{RoleLinesRead, RolesReads};
+
+// The bytes of `user`, the first field of a sheet.
+const USER_BYTES: usize = 4;
 
 // What reading the lines of roles finds: how many there are, and where to go on.
 pub enum RolesRead {
@@ -65,21 +71,24 @@ fn role_lines(book: &[u8], at: usize, gives: &mut [u64], permissions: usize) -> 
     }
 }
 
-// Reads the line of names of block 2: `role` and the sheet's permissions.
-fn roles_heading<'a>(book: &'a [u8], at: usize, sheet: &'a [u8], layout: Layout) -> Step
-    requires { ⌜ (at ≤ length (now book)) × LaidOut (now sheet) layout ⌝ }
+// Reads the line of names of block 2: `role`, and the sheet's own first line from behind its `user` on, which has the
+// permissions.
+fn roles_heading<'a>(book: &'a [u8], at: usize, sheet: &'a [u8]) -> Step
+    requires { ⌜ (at ≤ length (now book)) × So (accepted (now sheet)) ⌝ }
     ensures { λ r. ⌜ Expects (now (book .entry)) at (roles-heading (sheet-of (now (sheet .entry)))) r ⌝ }
 {
     let Step::On(names) = expect(book, at, b"role") else {
         return Step::Off;
     };
-    let Step::On(end) = expect_permissions(book, names, sheet, layout) else {
+    let Step::On(end) = part_end(sheet, USER_BYTES, b'\n') else {
         return Step::Off;
     };
-    expect_byte(book, end, b'\n')
+    let next_line = end + 1;
+    expect(book, names, &sheet[USER_BYTES..next_line])
 }
 
-// Reads block 2 and the empty line behind it.
+// Reads block 2 and the empty line behind it into rows that have none set, and leaves none set where there is no
+// block 2.
 pub fn read_roles<'a>(
     book: &'a [u8],
     at: usize,
@@ -91,8 +100,12 @@ pub fn read_roles<'a>(
     requires { ⌜ (role-limit * row-words ≤ length (now gives)) × AllBlank (now gives) ⌝ }
     ensures { λ r. ⌜ RolesReads (sheet-of (now (sheet .entry))) (now (book .entry)) at (now (gives .exit)) r ⌝ }
 {
-    let Step::On(lines) = roles_heading(book, at, sheet, layout) else {
+    let Step::On(lines) = roles_heading(book, at, sheet) else {
         return RolesRead::Off;
     };
-    role_lines(book, lines, gives, layout.permissions)
+    let RolesRead::Roles(count, next) = role_lines(book, lines, gives, layout.permissions) else {
+        clear_rows(gives);
+        return RolesRead::Off;
+    };
+    RolesRead::Roles(count, next)
 }

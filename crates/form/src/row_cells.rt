@@ -4,7 +4,7 @@ use bits::WORD_BITS;
 use numbers::ROW_WORDS;
 ghost use mathlib.Core.Path.{_≡_};
 ghost use Prim.Native.Nat.{_+_, _*_, _≤_, _<_};
-ghost use lib.ListN.{length};
+ghost use lib.ListN.{length, replicate};
 ghost use Rattle.cells.specs.Rows.{row-words, row-bits};
 ghost use Rattle.form.specs.RowGrown.{Blank, in-word};
 ghost use Rattle.form.specs.CellSteps.{CellsRead};
@@ -22,6 +22,17 @@ pub fn cells_in_word(count: usize, k: usize) -> usize
         return count - first;
     }
     WORD_BITS
+}
+
+// Clears all rows.
+pub fn clear_rows(rows: &mut [u64])
+    ensures { λ r. ⌜ now (rows .exit) ≡ replicate (length (now (rows .entry))) 0 ⌝ }
+{
+    let mut k = 0;
+    while k < rows.len() {
+        rows[k] = 0;
+        k += 1;
+    }
 }
 
 // Reads so many cells into a row that has none set.

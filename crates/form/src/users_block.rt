@@ -4,8 +4,8 @@ use crate::cursor::expect;
 use crate::cursor::expect_byte;
 use crate::expected::expect_roles;
 use crate::line::read_line_cells;
+use crate::row_cells::clear_rows;
 use names::Layout;
-use numbers::USER_LIMIT;
 use numbers::UserNo;
 ghost use Prim.Native.Nat.{_+_, _*_, _≤_, _<_};
 ghost use lib.ListN.{length};
@@ -39,19 +39,18 @@ fn user_line<'a, 'b>(
     book: &'a [u8],
     at: usize,
     sheet: &'a [u8],
-    from: &'b [usize; USER_LIMIT],
-    to: &'b [usize; USER_LIMIT],
+    places: &'b [u64],
     has: &mut [u64],
     u: UserNo,
     roles: usize,
 ) -> Step
-    requires { ⌜ (at ≤ length (now book)) × UsersAt (now sheet) (now from) (now to)
+    requires { ⌜ (at ≤ length (now book)) × UsersAt (now sheet) (now places)
         × (u .0 < user-count (sheet-of (now sheet))) × (roles ≤ row-bits) ⌝ }
     requires { ⌜ ((u .0 + 1) * row-words ≤ length (now has)) × Blank (now has) (u .0) ⌝ }
     ensures { λ r. ⌜ LineReads (now (book .entry)) at (user-name (sheet-of (now (sheet .entry))) (u .0)) (u .0) roles
         (now (has .entry)) (now (has .exit)) r ⌝ }
 {
-    let name = names::user_name_in(sheet, from, to, u);
+    let name = names::user_name_in(sheet, places, u);
     let Step::On(cells) = expect(book, at, name) else {
         return Step::Off;
     };
@@ -60,26 +59,22 @@ fn user_line<'a, 'b>(
 }
 
 // Reads the lines of the users in order.
-fn user_lines<'a>(
+fn user_lines<'a, 'b>(
     book: &'a [u8],
     at: usize,
     sheet: &'a [u8],
-    layout: Layout,
+    places: &'b [u64],
     has: &mut [u64],
     roles: usize,
 ) -> Step
-    requires { ⌜ (at ≤ length (now book)) × LaidOut (now sheet) layout × (roles ≤ row-bits) ⌝ }
-    requires { ⌜ (layout .users * row-words ≤ length (now has)) × AllBlank (now has) ⌝ }
+    requires { ⌜ (at ≤ length (now book)) × UsersAt (now sheet) (now places) × (roles ≤ row-bits) ⌝ }
+    requires { ⌜ (user-count (sheet-of (now sheet)) * row-words ≤ length (now has)) × AllBlank (now has) ⌝ }
     ensures { λ r. ⌜ UserLinesRead (sheet-of (now (sheet .entry))) (now (book .entry)) at roles (now (has .exit)) r ⌝ }
 {
-    let users = layout.users;
-    let places = layout.user_places;
-    let from = places.from;
-    let to = places.to;
     let mut next = at;
     let mut u = 0;
-    while u < users {
-        let Step::On(after) = user_line(book, next, sheet, &from, &to, has, UserNo(u), roles) else {
+    while u < places.len() {
+        let Step::On(after) = user_line(book, next, sheet, places, has, UserNo(u), roles) else {
             return Step::Off;
         };
         next = after;
@@ -88,7 +83,8 @@ fn user_lines<'a>(
     Step::On(next)
 }
 
-// Reads block 3 and the empty line behind it.
+// Reads block 3 and the empty line behind it into rows that have none set, and leaves none set where there is no
+// block 3.
 pub fn read_users<'a>(
     book: &'a [u8],
     at: usize,
@@ -104,8 +100,16 @@ pub fn read_users<'a>(
     let Step::On(lines) = users_heading(book, at, roles) else {
         return Step::Off;
     };
-    let Step::On(end) = user_lines(book, lines, sheet, layout, has, roles) else {
+    let users = layout.users;
+    let user_places = layout.user_places;
+    let places = user_places.at;
+    let Step::On(end) = user_lines(book, lines, sheet, &places[..users], has, roles) else {
+        clear_rows(has);
         return Step::Off;
     };
-    expect_byte(book, end, b'\n')
+    let Step::On(next) = expect_byte(book, end, b'\n') else {
+        clear_rows(has);
+        return Step::Off;
+    };
+    Step::On(next)
 }

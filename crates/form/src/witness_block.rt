@@ -7,12 +7,11 @@ use names::FoundUser;
 use names::Layout;
 use numbers::PermissionNo;
 use numbers::ROLE_LIMIT;
-use numbers::USER_LIMIT;
 use numbers::UserNo;
 ghost use mathlib.Core.Path.{_≡_};
 ghost use Prim.Native.Nat.{_≤_};
 ghost use lib.ListN.{length};
-ghost use Rattle.spec.specs.Sheet.{sheet-of, user-count, permission-count};
+ghost use Rattle.spec.specs.Sheet.{sheet-of};
 ghost use Rattle.names.specs.LaidOut.{LaidOut, UsersAt, PermissionsAt};
 ghost use Rattle.form.specs.WitnessList.{no-witness};
 ghost use Rattle.form.specs.WitnessLineSteps.{WitnessReads};
@@ -64,32 +63,19 @@ fn witness_line<'a, 'b>(
     book: &'a [u8],
     at: usize,
     sheet: &'a [u8],
-    users: usize,
-    user_from: &'b [usize; USER_LIMIT],
-    user_to: &'b [usize; USER_LIMIT],
-    permissions: usize,
-    permission_from: &'b [usize; USER_LIMIT],
-    permission_to: &'b [usize; USER_LIMIT],
-    first: usize,
+    users: &'b [u64],
+    permissions: &'b [u64],
+    first: UserNo,
 ) -> WitnessRead
-    requires { ⌜ at ≤ length (now book) ⌝ }
-    requires { ⌜ UsersAt (now sheet) (now «user_from») (now «user_to») × (users ≡ user-count (sheet-of (now sheet))) ⌝ }
-    requires { ⌜ PermissionsAt (now sheet) (now «permission_from») (now «permission_to»)
-        × (permissions ≡ permission-count (sheet-of (now sheet))) ⌝ }
+    requires { ⌜ (at ≤ length (now book)) × UsersAt (now sheet) (now users)
+        × PermissionsAt (now sheet) (now permissions) ⌝ }
     ensures { λ r. ⌜ WitnessReads (sheet-of (now (sheet .entry))) (now (book .entry)) at r ⌝ }
 {
     let Step::On(comma) = part_end(book, at, b',') else {
         return WitnessRead::Off;
     };
     let user_name = &book[at..comma];
-    let FoundUser::At(user) = names::find_user_in(
-        sheet,
-        user_from,
-        user_to,
-        users,
-        first,
-        user_name,
-    ) else {
+    let FoundUser::At(user) = names::find_user_in(sheet, users, first, user_name) else {
         return WitnessRead::Off;
     };
     let start = comma + 1;
@@ -99,43 +85,41 @@ fn witness_line<'a, 'b>(
     let permission_name = &book[start..end];
     let FoundPermission::At(permission) = names::find_permission_in(
         sheet,
-        permission_from,
-        permission_to,
         permissions,
-        0,
+        PermissionNo(0),
         permission_name,
     ) else {
         return WitnessRead::Off;
     };
-    WitnessRead::Line(WitnessLine { user, permission }, end + 1)
+    let next = end + 1;
+    WitnessRead::Line(WitnessLine { user, permission }, next)
 }
 
 // Reads witness lines up to the end of the book. The grants of a witness are mostly in order, so a user is looked for
 // from the last one on.
-fn witness_lines<'a>(book: &'a [u8], at: usize, sheet: &'a [u8], layout: Layout) -> WitnessesRead
-    requires { ⌜ (at ≤ length (now book)) × LaidOut (now sheet) layout ⌝ }
+fn witness_lines<'a, 'b>(
+    book: &'a [u8],
+    at: usize,
+    sheet: &'a [u8],
+    users: &'b [u64],
+    permissions: &'b [u64],
+) -> WitnessesRead
+    requires { ⌜ (at ≤ length (now book)) × UsersAt (now sheet) (now users)
+        × PermissionsAt (now sheet) (now permissions) ⌝ }
     ensures { λ r. ⌜ WitnessLinesRead (sheet-of (now (sheet .entry))) (now (book .entry)) at r ⌝ }
 {
-    let users = layout.users;
-    let user_places = layout.user_places;
-    let permissions = layout.permissions;
-    let permission_places = layout.permission_places;
     let none = Witness::none();
     let mut first = none.first;
     let mut lines = 0;
     let mut next = at;
-    let mut last = 0;
+    let mut last = UserNo(0);
     while next < book.len() {
         let WitnessRead::Line(line, after) = witness_line(
             book,
             next,
             sheet,
             users,
-            &user_places.from,
-            &user_places.to,
             permissions,
-            &permission_places.from,
-            &permission_places.to,
             last,
         ) else {
             return WitnessesRead {
@@ -149,7 +133,7 @@ fn witness_lines<'a>(book: &'a [u8], at: usize, sheet: &'a [u8], layout: Layout)
         lines += 1;
         next = after;
         let user = line.user;
-        last = user.0;
+        last = user;
     }
     WitnessesRead {
         of_form: true,
@@ -168,5 +152,17 @@ pub fn read_witness<'a>(book: &'a [u8], at: usize, sheet: &'a [u8], layout: Layo
             witness: Witness::none(),
         };
     };
-    witness_lines(book, lines, sheet, layout)
+    let users = layout.users;
+    let user_places = layout.user_places;
+    let users_at = user_places.at;
+    let permissions = layout.permissions;
+    let permission_places = layout.permission_places;
+    let permissions_at = permission_places.at;
+    witness_lines(
+        book,
+        lines,
+        sheet,
+        &users_at[..users],
+        &permissions_at[..permissions],
+    )
 }

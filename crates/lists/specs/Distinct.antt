@@ -6,26 +6,9 @@ use native.Mathlib.Omega.{arith}
 use mathlib.Core.Path.{_≡_, refl, sym, ap, _∙_}
 use mathlib.Core.Logic.{_⊎_, inl, inr, ⊎-elim, _≢_}
 use mathlib.Core.Bool.{Bool, false, _||_}
-use mathlib.Core.List.{
-  List,
-  [],
-  _∷_,
-  _++_,
-  map,
-  reverse,
-  reverse-cons,
-  reverse-reverse,
-  List·Memᴰ·eq-of-singleton,
-  Memᴰ·append-left,
-  Memᴰ·append-right,
-  List·Memᴰ,
-  List·Memᴰ·head,
-  List·Memᴰ·tail,
-  List·Memᴰ·not-nil,
-  List·Memᴰ·cases-cons,
-  Memᴰ·cast,
-  Memᴰ·of-map,
-}
+use mathlib.Core.List.{List, [], _∷_, _++_, map, reverse, reverse-cons, reverse-reverse, List·Memᴰ·eq-of-singleton}
+use mathlib.Core.List.{Memᴰ·append-left, Memᴰ·append-right, List·Memᴰ, List·Memᴰ·head, List·Memᴰ·tail}
+use mathlib.Core.List.{List·Memᴰ·not-nil, List·Memᴰ·cases-cons, Memᴰ·cast, Memᴰ·of-map}
 use borrow.Author.Tests.{ne-eqb}
 use lib.Dec.{eqb}
 use lib.ListN.{length}
@@ -163,6 +146,3 @@ distinct-outside n test (a ∷ rest) h outside =
     later k m =
         let r = outside k (List·Memᴰ·tail m) in
         (r .0, or-fails (test k) (eqb k a) (r .1) (ne-eqb k a (λ e. h .0 k m (sym e))))
-
-pub distinct-below : (n : ℕ) (l : List ℕ) → Distinct l → ((k : ℕ) → List·Memᴰ k l → k < n) → length l ≤ n
-distinct-below n l h below = omega (arith, distinct-outside n (λ k. false) l h (λ k m. (below k m, refl)))

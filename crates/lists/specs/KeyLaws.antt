@@ -20,15 +20,8 @@ use Rattle.bits.specs.Laws.Lowest.{lowest-below-intro}
 use Rattle.bits.specs.Laws.Count.{count-below-le, count-below-ext, count-below-none-intro, count-below-all-intro}
 use Rattle.bits.specs.Laws.CountJoin.{count-below-with}
 use Rattle.lists.specs.Classing.{class-in, Valid, Grown}
-use Rattle.lists.specs.PlacementLaws.{
-  class-in-latest,
-  class-in-earlier,
-  class-below-used,
-  joins-intro,
-  joins-elim,
-  valid-elim,
-  grown-member,
-}
+use Rattle.lists.specs.PlacementLaws.{class-in-latest, class-in-earlier, class-below-used, joins-intro}
+use Rattle.lists.specs.PlacementLaws.{joins-elim, valid-elim, grown-member}
 use Rattle.lists.specs.GroupingLaws.{class-taken, grouping-length, grouping-grown, grouping-valid}
 
 -- two numbers have one key

@@ -15,7 +15,6 @@ pub mod Span
 pub mod CutLaws
 pub mod JoinLaws
 pub mod ListOfLaws
-pub mod FilterLaws
 pub mod Listed
 pub mod EachLaws
 pub mod Total

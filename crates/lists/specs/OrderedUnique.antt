@@ -3,16 +3,8 @@
 -- the rests have the same elements.
 use mathlib.Core.Path.{_≡_, refl, sym, _∙_}
 use mathlib.Core.Logic.{_⊎_, inl, inr, ⊎-elim}
-use mathlib.Core.List.{
-  List,
-  [],
-  _∷_,
-  List·Memᴰ,
-  List·Memᴰ·head,
-  List·Memᴰ·tail,
-  List·Memᴰ·not-nil,
-  List·Memᴰ·cases-cons,
-}
+use mathlib.Core.List.{List, [], _∷_, List·Memᴰ, List·Memᴰ·head, List·Memᴰ·tail, List·Memᴰ·not-nil}
+use mathlib.Core.List.{List·Memᴰ·cases-cons}
 use Rattle.lists.specs.Ordered.{Ordered}
 
 module _ {A : Type 0} (before : A → A → Type 0) (one-way : (a b : A) → before a b → before b a → ⊥) where

@@ -9,16 +9,8 @@ use mathlib.Core.Bool.{Bool, false, So, false≢true}
 use mathlib.Core.List.{List, [], _∷_, List·Memᴰ}
 use lib.ListN.{length, getD}
 use Rattle.spec.specs.Vocabulary.{any, repeats, same-by}
-use Rattle.bits.specs.Truth.{
-  not-both,
-  fails-unless,
-  and-intro,
-  and-left,
-  and-right,
-  or-fails,
-  or-fails-left,
-  or-fails-right,
-}
+use Rattle.bits.specs.Truth.{not-both, fails-unless, and-intro, and-left, and-right, or-fails, or-fails-left}
+use Rattle.bits.specs.Truth.{or-fails-right}
 use Rattle.lists.specs.TestLaws.{none-intro, none-elim, member-at, place-of}
 
 -- the test passes only for equals

@@ -25,7 +25,7 @@ use Rattle.cover.specs.Laws.Cover.{best-le-by-permission}
 use Rattle.minimality.specs.GrantClassing.{Even}
 use Rattle.minimality.specs.RoleSets.{even-permission-below}
 use Rattle.minimality.specs.Removals.{Unfit}
-use Rattle.minimality.specs.KernelLaws.{kernel-granted}
+use Rattle.reduction.specs.Laws.RemovedGranted.{kernel-granted}
 use Rattle.minimality.specs.Singles.{unfit-turned, single-granted, single-unfit-kernel, singles-apart}
 
 -- the permission of a number of the kernel
@@ -63,7 +63,7 @@ single-permission-not-kernel sheet {g} m =
     none-below-intro (length (kernel sheet)) (λ i. eqb (kernel-permission sheet i) (g .permission))
     (λ i l. ne-eqb (kernel-permission sheet i) (g .permission) (λ e. unfit-permissions-differ sheet
     (single-granted sheet m)
-    (kernel-granted sheet (grant-at-member (kernel sheet) i l))
+    (kernel-granted sheet (grant-at (kernel sheet) i) (grant-at-member (kernel sheet) i l))
     (single-unfit-kernel sheet m (grant-at-member (kernel sheet) i l)) (sym e)))
 
 -- singles and the kernel's classes by permission are at most as many as the permissions
@@ -75,7 +75,8 @@ singles-and-permissions {sheet} even =
       arith,
       length-map (singles sheet) (λ g. g .permission),
       grouping-counts-keys (kernel-permission sheet) (length (kernel sheet)) (permission-count sheet)
-          (λ i l. permission-below even (kernel-granted sheet (grant-at-member (kernel sheet) i l))),
+          (λ i l. permission-below even (kernel-granted sheet (grant-at (kernel sheet) i)
+          (grant-at-member (kernel sheet) i l))),
       distinct-outside (permission-count sheet) (has-key (kernel-permission sheet) (length (kernel sheet)))
           (map (λ g. g .permission) (singles sheet)) (single-permissions-distinct sheet) outside,
     )

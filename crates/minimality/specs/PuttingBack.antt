@@ -7,18 +7,8 @@ use native.Mathlib.Omega.{arith}
 use mathlib.Core.Path.{_≡_, refl, sym, ap, _∙_}
 use mathlib.Core.Logic.{_⊎_, inl, inr, ⊎-elim}
 use mathlib.Core.Bool.{So}
-use mathlib.Core.List.{
-  List,
-  [],
-  _∷_,
-  map,
-  reverse,
-  List·Memᴰ,
-  List·Memᴰ·head,
-  List·Memᴰ·tail,
-  List·Memᴰ·cases-cons,
-  Memᴰ·cast,
-}
+use mathlib.Core.List.{List, [], _∷_, map, reverse, List·Memᴰ, List·Memᴰ·head, List·Memᴰ·tail, List·Memᴰ·cases-cons}
+use mathlib.Core.List.{Memᴰ·cast}
 use lib.ListN.{length, length-reverse}
 use Rattle.spec.specs.Sheet.{Sheet, Grant, same-grant, grants}
 use Rattle.spec.specs.Fit.{fits, without}
@@ -34,15 +24,8 @@ use Rattle.reduction.specs.Laws.Without.{without-member, without-differs, witho
 use Rattle.minimality.specs.GrantClassing.{ClassingOf}
 use Rattle.minimality.specs.KernelLaws.{kernel-distinct}
 use Rattle.minimality.specs.ClassRoles.{InClass}
-use Rattle.minimality.specs.Removals.{
-  Dominating,
-  Reached,
-  at-first,
-  by-single,
-  by-tie,
-  remaining-granted,
-  reduction-reached,
-}
+use Rattle.minimality.specs.Removals.{Dominating, Reached, at-first, by-single, by-tie, remaining-granted}
+use Rattle.minimality.specs.Removals.{reduction-reached}
 
 -- the grants of some members
 abbrev pub grants-in : List Classed → List Grant

@@ -13,36 +13,10 @@ use lib.ListN.{length}
 use Rattle.spec.specs.Vocabulary.{empty}
 use Rattle.spec.specs.Sheet.{Sheet, Grant, same-grant, grants}
 use Rattle.spec.specs.Fit.{fits, without, partners}
-use Rattle.spec.specs.Reduction.{
-  Reduction,
-  dominates,
-  dominated,
-  Verdict,
-  stays,
-  is-single,
-  is-tied,
-  tied-if,
-  verdict,
-  carry-out,
-  visit,
-  visits,
-  sweep,
-  sweeps,
-  unreduced,
-  reduction,
-}
-use Rattle.bits.specs.Truth.{
-  not-both,
-  fails-unless,
-  and-intro,
-  and-left,
-  and-right,
-  or-right,
-  or-cases,
-  implies-elim,
-  not-passes,
-  not-fails,
-}
+use Rattle.spec.specs.Reduction.{Reduction, dominates, dominated, Verdict, stays, is-single, is-tied, tied-if}
+use Rattle.spec.specs.Reduction.{verdict, carry-out, visit, visits, sweep, sweeps, unreduced, reduction}
+use Rattle.bits.specs.Truth.{not-both, fails-unless, and-intro, and-left, and-right, or-right, or-cases, implies-elim}
+use Rattle.bits.specs.Truth.{not-passes, not-fails}
 use Rattle.lists.specs.TestLaws.{Kept, all-elim, filter-member, first-passes}
 use Rattle.lists.specs.Ordered.{Ordered, ordered-filter}
 use Rattle.lists.specs.Distinct.{Distinct, ordered-distinct}

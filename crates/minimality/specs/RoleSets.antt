@@ -97,13 +97,6 @@ role-set-classes {roles} {sheet} even multiplies =
         (role-opens multiplies (h .user) (g .permission) (even-user-below even (h .user) (h .permission) q)
         (even-permission-below even (g .user) (g .permission) p) (a .within) (of-h .0) (of-g .1))
 
--- what bounds the classes of every classing of all grants bounds the roles of every role set
-pub classings-bound-role-sets : {roles : RoleSet} {sheet : Sheet} (bound : ℕ) → Even sheet
-    → ((count : ℕ) (class : Grant → ℕ) → ClassingOf sheet (grants sheet) count class → bound ≤ count)
-    → Multiplies roles sheet → bound ≤ roles .count
-classings-bound-role-sets {roles} bound even h multiplies =
-    h (roles .count) (covering-role roles) (role-set-classes even multiplies)
-
 -- ---- grants of which no two fit
 
 -- every classing has at least as many classes as there are grants of which no two fit

@@ -11,20 +11,8 @@ use borrow.Author.Tests.{eqb-true, eqb-false}
 use lib.Dec.{eqb}
 use lib.ListN.{length}
 use Rattle.spec.specs.Sheet.{Sheet, Grant, same-grant, grants}
-use Rattle.spec.specs.Reduction.{
-  Reduction,
-  Verdict,
-  stays,
-  is-single,
-  is-tied,
-  verdict,
-  carry-out,
-  visit,
-  visits,
-  sweep,
-  sweeps,
-  reduction,
-}
+use Rattle.spec.specs.Reduction.{Reduction, Verdict, stays, is-single, is-tied, verdict, carry-out, visit, visits}
+use Rattle.spec.specs.Reduction.{sweep, sweeps, reduction}
 use Rattle.lists.specs.FilterLength.{filter-shorter}
 use Rattle.lists.specs.Distinct.{Distinct}
 use Rattle.cells.specs.Laws.Grant.{same-grant-refl}

@@ -22,13 +22,8 @@ use Rattle.minimality.specs.ClassRoles.{classes-multiply, role-count-is-
 use Rattle.minimality.specs.PlacementClasses.{classing-of-numbers, placement-classes, placed-class-has-a-grant}
 use Rattle.minimality.specs.KernelLaws.{kernel-held, kernel-different}
 use Rattle.minimality.specs.ReductionKeeps.{kernel-keeps-a-classing}
-use Rattle.minimality.specs.PuttingBack.{
-  ClassesOf,
-  AllInUse,
-  putting-back-classes,
-  putting-back-counts,
-  putting-back-fills,
-}
+use Rattle.minimality.specs.PuttingBack.{ClassesOf, AllInUse, putting-back-classes, putting-back-counts}
+use Rattle.minimality.specs.PuttingBack.{putting-back-fills}
 use Rattle.minimality.specs.WitnessLaws.{witness-granted, witness-independent}
 use Rattle.minimality.specs.PermissionBound.{singles-and-first-best}
 

@@ -9,15 +9,8 @@ use Rattle.spec.specs.Reduction.{Reduction, kernel, singles-of, singles}
 use Rattle.lists.specs.Ordered.{Ordered}
 use Rattle.fit.specs.Laws.Fit.{fits-symmetric}
 use Rattle.reduction.specs.Laws.Without.{without-member}
-use Rattle.minimality.specs.Removals.{
-  Unfit,
-  Reached,
-  at-first,
-  by-single,
-  by-tie,
-  remaining-granted,
-  reduction-reached,
-}
+use Rattle.minimality.specs.Removals.{Unfit, Reached, at-first, by-single, by-tie, remaining-granted}
+use Rattle.minimality.specs.Removals.{reduction-reached}
 
 -- which of two is named first does not matter
 pub unfit-turned : (sheet : Sheet) (g h : Grant) → Unfit sheet g h → Unfit sheet h g

@@ -16,30 +16,15 @@ use Rattle.spec.specs.Witness.{witness}
 use Rattle.spec.specs.Cover.{used, first-best}
 use Rattle.spec.specs.Machine.{State, best-count, reaches-witness, search}
 use Rattle.spec.specs.RoleSet.{RoleSet, Multiplies}
-use Rattle.spec.specs.Roles.{
-  roles-of,
-  kernel-of,
-  start-of,
-  witnessed,
-  searched,
-  unsettled,
-  bound-of,
-  role-count,
-  standing,
-  bound,
-}
+use Rattle.spec.specs.Roles.{roles-of, kernel-of, start-of, witnessed, searched, unsettled, bound-of, role-count}
+use Rattle.spec.specs.Roles.{standing, bound}
 use Rattle.search.specs.Laws.SoundState.{SoundState, sound-start, sound-search}
 use Rattle.search.specs.Laws.Complete.{Passed, passed-start, passed-search, finished-is-smallest}
 use Rattle.search.specs.Laws.Best.{search-best-le}
 use Rattle.minimality.specs.GrantClassing.{Even}
-use Rattle.minimality.specs.SheetRoles.{
-  first-best-whole,
-  roles-multiply,
-  roles-counted,
-  witness-bounds-role-sets,
-  smallest-bounds-role-sets,
-  roles-le-permissions,
-}
+use Rattle.minimality.specs.SheetRoles.{first-best-whole, roles-multiply, roles-counted}
+use Rattle.minimality.specs.SheetRoles.{witness-bounds-role-sets, smallest-bounds-role-sets}
+use Rattle.minimality.specs.SheetRoles.{roles-le-permissions}
 
 -- a state that searches of the sheet may come to
 pub record Searching (sheet : Sheet) (st : State) : Type 0 where

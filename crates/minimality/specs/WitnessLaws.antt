@@ -17,12 +17,11 @@ use Rattle.lists.specs.TestLaws.{filter-member, filter-kept, member-at}
 use Rattle.lists.specs.Ordered.{Ordered, ordered-places, ordered-append, ordered-filter}
 use Rattle.lists.specs.Distinct.{Distinct, ordered-distinct, ordered-either, distinct-within}
 use Rattle.cells.specs.Laws.Grant.{grant-held}
-use Rattle.cells.specs.Laws.GrantOrder.{Before, grants-ordered}
 use Rattle.fit.specs.Laws.Among.{among-member, member-among}
 use Rattle.fit.specs.Laws.Fit.{fits-itself}
 use Rattle.minimality.specs.GrantClassing.{Independent}
 use Rattle.minimality.specs.Removals.{Unfit, grants-distinct}
-use Rattle.minimality.specs.KernelLaws.{kernel-granted}
+use Rattle.reduction.specs.Laws.RemovedGranted.{kernel-granted}
 use Rattle.minimality.specs.Singles.{unfit-turned, single-granted, single-unfit-kernel, singles-apart}
 use Rattle.minimality.specs.Chosen.{chosen-member, chosen-apart}
 
@@ -33,7 +32,7 @@ abbrev pub chosen-and-singles : Sheet → List Grant
 chosen-and-singles sheet = chosen sheet ++ singles sheet
 
 pub chosen-granted : (sheet : Sheet) {g : Grant} → List·Memᴰ g (chosen sheet) → List·Memᴰ g (grants sheet)
-chosen-granted sheet m = kernel-granted sheet (chosen-member sheet m)
+chosen-granted sheet m = kernel-granted sheet _ (chosen-member sheet m)
 
 chosen-and-singles-granted : (sheet : Sheet) {g : Grant} → List·Memᴰ g (chosen-and-singles sheet)
     → List·Memᴰ g (grants sheet)
@@ -76,12 +75,6 @@ witness-has sheet {g} m =
     (⊎-elim (λ n. or-left (among (chosen sheet) g) (among (singles sheet) g) (member-among (chosen sheet) n))
     (λ n. or-right (among (chosen sheet) g) (among (singles sheet) g) (member-among (singles sheet) n))
     (List·Memᴰ·append-cases (chosen sheet) m))
-
--- they stand in grant order
-pub witness-ordered : (sheet : Sheet) → Ordered Before (witness sheet)
-unfolding witness
-witness-ordered sheet =
-    ordered-filter Before (λ g. among (chosen sheet) g || among (singles sheet) g) (grants sheet) (grants-ordered sheet)
 
 pub witness-distinct : (sheet : Sheet) → Distinct (witness sheet)
 unfolding witness

@@ -9,7 +9,6 @@ use Rattle.spec.specs.Vocabulary.{some-below}
 use Rattle.spec.specs.Text.{Bytes, same-name}
 use Rattle.bits.specs.Bit.{bit, word-bits}
 use Rattle.names.specs.NamesAt.{PartThere, name-there}
-use Rattle.names.specs.declared.places.Places.{Places}
 
 -- how many buckets there are
 abbrev pub bucket-count : ℕ
@@ -33,7 +32,7 @@ unfoldable pub bucket-of : Bytes → ℕ
 bucket-of name = bucket-after 0 name
 
 -- the table notes the first n names: each has its bit in its bucket, and no bit is that of a later name
-pub record Noted (table : List ℕ) (text : Bytes) (places : Places) (n : ℕ) : Type 0 where
+pub record Noted (table : List ℕ) (text : Bytes) (places : List ℕ) (n : ℕ) : Type 0 where
   pub size : length table ≡ bucket-count * bucket-words
   pub below : (h k p : ℕ) → k < bucket-words → p < word-bits → So (bit (getD table (h * bucket-words + k) 0) p)
       → k * word-bits + p < n
@@ -41,19 +40,19 @@ pub record Noted (table : List ℕ) (text : Bytes) (places : Places) (n : ℕ) :
       → So (bit (getD table (bucket-of (name-there text places j) * bucket-words + j / word-bits) 0) (j % word-bits))
 
 -- each bit of the table is that of a name that stands in the text
-pub record BitsNamed (table : List ℕ) (text : Bytes) (from to : List ℕ) : Type 0 where
+pub record BitsNamed (table : List ℕ) (text : Bytes) (places : List ℕ) : Type 0 where
   pub part : (h k p : ℕ) → k < bucket-words → p < word-bits → So (bit (getD table (h * bucket-words + k) 0) p)
-      → PartThere text from to (k * word-bits + p)
+      → PartThere text places (k * word-bits + p)
 
 -- position p of a word is that of a name equal to this one, where the word's first position is that of the name `first`
-abbrev pub meets-at : Bytes → Places → ℕ → ℕ → Bytes → ℕ → Bool
+abbrev pub meets-at : Bytes → List ℕ → ℕ → ℕ → Bytes → ℕ → Bool
 meets-at text places word first name p = bit word p && same-name (name-there text places (first + p)) name
 
 -- so is some position of the word
-abbrev pub meets-word : Bytes → Places → ℕ → ℕ → Bytes → Bool
+abbrev pub meets-word : Bytes → List ℕ → ℕ → ℕ → Bytes → Bool
 meets-word text places word first name = some-below word-bits (meets-at text places word first name)
 
 -- so is some position of the first words of a bucket
-abbrev pub meets-bucket : Bytes → Places → List ℕ → ℕ → ℕ → Bytes → Bool
+abbrev pub meets-bucket : Bytes → List ℕ → List ℕ → ℕ → ℕ → Bytes → Bool
 meets-bucket text places table bucket words name =
     some-below words (λ k. meets-word text places (getD table (bucket * bucket-words + k) 0) (k * word-bits) name)

@@ -1,5 +1,8 @@
 -- The laws behind what contracts cite.
+pub mod Places
 pub mod NamesAt
+pub mod Repeats
+pub mod FoundBetween
 pub mod Bucket
 pub mod Meet
 pub mod LaidOut

@@ -1,9 +1,7 @@
 -- Names as parts of the sheet itself: where they stand, one by its number, the number of one, and whether one stands
 -- twice.
 pub mod Places
-pub mod PlacesLaws
 pub mod NamesAt
-pub mod RepeatsLaws
 pub mod FoundBetween
 pub mod Buckets
 pub mod LaidOut

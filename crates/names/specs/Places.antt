@@ -1,10 +1,35 @@
--- Where the parts of a text stand, by their first byte and the byte after their last. Assumes nothing.
-use Prim.Native.Nat.{ℕ, _-_, _≤_, _<_}
+-- Where the parts of a text stand: a place is one number, which says the first byte of a part and the byte after its
+-- last. Assumes nothing.
+use Prim.Native.Nat.{ℕ, _+_, _*_, _-_, _/_, _%_, _≤_, _<_}
 use mathlib.Core.Path.{_≡_}
 use mathlib.Core.List.{List, []}
-use lib.ListN.{length, getD, take, drop}
+use lib.ListN.{length, getD, take, drop, replicate}
+use Rattle.spec.specs.Limits.{user-limit}
 use Rattle.spec.specs.Text.{Bytes}
 use Rattle.names.specs.declared.places.Places.{Places}
+
+-- more than the number of any byte of a text
+abbrev pub place-base : ℕ
+place-base = 4_294_967_296
+
+-- the place of the bytes from one up to another
+abbrev pub place-of : ℕ → ℕ → ℕ
+place-of from to = from * place-base + to
+
+-- the first byte of a place
+abbrev pub from-of : ℕ → ℕ
+from-of place = place / place-base
+
+-- the byte after the last of a place
+abbrev pub to-of : ℕ → ℕ
+to-of place = place % place-base
+
+-- the same of place i of a list of places
+abbrev pub from-at : List ℕ → ℕ → ℕ
+from-at places i = from-of (getD places i 0)
+
+abbrev pub to-at : List ℕ → ℕ → ℕ
+to-at places i = to-of (getD places i 0)
 
 -- the bytes of a text from one place up to another
 abbrev pub part : ℕ → ℕ → Bytes → Bytes
@@ -17,14 +42,18 @@ pub record Part (text : Bytes) (from to : ℕ) (bytes : Bytes) : Type 0 where
   pub reads : part from to text ≡ bytes
 
 -- the first n names of a list stand in the text at these places
-pub record PlacedBelow (n : ℕ) (text : Bytes) (places : Places) (names : List Bytes) : Type 0 where
-  pub each : (i : ℕ) → i < n → Part text (getD (places .from) i 0) (getD (places .to) i 0) (getD names i [])
+pub record PlacedBelow (n : ℕ) (text : Bytes) (places : List ℕ) (names : List Bytes) : Type 0 where
+  pub each : (i : ℕ) → i < n → Part text (from-at places i) (to-at places i) (getD names i [])
 
--- all names of a list stand in the text at these places
-abbrev pub NamesPlaced : Bytes → Places → List Bytes → Type 0
-NamesPlaced text places names = PlacedBelow (length names) text places names
+-- these are the places of the names of a list in the text, one for each name
+pub record NamesPlaced (text : Bytes) (places : List ℕ) (names : List Bytes) : Type 0 where
+  pub total : length places ≡ length names
+  pub placed : PlacedBelow (length names) text places names
 
--- past the first n no place is noted: there both lists have 0
-pub record BlankPast (n : ℕ) (from to : List ℕ) : Type 0 where
-  pub starts : (i : ℕ) → n ≤ i → getD from i 0 ≡ 0
-  pub ends : (i : ℕ) → n ≤ i → getD to i 0 ≡ 0
+-- past the first n no place is noted: there the list has 0
+abbrev pub BlankPast : ℕ → List ℕ → Type 0
+BlankPast n places = (i : ℕ) → n ≤ i → getD places i 0 ≡ 0
+
+-- no place is noted
+abbrev pub no-places : Places
+no-places = record { at = replicate user-limit 0 }

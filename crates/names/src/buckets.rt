@@ -1,4 +1,5 @@
-// Names by buckets: equal names have one bucket, so a name is compared with those of its own bucket only.
+// Names by buckets: equal names have one bucket, so a name is compared with those of its own bucket only. The names are
+// those of the users or those of the permissions, and so are the numbers.
 use crate::lookup::part_at;
 use bits::WORD_BITS;
 use numbers::USER_LIMIT;
@@ -6,10 +7,11 @@ use text::same_name;
 ghost use mathlib.Core.Path.{_≡_};
 ghost use mathlib.Core.Bool.{So};
 ghost use Prim.Native.Nat.{ℕ, _+_, _≤_, _<_};
+ghost use lib.ListN.{length};
 ghost use Rattle.spec.specs.Vocabulary.{repeats};
 ghost use Rattle.spec.specs.Text.{same-name};
 ghost use Rattle.bits.specs.Bit.{bit, word-bits};
-ghost use Rattle.names.specs.NamesAt.{Inside, PartThere, places-of, names-at};
+ghost use Rattle.names.specs.NamesAt.{Inside, PartThere, all-names};
 ghost use Rattle.names.specs.Buckets.{bucket-count, bucket-words, bucket-of, BitsNamed, meets-word, meets-bucket};
 
 // How many buckets there are.
@@ -50,20 +52,18 @@ fn wide(b: u8) -> usize
 // Whether a name equals one of those whose numbers are in a word, where position 0 is the number `first`.
 fn meets_word<'a, 'b>(
     s: &'a [u8],
-    from: &'b [usize; USER_LIMIT],
-    to: &'b [usize; USER_LIMIT],
+    places: &'b [u64],
     word: u64,
     first: usize,
     name: &'a [u8],
 ) -> bool
-    requires { ⌜ ((p : ℕ) → p < word-bits → So (bit word p) → PartThere (now s) (now from) (now to) (first + p)) ⌝ }
-    ensures { λ r. ⌜ r ≡ meets-word (now (s .entry)) (places-of (now (from .entry)) (now (to .entry))) word first
-        (now (name .entry)) ⌝ }
+    requires { ⌜ ((p : ℕ) → p < word-bits → So (bit word p) → PartThere (now s) (now places) (first + p)) ⌝ }
+    ensures { λ r. ⌜ r ≡ meets-word (now (s .entry)) (now (places .entry)) word first (now (name .entry)) ⌝ }
 {
     let mut w = word;
     while w != 0 {
         let i = first + bits::lowest(w);
-        if same_name(part_at(s, from, to, i), name) {
+        if same_name(part_at(s, places, i), name) {
             return true;
         }
         w = bits::without_lowest(w);
@@ -74,22 +74,20 @@ fn meets_word<'a, 'b>(
 // Whether a name equals one of those whose numbers are in the first words of a bucket.
 fn meets_bucket<'a, 'b>(
     s: &'a [u8],
-    from: &'b [usize; USER_LIMIT],
-    to: &'b [usize; USER_LIMIT],
+    places: &'b [u64],
     table: &'b [u64; TABLE_WORDS],
     bucket: usize,
     words: usize,
     name: &'a [u8],
 ) -> bool
-    requires { ⌜ BitsNamed (now table) (now s) (now from) (now to) × (bucket < bucket-count)
-        × (words ≤ bucket-words) ⌝ }
-    ensures { λ r. ⌜ r ≡ meets-bucket (now (s .entry)) (places-of (now (from .entry)) (now (to .entry)))
-        (now (table .entry)) bucket words (now (name .entry)) ⌝ }
+    requires { ⌜ BitsNamed (now table) (now s) (now places) × (bucket < bucket-count) × (words ≤ bucket-words) ⌝ }
+    ensures { λ r. ⌜ r ≡ meets-bucket (now (s .entry)) (now (places .entry)) (now (table .entry)) bucket words
+        (now (name .entry)) ⌝ }
 {
     let mut k = 0;
     while k < words {
         let at = bucket * BUCKET_WORDS + k;
-        if meets_word(s, from, to, table[at], k * WORD_BITS, name) {
+        if meets_word(s, places, table[at], k * WORD_BITS, name) {
             return true;
         }
         k += 1;
@@ -97,21 +95,15 @@ fn meets_bucket<'a, 'b>(
     false
 }
 
-// Whether two of the first `count` names are equal, each compared with all before it.
-fn repeated_few<'a>(
-    s: &'a [u8],
-    from: &'a [usize; USER_LIMIT],
-    to: &'a [usize; USER_LIMIT],
-    count: usize,
-) -> bool
-    requires { ⌜ Inside (now s) (places-of (now from) (now to)) count × (count ≤ word-bits) ⌝ }
-    ensures { λ r. ⌜ r ≡ repeats same-name
-        (names-at (now (s .entry)) (places-of (now (from .entry)) (now (to .entry))) count) ⌝ }
+// Whether two names are equal, each compared with all before it.
+fn repeated_few<'a>(s: &'a [u8], places: &'a [u64]) -> bool
+    requires { ⌜ Inside (now s) (now places) × (length (now places) ≤ word-bits) ⌝ }
+    ensures { λ r. ⌜ r ≡ repeats same-name (all-names (now (s .entry)) (now (places .entry))) ⌝ }
 {
     let mut i = 0;
-    while i < count {
-        let name = part_at(s, from, to, i);
-        if meets_word(s, from, to, bits::full(i), 0, name) {
+    while i < places.len() {
+        let name = part_at(s, places, i);
+        if meets_word(s, places, bits::full(i), 0, name) {
             return true;
         }
         i += 1;
@@ -119,25 +111,19 @@ fn repeated_few<'a>(
     false
 }
 
-// Whether two of the first `count` names are equal, by buckets: the table has a bit for each name before number i, in
-// the bucket of that name.
-fn repeated_by_buckets<'a>(
-    s: &'a [u8],
-    from: &'a [usize; USER_LIMIT],
-    to: &'a [usize; USER_LIMIT],
-    count: usize,
-) -> bool
-    requires { ⌜ Inside (now s) (places-of (now from) (now to)) count ⌝ }
-    ensures { λ r. ⌜ r ≡ repeats same-name
-        (names-at (now (s .entry)) (places-of (now (from .entry)) (now (to .entry))) count) ⌝ }
+// Whether two names are equal, by buckets: the table has a bit for each name before number i, in the bucket of that
+// name.
+fn repeated_by_buckets<'a>(s: &'a [u8], places: &'a [u64]) -> bool
+    requires { ⌜ Inside (now s) (now places) ⌝ }
+    ensures { λ r. ⌜ r ≡ repeats same-name (all-names (now (s .entry)) (now (places .entry))) ⌝ }
 {
     let mut table = [0; TABLE_WORDS];
     let mut i = 0;
-    while i < count {
-        let name = part_at(s, from, to, i);
+    while i < places.len() {
+        let name = part_at(s, places, i);
         let bucket = bucket_of(name);
         let k = i / WORD_BITS;
-        if meets_bucket(s, from, to, &table, bucket, k + 1, name) {
+        if meets_bucket(s, places, &table, bucket, k + 1, name) {
             return true;
         }
         let at = bucket * BUCKET_WORDS + k;
@@ -147,19 +133,13 @@ fn repeated_by_buckets<'a>(
     false
 }
 
-// Whether two of the first `count` names are equal.
-pub fn repeated_in<'a>(
-    s: &'a [u8],
-    from: &'a [usize; USER_LIMIT],
-    to: &'a [usize; USER_LIMIT],
-    count: usize,
-) -> bool
-    requires { ⌜ Inside (now s) (places-of (now from) (now to)) count ⌝ }
-    ensures { λ r. ⌜ r ≡ repeats same-name
-        (names-at (now (s .entry)) (places-of (now (from .entry)) (now (to .entry))) count) ⌝ }
+// Whether two of the names at these places are equal.
+pub fn repeated_in<'a>(s: &'a [u8], places: &'a [u64]) -> bool
+    requires { ⌜ Inside (now s) (now places) ⌝ }
+    ensures { λ r. ⌜ r ≡ repeats same-name (all-names (now (s .entry)) (now (places .entry))) ⌝ }
 {
-    if count <= FEW {
-        return repeated_few(s, from, to, count);
+    if places.len() <= FEW {
+        return repeated_few(s, places);
     }
-    repeated_by_buckets(s, from, to, count)
+    repeated_by_buckets(s, places)
 }

@@ -4,7 +4,6 @@ use crate::lookup::find_from;
 use crate::lookup::part_at;
 use crate::places::Places;
 use numbers::PermissionNo;
-use numbers::USER_LIMIT;
 use numbers::UserNo;
 ghost use mathlib.Core.Path.{_≡_};
 ghost use mathlib.Core.List.{[]};
@@ -36,45 +35,33 @@ pub enum FoundPermission {
 }
 
 // The name of user u, with the users' places lent: a loop that asks for many names copies no layout.
-pub fn user_name_in<'a, 'b>(
-    s: &'a [u8],
-    from: &'b [usize; USER_LIMIT],
-    to: &'b [usize; USER_LIMIT],
-    u: UserNo,
-) -> &'a [u8]
-    requires { ⌜ UsersAt (now s) (now from) (now to) × (u .0 < user-count (sheet-of (now s))) ⌝ }
+pub fn user_name_in<'a, 'b>(s: &'a [u8], places: &'b [u64], u: UserNo) -> &'a [u8]
+    requires { ⌜ UsersAt (now s) (now places) × (u .0 < user-count (sheet-of (now s))) ⌝ }
     ensures { λ r. ⌜ now r ≡ getD (sheet-of (now (s .entry)) .users) (u .0) [] ⌝ }
 {
-    part_at(s, from, to, u.0)
+    part_at(s, places, u.0)
 }
 
 // The name of permission p, with the permissions' places lent.
-pub fn permission_name_in<'a, 'b>(
-    s: &'a [u8],
-    from: &'b [usize; USER_LIMIT],
-    to: &'b [usize; USER_LIMIT],
-    p: PermissionNo,
-) -> &'a [u8]
-    requires { ⌜ PermissionsAt (now s) (now from) (now to) × (p .0 < permission-count (sheet-of (now s))) ⌝ }
+pub fn permission_name_in<'a, 'b>(s: &'a [u8], places: &'b [u64], p: PermissionNo) -> &'a [u8]
+    requires { ⌜ PermissionsAt (now s) (now places) × (p .0 < permission-count (sheet-of (now s))) ⌝ }
     ensures { λ r. ⌜ now r ≡ getD (sheet-of (now (s .entry)) .permissions) (p .0) [] ⌝ }
 {
-    part_at(s, from, to, p.0)
+    part_at(s, places, p.0)
 }
 
 // The number of the user of this name, with the users' places lent. The users from number `first` on are looked at
 // first: a caller whose names rise says the last number, and the answer is the same whatever it says.
 pub fn find_user_in<'a, 'b>(
     s: &'a [u8],
-    from: &'b [usize; USER_LIMIT],
-    to: &'b [usize; USER_LIMIT],
-    users: usize,
-    first: usize,
+    places: &'b [u64],
+    first: UserNo,
     name: &'a [u8],
 ) -> FoundUser
-    requires { ⌜ UsersAt (now s) (now from) (now to) × (users ≡ user-count (sheet-of (now s))) ⌝ }
+    requires { ⌜ UsersAt (now s) (now places) ⌝ }
     ensures { λ r. ⌜ r ≡ found-user (name-number (sheet-of (now (s .entry)) .users) (now (name .entry))) ⌝ }
 {
-    match find_from(s, from, to, users, first, name) {
+    match find_from(s, places, first.0, name) {
         Found::At(i) => FoundUser::At(UserNo(i)),
         Found::Nothing => FoundUser::Nothing,
     }
@@ -84,16 +71,14 @@ pub fn find_user_in<'a, 'b>(
 // looked at first.
 pub fn find_permission_in<'a, 'b>(
     s: &'a [u8],
-    from: &'b [usize; USER_LIMIT],
-    to: &'b [usize; USER_LIMIT],
-    permissions: usize,
-    first: usize,
+    places: &'b [u64],
+    first: PermissionNo,
     name: &'a [u8],
 ) -> FoundPermission
-    requires { ⌜ PermissionsAt (now s) (now from) (now to) × (permissions ≡ permission-count (sheet-of (now s))) ⌝ }
+    requires { ⌜ PermissionsAt (now s) (now places) ⌝ }
     ensures { λ r. ⌜ r ≡ found-permission (name-number (sheet-of (now (s .entry)) .permissions) (now (name .entry))) ⌝ }
 {
-    match find_from(s, from, to, permissions, first, name) {
+    match find_from(s, places, first.0, name) {
         Found::At(i) => FoundPermission::At(PermissionNo(i)),
         Found::Nothing => FoundPermission::Nothing,
     }

@@ -5,6 +5,7 @@ mod layout;
 mod lookup;
 mod places;
 
+pub use buckets::repeated_in;
 pub use layout::FoundPermission;
 pub use layout::FoundUser;
 pub use layout::Layout;
@@ -12,5 +13,7 @@ pub use layout::find_permission_in;
 pub use layout::find_user_in;
 pub use layout::permission_name_in;
 pub use layout::user_name_in;
-pub use lookup::repeated;
 pub use places::Places;
+pub use places::from_of;
+pub use places::place_of;
+pub use places::to_of;

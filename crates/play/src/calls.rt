@@ -1,11 +1,13 @@
 // The calls of a script. Each hands back the session after it, of a writing the one before it, which came from the
 // calls if the one before did.
-use crate::say;
+use crate::say::say;
 use crate::space::SPACE_LIMIT;
 use crate::space::patterned;
+use answers::Answer;
+use answers::written;
+use decimal::BudgetRead;
 use numbers::BOOK_LIMIT;
 use numbers::SHEET_LIMIT;
-use porvuund::BudgetRead;
 use session::Session;
 ghost use Rattle.session.specs.CodeSession.{Sound};
 
@@ -21,13 +23,13 @@ pub fn load(session: Session, path: &[u8]) -> Session
     let mut text = [0u8; SHEET_BUFFER];
     let read = files::read_file(path, &mut text);
     if !read.readable {
-        say::no_call();
+        say(Answer::NoCall);
         return session;
     }
     let count = read.count;
     let loaded = session.load(&text[..count]);
     let answer = loaded.answer;
-    say::loaded(answer);
+    say(Answer::Loaded(answer));
     loaded.session
 }
 
@@ -35,13 +37,13 @@ pub fn search(session: Session, word: &[u8]) -> Session
     requires { ⌜ Sound session ⌝ }
     ensures { λ r. ⌜ Sound r ⌝ }
 {
-    let BudgetRead::Number(budget) = porvuund::read_budget(word) else {
-        say::no_call();
+    let BudgetRead::Number(budget) = decimal::read_budget(word) else {
+        say(Answer::NoCall);
         return session;
     };
     let searched = session.search(budget);
     let answer = searched.answer;
-    say::searched(answer);
+    say(Answer::Searched(answer));
     searched.session
 }
 
@@ -50,20 +52,20 @@ fn write_into(session: Session, lent: &mut [u8])
     requires { ⌜ Sound session ⌝ }
 {
     let answer = session.write(lent);
-    say::written(answer, lent);
+    say(written(answer, lent));
 }
 
 pub fn write(session: Session, word: &[u8]) -> Session
     requires { ⌜ Sound session ⌝ }
     ensures { λ r. ⌜ Sound r ⌝ }
 {
-    let BudgetRead::Number(n) = porvuund::read_budget(word) else {
-        say::no_call();
+    let BudgetRead::Number(n) = decimal::read_budget(word) else {
+        say(Answer::NoCall);
         return session;
     };
     let length = n as usize;
     if SPACE_LIMIT < length {
-        say::no_call();
+        say(Answer::NoCall);
         return session;
     }
     let mut space = patterned();
@@ -77,10 +79,10 @@ pub fn check<'a>(sheet_path: &'a [u8], book_path: &'a [u8]) {
     let mut book = [0u8; BOOK_BUFFER];
     let second = files::read_file(book_path, &mut book);
     if !first.readable || !second.readable {
-        say::no_call();
+        say(Answer::NoCall);
         return;
     }
     let sheet_length = first.count;
     let book_length = second.count;
-    say::checked(checker::check(&sheet[..sheet_length], &book[..book_length]));
+    say(Answer::Checked(checker::check(&sheet[..sheet_length], &book[..book_length])));
 }

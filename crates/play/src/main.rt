@@ -1,7 +1,9 @@
 // Makes the calls of a script on one session: a call a line on standard input, an answer a line on standard output.
 //
-// load FILE load NUMBER USERS PERMISSIONS GRANTS K W search N search NUMBER STEPS ROLES BOUND STATE write LENGTH
-// write NUMBER COUNT DIGEST check SHEETFILE BOOKFILE check NUMBER ROLES WITNESSLINES
+// - `load FILE` is answered by `load NUMBER USERS PERMISSIONS GRANTS K W`,
+// - `search N` by `search NUMBER STEPS ROLES BOUND STATE`,
+// - `write LENGTH` by `write NUMBER COUNT DIGEST`,
+// - `check SHEETFILE BOOKFILE` by `check NUMBER ROLES WITNESSLINES`.
 //
 // NUMBER is 0 for a result, else the number of the refusal; the counts are then 0 and STATE is `-`. A writing is lent
 // LENGTH bytes, at most 131,072, byte i being (31 i + 7) mod 256 before the call; DIGEST is the Adler-32 of all of
@@ -9,10 +11,8 @@
 // answered by `?`, and so is a call whose file cannot be read: standard error says why. A script may be of any
 // length, a line of at most 8,192 bytes. A script is read byte by byte, so that a call is answered before the next
 // one is there.
-mod adler;
 mod calls;
 mod input;
-mod lines;
 mod say;
 mod script;
 mod space;

@@ -1,6 +1,7 @@
 // A line of a script, taken apart and answered.
 use crate::calls;
-use crate::say;
+use crate::say::say;
+use answers::Answer;
 use session::Session;
 ghost use Rattle.io.specs.Counts.{Counts};
 ghost use Rattle.session.specs.CodeSession.{Sound};
@@ -19,11 +20,36 @@ fn first_blank(line: &[u8]) -> usize
     i
 }
 
+// The call that the first word of a line names.
+enum Asked {
+    Load,
+    Search,
+    Write,
+    Check,
+    Nothing,
+}
+
+fn asked_by(word: &[u8]) -> Asked {
+    if check::same(word, b"load") {
+        return Asked::Load;
+    }
+    if check::same(word, b"search") {
+        return Asked::Search;
+    }
+    if check::same(word, b"write") {
+        return Asked::Write;
+    }
+    if check::same(word, b"check") {
+        return Asked::Check;
+    }
+    Asked::Nothing
+}
+
 // Checks the two files that are named.
 fn check_files(names: &[u8]) {
     let end = first_blank(names);
     if end == names.len() {
-        say::no_call();
+        say(Answer::NoCall);
         return;
     }
     let from = end + 1;
@@ -37,23 +63,21 @@ pub fn answer(session: Session, line: &[u8]) -> Session
 {
     let end = first_blank(line);
     if end == line.len() {
-        say::no_call();
+        say(Answer::NoCall);
         return session;
     }
     let from = end + 1;
-    if check::same(&line[..end], b"load") {
-        return calls::load(session, &line[from..]);
+    match asked_by(&line[..end]) {
+        Asked::Load => calls::load(session, &line[from..]),
+        Asked::Search => calls::search(session, &line[from..]),
+        Asked::Write => calls::write(session, &line[from..]),
+        Asked::Check => {
+            check_files(&line[from..]);
+            session
+        }
+        Asked::Nothing => {
+            say(Answer::NoCall);
+            session
+        }
     }
-    if check::same(&line[..end], b"search") {
-        return calls::search(session, &line[from..]);
-    }
-    if check::same(&line[..end], b"write") {
-        return calls::write(session, &line[from..]);
-    }
-    if check::same(&line[..end], b"check") {
-        check_files(&line[from..]);
-        return session;
-    }
-    say::no_call();
-    session
 }

@@ -1,39 +1,24 @@
 -- The demands from the library's contracts as the sources have them. A run of the exported session calls is a
 -- sequence of demand 3, as a run of the session's own calls is; the calls for a whole task and what the programs
 -- print are tied to the demands one by one.
-use mathlib.Core.Path.{_≡_, refl}
+use mathlib.Core.Path.{refl}
 use denote.Ref.{now}
 use Rattle.spec.specs.Calls.{search-answer}
-use Rattle.spec.specs.Sequence.{Call, load, search, write, Outcome}
 use Rattle.checker.specs.Laws.CodeCall.{CodeCall, Kept}
 use Rattle.right.specs.CheckOwed.{CheckOwed, check-owed}
-use Rattle.session.specs.Said.{load-said, write-said}
+use Rattle.session.specs.Said.{write-said}
 use Rattle.session.specs.CodeSession.{view, Sound}
-use Rattle.session.specs.Laws.CodeSequence.{
-  Ensured,
-  Fresh,
-  Calling,
-  Tied,
-  Demand1Of,
-  Demand2Of,
-  Demand3Of,
-  tied-demand-1,
-  tied-demand-2,
-  tied-demand-3,
-}
-use Rattle.session.specs.declared.Session.{Session}
+use Rattle.session.specs.Laws.CodeSequence.{Calling, Tied, Demand1Of, Demand2Of, Demand3Of, tied-demand-1}
+use Rattle.session.specs.Laws.CodeSequence.{tied-demand-2, tied-demand-3}
+use Rattle.session.proofs.Contracts.{begun-by, loads-by, writes-by}
 use Rattle.porvuund.specs.SearchNumbers.{Numbers, numbers-said, numbers-searched}
-use Rattle.porvuund.specs.OneShot.{book-said}
 use Rattle.porvuund.specs.Laws.TaskOwed.{TaskOwed, task-owed}
-use Rattle.porvuund.specs.CheckOutput.{check-said}
+use Rattle.checker.specs.BookSays.{answer-of}
 use Rattle.porvuund.specs.Laws.Printed.{BookPrinted, book-printed, CheckPrinted, check-printed}
-use Rattle.porvuund.proofs.sessions.porvuund_fresh.Kinds as fresh-kinds
 use Rattle.porvuund.proofs.sessions.porvuund_fresh.Reads as fresh-reads
-use Rattle.porvuund.proofs.sessions.porvuund_load.Kinds as load-kinds
 use Rattle.porvuund.proofs.sessions.porvuund_load.Reads as load-reads
 use Rattle.porvuund.proofs.sessions.porvuund_search.Kinds as search-kinds
 use Rattle.porvuund.proofs.sessions.porvuund_search.Reads as search-reads
-use Rattle.porvuund.proofs.sessions.porvuund_write.Kinds as write-kinds
 use Rattle.porvuund.proofs.sessions.porvuund_write.Reads as write-reads
 use Rattle.porvuund.proofs.calls.porvuund_book.Kinds as book-kinds
 use Rattle.porvuund.proofs.calls.porvuund_book.Reads as book-reads
@@ -46,50 +31,34 @@ use Rattle.porvuund.proofs.output.check_output.Reads as check-output-re
 
 -- ---- the session calls
 
--- an exported call, its contract kept, that was made on the value before with this outcome, and led to the value
--- after; a search's outcome is the answer that its numbers are
-abbrev pub Step : (call : Call) → Outcome call → Session → Session → Type 1
-Step (load text) answer before after =
-    (call : CodeCall 1 load-kinds.ps load-kinds.r) × Kept load-reads.Pre load-reads.Post call
-    × (before ≡ call .args .0) × (text ≡ now (call .args .1 .0)) × (answer ≡ load-said (call .result .answer))
-    × (after ≡ call .result .session)
-Step (search budget) answer before after =
-    (call : CodeCall 0 search-kinds.ps search-kinds.r) × Kept search-reads.Pre search-reads.Post call
-    × (before ≡ call .args .0) × (budget ≡ call .args .1 .0) × (answer ≡ numbers-said (call .result .answer))
-    × (after ≡ call .result .session)
-Step (write buffer) written before after =
-    (call : CodeCall 1 write-kinds.ps write-kinds.r) × Kept write-reads.Pre write-reads.Post call
-    × (before ≡ call .args .0) × (buffer ≡ now (call .args .1 .0))
-    × (written ≡ record { answer = write-said (call .result); lent = now (call .left .1 .0) }) × (after ≡ before)
-
--- the exported calls of a session
+-- the exported calls of a session; a search's answer is the one that its numbers are
 abbrev pub exported : Calling
 exported =
     record {
-      Made = λ s. (call : CodeCall 0 fresh-kinds.ps fresh-kinds.r) × Kept fresh-reads.Pre fresh-reads.Post call
-          × (s ≡ call .result);
-      Step = Step;
+      Begun = begun-by fresh-reads.Pre fresh-reads.Post;
+      begun = λ b. b .0 .result;
+      loads = loads-by load-reads.Pre load-reads.Post;
+      searches = record {
+        Made = (call : CodeCall 0 search-kinds.ps search-kinds.r) × Kept search-reads.Pre search-reads.Post call;
+        on = λ m. m .0 .args .0;
+        given = λ m. m .0 .args .1 .0;
+        gave = λ m. numbers-said (m .0 .result .answer);
+        led = λ m. m .0 .result .session;
+      };
+      writes = writes-by write-reads.Pre write-reads.Post;
     }
 
--- each contract is a step
+-- each contract gives what the demands need
 pub exported-tied : Tied exported
-exported-tied = record { fresh = fresh-tied; step = step-tied }
-  where
-    fresh-tied : (s : Session) → exported .Made s → Fresh s
-    fresh-tied s (call, kept, same) = let e = kept tt in rw same (record { stands = e .0; sound = e .1 })
-
-    step-tied : (call : Call) (outcome : Outcome call) (before after : Session) → Step call outcome before after
-        → Sound before
-        → Ensured call outcome before after
-    step-tied (load text) answer before after (call, kept, on, given, gave, led) sound =
-        let e = kept (rw on at sound) in
-        rw (on, given, gave, led) (record { happens = e .0; sound = e .1 .0; kept = e .1 .1 })
-    step-tied (search budget) answer before after (call, kept, on, given, gave, led) sound =
-        let e = kept (rw on at sound) in
-        rw (on, given, gave, led) (record { happens = numbers-searched (e .0); sound = e .1 .0; kept = e .1 .1 })
-    step-tied (write buffer) written before after (call, kept, on, given, gave, led) sound =
-        let held = rw on at sound in
-        rw (led, on, given, gave) (record { happens = kept held; sound = held; kept = λ n. refl })
+exported-tied =
+    record {
+      begins = λ b. let e = b .1 tt in record { stands = e .0; sound = e .1 };
+      loads = λ m sound. let e = m .1 sound in record { happens = e .0; sound = e .1 .0; kept = e .1 .1 };
+      searches = λ m sound.
+          let e = m .1 sound in
+          record { happens = numbers-searched (e .0); sound = e .1 .0; kept = e .1 .1 };
+      writes = λ m sound. record { happens = m .1 sound; sound = sound; kept = λ n. refl };
+    }
 
 -- the demands hold of the exported calls
 pub demand-1-of-the-library : Demand1Of exported
@@ -112,16 +81,16 @@ search-numbers call kept sound = kept sound .0 .answers
 -- what `porvuund_book` brings out is believed, and its refusals are those of the session's calls
 pub book-of-the-library : (call : CodeCall 2 book-kinds.ps book-kinds.r) → Kept book-reads.Pre book-reads.Post call
     → TaskOwed (now (call .args .0)) (call .args .1 .0) (now (call .args .1 .1 .0))
-    (record { answer = book-said (call .result); lent = now (call .left .1 .1 .0) })
+    (record { answer = write-said (call .result); lent = now (call .left .1 .1 .0) })
 book-of-the-library call kept =
     task-owed (now (call .args .0)) (call .args .1 .0) (now (call .args .1 .1 .0))
-    (record { answer = book-said (call .result); lent = now (call .left .1 .1 .0) }) (kept tt)
+    (record { answer = write-said (call .result); lent = now (call .left .1 .1 .0) }) (kept tt)
 
 -- `porvuund_check` answers as the demands ask of a check
 pub check-of-the-library : (call : CodeCall 1 check-kinds.ps check-kinds.r) → Kept check-reads.Pre check-reads.Post call
-    → CheckOwed (now (call .args .0)) (now (call .args .1 .0)) (check-said (call .result))
+    → CheckOwed (now (call .args .0)) (now (call .args .1 .0)) (answer-of (call .result))
 check-of-the-library call kept =
-    check-owed (now (call .args .0)) (now (call .args .1 .0)) (check-said (call .result)) (kept tt)
+    check-owed (now (call .args .0)) (now (call .args .1 .0)) (answer-of (call .result)) (kept tt)
 
 -- ---- what the programs print
 

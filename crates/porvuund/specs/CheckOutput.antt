@@ -9,11 +9,6 @@ use Rattle.spec.specs.Text.{Bytes}
 use Rattle.spec.specs.Calls.{CheckAnswer, check, Checks}
 use Rattle.spec.specs.Program.{number-line}
 use Rattle.porvuund.specs.Lines.{pair-line}
-use Rattle.porvuund.specs.declared.calls.CheckNumbers.{CheckNumbers}
-
--- the answer of the code as the paper has it
-abbrev pub check-said : CheckNumbers → CheckAnswer
-check-said c = record { number = c .number; roles = c .roles; witness-lines = c .«witness_lines» }
 
 -- the line for an answer
 abbrev pub check-line : CheckAnswer → Bytes

@@ -1,5 +1,4 @@
 -- What the calls for a whole task give.
-pub mod BudgetRead
 pub mod OneShot
 pub mod Lines
 pub mod CheckOutput

@@ -7,7 +7,8 @@ use Rattle.spec.specs.Text.{Bytes, comma, line-feed}
 use Rattle.spec.specs.Decimal.{decimal}
 use Rattle.spec.specs.Program.{number-line}
 use Rattle.bits.specs.Bit.{word-bits}
-use Rattle.decimal.specs.DigitLaws.{word-digits, digits-of-word}
+use Rattle.decimal.specs.WordDigits.{word-digits}
+use Rattle.decimal.specs.Laws.Digit.{digits-of-word}
 
 -- two numbers with a comma between, and a line feed
 abbrev pub pair-line : ℕ → ℕ → Bytes

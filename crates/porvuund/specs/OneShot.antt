@@ -9,21 +9,9 @@ use borrow.Author.Tests.{eq-eqb, ne-eqb}
 use Rattle.spec.specs.Text.{Bytes}
 use Rattle.spec.specs.Session.{Session, fresh}
 use Rattle.spec.specs.Refusal.{refusal, accepted}
-use Rattle.spec.specs.Calls.{
-  LoadAnswer,
-  SearchAnswer,
-  after-load,
-  after-search,
-  WriteAnswer,
-  write-refused,
-  write-answer,
-  buffer-after,
-  Loads,
-  Searches,
-  Writes,
-}
+use Rattle.spec.specs.Calls.{LoadAnswer, SearchAnswer, after-load, after-search, WriteAnswer, write-refused}
+use Rattle.spec.specs.Calls.{write-answer, buffer-after, Loads, Searches, Writes}
 use Rattle.demands.specs.Demand1.{load-number-is-refusal}
-use Rattle.porvuund.specs.declared.calls.BookNumbers.{BookNumbers}
 
 -- the session after the load and the search
 abbrev pub searched-once : Bytes → ℕ → Session
@@ -45,10 +33,6 @@ book-buffer text budget buffer =
 pub record Books (text : Bytes) (budget : ℕ) (buffer : Bytes) (answer : WriteAnswer) (lent : Bytes) : Type 0 where
   pub answers : answer ≡ book-answer text budget buffer
   pub fills : lent ≡ book-buffer text budget buffer
-
--- the answer of the code as the paper has it
-abbrev pub book-said : BookNumbers → WriteAnswer
-book-said b = record { number = b .number; count = b .count }
 
 -- ---- from the calls of a session
 

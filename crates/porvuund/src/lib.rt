@@ -1,17 +1,11 @@
 // The library for programs: what the book program and the check program print, a whole task in one call over bytes,
 // and a session's calls for other languages. `rt staticlib porvuund` writes its functions `porvuund_..` for Rust or C
 // to link.
-mod budget;
 mod calls;
 mod lines;
 mod output;
 mod sessions;
 
-pub use budget::BudgetRead;
-pub use budget::budget_of;
-pub use budget::read_budget;
-pub use calls::BookNumbers;
-pub use calls::CheckNumbers;
 pub use calls::porvuund_book;
 pub use calls::porvuund_check;
 pub use output::CHECK_BUFFER;

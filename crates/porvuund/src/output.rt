@@ -1,9 +1,9 @@
 // What the book program and the check program print.
-use crate::budget::budget_of;
 use crate::calls::porvuund_book;
 use crate::calls::porvuund_check;
 use crate::lines::put_number_line;
 use crate::lines::put_pair_line;
+use decimal::budget_of;
 use numbers::BOOK_LIMIT;
 ghost use mathlib.Core.List.{[], _∷_};
 ghost use Rattle.spec.specs.Program.{program-output};
@@ -16,8 +16,8 @@ pub const PROGRAM_BUFFER: usize = BOOK_LIMIT;
 // Puts what the book program prints for a sheet and its argument at the front of the buffer: the book, or the number
 // of the refusal and a line feed. Without an argument the word is empty.
 pub fn book_output<'a>(sheet: &'a [u8], word: &'a [u8], out: &mut [u8; PROGRAM_BUFFER]) -> usize
-    ensures { λ r. ⌜ Written (program-output (now (sheet .entry)) (now (word .entry) ∷ [])) (now (out .entry))
-        (now (out .exit)) r ⌝ }
+    ensures { λ r. ⌜ Written (program-output (now (sheet .entry)) (now (word .entry) ∷ []))
+        (now (out .entry)) (now (out .exit)) r ⌝ }
 {
     let budget = budget_of(word);
     let answer = porvuund_book(sheet, budget, out);

@@ -5,3 +5,4 @@ pub mod RemovedGranted
 pub mod ReductionSweep
 pub mod ReductionSettle
 pub mod ReductionLog
+pub mod CarryOut

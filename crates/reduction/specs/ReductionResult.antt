@@ -29,7 +29,7 @@ pub shows-ready : {rows : List ℕ} {users : ℕ} → Shows rows users
     → WorkReady rows users (work-of rows (replicate grant-limit 0) (replicate grant-limit 0) 0)
 shows-ready {rows} given =
     record {
-      few-users = given .few-users;
+      shows = given;
       part = part-all rows;
       room = omega (arith, shows-few given);
       logged = record {

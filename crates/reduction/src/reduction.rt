@@ -1,8 +1,6 @@
 // The reduction: sweeps that remove singles and tie dominating grants, until one removes nothing.
 use bits::WORD_BITS;
-use fit::COLUMN_WORDS;
 use fit::PLACE_WORDS;
-use fit::columns_of;
 use numbers::CELL_WORDS;
 use numbers::CellNo;
 use numbers::GRANT_LIMIT;
@@ -11,20 +9,16 @@ use verdict::Verdict;
 use verdict::insides;
 use verdict::judge;
 ghost use mathlib.Core.Path.{_≡_};
-ghost use mathlib.Core.Bool.{So};
-ghost use mathlib.Core.List.{[], _∷_};
-ghost use Prim.Native.Nat.{_*_, _/_, _<_, _≤_};
+ghost use Prim.Native.Nat.{_*_, _<_, _≤_};
 ghost use lib.ListN.{length, getD};
 ghost use Rattle.spec.specs.Limits.{grant-limit};
 ghost use Rattle.spec.specs.Reduction.{singles-of};
-ghost use Rattle.bits.specs.Bit.{word-bits};
 ghost use Rattle.lists.specs.PassingBelow.{passing-below};
 ghost use Rattle.cells.specs.Rows.{row-words};
 ghost use Rattle.verdict.specs.Log.{log-of};
-ghost use Rattle.cells.specs.CellPlaces.{marked, Shows};
+ghost use Rattle.cells.specs.CellPlaces.{marked, Shows, cells-of};
 ghost use Rattle.fit.specs.Columns.{Columns};
-ghost use Rattle.verdict.specs.Insides.{Insides};
-ghost use Rattle.verdict.specs.NearCells.{cells-of};
+ghost use Rattle.reduction.specs.CarriedOut.{Carriable, CarriedOut};
 ghost use Rattle.reduction.specs.ReductionResult.{ReducedFrom};
 ghost use Rattle.verdict.specs.ReductionWork.{work-of, word-cells, WorkReady, Visited, Settled, Removable, Removed};
 
@@ -61,34 +55,34 @@ fn remove<'a>(
     count + 1
 }
 
-// One grant is judged against those remaining at that moment.
-fn visit<'a>(
-    rows: &'a [u64; CELL_WORDS],
-    columns: &'a [u64; PLACE_WORDS],
-    inside: &'a [u64; COLUMN_WORDS],
+// What is judged of the grant at a cell is carried out. How many removals there are then.
+fn carry_out<'a>(
     left: &'a mut [u64; CELL_WORDS],
     removed: &'a mut [u16; GRANT_LIMIT],
     partner: &'a mut [u16; GRANT_LIMIT],
-    users: usize,
     count: usize,
     it: CellNo,
+    verdict: Verdict,
 ) -> usize
-    requires { ⌜ WorkReady (now rows) users (work-of (now left) (now removed) (now partner) count)
-        × Columns (now rows) (now columns)
-        × (it .0 < cells-of users) × So (marked (now left) (it .0)) × Insides (now rows) (now left) users
-        (it .0 / word-bits) (now inside) ⌝ }
-    ensures { λ r. ⌜ Visited (now (rows .entry)) users (it .0 ∷ [])
-        (work-of (now (left .entry)) (now (removed .entry)) (now (partner .entry)) count)
+    requires { ⌜ Carriable (it .0) verdict (work-of (now left) (now removed) (now partner) count) ⌝ }
+    ensures { λ r. ⌜ CarriedOut (it .0) verdict (work-of (now (left .entry)) (now (removed .entry))
+        (now (partner .entry)) count)
         (work-of (now (left .exit)) (now (removed .exit)) (now (partner .exit)) r) ⌝ }
 {
-    match judge(rows, columns, inside, left, users, it) {
+    match verdict {
         Verdict::Stays => count,
         Verdict::Single => remove(left, removed, partner, count, it, it),
         Verdict::Tied(other) => remove(left, removed, partner, count, it, other),
     }
 }
 
-// The grants of word i are visited, in rising number.
+// Where a sweep stands: the word whose grants are visited next, and how many removals there are.
+struct Standing {
+    word: usize,
+    count: usize,
+}
+
+// The grants of a word are visited, in rising number, and each is judged against those remaining at that moment.
 fn sweep_word<'a>(
     rows: &'a [u64; CELL_WORDS],
     columns: &'a [u64; PLACE_WORDS],
@@ -96,35 +90,26 @@ fn sweep_word<'a>(
     removed: &'a mut [u16; GRANT_LIMIT],
     partner: &'a mut [u16; GRANT_LIMIT],
     users: usize,
-    count: usize,
-    i: usize,
+    at: Standing,
 ) -> usize
-    requires { ⌜ WorkReady (now rows) users (work-of (now left) (now removed) (now partner) count)
+    requires { ⌜ WorkReady (now rows) users (work-of (now left) (now removed) (now partner) (at .count))
         × Columns (now rows) (now columns)
-        × (i < users * row-words) ⌝ }
-    ensures { λ r. ⌜ Visited (now (rows .entry)) users (word-cells i (getD (now (left .entry)) i 0))
-        (work-of (now (left .entry)) (now (removed .entry)) (now (partner .entry)) count)
+        × (at .word < users * row-words) ⌝ }
+    ensures { λ r. ⌜ Visited (now (rows .entry)) users (word-cells (at .word) (getD (now (left .entry)) (at .word) 0))
+        (work-of (now (left .entry)) (now (removed .entry)) (now (partner .entry)) (at .count))
         (work-of (now (left .exit)) (now (removed .exit)) (now (partner .exit)) r) ⌝ }
 {
+    let i = at.word;
     let mut w = left[i];
+    let mut count = at.count;
     if w == 0 {
         return count;
     }
-    let mut count = count;
     let inside = insides(rows, left, users, i);
     while w != 0 {
-        let at = i * WORD_BITS + bits::lowest(w);
-        count = visit(
-            rows,
-            columns,
-            &inside,
-            left,
-            removed,
-            partner,
-            users,
-            count,
-            CellNo(at),
-        );
+        let n = i * WORD_BITS + bits::lowest(w);
+        let verdict = judge(rows, columns, &inside, left, users, CellNo(n));
+        count = carry_out(left, removed, partner, count, CellNo(n), verdict);
         w = bits::without_lowest(w);
     }
     count
@@ -149,7 +134,8 @@ fn sweep<'a>(
     let mut count = count;
     let mut i = 0;
     while i < users * ROW_WORDS {
-        count = sweep_word(rows, columns, left, removed, partner, users, count, i);
+        let at = Standing { word: i, count };
+        count = sweep_word(rows, columns, left, removed, partner, users, at);
         i += 1;
     }
     count
@@ -199,16 +185,19 @@ fn count_singles<'a>(
     singles
 }
 
-// The reduction of the sheet that the rows show. Past the removals the log is 0.
-pub fn reduce(rows: &[u64; CELL_WORDS], users: usize) -> Reduced
-    requires { ⌜ Shows (now rows) users ⌝ }
+// The reduction of the sheet that the rows show, by their columns. Past the removals the log is 0.
+pub fn reduce<'a>(
+    rows: &'a [u64; CELL_WORDS],
+    columns: &'a [u64; PLACE_WORDS],
+    users: usize,
+) -> Reduced
+    requires { ⌜ Shows (now rows) users × Columns (now rows) (now columns) ⌝ }
     ensures { λ r. ⌜ ReducedFrom (now (rows .entry)) users r ⌝ }
 {
     let mut left = *rows;
     let mut removed = [0; GRANT_LIMIT];
     let mut partner = [0; GRANT_LIMIT];
-    let columns = columns_of(rows);
-    let count = sweeps(rows, &columns, &mut left, &mut removed, &mut partner, users);
+    let count = sweeps(rows, columns, &mut left, &mut removed, &mut partner, users);
     let singles = count_singles(&removed, &partner, count);
     Reduced {
         left,

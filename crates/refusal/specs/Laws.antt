@@ -1,4 +1,5 @@
 -- The laws behind what contracts cite.
+pub mod Fields
 pub mod Cells
 pub mod ReadLine
 pub mod Body

@@ -1,5 +1,6 @@
 -- The judgement of a sheet cause by cause: the lowest number that applies.
-pub mod FieldLaws
+pub mod FirstLine
+pub mod Spelling
 pub mod Cells
 pub mod ReadLine
 pub mod Body

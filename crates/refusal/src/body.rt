@@ -1,8 +1,8 @@
 // What the user lines of a sheet say, taken together.
 use crate::fields::Cells;
 use crate::fields::both;
-use crate::fields::name_length;
 use crate::line::read_line;
+use crate::spelling::name_length;
 ghost use mathlib.Core.Path.{_≡_};
 ghost use Prim.Native.Nat.{suc, _+_, _≤_, _<_, _^_};
 ghost use lib.ListN.{length, drop};

@@ -1,11 +1,10 @@
 // What the fields after the first of a line say, taken together.
-use numbers::NAME_LIMIT;
+use crate::spelling::name_length;
 use text::same_bytes;
 ghost use mathlib.Core.Path.{_≡_};
 ghost use mathlib.Core.Bool.{_&&_};
 ghost use Prim.Native.Nat.{_≤_, _<_, _^_};
 ghost use Rattle.spec.specs.Sheet.{is-one, is-bit};
-ghost use Rattle.spec.specs.Refusal.{has-name-length};
 ghost use Rattle.bits.specs.Counting.{one-if};
 ghost use Rattle.refusal.specs.Cells.{no-cells, add-cell};
 
@@ -59,16 +58,6 @@ fn is_bit(field: &[u8]) -> bool
         return true;
     }
     is_one(field)
-}
-
-// Whether a field is as long as a name.
-pub fn name_length(field: &[u8]) -> bool
-    ensures { λ r. ⌜ r ≡ has-name-length (now (field .entry)) ⌝ }
-{
-    if field.len() < 1 {
-        return false;
-    }
-    field.len() <= NAME_LIMIT
 }
 
 // Whether two tests passed.

@@ -5,26 +5,28 @@ use crate::line::LineRead;
 use crate::line::read_line;
 use crate::name_places::permission_places;
 use crate::name_places::user_places;
-use names::repeated;
+use crate::spelling::Kind;
+use crate::spelling::all_of;
+use crate::spelling::is_user;
+use crate::spelling::is_within;
+use names::repeated_in;
 use numbers::GRANT_LIMIT;
 use numbers::PERMISSION_LIMIT;
 use numbers::SHEET_LIMIT;
 use numbers::USER_LIMIT;
 use text::LINE_FEED;
-use text::is_allowed;
-use text::same_bytes;
 ghost use mathlib.Core.Path.{_≡_};
 ghost use mathlib.Core.Bool.{_&&_, _||_};
 ghost use mathlib.Core.List.{map, tail};
 ghost use Prim.Native.Nat.{_≤_};
 ghost use lib.ListN.{length, drop};
-ghost use Rattle.spec.specs.Vocabulary.{all, repeats};
-ghost use Rattle.spec.specs.Limits.{permission-limit, user-limit};
-ghost use Rattle.spec.specs.Text.{ascii, same-bytes, between, allowed-byte, lines-of, same-name};
+ghost use Rattle.spec.specs.Vocabulary.{repeats};
+ghost use Rattle.spec.specs.Limits.{sheet-limit, permission-limit, user-limit};
+ghost use Rattle.spec.specs.Text.{ascii, same-bytes, between, lines-of, same-name};
 ghost use Rattle.spec.specs.Sheet.{first-field};
 ghost use Rattle.spec.specs.Refusal.{bad-bytes, refusal};
 ghost use Rattle.names.specs.Places.{part};
-ghost use Rattle.refusal.specs.FieldLaws.{line-fields};
+ghost use Rattle.refusal.specs.FirstLine.{line-fields};
 ghost use Rattle.refusal.specs.ReadLine.{ReadLine};
 
 // The lowest number of 1 to 9 that applies to the sheet, and 0 where none does.
@@ -74,21 +76,7 @@ fn has_bad_bytes(s: &[u8]) -> bool
     if s[last] != LINE_FEED {
         return true;
     }
-    !all_allowed(s)
-}
-
-// Whether every byte is allowed.
-fn all_allowed(s: &[u8]) -> bool
-    ensures { λ r. ⌜ r ≡ all allowed-byte (now (s .entry)) ⌝ }
-{
-    let mut i = 0;
-    while i < s.len() {
-        if !is_allowed(s[i]) {
-            return false;
-        }
-        i += 1;
-    }
-    true
+    !all_of(s, Kind::Sheet)
 }
 
 // Whether the first field of the first line is `user`, and as many fields follow as there can be permissions.
@@ -98,32 +86,25 @@ fn good_first_line(s: &[u8], head: LineRead) -> bool
         (head .cells .count)) ⌝ }
 {
     let to = head.to;
-    if same_bytes(&s[0..to], b"user") {
+    if is_user(&s[0..to]) {
         return is_within(1, PERMISSION_LIMIT, head.cells.count);
     }
     false
-}
-
-// Whether n is at least low and at most high.
-fn is_within(low: usize, high: usize, n: usize) -> bool
-    ensures { λ r. ⌜ r ≡ between low high n ⌝ }
-{
-    if n < low {
-        return false;
-    }
-    n <= high
 }
 
 // Whether two of the users or two of the permissions have one name.
 fn has_name_twice(s: &[u8], head: LineRead, users: usize) -> bool
     requires { ⌜ ReadLine (now s) 0 head ⌝ }
     requires { ⌜ users ≡ length (lines-of (drop (head .next) (now s))) ⌝ }
-    requires { ⌜ (users ≤ user-limit) × (head .cells .count ≤ permission-limit) ⌝ }
+    requires { ⌜ (users ≤ user-limit) × (head .cells .count ≤ permission-limit) × (length (now s) ≤ sheet-limit) ⌝ }
     ensures { λ r. ⌜ r ≡ (repeats same-name (map first-field (lines-of (drop (head .next) (now (s .entry)))))
         || repeats same-name (tail (line-fields (now (s .entry))))) ⌝ }
 {
-    if repeated(s, user_places(s, head.next), users) {
+    let user_places = user_places(s, head.next);
+    if repeated_in(s, &user_places[..users]) {
         return true;
     }
-    repeated(s, permission_places(s), head.cells.count)
+    let permissions = head.cells.count;
+    let permission_places = permission_places(s);
+    repeated_in(s, &permission_places[..permissions])
 }

@@ -16,18 +16,8 @@ use Rattle.spec.specs.Sheet.{Sheet, Grant, cell-text, user-count, permission-co
 use Rattle.spec.specs.RoleSet.{RoleSet}
 use Rattle.spec.specs.Roles.{Standing, witnessed, searched, unsettled}
 use Rattle.spec.specs.Decimal.{decimal}
-use Rattle.spec.specs.Book.{
-  standing-word,
-  role-name,
-  Said,
-  counts-block,
-  roles-block,
-  users-block,
-  witness-line,
-  witness-block,
-  blocks-saying,
-  book-text,
-}
+use Rattle.spec.specs.Book.{standing-word, role-name, Said, counts-block, roles-block, users-block, witness-line}
+use Rattle.spec.specs.Book.{witness-block, blocks-saying, book-text}
 use Rattle.bits.specs.Laws.Below.{below-or-from}
 use Rattle.lists.specs.TestLaws.{member-at}
 use Rattle.lists.specs.ListOfLaws.{length-list-of}

@@ -19,16 +19,8 @@ use Rattle.spec.specs.Roles.{Standing, witnessed, searched, unsettled}
 use Rattle.spec.specs.Book.{Said}
 use Rattle.spec.specs.Right.{BoundAgrees, CountsAgree, WitnessStands}
 use Rattle.spec.specs.Refusal.{bound-agrees, counts-agree, product-agrees, some-fit, witness-agrees}
-use Rattle.bits.specs.Truth.{
-  and-intro,
-  and-left,
-  and-right,
-  or-fails,
-  or-fails-left,
-  or-fails-right,
-  not-passes,
-  not-fails,
-}
+use Rattle.bits.specs.Truth.{and-intro, and-left, and-right, or-fails, or-fails-left, or-fails-right, not-passes}
+use Rattle.bits.specs.Truth.{not-fails}
 use Rattle.bits.specs.Laws.Below.{every-below-intro, every-below-elim}
 use Rattle.lists.specs.TestLaws.{all-intro, all-elim, none-intro, none-elim, member-at, place-of}
 

@@ -23,14 +23,8 @@ use Rattle.right.specs.NameLaws.{GoodSheet, good-names}
 use Rattle.right.specs.WrittenLines.{Sayable}
 use Rattle.right.specs.ReadBack.{SaysSame, written-has-form, read-back}
 use Rattle.right.specs.ReadForm.{form-is-written, form-is-sayable}
-use Rattle.right.specs.CheckParts.{
-  counts-agree-elim,
-  counts-agree-intro,
-  product-agrees-elim,
-  product-agrees-intro,
-  witness-stands-elim,
-  witness-stands-intro,
-}
+use Rattle.right.specs.CheckParts.{counts-agree-elim, counts-agree-intro, product-agrees-elim}
+use Rattle.right.specs.CheckParts.{product-agrees-intro, witness-stands-elim, witness-stands-intro}
 use Rattle.right.specs.Verdict.{Passes, check-confirms, zero-unrefused, unrefused-zero}
 
 -- ---- what passes is right

@@ -13,20 +13,8 @@ use Rattle.spec.specs.Text.{ascii, same-bytes, Bytes, Line, line-feed, last-byt
 use Rattle.spec.specs.Sheet.{Sheet, first-field, first-line, user-count, permission-count, is-bit, user-name}
 use Rattle.spec.specs.Decimal.{is-count}
 use Rattle.spec.specs.Book.{role-name, counts-heading, witness-heading, Block}
-use Rattle.spec.specs.Form.{
-  blocks-of,
-  block-at,
-  line-at,
-  field-at,
-  is-standing,
-  counts-form,
-  cells-line,
-  roles-form,
-  users-form,
-  known,
-  witness-form,
-  form,
-}
+use Rattle.spec.specs.Form.{blocks-of, block-at, line-at, field-at, is-standing, counts-form, cells-line, roles-form}
+use Rattle.spec.specs.Form.{users-form, known, witness-form, form}
 use Rattle.bits.specs.Truth.{and-intro, and-left, and-right}
 use Rattle.bits.specs.Laws.Below.{every-below-intro, every-below-elim}
 use Rattle.lists.specs.TestLaws.{all-intro, all-elim, same-bytes-equal, same-bytes-refl, equal-same-bytes}

@@ -15,18 +15,8 @@ use Rattle.spec.specs.Sheet.{Sheet, sheet-of, user-count, permission-count, hol
 use Rattle.spec.specs.RoleSet.{product}
 use Rattle.spec.specs.Book.{Said, book-text}
 use Rattle.spec.specs.Form.{form, said}
-use Rattle.spec.specs.Refusal.{
-  Cause,
-  refuse-if,
-  first-number,
-  sheet-causes,
-  refusal,
-  counts-agree,
-  product-agrees,
-  witness-agrees,
-  book-causes,
-  check-causes,
-}
+use Rattle.spec.specs.Refusal.{Cause, refuse-if, first-number, sheet-causes, refusal, counts-agree, product-agrees}
+use Rattle.spec.specs.Refusal.{witness-agrees, book-causes, check-causes}
 use Rattle.spec.specs.Calls.{CheckAnswer, check-refused, check-counts, check}
 use Rattle.bits.specs.Truth.{fails-unless, or-left, or-right, not-passes}
 use Rattle.bits.specs.Laws.Below.{every-below-ext}

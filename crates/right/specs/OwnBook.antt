@@ -14,17 +14,8 @@ use Rattle.spec.specs.Sheet.{Sheet, sheet-of}
 use Rattle.spec.specs.Witness.{witness}
 use Rattle.spec.specs.Machine.{State}
 use Rattle.spec.specs.RoleSet.{Multiplies}
-use Rattle.spec.specs.Roles.{
-  witnessed,
-  searched,
-  unsettled,
-  standing-of,
-  bound-of,
-  roles-of,
-  role-count,
-  standing,
-  bound,
-}
+use Rattle.spec.specs.Roles.{witnessed, searched, unsettled, standing-of, bound-of, roles-of, role-count, standing}
+use Rattle.spec.specs.Roles.{bound}
 use Rattle.spec.specs.Book.{said-in, book}
 use Rattle.spec.specs.Right.{BoundAgrees, WitnessStands, Right}
 use Rattle.spec.specs.Refusal.{accepted}

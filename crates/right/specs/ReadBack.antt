@@ -9,18 +9,8 @@ use Rattle.spec.specs.Vocabulary.{list-of}
 use Rattle.spec.specs.Text.{Bytes, Line, line-feed, last-byte}
 use Rattle.spec.specs.Sheet.{Sheet, Grant, is-one, cell-text, user-count, permission-count, user-name}
 use Rattle.spec.specs.Roles.{Standing, witnessed, searched, unsettled}
-use Rattle.spec.specs.Book.{
-  standing-word,
-  role-name,
-  Said,
-  counts-block,
-  roles-block,
-  users-block,
-  witness-line,
-  witness-block,
-  blocks-saying,
-  book-text,
-}
+use Rattle.spec.specs.Book.{standing-word, role-name, Said, counts-block, roles-block, users-block, witness-line}
+use Rattle.spec.specs.Book.{witness-block, blocks-saying, book-text}
 use Rattle.spec.specs.Form.{blocks-of, grant-of-line, line-at, field-at, standing-said, form, said-by-blocks, said}
 use Rattle.lists.specs.JoinLaws.{map-fixed}
 use Rattle.lists.specs.ListOfLaws.{length-list-of, getD-list-of}

@@ -14,31 +14,10 @@ use Rattle.spec.specs.Sheet.{Sheet, is-one, cell-text, user-count, permission-c
 use Rattle.spec.specs.RoleSet.{RoleSet}
 use Rattle.spec.specs.Roles.{witnessed, searched, unsettled}
 use Rattle.spec.specs.Decimal.{number-of}
-use Rattle.spec.specs.Book.{
-  standing-word,
-  role-name,
-  Block,
-  text-of-blocks,
-  counts-block,
-  roles-block,
-  users-block,
-  witness-line,
-  witness-block,
-  blocks-saying,
-  book-text,
-}
-use Rattle.spec.specs.Form.{
-  blocks-of,
-  block-at,
-  line-at,
-  field-at,
-  is-standing,
-  grant-of-line,
-  standing-said,
-  form,
-  said-by-blocks,
-  said,
-}
+use Rattle.spec.specs.Book.{standing-word, role-name, Block, text-of-blocks, counts-block, roles-block, users-block}
+use Rattle.spec.specs.Book.{witness-line, witness-block, blocks-saying, book-text}
+use Rattle.spec.specs.Form.{blocks-of, block-at, line-at, field-at, is-standing, grant-of-line, standing-said, form}
+use Rattle.spec.specs.Form.{said-by-blocks, said}
 use Rattle.bits.specs.Truth.{or-cases}
 use Rattle.lists.specs.TestLaws.{all-elim, member-at, same-bytes-equal}
 use Rattle.lists.specs.JoinLaws.{map-fixed}
@@ -46,20 +25,9 @@ use Rattle.lists.specs.ListOfLaws.{list-of-places, list-of-same}
 use Rattle.lists.specs.EachLaws.{each-mapped}
 use Rattle.decimal.specs.Laws.Count.{count-is-decimal}
 use Rattle.right.specs.BlockLaws.{blocks-written-as-read}
-use Rattle.right.specs.FormParts.{
-  CountsForm,
-  counts-form-elim,
-  CellsLine,
-  RolesForm,
-  roles-form-elim,
-  UsersForm,
-  users-form-elim,
-  WitnessLine,
-  WitnessForm,
-  witness-form-elim,
-  FormOf,
-  form-elim,
-}
+use Rattle.right.specs.FormParts.{CountsForm, counts-form-elim, CellsLine, RolesForm, roles-form-elim}
+use Rattle.right.specs.FormParts.{UsersForm, users-form-elim, WitnessLine, WitnessForm, witness-form-elim}
+use Rattle.right.specs.FormParts.{FormOf, form-elim}
 use Rattle.right.specs.WrittenLines.{Sayable}
 use Rattle.right.specs.NameLaws.{known-stands}
 

@@ -2,10 +2,9 @@
 -- book applies exactly where its tests all pass.
 use Prim.Native.Nat.{ℕ, _≤_}
 use mathlib.Core.Path.{_≡_, refl, sym, ap, _∙_}
-use mathlib.Core.Logic.{_≢_}
 use mathlib.Core.Bool.{Bool, true, false, So, not, cond}
 use mathlib.Core.List.{List, [], _∷_, _++_}
-use borrow.Author.Tests.{eqb-true, eq-eqb, ne-eqb, ltb-false, le-ltb, not-false}
+use borrow.Author.Tests.{eqb-true, eq-eqb, ltb-false, le-ltb, not-false}
 use lib.Dec.{eqb, ltb}
 use lib.ListN.{length}
 use Rattle.spec.specs.Limits.{book-limit}
@@ -13,17 +12,8 @@ use Rattle.spec.specs.Text.{Bytes}
 use Rattle.spec.specs.Sheet.{Sheet, sheet-of}
 use Rattle.spec.specs.Book.{Said}
 use Rattle.spec.specs.Form.{form, said}
-use Rattle.spec.specs.Refusal.{
-  Cause,
-  first-number,
-  sheet-causes,
-  refusal,
-  counts-agree,
-  product-agrees,
-  witness-agrees,
-  book-causes,
-  check-causes,
-}
+use Rattle.spec.specs.Refusal.{Cause, first-number, sheet-causes, refusal, counts-agree, product-agrees}
+use Rattle.spec.specs.Refusal.{witness-agrees, book-causes, check-causes}
 use Rattle.spec.specs.Calls.{CheckAnswer, check-refused, check-counts, check}
 use Rattle.bits.specs.Truth.{or-fails, or-fails-left, or-fails-right}
 use Rattle.rules.specs.CauseLaws.{rising, NoneApplies, zero-none-applies, none-applies-zero, sheet-causes-rise}
@@ -93,14 +83,6 @@ answered-number number book = choose (eqb number 0) refl
 pub check-number : (text book : Bytes) → check text book .number ≡ first-number (check-causes text book)
 unfolding check answered
 check-number text book = answered-number (first-number (check-causes text book)) (said (sheet-of text) book)
-
--- a number above 0 is returned with counts 0
-pub check-refuses : (text book : Bytes) → check text book .number ≢ 0 → check text book ≡ check-refused
-    (check text book .number)
-unfolding check
-check-refuses text book h =
-    let n = check-number text book in
-    rw n (rw (ne-eqb (first-number (check-causes text book)) 0 (λ e. h (n ∙ e))))
 
 -- with no number above 0 the counts that were read are returned
 pub check-confirms : (text book : Bytes) → check text book .number ≡ 0 → check text book ≡ check-counts

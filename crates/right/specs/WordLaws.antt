@@ -1,9 +1,9 @@
 -- The words of the book's form are fields: each has a byte, and all of its bytes are bytes of a name, so none is a
--- comma or a line feed. Two roles have two names, since a decimal count says its number.
+-- comma or a line feed.
 use Prim.Native.Nat.{ℕ, suc, _≤_, _<_, _^_}
 use Prim.Native.Char.{code}
 use native.Mathlib.Omega.{arith}
-use mathlib.Core.Path.{_≡_, refl, sym, ap, _∙_}
+use mathlib.Core.Path.{_≡_, refl}
 use mathlib.Core.Bool.{Bool, true, false, So, _||_}
 use mathlib.Core.List.{_∷_}
 use lib.Dec.{eqb}
@@ -12,13 +12,13 @@ use Rattle.spec.specs.Vocabulary.{all}
 use Rattle.spec.specs.Text.{Bytes, between, name-byte}
 use Rattle.spec.specs.Sheet.{cell-text}
 use Rattle.spec.specs.Roles.{Standing, witnessed, searched, unsettled}
-use Rattle.spec.specs.Decimal.{decimal, is-digit, is-count, number-of}
+use Rattle.spec.specs.Decimal.{decimal, is-digit, is-count}
 use Rattle.spec.specs.Book.{standing-word, role-name}
 use Rattle.bits.specs.Truth.{or-left, or-right}
 use Rattle.lists.specs.TestLaws.{all-intro, all-elim}
 use Rattle.text.specs.Laws.Byte.{name-byte-no-comma, name-byte-no-line-feed}
 use Rattle.text.specs.Laws.Text.{Field}
-use Rattle.decimal.specs.Laws.Decimal.{number-of-decimal, decimal-digits, decimal-length}
+use Rattle.decimal.specs.Laws.Decimal.{decimal-digits, decimal-length}
 use Rattle.decimal.specs.Laws.Count.{count-digits}
 
 -- ---- bytes of a name
@@ -81,10 +81,3 @@ role-name-some r = rw (role-name-parts r) (omega arith)
 
 pub role-name-length : (k r : ℕ) → suc r < 10 ^ suc k → length (role-name r) ≤ suc (suc k)
 role-name-length k r h = rw (role-name-parts r) (omega (arith, decimal-length k (suc r) h))
-
-pub role-name-injective : (r s : ℕ) → role-name r ≡ role-name s → r ≡ s
-role-name-injective r s e =
-    let parts : code "R" ∷ decimal (suc r) ≡ code "R" ∷ decimal (suc s) = sym (role-name-parts r) ∙ e
-    ∙ role-name-parts s in
-    let counts : decimal (suc r) ≡ decimal (suc s) = cc in
-    omega (arith, sym (number-of-decimal (suc r)) ∙ ap number-of counts ∙ number-of-decimal (suc s))

@@ -10,27 +10,14 @@ use Rattle.spec.specs.Text.{Bytes, Line}
 use Rattle.spec.specs.Sheet.{Sheet, Grant, cell-text, user-count, permission-count, is-bit, user-name}
 use Rattle.spec.specs.RoleSet.{RoleSet}
 use Rattle.spec.specs.Roles.{Standing, witnessed, searched, unsettled}
-use Rattle.spec.specs.Book.{
-  standing-word,
-  role-name,
-  counts-block,
-  roles-block,
-  users-block,
-  witness-line,
-  witness-block,
-}
+use Rattle.spec.specs.Book.{standing-word, role-name, counts-block, roles-block, users-block, witness-line}
+use Rattle.spec.specs.Book.{witness-block}
 use Rattle.spec.specs.Form.{is-standing, counts-form, roles-form, users-form, witness-form}
 use Rattle.lists.specs.TestLaws.{all-intro}
 use Rattle.lists.specs.ListOfLaws.{length-list-of, getD-list-of, list-of-element}
 use Rattle.decimal.specs.Laws.Count.{decimal-is-count}
-use Rattle.right.specs.FormParts.{
-  counts-form-intro,
-  CellsLine,
-  roles-form-intro,
-  users-form-intro,
-  WitnessLine,
-  witness-form-intro,
-}
+use Rattle.right.specs.FormParts.{counts-form-intro, CellsLine, roles-form-intro, users-form-intro, WitnessLine}
+use Rattle.right.specs.FormParts.{witness-form-intro}
 use Rattle.right.specs.NameLaws.{known-at}
 
 standing-word-stands : (s : Standing) → So (is-standing (standing-word s))

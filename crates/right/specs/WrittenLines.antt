@@ -14,30 +14,15 @@ use Rattle.spec.specs.Sheet.{Sheet, Grant, cell-text, user-count, permission-co
 use Rattle.spec.specs.RoleSet.{RoleSet}
 use Rattle.spec.specs.Roles.{Standing}
 use Rattle.spec.specs.Decimal.{decimal}
-use Rattle.spec.specs.Book.{
-  standing-word,
-  role-name,
-  Said,
-  counts-block,
-  roles-block,
-  users-block,
-  witness-line,
-  witness-block,
-  blocks-saying,
-}
+use Rattle.spec.specs.Book.{standing-word, role-name, Said, counts-block, roles-block, users-block, witness-line}
+use Rattle.spec.specs.Book.{witness-block, blocks-saying}
 use Rattle.spec.specs.Form.{is-empty-line}
 use Rattle.lists.specs.TestLaws.{member-at}
 use Rattle.lists.specs.EachLaws.{Each, each-none, each-first, each-listed, each-mapped}
 use Rattle.text.specs.Laws.Text.{Field}
 use Rattle.decimal.specs.Laws.Count.{decimal-is-count, count-has-digit}
-use Rattle.right.specs.WordLaws.{
-  name-bytes-field,
-  count-field,
-  standing-word-field,
-  cell-text-field,
-  role-name-field,
-  role-name-some,
-}
+use Rattle.right.specs.WordLaws.{name-bytes-field, count-field, standing-word-field, cell-text-field}
+use Rattle.right.specs.WordLaws.{role-name-field, role-name-some}
 use Rattle.right.specs.BlockLaws.{BlockLine, GoodBlocks}
 use Rattle.right.specs.NameLaws.{GoodName, GoodNames, GoodSheet}
 

@@ -46,11 +46,11 @@ abbrev pub removal-of : ℕ → ℕ → Removal
 removal-of it partner = cond (eqb it partner) (single (grant-of it)) (tied (grant-of it) (grant-of partner))
 
 -- what a reduction left and removed, as arrays of cells say it
-abbrev pub reduction-in : List ℕ → ℕ → List ℕ → List ℕ → ℕ → Reduction
-reduction-in kernel size removed partner count =
-    record { remaining = listed kernel size; removed = log-of removed partner count }
+abbrev pub reduction-in : List ℕ → List ℕ → List ℕ → Reduction
+reduction-in kernel removed partner =
+    record { remaining = listed kernel (length kernel); removed = log-of removed partner (length removed) }
 
 -- the classes of all grants, as arrays say them
-abbrev pub classes-in : List ℕ → ℕ → List ℕ → List ℕ → List ℕ → ℕ → Classes
-classes-in kernel size placed removed partner count =
-    classes-of (reduction-in kernel size removed partner count) (latest-first placed size)
+abbrev pub classes-in : List ℕ → List ℕ → List ℕ → List ℕ → Classes
+classes-in kernel placed removed partner =
+    classes-of (reduction-in kernel removed partner) (latest-first placed (length kernel))

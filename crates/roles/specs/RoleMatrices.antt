@@ -15,8 +15,8 @@ use Rattle.spec.specs.Roles.{Classed}
 use Rattle.bits.specs.Bit.{word-bits}
 use Rattle.bits.specs.Laws.Bit.{bit-of-zero}
 use Rattle.cells.specs.Rows.{row-words, row-bits, cell}
-use Rattle.cells.specs.CellAdded.{CellAdded}
-use Rattle.cells.specs.CellLaws.{word-of, word-below}
+use Rattle.cells.specs.CellAdded.{CellAdded, word-of}
+use Rattle.cells.specs.Laws.CellAdded.{word-below}
 use Rattle.search.specs.Gathered.{eqb-comm}
 use Rattle.cells.specs.CellPlaces.{cell-words, cell-limit, grant-of}
 use Rattle.cells.specs.Laws.CellPlace.{row-bits-pos, user-below}

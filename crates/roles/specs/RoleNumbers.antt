@@ -1,9 +1,7 @@
 -- Role numbers as arrays: the role of each grant by its number, found through a table with the role of each class.
 -- Assumes nothing.
 use Prim.Native.Nat.{ℕ, _*_, _<_}
-use mathlib.Core.Bool.{cond}
 use mathlib.Core.List.{List}
-use lib.Dec.{eqb}
 use lib.ListN.{getD}
 use Rattle.spec.specs.Limits.{grant-limit}
 
@@ -22,7 +20,3 @@ class-key class cells i = getD class (getD cells i 0) 0
 -- the classes of the first grants stand in the table
 pub record KeysBelow (size : ℕ) (class cells : List ℕ) : Type 0 where
   pub below : (i : ℕ) → i < size → class-key class cells i < class-limit
-
--- the role of a class: the one that the table has, else the next one
-abbrev pub role-from : List ℕ → ℕ → ℕ → ℕ
-role-from table count class = cond (eqb (getD table class 0) no-role) count (getD table class 0)

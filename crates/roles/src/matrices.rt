@@ -54,32 +54,21 @@ fn roles_of_classes<'a>(
 pub fn roles_of<'a>(
     rows: &'a [u64; CELL_WORDS],
     users: usize,
-    kernel: &'a [u16; GRANT_LIMIT],
-    size: usize,
-    placed: &'a [u16; GRANT_LIMIT],
+    kernel: &'a [u16],
+    placed: &'a [u8],
     total: usize,
-    removed: &'a [u16; GRANT_LIMIT],
-    partner: &'a [u16; GRANT_LIMIT],
-    count: usize,
+    removed: &'a [u16],
+    partner: &'a [u16],
 ) -> RoleMatrices
-    requires { ⌜ OfSheet (now rows) users (now kernel) size (now placed) total (now removed) (now partner) count ⌝ }
+    requires { ⌜ OfSheet (now rows) users (now kernel) (now placed) total (now removed) (now partner) ⌝ }
     ensures { λ r. ⌜ ((sheet : Sheet) (placement : List ℕ)
-        → Belongs (now (rows .entry)) users (now (kernel .entry)) size (now (placed .entry)) total
-        (now (removed .entry)) (now (partner .entry)) count sheet placement
+        → Belongs (now (rows .entry)) users (now (kernel .entry)) (now (placed .entry)) total
+        (now (removed .entry)) (now (partner .entry)) sheet placement
         → RolesAt (r .has) (r .gives) (r .count) users (roles-of sheet placement)) ⌝ }
     ensures { λ r. ⌜ RolesOnly (r .has) (r .gives) (r .count) users ⌝ }
 {
     let all = cells::listed(rows, users);
     let mut class = [0; CELL_LIMIT];
-    all_classes(
-        &mut class,
-        kernel,
-        size,
-        placed,
-        total,
-        removed,
-        partner,
-        count,
-    );
+    all_classes(&mut class, kernel, placed, total, removed, partner);
     roles_of_classes(&all.cells, all.size, &class)
 }

@@ -6,9 +6,10 @@ ghost use mathlib.Core.Path.{_≡_};
 ghost use Prim.Native.Nat.{suc, _<_, _≤_, _^_, max};
 ghost use Rattle.spec.specs.Limits.{grant-limit};
 ghost use Rattle.lists.specs.KeyLaws.{by-key};
+ghost use Rattle.cover.specs.CoverKeys.{class-from};
 ghost use Rattle.cover.specs.CoverPlaced.{Placed};
 ghost use Rattle.roles.specs.CellClasses.{CellsBelow};
-ghost use Rattle.roles.specs.RoleNumbers.{class-limit, class-key, role-from, KeysBelow};
+ghost use Rattle.roles.specs.RoleNumbers.{class-limit, no-role, class-key, KeysBelow};
 
 // What the table has for a class with no role yet: no role has this number.
 const NO_ROLE: u16 = GRANT_LIMIT as u16;
@@ -22,7 +23,7 @@ pub struct RoleNumbers {
 // The role of a class: the one that the table has, else the next one.
 fn role_for(table: &[u16; CLASS_LIMIT], count: usize, class: usize) -> u16
     requires { ⌜ (count < 2 ^ 16) × (class < class-limit) ⌝ }
-    ensures { λ r. ⌜ r ≡ role-from (now (table .entry)) count class ⌝ }
+    ensures { λ r. ⌜ r ≡ class-from no-role (now (table .entry)) count class ⌝ }
 {
     let r = table[class];
     if r == NO_ROLE { count as u16 } else { r }

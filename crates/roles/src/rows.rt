@@ -3,6 +3,7 @@ use bits::WORD_BITS;
 use cells::permission_of;
 use cells::user_of;
 use numbers::CELL_WORDS;
+use numbers::CellNo;
 use numbers::GRANT_LIMIT;
 use numbers::GrantNo;
 use numbers::PermissionNo;
@@ -16,8 +17,7 @@ ghost use Prim.Native.Nat.{_<_, _≤_};
 ghost use lib.ListN.{length, getD};
 ghost use Rattle.spec.specs.Limits.{grant-limit};
 ghost use Rattle.cells.specs.Rows.{row-bits};
-ghost use Rattle.cells.specs.CellAdded.{CellAdded};
-ghost use Rattle.cells.specs.CellLaws.{word-of};
+ghost use Rattle.cells.specs.CellAdded.{CellAdded, word-of};
 ghost use Rattle.roles.specs.CellClasses.{CellsBelow, paired-in};
 ghost use Rattle.roles.specs.RoleMatrices.{CellsShow, RolesBelow, has-role, gives-permission};
 
@@ -82,7 +82,8 @@ pub fn role_rows<'a>(
     let mut gives = [0; ROLE_WORDS];
     let mut i = 0;
     while i < n {
-        let cell = cells[i];
+        let at = cells[i] as usize;
+        let cell = CellNo(at);
         let role = role_of(roles, GrantNo(i));
         give_role(&mut has, user_of(cell), role);
         give_permission(&mut gives, role, permission_of(cell));

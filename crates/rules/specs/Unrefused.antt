@@ -10,16 +10,8 @@ use Rattle.spec.specs.Sheet.{sheet-of, grants}
 use Rattle.spec.specs.Refusal.{sheet-causes, refusal, accepted}
 use Rattle.rules.specs.CauseLaws.{NoneApplies, zero-none-applies, none-applies-zero, sheet-causes-rise}
 use Rattle.rules.specs.ByteCauses.{short-enough, GoodBytes, good-bytes}
-use Rattle.rules.specs.LineCauses.{
-  GoodFirstLine,
-  good-first-line,
-  GoodLineCount,
-  good-line-count,
-  EvenLines,
-  even-lines,
-  BitLines,
-  bit-lines,
-}
+use Rattle.rules.specs.LineCauses.{GoodFirstLine, good-first-line, GoodLineCount, good-line-count, EvenLines}
+use Rattle.rules.specs.LineCauses.{even-lines, BitLines, bit-lines}
 use Rattle.rules.specs.NameCauses.{SizedNames, sized-names, DistinctNames, distinct-names, few-grants}
 
 -- what the nine causes leave

@@ -4,7 +4,7 @@
 use Prim.Native.Nat.{ℕ, zero, suc, _+_, _*_, _/_, _%_, _≤_, _<_}
 use mathlib.Core.Path.{_≡_, refl, sym, _∙_}
 use mathlib.Core.Logic.{_⊎_, inl, inr, ⊎-elim}
-use mathlib.Core.Bool.{Bool, true, false, So, not, _&&_, _||_, and-true, and-false, or-false}
+use mathlib.Core.Bool.{Bool, true, false, So, _&&_, and-true, and-false, cond}
 use mathlib.Core.List.{List}
 use native.Mathlib.Omega.{arith}
 use borrow.Author.Tests.{eqb-true, eqb-false, eq-eqb, ne-eqb, lt-ltb, le-ltb}
@@ -31,18 +31,11 @@ pub record Gathered (classes : List ℕ) (depth : ℕ) (members : List ℕ) : Ty
   pub sized : length members ≡ table-words
   pub has : (c i : ℕ) → i < mark-limit → member members c i ≡ (ltb i depth && eqb (getD classes i 0) c)
 
--- a table in which one grant's bit of one class is changed, by what it was
-pub record Changed (change : Bool → Bool → Bool) (members : List ℕ) (class grant : ℕ) (after : List ℕ) : Type 0 where
+-- a table in which one grant is made a member of one class, or no member any more
+pub record MemberSet (members : List ℕ) (class grant : ℕ) (put : Bool) (after : List ℕ) : Type 0 where
   pub sized : length after ≡ length members
-  pub has : (c i : ℕ) → i < mark-limit → member after c i ≡ change (member members c i) (eqb c class && eqb i grant)
-
--- one grant more is in a class
-abbrev pub Joined : List ℕ → ℕ → ℕ → List ℕ → Type 0
-Joined = Changed _||_
-
--- one grant fewer is in a class
-abbrev pub Left : List ℕ → ℕ → ℕ → List ℕ → Type 0
-Left = Changed (λ was it. was && not it)
+  pub has : (c i : ℕ) → i < mark-limit
+      → member after c i ≡ cond (eqb c class && eqb i grant) put (member members c i)
 
 -- a grant's word and bit are those of one class and one grant alone
 same-place : (c i class grant : ℕ) → i < mark-limit → grant < mark-limit
@@ -65,24 +58,19 @@ other-place c i class grant ne =
     let grants : i ≡ grant = eqb-true i grant (and-right (eqb c class) (eqb i grant) s) in
     ne (rw (classes, grants)))
 
--- one word stored with one bit changed changes that grant's bit of that class
-pub word-changed : (change : Bool → Bool → Bool) → ((b : Bool) → change b false ≡ b)
-    → (members : List ℕ) (class grant word : ℕ)
+-- one word stored with one bit set changes that grant's bit of that class
+pub word-set : (members : List ℕ) (class grant : ℕ) (put : Bool) (word : ℕ)
     → grant < mark-limit → class * kernel-words + grant / word-bits < length members
-    → ((q : ℕ) → bit word q ≡ change (bit (getD members (class * kernel-words + grant / word-bits) 0) q)
-    (eqb q (grant % word-bits)))
-    → Changed change members class grant (set members (class * kernel-words + grant / word-bits) word)
-word-changed change keeps members class grant word k room changes = record {
-  sized = length-set members at word;
-  has =
-      has;
-}
+    → ((q : ℕ) → bit word q ≡ cond (eqb q (grant % word-bits)) put
+    (bit (getD members (class * kernel-words + grant / word-bits) 0) q))
+    → MemberSet members class grant put (set members (class * kernel-words + grant / word-bits) word)
+word-set members class grant put word k room changes = record { sized = length-set members at word; has = has }
   where
     at : ℕ
     at = class * kernel-words + grant / word-bits
 
     has : (c i : ℕ) → i < mark-limit
-        → member (set members at word) c i ≡ change (member members c i) (eqb c class && eqb i grant)
+        → member (set members at word) c i ≡ cond (eqb c class && eqb i grant) put (member members c i)
     has c i l =
         ⊎-elim
         (λ (s : So (eqb (c * kernel-words + i / word-bits) at)).
@@ -92,7 +80,6 @@ word-changed change keeps members class grant word k room changes = record {
         let ne : c * kernel-words + i / word-bits ≡ at → ⊥ = eqb-false (c * kernel-words + i / word-bits) at f in
         rw (
           other-place c i class grant ne,
-          keeps,
           getD-set-other members at (c * kernel-words + i / word-bits) word 0 ne,
         ))
         (passes-or-fails (eqb (c * kernel-words + i / word-bits) at))
@@ -117,7 +104,7 @@ gathered-none classes =
 -- grant d is placed in a class: the table in which it has joined the class goes with the classes in which that is
 -- stored
 pub gathered-more : {classes after members joined : List ℕ} {d class : ℕ} → Gathered classes d members
-    → Joined members class d joined
+    → MemberSet members class d true joined
     → ((i : ℕ) → i < d → getD after i 0 ≡ getD classes i 0) → getD after d 0 ≡ class → Gathered after (suc d) joined
 gathered-more {classes} {after} {d} {class} g j earlier here =
     record {
@@ -125,15 +112,19 @@ gathered-more {classes} {after} {d} {class} g j earlier here =
       has = λ c i l. rw (j .has c i l, g .has c i l) (by-place c i (below-or-from i d));
     }
   where
+    joins-or-not : (b : Bool) → cond b true false ≡ b
+    joins-or-not true = refl
+    joins-or-not false = refl
+
     by-place : (c i : ℕ) → (i < d) ⊎ (d ≤ i)
-        → (ltb i d && eqb (getD classes i 0) c || eqb c class && eqb i d) ≡ (ltb i (suc d) && eqb (getD after i 0) c)
+        → cond (eqb c class && eqb i d) true (ltb i d && eqb (getD classes i 0) c)
+        ≡ (ltb i (suc d) && eqb (getD after i 0) c)
     by-place c i (inl k) =
         rw (
           lt-ltb i d k,
           lt-ltb i (suc d) (omega arith),
           ne-eqb i d (λ e. omega arith),
           and-false,
-          or-false,
           earlier i k,
         )
     by-place c i (inr k) =
@@ -148,13 +139,14 @@ gathered-more {classes} {after} {d} {class} g j earlier here =
           here,
           eqb-comm c class,
           and-true,
-        ))
+        )
+        (joins-or-not (eqb class c)))
         (λ (m : suc d ≤ i). rw (le-ltb i d k, le-ltb i (suc d) m, ne-eqb i d (λ e. omega arith), and-false))
         (below-or-from i (suc d))
 
 -- the latest grant is taken back: it leaves its class
 pub gathered-fewer : {classes members left : List ℕ} {d : ℕ} → Gathered classes (suc d) members
-    → Left members (getD classes d 0) d left
+    → MemberSet members (getD classes d 0) d false left
     → Gathered classes d left
 gathered-fewer {classes} {d} g w =
     record {
@@ -162,20 +154,15 @@ gathered-fewer {classes} {d} g w =
       has = λ c i l. rw (w .has c i l, g .has c i l) (by-place c i (below-or-from i d));
     }
   where
-    and-not : (b : Bool) → (b && not b) ≡ false
-    and-not true = refl
-    and-not false = refl
+    leaves : (b : Bool) → cond b false b ≡ false
+    leaves true = refl
+    leaves false = refl
 
     by-place : (c i : ℕ) → (i < d) ⊎ (d ≤ i)
-        → (ltb i (suc d) && eqb (getD classes i 0) c && not (eqb c (getD classes d 0) && eqb i d)) ≡ (ltb i d
-        && eqb (getD classes i 0) c)
-    by-place c i (inl k) = rw (
-      lt-ltb i d k,
-      lt-ltb i (suc d) (omega arith),
-      ne-eqb i d (λ e. omega arith),
-      and-false,
-      and-true,
-    )
+        → cond (eqb c (getD classes d 0) && eqb i d) false (ltb i (suc d) && eqb (getD classes i 0) c)
+        ≡ (ltb i d && eqb (getD classes i 0) c)
+    by-place c i (inl k) =
+        rw (lt-ltb i d k, lt-ltb i (suc d) (omega arith), ne-eqb i d (λ e. omega arith), and-false)
     by-place c i (inr k) =
         ⊎-elim
         (λ (m : i < suc d).
@@ -188,6 +175,6 @@ gathered-fewer {classes} {d} g w =
           and-true,
           eqb-comm c (getD classes d 0),
         )
-        (and-not (eqb (getD classes d 0) c)))
-        (λ (m : suc d ≤ i). rw (le-ltb i d k, le-ltb i (suc d) m))
+        (leaves (eqb (getD classes d 0) c)))
+        (λ (m : suc d ≤ i). rw (le-ltb i d k, le-ltb i (suc d) m, ne-eqb i d (λ e. omega arith), and-false))
         (below-or-from i (suc d))

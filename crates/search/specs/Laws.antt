@@ -17,3 +17,4 @@ pub mod ClassEnd
 pub mod Moves
 pub mod Running
 pub mod Carried
+pub mod Choice

@@ -1,7 +1,7 @@
 -- One step over lent arrays: what it asks of them, and where it leads.
 use Prim.Native.Nat.{ℕ, suc, _+_, _-_, _≤_, _<_}
 use mathlib.Core.Path.{_≡_, _∙_}
-use mathlib.Core.Bool.{Bool, true}
+use mathlib.Core.Bool.{Bool, true, false}
 use mathlib.Core.List.{List}
 use mathlib.Core.Option.{Option·getD}
 use native.Mathlib.Omega.{arith}
@@ -13,19 +13,14 @@ use Rattle.spec.specs.Machine.{step}
 use Rattle.bits.specs.Laws.Lowest.{lowest-below-ext}
 use Rattle.search.specs.declared.machine.Cursor.{Cursor}
 use Rattle.search.specs.declared.machine.Position.{Position}
+use Rattle.search.specs.declared.machine.Sizes.{Sizes}
 use Rattle.search.specs.Marks.{mark-limit}
 use Rattle.search.specs.View.{kernel-given, view, PositionStands, class-end, joinable, CursorPlaced, taken-back}
-use Rattle.search.specs.Gathered.{Gathered, Joined, Left, gathered-more, gathered-fewer}
-use Rattle.search.specs.ChoiceLaws.{open-to, open-joinable}
-use Rattle.search.specs.Laws.Moves.{
-  Looked,
-  depth-le-limit,
-  room-below-limit,
-  closes,
-  takes-back,
-  places,
-  improves,
-}
+use Rattle.search.specs.Gathered.{Gathered, MemberSet, gathered-more, gathered-fewer}
+use Rattle.search.specs.OpenTo.{open-to}
+use Rattle.search.specs.Laws.Choice.{open-joinable}
+use Rattle.search.specs.Laws.Moves.{Looked, depth-le-limit, room-below-limit, closes, takes-back, places}
+use Rattle.search.specs.Laws.Moves.{improves}
 
 -- a cursor and its two arrays as one position
 abbrev pub at-position : Cursor → List ℕ → List ℕ → Position
@@ -38,20 +33,20 @@ pub record Ready (size : ℕ) (at : Cursor) (classes best members : List ℕ) : 
   pub gathered : Gathered classes (at .depth) members
 
 -- the view moved as the machine does in one step, and all is ready for the next
-pub record Moved (table : List ℕ) (size singles witness : ℕ) (at : Cursor) (classes best : List ℕ) (after : Cursor)
+pub record Moved (table : List ℕ) (sizes : Sizes) (at : Cursor) (classes best : List ℕ) (after : Cursor)
     (classes′ best′ members′ : List ℕ)
     : Type 0 where
   pub stepped :
-      view (at-position after classes′ best′) size ≡ step (kernel-given table size singles witness)
-      (view (at-position at classes best) size)
-  pub ready : Ready size after classes′ best′ members′
+      view (at-position after classes′ best′) (sizes .kernel) ≡ step (kernel-given table sizes)
+      (view (at-position at classes best) (sizes .kernel))
+  pub ready : Ready (sizes .kernel) after classes′ best′ members′
 
 -- the four ways that a step goes, over a table of members from which a class was looked for
-module _ (table : List ℕ) (size singles witness : ℕ) {at : Cursor} {classes best members : List ℕ}
-    (r : Ready size at classes best members) {end class : ℕ}
-    (ends : end ≡ class-end (at .depth) size (at .used) (at .count))
+module _ (table : List ℕ) (sizes : Sizes) {at : Cursor} {classes best members : List ℕ}
+    (r : Ready (sizes .kernel) at classes best members) {end class : ℕ}
+    (ends : end ≡ class-end (at .depth) (sizes .kernel) (at .used) (at .count))
     (finds : class ≡ Option·getD (lowest-below end (open-to table members (at .depth) (at .next))) end) where
-  looked : Looked table size (at-position at classes best) end class
+  looked : Looked table (sizes .kernel) (at-position at classes best) end class
   looked =
       record {
         ends = ends;
@@ -64,7 +59,7 @@ module _ (table : List ℕ) (size singles witness : ℕ) {at : Cursor} {classes 
 
   -- no class is found and no grant is placed
   pub closed : end ≤ class → at .depth ≡ 0
-      → Moved table size singles witness at classes best
+      → Moved table sizes at classes best
       (record {
         depth = at .depth;
         next = at .next;
@@ -75,7 +70,7 @@ module _ (table : List ℕ) (size singles witness : ℕ) {at : Cursor} {classes 
       })
       classes best members
   closed l e =
-      let f = closes table size singles witness (at-position at classes best) (r .stands) looked l e in
+      let f = closes table sizes (at-position at classes best) (r .stands) looked l e in
       record {
         stepped = f .0;
         ready = record { stands = f .1; classes-sized = r .classes-sized; gathered = r .gathered };
@@ -83,11 +78,11 @@ module _ (table : List ℕ) (size singles witness : ℕ) {at : Cursor} {classes 
 
   -- no class is found: the latest grant is taken back, and leaves its class
   pub took-back : end ≤ class → 0 < at .depth → (after : Cursor) (left : List ℕ)
-      → after ≡ taken-back at (getD classes (at .depth - 1) 0) → Left members (getD classes (at .depth - 1) 0)
-      (at .depth - 1) left
-      → Moved table size singles witness at classes best after classes best left
+      → after ≡ taken-back at (getD classes (at .depth - 1) 0)
+      → MemberSet members (getD classes (at .depth - 1) 0) (at .depth - 1) false left
+      → Moved table sizes at classes best after classes best left
   took-back l pos after left e leaves =
-      let f = takes-back table size singles witness (at-position at classes best) (r .stands) looked l pos after e in
+      let f = takes-back table sizes (at-position at classes best) (r .stands) looked l pos after e in
       record {
         stepped = f .0;
         ready =
@@ -103,7 +98,7 @@ module _ (table : List ℕ) (size singles witness : ℕ) {at : Cursor} {classes 
 
   -- the next grant is placed in the class found, and joins it
   module _ (l : class < end) (after : Cursor) (placed : CursorPlaced at class after) (joined : List ℕ)
-      (joins : Joined members class (at .depth) joined) where
+      (joins : MemberSet members class (at .depth) true joined) where
     stored : at .depth < length classes
     stored = omega (arith, room-below-limit (r .stands) end ends (omega arith), r .classes-sized)
 
@@ -113,10 +108,10 @@ module _ (table : List ℕ) (size singles witness : ℕ) {at : Cursor} {classes 
         (gathered-more (r .gathered) joins (λ i k. getD-set-other classes (at .depth) i class 0 (λ e. omega arith))
         (getD-set-same classes (at .depth) class 0 stored))
 
-    pub put : (suc (at .depth) ≡ size → ⊥)
-        → Moved table size singles witness at classes best after (set classes (at .depth) class) best joined
+    pub put : (suc (at .depth) ≡ sizes .kernel → ⊥)
+        → Moved table sizes at classes best after (set classes (at .depth) class) best joined
     put not-whole =
-        let f = places table size singles witness (at-position at classes best) (r .stands) looked l stored after
+        let f = places table sizes (at-position at classes best) (r .stands) looked l stored after
         placed not-whole in
         record {
           stepped = f .0;
@@ -129,8 +124,9 @@ module _ (table : List ℕ) (size singles witness : ℕ) {at : Cursor} {classes 
         }
 
     -- all grants are placed, and the placement is the best one
-    pub put-last : suc (at .depth) ≡ size → (finished : Bool) → finished ≡ eqb (after .used + singles) witness
-        → Moved table size singles witness at classes best
+    pub put-last : suc (at .depth) ≡ sizes .kernel → (finished : Bool)
+        → finished ≡ eqb (after .used + sizes .singles) (sizes .witness)
+        → Moved table sizes at classes best
         (record {
           depth = after .depth;
           next = after .next;
@@ -142,7 +138,7 @@ module _ (table : List ℕ) (size singles witness : ℕ) {at : Cursor} {classes 
         (set classes (at .depth) class) (set classes (at .depth) class) joined
     put-last whole finished e =
         let f =
-        improves table size singles witness (at-position at classes best) (r .stands) looked l stored after placed
+        improves table sizes (at-position at classes best) (r .stands) looked l stored after placed
         whole finished e in
         record {
           stepped = f .0;

@@ -3,6 +3,6 @@
 pub mod Marks
 pub mod View
 pub mod Gathered
-pub mod ChoiceLaws
+pub mod OpenTo
 pub mod Lent
 pub mod Laws

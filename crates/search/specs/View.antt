@@ -1,9 +1,9 @@
 -- What the words and bytes of a position stand for: a kernel from its fit table, a state of the machine from a
 -- position, and what holds of every position that the code makes.
-use Prim.Native.Nat.{ℕ, zero, suc, _+_, _*_, _-_, _/_, _%_, _≤_, _<_, max, min, pred}
+use Prim.Native.Nat.{ℕ, suc, _+_, _*_, _-_, _/_, _%_, _≤_, _<_, max, min, pred}
 use mathlib.Core.Path.{_≡_}
 use mathlib.Core.Bool.{Bool, _&&_, cond}
-use mathlib.Core.List.{List, [], _∷_}
+use mathlib.Core.List.{List}
 use lib.Dec.{eqb, ltb, leb}
 use lib.ListN.{getD, replicate}
 use Rattle.spec.specs.Limits.{search-limit}
@@ -13,33 +13,35 @@ use Rattle.spec.specs.Machine as machine
 use Rattle.bits.specs.Bit.{bit, word-bits}
 use Rattle.bits.specs.Counting.{one-if}
 use Rattle.lists.specs.Classing.{Grown}
+use Rattle.lists.specs.LatestFirst.{latest-first}
 use Rattle.search.specs.declared.marks.Marks.{Marks}
 use Rattle.search.specs.declared.machine.Cursor.{Cursor}
 use Rattle.search.specs.declared.machine.Position.{Position}
 use Rattle.search.specs.declared.machine.Ran.{Ran}
+use Rattle.search.specs.declared.machine.Sizes.{Sizes}
 use Rattle.search.specs.Marks.{kernel-words, mark-limit, marked}
-
--- the classes of the first n grants in an array of class numbers, the latest first
-abbrev pub placed-of : List ℕ → ℕ → List ℕ
-placed-of classes zero = []
-placed-of classes (suc n) = getD classes n 0 ∷ placed-of classes n
 
 -- bit j of grant i's words in the fit table: grants i and j fit
 abbrev pub fit-in : List ℕ → ℕ → ℕ → Bool
 fit-in table i j = bit (getD table (i * kernel-words + j / word-bits) 0) (j % word-bits)
 
--- the kernel that a fit table and three numbers give
-abbrev pub kernel-given : List ℕ → ℕ → ℕ → ℕ → Kernel
-kernel-given table size singles witness =
-    record { size = size; fit = fit-in table; singles = singles; witness = witness }
+-- the kernel that a fit table and its sizes give
+abbrev pub kernel-given : List ℕ → Sizes → Kernel
+kernel-given table sizes =
+    record {
+      size = sizes .kernel;
+      fit = fit-in table;
+      singles = sizes .singles;
+      witness = sizes .witness;
+    }
 
 -- the state of the machine that a position over a kernel of some size stands for
 abbrev pub view : Position → ℕ → State
 view position size =
     record {
-      placed = placed-of (position .classes) (position .cursor .depth);
+      placed = latest-first (position .classes) (position .cursor .depth);
       next = position .cursor .next;
-      best = placed-of (position .best) size;
+      best = latest-first (position .best) size;
       finished = position .cursor .finished;
     }
 
@@ -51,21 +53,21 @@ view-ran ran size = record { state = view (ran .position) size; steps = ran .ste
 -- and a grant is marked where it opened its class
 pub record Trail (size depth in-use : ℕ) (opened : Marks) (classes : List ℕ) : Type 0 where
   pub depth-within : depth ≤ size
-  pub grown : Grown (placed-of classes depth)
-  pub used-counted : in-use ≡ used (placed-of classes depth)
-  pub opened-marked : (i : ℕ) → i < depth → marked opened i ≡ eqb (getD classes i 0) (used (placed-of classes i))
+  pub grown : Grown (latest-first classes depth)
+  pub used-counted : in-use ≡ used (latest-first classes depth)
+  pub opened-marked : (i : ℕ) → i < depth → marked opened i ≡ eqb (getD classes i 0) (used (latest-first classes i))
 
 -- a position over a kernel that can be searched: its placed grants, and the class count of its best placement
 pub record PositionStands (size : ℕ) (position : Position) : Type 0 where
   pub size-within : size ≤ search-limit
   pub trail : Trail size (position .cursor .depth) (position .cursor .used) (position .cursor .opened)
       (position .classes)
-  pub best-counted : position .cursor .count ≡ used (placed-of (position .best) size)
+  pub best-counted : position .cursor .count ≡ used (latest-first (position .best) size)
 
 -- the position before the first step: no grant is placed, and the best placement is the first one, whose classes are
 -- counted
-abbrev pub started : List ℕ → ℕ → ℕ → ℕ → Position
-started first count singles witness =
+abbrev pub started : List ℕ → ℕ → Sizes → Position
+started first count sizes =
     record {
       cursor =
           record {
@@ -73,7 +75,7 @@ started first count singles witness =
             next = 0;
             used = 0;
             count = count;
-            finished = eqb (count + singles) witness;
+            finished = eqb (count + sizes .singles) (sizes .witness);
             opened = record { low = 0; high = 0 };
           };
       classes = replicate mark-limit 0;
@@ -87,7 +89,7 @@ class-end depth size in-use count = cond (ltb depth size && ltb in-use count) (m
 
 -- class c is not below the next try, and grant d fits all its earlier members
 abbrev pub joinable : List ℕ → List ℕ → ℕ → ℕ → ℕ → Bool
-joinable table classes d next c = leb next c && joins (fit-in table) d (placed-of classes d) c
+joinable table classes d next c = leb next c && joins (fit-in table) d (latest-first classes d) c
 
 -- a cursor once its next grant is placed in a class
 pub record CursorPlaced (at : Cursor) (class : ℕ) (after : Cursor) : Type 0 where

@@ -1,11 +1,12 @@
 // The class in which the next grant is placed: the lowest that is not tried already and all of whose members fit it.
 use crate::members;
+use numbers::GrantNo;
 use numbers::TABLE_WORDS;
 ghost use mathlib.Core.Path.{_≡_};
 ghost use mathlib.Core.Option.{Option·getD};
 ghost use Prim.Native.Nat.{_<_, _≤_};
 ghost use Rattle.spec.specs.Vocabulary.{lowest-below};
-ghost use Rattle.search.specs.ChoiceLaws.{open-to};
+ghost use Rattle.search.specs.OpenTo.{open-to};
 ghost use Rattle.search.specs.Marks.{mark-limit};
 ghost use Rattle.search.specs.View.{class-end};
 
@@ -22,22 +23,23 @@ pub fn class_end(depth: usize, size: usize, used: usize, count: usize) -> usize
     if used + 1 < count { used + 1 } else { used }
 }
 
-// The lowest class from `next` below `end` all of whose members fit grant d, or `end`.
+// The lowest class from `next` below `end` all of whose members fit the grant, or `end`.
 pub fn class_for<'a>(
     members: &'a [u64; TABLE_WORDS],
     fit: &'a [u64; TABLE_WORDS],
-    d: usize,
+    grant: GrantNo,
     next: usize,
     end: usize,
 ) -> usize
     requires { ⌜ end ≤ mark-limit ⌝ }
-    requires { ⌜ (0 < end → d < mark-limit) ⌝ }
-    ensures { λ r. ⌜ r ≡ Option·getD (lowest-below end (open-to (now (fit .entry)) (now (members .entry)) d next))
-        end ⌝ }
+    requires { ⌜ (0 < end → grant .0 < mark-limit) ⌝ }
+    ensures { λ r. ⌜ r ≡ Option·getD (lowest-below end (open-to (now (fit .entry)) (now (members .entry)) (grant .0)
+        next)) end ⌝ }
 {
     if end <= next {
         return end;
     }
+    let d = grant.0;
     let fitting = members::row(fit, d);
     let mut c = next;
     while c < end {

@@ -1,6 +1,7 @@
 // The search's own position moved forward: the small struct of depth, next try and best count is lent to one thin
 // step function. Both functions are proved by hand, and all that they do is what `moved` does.
 use crate::Cursor;
+use crate::Sizes;
 use crate::moves;
 use numbers::KERNEL_LIMIT;
 use numbers::TABLE_WORDS;
@@ -13,15 +14,13 @@ pub fn advance<'s, 'a>(
     best: &'a mut [u8; KERNEL_LIMIT],
     members: &'a mut [u64; TABLE_WORDS],
     fit: &'a [u64; TABLE_WORDS],
-    size: usize,
-    singles: usize,
-    witness: usize,
+    sizes: Sizes,
 )
-    requires { ⌜ Ready size (now at) (now classes) (now best) (now members) ⌝ }
-    ensures { λ _. ⌜ Moved (now (fit .entry)) size singles witness (now (at .entry)) (now (classes .entry))
+    requires { ⌜ Ready (sizes .kernel) (now at) (now classes) (now best) (now members) ⌝ }
+    ensures { λ _. ⌜ Moved (now (fit .entry)) sizes (now (at .entry)) (now (classes .entry))
         (now (best .entry)) (now (at .exit)) (now (classes .exit)) (now (best .exit)) (now (members .exit)) ⌝ }
 {
-    let after = moves::moved(*at, classes, best, members, fit, size, singles, witness);
+    let after = moves::moved(*at, classes, best, members, fit, sizes);
     *at = after;
 }
 
@@ -32,24 +31,13 @@ pub fn advanced<'a>(
     best: &'a mut [u8; KERNEL_LIMIT],
     members: &'a mut [u64; TABLE_WORDS],
     fit: &'a [u64; TABLE_WORDS],
-    size: usize,
-    singles: usize,
-    witness: usize,
+    sizes: Sizes,
 ) -> Cursor
-    requires { ⌜ Ready size at (now classes) (now best) (now members) ⌝ }
-    ensures { λ r. ⌜ Moved (now (fit .entry)) size singles witness at (now (classes .entry)) (now (best .entry)) r
+    requires { ⌜ Ready (sizes .kernel) at (now classes) (now best) (now members) ⌝ }
+    ensures { λ r. ⌜ Moved (now (fit .entry)) sizes at (now (classes .entry)) (now (best .entry)) r
         (now (classes .exit)) (now (best .exit)) (now (members .exit)) ⌝ }
 {
     let mut place = at;
-    advance(
-        &mut place,
-        classes,
-        best,
-        members,
-        fit,
-        size,
-        singles,
-        witness,
-    );
+    advance(&mut place, classes, best, members, fit, sizes);
     place
 }

@@ -20,4 +20,5 @@ mod moves;
 pub use machine::Cursor;
 pub use machine::Position;
 pub use machine::Ran;
+pub use machine::Sizes;
 pub use marks::Marks;

@@ -33,6 +33,13 @@ pub struct Position {
     pub best: [u8; KERNEL_LIMIT],
 }
 
+// How many grants a kernel has, how many singles were removed, and how many grants are in the witness.
+pub struct Sizes {
+    pub kernel: usize,
+    pub singles: usize,
+    pub witness: usize,
+}
+
 // Where some steps led, and how many they were.
 pub struct Ran {
     pub position: Position,
@@ -52,20 +59,15 @@ impl Position {
     }
 
     // The position before the first step, with a first placement and its class count.
-    pub fn start(
-        first: [u8; KERNEL_LIMIT],
-        count: usize,
-        singles: usize,
-        witness: usize,
-    ) -> Position
-        ensures { λ r. ⌜ r ≡ started first count singles witness ⌝ }
+    pub fn start(first: [u8; KERNEL_LIMIT], count: usize, sizes: Sizes) -> Position
+        ensures { λ r. ⌜ r ≡ started first count sizes ⌝ }
     {
         let cursor = Cursor {
             depth: 0,
             next: 0,
             used: 0,
             count,
-            finished: moves::reaches(count, singles, witness),
+            finished: moves::reaches(count, sizes),
             opened: Marks { low: 0, high: 0 },
         };
         Position::of(cursor, [0u8; KERNEL_LIMIT], first)
@@ -73,47 +75,26 @@ impl Position {
 
     // One step: it places one grant, takes one back, or closes the search. The members of each class are gathered for
     // it.
-    pub fn step(
-        self,
-        fit: &[u64; TABLE_WORDS],
-        size: usize,
-        singles: usize,
-        witness: usize,
-    ) -> Position
-        requires { ⌜ PositionStands size self ⌝ }
-        ensures { λ r. ⌜ view r size ≡ step (kernel-given (now (fit .entry)) size singles witness) (view self size) ⌝ }
-        ensures { λ r. ⌜ PositionStands size r ⌝ }
+    pub fn step(self, fit: &[u64; TABLE_WORDS], sizes: Sizes) -> Position
+        requires { ⌜ PositionStands (sizes .kernel) self ⌝ }
+        ensures { λ r. ⌜ view r (sizes .kernel) ≡ step (kernel-given (now (fit .entry)) sizes)
+            (view self (sizes .kernel)) ⌝ }
+        ensures { λ r. ⌜ PositionStands (sizes .kernel) r ⌝ }
     {
         let at = self.cursor;
         let mut classes = self.classes;
         let mut best = self.best;
         let mut members = members::gathered(&classes, at.depth);
-        let after = moves::moved(
-            at,
-            &mut classes,
-            &mut best,
-            &mut members,
-            fit,
-            size,
-            singles,
-            witness,
-        );
+        let after = moves::moved(at, &mut classes, &mut best, &mut members, fit, sizes);
         Position::of(after, classes, best)
     }
 
     // As many steps as the budget, or those left until finished if fewer. The cursor and the arrays are lent to each.
-    pub fn run(
-        self,
-        fit: &[u64; TABLE_WORDS],
-        size: usize,
-        singles: usize,
-        witness: usize,
-        budget: u32,
-    ) -> Ran
-        requires { ⌜ PositionStands size self ⌝ }
-        ensures { λ r. ⌜ view-ran r size ≡ run (kernel-given (now (fit .entry)) size singles witness) budget
-            (view self size) ⌝ }
-        ensures { λ r. ⌜ PositionStands size (r .position) ⌝ }
+    pub fn run(self, fit: &[u64; TABLE_WORDS], sizes: Sizes, budget: u32) -> Ran
+        requires { ⌜ PositionStands (sizes .kernel) self ⌝ }
+        ensures { λ r. ⌜ view-ran r (sizes .kernel) ≡ run (kernel-given (now (fit .entry)) sizes) budget
+            (view self (sizes .kernel)) ⌝ }
+        ensures { λ r. ⌜ PositionStands (sizes .kernel) (r .position) ⌝ }
     {
         let mut at = self.cursor;
         let mut classes = self.classes;
@@ -121,16 +102,7 @@ impl Position {
         let mut members = members::gathered(&classes, at.depth);
         let mut steps = 0;
         while steps < budget && !at.finished {
-            at = lent::advanced(
-                at,
-                &mut classes,
-                &mut best,
-                &mut members,
-                fit,
-                size,
-                singles,
-                witness,
-            );
+            at = lent::advanced(at, &mut classes, &mut best, &mut members, fit, sizes);
             steps += 1;
         }
         let position = Position::of(at, classes, best);
@@ -138,26 +110,19 @@ impl Position {
     }
 
     // A search: a run, or no step with more kernel grants than are searched.
-    pub fn search(
-        self,
-        fit: &[u64; TABLE_WORDS],
-        size: usize,
-        singles: usize,
-        witness: usize,
-        budget: u32,
-    ) -> Ran
-        requires { ⌜ (size ≤ search-limit → PositionStands size self) ⌝ }
-        ensures { λ r. ⌜ view-ran r size ≡ search (kernel-given (now (fit .entry)) size singles witness) budget
-            (view self size) ⌝ }
-        ensures { λ r. ⌜ (size ≤ search-limit → PositionStands size (r .position)) ⌝ }
-        ensures { λ r. ⌜ (search-limit < size → r .position ≡ self) ⌝ }
+    pub fn search(self, fit: &[u64; TABLE_WORDS], sizes: Sizes, budget: u32) -> Ran
+        requires { ⌜ (sizes .kernel ≤ search-limit → PositionStands (sizes .kernel) self) ⌝ }
+        ensures { λ r. ⌜ view-ran r (sizes .kernel) ≡ search (kernel-given (now (fit .entry)) sizes) budget
+            (view self (sizes .kernel)) ⌝ }
+        ensures { λ r. ⌜ (sizes .kernel ≤ search-limit → PositionStands (sizes .kernel) (r .position)) ⌝ }
+        ensures { λ r. ⌜ (search-limit < sizes .kernel → r .position ≡ self) ⌝ }
     {
-        if KERNEL_LIMIT < size {
+        if KERNEL_LIMIT < sizes.kernel {
             return Ran {
                 position: self,
                 steps: 0,
             };
         }
-        self.run(fit, size, singles, witness, budget)
+        self.run(fit, sizes, budget)
     }
 }

@@ -1,8 +1,10 @@
 // What a step does, over a cursor by value and lent arrays: the next grant is placed, the latest is taken back, or
 // the search is closed.
 use crate::Cursor;
+use crate::Sizes;
 use crate::choice;
 use crate::members;
+use numbers::GrantNo;
 use numbers::KERNEL_LIMIT;
 use numbers::TABLE_WORDS;
 ghost use mathlib.Core.Path.{_≡_};
@@ -13,13 +15,13 @@ ghost use Rattle.search.specs.Marks.{mark-limit};
 ghost use Rattle.search.specs.View.{CursorPlaced, taken-back};
 
 // Whether a number of classes plus singles equals w, with no sum that could wrap.
-pub fn reaches(count: usize, singles: usize, witness: usize) -> bool
-    ensures { λ r. ⌜ r ≡ eqb (count + singles) witness ⌝ }
+pub fn reaches(count: usize, sizes: Sizes) -> bool
+    ensures { λ r. ⌜ r ≡ eqb (count + sizes .singles) (sizes .witness) ⌝ }
 {
-    if witness < count {
+    if sizes.witness < count {
         return false;
     }
-    witness - count == singles
+    sizes.witness - count == sizes.singles
 }
 
 impl Cursor {
@@ -73,24 +75,22 @@ pub fn moved<'a>(
     best: &'a mut [u8; KERNEL_LIMIT],
     members: &'a mut [u64; TABLE_WORDS],
     fit: &'a [u64; TABLE_WORDS],
-    size: usize,
-    singles: usize,
-    witness: usize,
+    sizes: Sizes,
 ) -> Cursor
-    requires { ⌜ Ready size at (now classes) (now best) (now members) ⌝ }
-    ensures { λ r. ⌜ Moved (now (fit .entry)) size singles witness at (now (classes .entry)) (now (best .entry)) r
+    requires { ⌜ Ready (sizes .kernel) at (now classes) (now best) (now members) ⌝ }
+    ensures { λ r. ⌜ Moved (now (fit .entry)) sizes at (now (classes .entry)) (now (best .entry)) r
         (now (classes .exit)) (now (best .exit)) (now (members .exit)) ⌝ }
 {
     let d = at.depth;
-    let end = choice::class_end(d, size, at.used, at.count);
-    let class = choice::class_for(members, fit, d, at.next, end);
+    let end = choice::class_end(d, sizes.kernel, at.used, at.count);
+    let class = choice::class_for(members, fit, GrantNo(d), at.next, end);
     if class < end {
         classes[d] = class as u8;
-        members::put_in(members, class, d);
+        members::set(members, class, GrantNo(d), true);
         let mut placed = at.placed(class);
-        if d + 1 == size {
+        if d + 1 == sizes.kernel {
             placed.count = placed.used;
-            placed.finished = reaches(placed.used, singles, witness);
+            placed.finished = reaches(placed.used, sizes);
             *best = *classes;
             return placed;
         }
@@ -102,6 +102,6 @@ pub fn moved<'a>(
         return closed;
     }
     let last = classes[d - 1] as usize;
-    members::take_out(members, last, d - 1);
+    members::set(members, last, GrantNo(d - 1), false);
     at.taken_back(last)
 }

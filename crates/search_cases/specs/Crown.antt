@@ -1,6 +1,7 @@
 -- How many users and grants there are where each of four users holds every permission but their own, how many singles
 -- and what the witness counts, and how many searches of which budget.
 use Prim.Native.Nat.{ℕ, _*_, pred}
+use Rattle.search.specs.declared.machine.Sizes.{Sizes}
 
 abbrev pub users : ℕ
 users = 4
@@ -8,11 +9,8 @@ users = 4
 abbrev pub grants : ℕ
 grants = users * pred users
 
-abbrev pub singles : ℕ
-singles = 0
-
-abbrev pub witness : ℕ
-witness = 3
+abbrev pub sizes : Sizes
+sizes = record { kernel = grants; singles = 0; witness = 3 }
 
 -- the budget of each of many searches, and the most of them
 abbrev pub part : ℕ

@@ -9,9 +9,9 @@ use lib.ListN.{length, getD, drop}
 use Rattle.spec.specs.Machine as machine
 use Rattle.bits.specs.Truth.{not-both}
 use Rattle.bits.specs.Laws.Below.{last-or-below}
+use Rattle.lists.specs.LatestFirst.{latest-first, latest-first-length}
 use Rattle.search.specs.declared.machine.Ran.{Ran}
-use Rattle.search.specs.View.{placed-of, view-ran}
-use Rattle.search.specs.Laws.Placed.{length-placed-of}
+use Rattle.search.specs.View.{view-ran}
 
 -- the test passes just where P holds
 pub record Tells (test : Bool) (P : Type 0) : Type 0 where
@@ -36,7 +36,7 @@ truth-same false true same = absurd (not-both refl same)
 truth-same false false same = refl
 
 -- placements that are alike have the same class for each grant
-pub same-class : (a b : List ℕ) (n i : ℕ) → i < n → placed-of a n ≡ placed-of b n → getD a i 0 ≡ getD b i 0
+pub same-class : (a b : List ℕ) (n i : ℕ) → i < n → latest-first a n ≡ latest-first b n → getD a i 0 ≡ getD b i 0
 same-class a b zero i l e = absurd (not-suc-le-zero l)
 same-class a b (suc n) i l e =
     ⊎-elim (λ last. rw last (ap (λ (placed : List ℕ). getD placed 0 0) e)) (λ below. same-class a b n i below
@@ -50,9 +50,9 @@ module _ (a b : Ran) (size : ℕ) where
 
   pub same-depth : view-ran a size ≡ view-ran b size → a .position .cursor .depth ≡ b .position .cursor .depth
   same-depth e =
-      sym (length-placed-of (a .position .classes) (a .position .cursor .depth))
+      sym (latest-first-length (a .position .classes) (a .position .cursor .depth))
       ∙ ap (λ (r : machine.Ran). length (r .state .placed)) e
-      ∙ length-placed-of (b .position .classes) (b .position .cursor .depth)
+      ∙ latest-first-length (b .position .classes) (b .position .cursor .depth)
 
   pub same-next : view-ran a size ≡ view-ran b size → a .position .cursor .next ≡ b .position .cursor .next
   same-next e = ap (λ (r : machine.Ran). r .state .next) e
@@ -61,18 +61,18 @@ module _ (a b : Ran) (size : ℕ) where
   same-finished e = ap (λ (r : machine.Ran). r .state .finished) e
 
   pub same-placed : view-ran a size ≡ view-ran b size
-      → placed-of (a .position .classes) (a .position .cursor .depth) ≡ placed-of (b .position .classes)
+      → latest-first (a .position .classes) (a .position .cursor .depth) ≡ latest-first (b .position .classes)
       (a .position .cursor .depth)
-  same-placed e = ap (λ (r : machine.Ran). r .state .placed) e ∙ ap (placed-of (b .position .classes))
+  same-placed e = ap (λ (r : machine.Ran). r .state .placed) e ∙ ap (latest-first (b .position .classes))
       (sym (same-depth e))
 
   -- with all else alike, the best placements tell
   pub best-tells : {test : Bool} → a .steps ≡ b .steps → a .position .cursor .depth ≡ b .position .cursor .depth
       → a .position .cursor .next ≡ b .position .cursor .next → a .position .cursor .finished ≡
       b .position .cursor .finished
-      → placed-of (a .position .classes) (a .position .cursor .depth) ≡ placed-of (b .position .classes)
+      → latest-first (a .position .classes) (a .position .cursor .depth) ≡ latest-first (b .position .classes)
       (a .position .cursor .depth)
-      → Tells test (placed-of (a .position .best) size ≡ placed-of (b .position .best) size)
+      → Tells test (latest-first (a .position .best) size ≡ latest-first (b .position .best) size)
       → Tells test (view-ran a size ≡ view-ran b size)
   best-tells steps depth next finished placed best =
       record {

@@ -2,10 +2,11 @@
 use numbers::KERNEL_LIMIT;
 use numbers::KERNEL_WORDS;
 use numbers::TABLE_WORDS;
+use search::Sizes;
 ghost use mathlib.Core.Path.{_≡_};
 ghost use Rattle.spec.specs.Cover.{used};
+ghost use Rattle.lists.specs.LatestFirst.{latest-first};
 ghost use Rattle.search_cases.specs.Crown.{users, grants};
-ghost use Rattle.search.specs.View.{placed-of};
 
 // How many users there are, and grants: one fewer for each user.
 pub const USERS: usize = 4;
@@ -15,9 +16,11 @@ const HELD: usize = 3;
 pub const GRANTS: usize = USERS * HELD;
 
 // No grant is single, and the witness has three.
-pub const SINGLES: usize = 0;
-
-pub const WITNESS: usize = 3;
+pub const SIZES: Sizes = Sizes {
+    kernel: GRANTS,
+    singles: 0,
+    witness: 3,
+};
 
 fn user(g: usize) -> usize {
     g / HELD
@@ -61,7 +64,7 @@ pub fn table() -> [u64; TABLE_WORDS] {
 
 // A placement: the grants of each user in a class of their own.
 pub fn by_user() -> [u8; KERNEL_LIMIT]
-    ensures { λ r. ⌜ users ≡ used (placed-of r grants) ⌝ }
+    ensures { λ r. ⌜ users ≡ used (latest-first r grants) ⌝ }
 {
     let mut classes = [0u8; KERNEL_LIMIT];
     classes[3] = 1;

@@ -27,12 +27,7 @@ const MOST: u32 = 100;
 fn start() -> Position
     ensures { λ r. ⌜ PositionStands grants r ⌝ }
 {
-    Position::start(
-        crown::by_user(),
-        crown::USERS,
-        crown::SINGLES,
-        crown::WITNESS,
-    )
+    Position::start(crown::by_user(), crown::USERS, crown::SIZES)
 }
 
 fn report(steps: u32, searches: u32, position: Position) {
@@ -50,7 +45,7 @@ fn report(steps: u32, searches: u32, position: Position) {
 
 // One search from the start.
 fn one_search(fit: &[u64; TABLE_WORDS], budget: u32) {
-    let ran = start().search(fit, crown::GRANTS, crown::SINGLES, crown::WITNESS, budget);
+    let ran = start().search(fit, crown::SIZES, budget);
     report(ran.steps, 1, ran.position);
 }
 
@@ -60,7 +55,7 @@ fn many_searches(fit: &[u64; TABLE_WORDS]) {
     let mut steps = 0;
     let mut searches = 0;
     while searches < MOST && !position.cursor.finished {
-        let ran = position.search(fit, crown::GRANTS, crown::SINGLES, crown::WITNESS, PART);
+        let ran = position.search(fit, crown::SIZES, PART);
         position = ran.position;
         steps += ran.steps;
         searches += 1;

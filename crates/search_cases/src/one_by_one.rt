@@ -10,20 +10,21 @@ ghost use mathlib.Core.Bool.{true};
 ghost use Prim.Native.Nat.{_≤_};
 ghost use Rattle.spec.specs.Limits.{search-limit};
 ghost use Rattle.spec.specs.Machine.{run};
-ghost use Rattle.search.specs.View.{placed-of, kernel-given, view, view-ran, PositionStands};
-ghost use Rattle.search_cases.specs.Crown.{grants, singles, witness};
+ghost use Rattle.lists.specs.LatestFirst.{latest-first};
+ghost use Rattle.search.specs.View.{kernel-given, view, view-ran, PositionStands};
+ghost use Rattle.search_cases.specs.Crown.{grants, sizes};
 ghost use Rattle.search_cases.specs.Same.{Tells};
 
 // As many steps as the budget, or those left until finished if fewer.
 pub fn steps_from(from: Position, fit: &[u64; TABLE_WORDS], budget: u32) -> Ran
     requires { ⌜ PositionStands grants from ⌝ }
-    ensures { λ r. ⌜ view-ran r grants ≡ run (kernel-given (now (fit .entry)) grants singles witness) budget
+    ensures { λ r. ⌜ view-ran r grants ≡ run (kernel-given (now (fit .entry)) sizes) budget
         (view from grants) ⌝ }
 {
     let mut position = from;
     let mut steps = 0;
     while steps < budget && !position.cursor.finished {
-        position = position.step(fit, crown::GRANTS, crown::SINGLES, crown::WITNESS);
+        position = position.step(fit, crown::SIZES);
         steps += 1;
     }
     Ran { position, steps }
@@ -32,7 +33,7 @@ pub fn steps_from(from: Position, fit: &[u64; TABLE_WORDS], budget: u32) -> Ran
 // Whether the first grants are placed alike.
 fn same_classes<'a>(a: &'a [u8; KERNEL_LIMIT], b: &'a [u8; KERNEL_LIMIT], count: usize) -> bool
     requires { ⌜ count ≤ search-limit ⌝ }
-    ensures { λ r. ⌜ Tells r (placed-of (now (a .entry)) count ≡ placed-of (now (b .entry)) count) ⌝ }
+    ensures { λ r. ⌜ Tells r (latest-first (now (a .entry)) count ≡ latest-first (now (b .entry)) count) ⌝ }
 {
     let mut i = 0;
     while i < count {
@@ -74,6 +75,6 @@ pub fn as_the_search(from: Position, fit: &[u64; TABLE_WORDS], budget: u32) -> b
     requires { ⌜ PositionStands grants from ⌝ }
     ensures { λ r. ⌜ r ≡ true ⌝ }
 {
-    let searched = from.search(fit, crown::GRANTS, crown::SINGLES, crown::WITNESS, budget);
+    let searched = from.search(fit, crown::SIZES, budget);
     same(searched, steps_from(from, fit, budget))
 }

@@ -1,25 +1,16 @@
 -- The demands from the contracts as the source has them: a run of calls of the code is a sequence of demand 3, since
 -- what each contract requires and ensures, by the reading that is made of its clauses, is what a step of a run needs
 -- (`Tied`).
-use mathlib.Core.Path.{_≡_, refl}
+use mathlib.Core.Path.{refl}
+use borrow.Fn.Kinds.{In, Out}
 use denote.Ref.{now}
-use Rattle.spec.specs.Sequence.{Call, load, search, write, Outcome}
+use Rattle.spec.specs.Text.{Bytes}
+use Rattle.spec.specs.Calls.{LoadAnswer}
+use Rattle.spec.specs.Sequence.{WriteOutcome}
 use Rattle.checker.specs.Laws.CodeCall.{CodeCall, Kept}
 use Rattle.session.specs.Said.{load-said, search-said, write-said}
-use Rattle.session.specs.CodeSession.{Sound}
-use Rattle.session.specs.Laws.CodeSequence.{
-  Ensured,
-  Fresh,
-  Calling,
-  Tied,
-  Demand1Of,
-  Demand2Of,
-  Demand3Of,
-  tied-demand-1,
-  tied-demand-2,
-  tied-demand-3,
-}
-use Rattle.session.specs.declared.Session.{Session}
+use Rattle.session.specs.Laws.CodeSequence.{Way, Calling, Tied, Demand1Of, Demand2Of, Demand3Of, tied-demand-1}
+use Rattle.session.specs.Laws.CodeSequence.{tied-demand-2, tied-demand-3}
 use Rattle.session.proofs.Session.fresh.Kinds as fresh-kinds
 use Rattle.session.proofs.Session.fresh.Reads as fresh-reads
 use Rattle.session.proofs.Session.load.Kinds as load-kinds
@@ -29,50 +20,57 @@ use Rattle.session.proofs.Session.search.Reads as search-reads
 use Rattle.session.proofs.Session.write.Kinds as write-kinds
 use Rattle.session.proofs.Session.write.Reads as write-reads
 
--- a call of the code, its contract kept, that was made on the value before with this outcome, and led to the value
--- after: the one that a load or a search handed back; a writing leaves the one that it was made on
-abbrev pub Step : (call : Call) → Outcome call → Session → Session → Type 1
-Step (load text) answer before after =
-    (call : CodeCall 1 load-kinds.ps load-kinds.r) × Kept load-reads.Pre load-reads.Post call
-    × (before ≡ call .args .0) × (text ≡ now (call .args .1 .0)) × (answer ≡ load-said (call .result .answer))
-    × (after ≡ call .result .session)
-Step (search budget) answer before after =
-    (call : CodeCall 0 search-kinds.ps search-kinds.r) × Kept search-reads.Pre search-reads.Post call
-    × (before ≡ call .args .0) × (budget ≡ call .args .1 .0) × (answer ≡ search-said (call .result .answer))
-    × (after ≡ call .result .session)
-Step (write buffer) written before after =
-    (call : CodeCall 1 write-kinds.ps write-kinds.r) × Kept write-reads.Pre write-reads.Post call
-    × (before ≡ call .args .0) × (buffer ≡ now (call .args .1 .0))
-    × (written ≡ record { answer = write-said (call .result); lent = now (call .left .1 .0) }) × (after ≡ before)
+-- calls with the parameters and the result that the session's have, whatever their contract: a load leads to the
+-- value that it hands back, a writing leaves the value that it was made on
+abbrev pub begun-by : In 0 fresh-kinds.ps → Out 0 fresh-kinds.ps fresh-kinds.r → Type 1
+begun-by requires ensures = (call : CodeCall 0 fresh-kinds.ps fresh-kinds.r) × Kept requires ensures call
+
+abbrev pub loads-by : In 1 load-kinds.ps → Out 1 load-kinds.ps load-kinds.r → Way Bytes LoadAnswer
+loads-by requires ensures =
+    record {
+      Made = (call : CodeCall 1 load-kinds.ps load-kinds.r) × Kept requires ensures call;
+      on = λ m. m .0 .args .0;
+      given = λ m. now (m .0 .args .1 .0);
+      gave = λ m. load-said (m .0 .result .answer);
+      led = λ m. m .0 .result .session;
+    }
+
+abbrev pub writes-by : In 1 write-kinds.ps → Out 1 write-kinds.ps write-kinds.r → Way Bytes WriteOutcome
+writes-by requires ensures =
+    record {
+      Made = (call : CodeCall 1 write-kinds.ps write-kinds.r) × Kept requires ensures call;
+      on = λ m. m .0 .args .0;
+      given = λ m. now (m .0 .args .1 .0);
+      gave = λ m. record { answer = write-said (m .0 .result); lent = now (m .0 .left .1 .0) };
+      led = λ m. m .0 .args .0;
+    }
 
 -- the calls of a session
 abbrev pub calling : Calling
 calling =
     record {
-      Made = λ s. (call : CodeCall 0 fresh-kinds.ps fresh-kinds.r) × Kept fresh-reads.Pre fresh-reads.Post call
-          × (s ≡ call .result);
-      Step = Step;
+      Begun = begun-by fresh-reads.Pre fresh-reads.Post;
+      begun = λ b. b .0 .result;
+      loads = loads-by load-reads.Pre load-reads.Post;
+      searches = record {
+        Made = (call : CodeCall 0 search-kinds.ps search-kinds.r) × Kept search-reads.Pre search-reads.Post call;
+        on = λ m. m .0 .args .0;
+        given = λ m. m .0 .args .1 .0;
+        gave = λ m. search-said (m .0 .result .answer);
+        led = λ m. m .0 .result .session;
+      };
+      writes = writes-by write-reads.Pre write-reads.Post;
     }
 
--- each contract is a step
+-- each contract gives what the demands need
 pub contracts-tied : Tied calling
-contracts-tied = record { fresh = fresh-tied; step = step-tied }
-  where
-    fresh-tied : (s : Session) → calling .Made s → Fresh s
-    fresh-tied s (call, kept, same) = let e = kept tt in rw same (record { stands = e .0; sound = e .1 })
-
-    step-tied : (call : Call) (outcome : Outcome call) (before after : Session) → Step call outcome before after
-        → Sound before
-        → Ensured call outcome before after
-    step-tied (load text) answer before after (call, kept, on, given, gave, led) sound =
-        let e = kept (rw on at sound) in
-        rw (on, given, gave, led) (record { happens = e .0; sound = e .1 .0; kept = e .1 .1 })
-    step-tied (search budget) answer before after (call, kept, on, given, gave, led) sound =
-        let e = kept (rw on at sound) in
-        rw (on, given, gave, led) (record { happens = e .0; sound = e .1 .0; kept = e .1 .1 })
-    step-tied (write buffer) written before after (call, kept, on, given, gave, led) sound =
-        let held = rw on at sound in
-        rw (led, on, given, gave) (record { happens = kept held; sound = held; kept = λ n. refl })
+contracts-tied =
+    record {
+      begins = λ b. let e = b .1 tt in record { stands = e .0; sound = e .1 };
+      loads = λ m sound. let e = m .1 sound in record { happens = e .0; sound = e .1 .0; kept = e .1 .1 };
+      searches = λ m sound. let e = m .1 sound in record { happens = e .0; sound = e .1 .0; kept = e .1 .1 };
+      writes = λ m sound. record { happens = m .1 sound; sound = sound; kept = λ n. refl };
+    }
 
 -- demand 1 holds of every call of the code, on any value that the calls led to
 pub demand-1-of-the-code : Demand1Of calling

@@ -1,12 +1,10 @@
--- The best placement as an array, from the first cover's array and the position's: the position's where the kernel
--- can be searched, and else the first cover. Assumes nothing.
-use Prim.Native.Nat.{ℕ, _≤_, _<_}
-use mathlib.Core.Path.{_≡_}
+-- The classes of the best placement, from the first cover's and the position's: the position's where the kernel can be
+-- searched, and else the first cover. Assumes nothing.
+use Prim.Native.Nat.{ℕ}
+use mathlib.Core.Bool.{cond}
 use mathlib.Core.List.{List}
+use lib.Dec.{ltb}
 use Rattle.spec.specs.Limits.{search-limit}
-use Rattle.lists.specs.LatestFirst.{latest-first}
-use Rattle.search.specs.View.{placed-of}
 
-pub record BestOf (first best : List ℕ) (size : ℕ) (classes : List ℕ) : Type 0 where
-  pub above : search-limit < size → classes ≡ first
-  pub within : size ≤ search-limit → (n : ℕ) → n ≤ search-limit → latest-first classes n ≡ placed-of best n
+abbrev pub best-classes : List ℕ → List ℕ → ℕ → List ℕ
+best-classes first best size = cond (ltb search-limit size) first best

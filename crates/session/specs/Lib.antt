@@ -1,4 +1,4 @@
--- The three demands proved, and the session of the code: what it stands for, and that its calls are those of the
+-- The session of the code: what it stands for and keeps, what its calls answer, and that they are the calls of the
 -- demands.
 pub mod Said
 pub mod Prepared

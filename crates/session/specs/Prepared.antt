@@ -8,6 +8,7 @@ use Rattle.spec.specs.Text.{Bytes}
 use Rattle.spec.specs.Sheet.{sheet-of}
 use Rattle.spec.specs.Reduction.{kernel}
 use Rattle.spec.specs.Cover.{first-best}
+use Rattle.spec.specs.Calls.{LoadAnswer}
 use Rattle.names.specs.LaidOut.{LaidOut}
 use Rattle.cells.specs.RowsRead.{RowsRead}
 use Rattle.names.specs.declared.layout.Layout.{Layout}
@@ -36,5 +37,18 @@ pub record PreparedFor (text : Bytes) (p : Prepared) : Type 0 where
   pub kernel-size : p .kernel .size ≡ length (kernel (sheet-of text))
   pub witness : Witnessed (sheet-of text) (p .rows) (p .witness .cells) (p .witness .count)
   pub first : Placed (first-best (sheet-of text)) (p .first .classes) (p .kernel .size) (p .first .used)
+  pub first-room : length (p .first .classes) ≡ grant-limit
   pub first-past : BlankFrom (p .kernel .size) (p .first .classes)
   pub table : Table (sheet-of text) (kernel (sheet-of text)) (p .table)
+
+-- the counts that a load answers with
+abbrev pub counts-in : Prepared → LoadAnswer
+counts-in p =
+    record {
+      number = 0;
+      users = p .layout .users;
+      permissions = p .layout .permissions;
+      grants = p .layout .grants;
+      kernel = p .kernel .size;
+      witness = p .witness .count;
+    }

@@ -6,13 +6,11 @@ use book::Writing;
 use roles::Standing;
 ghost use mathlib.Core.Path.{_≡_};
 ghost use mathlib.Core.Option.{some};
-ghost use Rattle.spec.specs.Text.{Bytes};
-ghost use Rattle.spec.specs.Sheet.{sheet-of};
-ghost use Rattle.spec.specs.Calls.{load-refused, load-counts, search-refused, write-refused};
+ghost use Rattle.spec.specs.Calls.{load-refused, search-refused, write-refused};
 ghost use Rattle.roles.specs.StandingCases.{standing-case};
 ghost use Rattle.book.specs.Writing.{writing-said};
 ghost use Rattle.session.specs.Said.{load-said, search-said, write-said};
-ghost use Rattle.session.specs.Prepared.{PreparedFor};
+ghost use Rattle.session.specs.Prepared.{counts-in};
 
 // A load's counts: users, permissions, grants, the kernel's size k and the witness's count w.
 #[repr(C)]
@@ -64,7 +62,7 @@ impl LoadAnswer {
 
     // The counts of an accepted sheet, from what was found of it.
     pub fn counts(prepared: Prepared) -> LoadAnswer
-        ensures { λ r. ⌜ ((text : Bytes) → PreparedFor text prepared → load-said r ≡ load-counts (sheet-of text)) ⌝ }
+        ensures { λ r. ⌜ load-said r ≡ counts-in prepared ⌝ }
     {
         LoadAnswer {
             number: 0,

@@ -1,7 +1,7 @@
 // Loads: a sheet taken in, or refused.
 use crate::Session;
 use crate::answers::LoadAnswer;
-use crate::classes::narrowed;
+use crate::classes::first_classes;
 use crate::prepared::Prepared;
 use crate::prepared::prepare;
 use crate::sheet_text::copied;
@@ -10,6 +10,7 @@ use numbers::CELL_WORDS;
 use numbers::KERNEL_LIMIT;
 use numbers::SHEET_LIMIT;
 use search::Position;
+use search::Sizes;
 ghost use mathlib.Core.Path.{_≡_};
 ghost use mathlib.Core.Logic.{_≢_};
 ghost use Rattle.spec.specs.Sheet.{sheet-of};
@@ -36,7 +37,12 @@ impl Session {
         ensures { λ r. ⌜ Sound r ⌝ }
     {
         let prepared = Prepared::none();
-        let position = Position::start([0u8; KERNEL_LIMIT], 0, 0, 0);
+        let sizes = Sizes {
+            kernel: 0,
+            singles: 0,
+            witness: 0,
+        };
+        let position = Position::start([0u8; KERNEL_LIMIT], 0, sizes);
         Session {
             loaded: false,
             length: 0,
@@ -54,10 +60,13 @@ impl Session {
     {
         let text = copied(s);
         let prepared = prepare(layout, rows);
-        let narrow = narrowed(&prepared.first.classes, prepared.kernel.size);
-        let singles = prepared.reduced.singles;
-        let witness = prepared.witness.count;
-        let position = Position::start(narrow, prepared.first.used, singles, witness);
+        let first = first_classes(&prepared.first.classes);
+        let sizes = Sizes {
+            kernel: prepared.kernel.size,
+            singles: prepared.reduced.singles,
+            witness: prepared.witness.count,
+        };
+        let position = Position::start(first, prepared.first.used, sizes);
         Session {
             loaded: true,
             length: s.len(),

@@ -11,16 +11,10 @@ use numbers::USER_LIMIT;
 use reduction::Reduced;
 use witness::Witness;
 ghost use mathlib.Core.Path.{_≡_};
-ghost use Prim.Native.Nat.{_≤_};
-ghost use lib.ListN.{length};
-ghost use Rattle.spec.specs.Limits.{grant-limit};
 ghost use Rattle.spec.specs.Text.{Bytes};
-ghost use Rattle.spec.specs.Sheet.{Sheet, sheet-of, grants};
+ghost use Rattle.spec.specs.Sheet.{sheet-of};
 ghost use Rattle.names.specs.LaidOut.{LaidOut};
 ghost use Rattle.cells.specs.RowsRead.{RowsRead};
-ghost use Rattle.cells.specs.CellPlaces.{Shown, Shows};
-ghost use Rattle.reduction.specs.ReductionResult.{ReducedFrom};
-ghost use Rattle.witness.specs.WitnessRows.{Witnessed};
 ghost use Rattle.session.specs.Prepared.{ReadFrom, PreparedFor};
 ghost use Rattle.session.specs.NothingPrepared.{nothing-prepared};
 
@@ -42,8 +36,7 @@ impl Prepared {
         ensures { λ r. ⌜ r ≡ nothing-prepared ⌝ }
     {
         let places = Places {
-            from: [0; USER_LIMIT],
-            to: [0; USER_LIMIT],
+            at: [0; USER_LIMIT],
         };
         let layout = Layout {
             users: 0,
@@ -80,24 +73,16 @@ impl Prepared {
     }
 }
 
-// The witness of the grants that the rows show, from their reduction.
-fn witness_found(rows: &[u64; CELL_WORDS], users: usize, reduced: Reduced) -> Witness
-    requires { ⌜ Shows (now rows) users × ReducedFrom (now rows) users reduced ⌝ }
-    ensures { λ r. ⌜ ((sheet : Sheet) → Shown (now (rows .entry)) users sheet → length (grants sheet) ≤ grant-limit
-        → Witnessed sheet (now (rows .entry)) (r .cells) (r .count)) ⌝ }
-{
-    let singles = witness::single_cells(&reduced.removed, &reduced.partner, reduced.count);
-    witness::witness_of(rows, &reduced.left, &singles, users)
-}
-
 // What there is to find of an accepted sheet, from where its names stand and its cells.
 pub fn prepare(layout: Layout, rows: [u64; CELL_WORDS]) -> Prepared
     requires { ⌜ ReadFrom layout rows ⌝ }
     ensures { λ r. ⌜ ((text : Bytes) → LaidOut text layout → RowsRead rows (sheet-of text) → PreparedFor text r) ⌝ }
 {
-    let reduced = reduction::reduce(&rows, layout.users);
+    let columns = fit::columns_of(&rows);
+    let reduced = reduction::reduce(&rows, &columns, layout.users);
     let kernel = cells::listed(&reduced.left, layout.users);
-    let witness = witness_found(&rows, layout.users, reduced);
+    let singles = witness::single_cells(&reduced.removed, &reduced.partner, reduced.count);
+    let witness = witness::witness_of(&rows, &columns, &reduced.left, singles, layout.users);
     let first = cover::first_best(&rows, kernel);
     let table = table::fit_table(&rows, kernel);
     Prepared {

@@ -3,6 +3,7 @@ use crate::Session;
 use crate::answers::SearchAnswer;
 use crate::counts::counts_of;
 use search::Ran;
+use search::Sizes;
 ghost use mathlib.Core.Path.{_≡_};
 ghost use mathlib.Core.Logic.{_≢_};
 ghost use Rattle.spec.specs.Calls.{Searches};
@@ -24,9 +25,12 @@ impl Session {
     {
         let position = self.position;
         let table = self.prepared.table;
-        let size = self.prepared.kernel.size;
-        let singles = self.prepared.reduced.singles;
-        position.search(&table, size, singles, self.prepared.witness.count, budget)
+        let sizes = Sizes {
+            kernel: self.prepared.kernel.size,
+            singles: self.prepared.reduced.singles,
+            witness: self.prepared.witness.count,
+        };
+        position.search(&table, sizes, budget)
     }
 
     // Moves the session's own position forward by as many steps as the budget, or by those left until finished if

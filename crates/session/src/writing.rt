@@ -3,6 +3,7 @@
 use crate::Session;
 use crate::answers::WriteAnswer;
 use crate::classes::best_of;
+use crate::classes::first_cells;
 use crate::counts::counts_at;
 use blocks::Counts;
 use book::Writing;
@@ -51,18 +52,20 @@ impl Session {
         if !self.loaded {
             return WriteAnswer::refused(10);
         }
-        let first = self.prepared.first;
-        let best = best_of(first, &self.position.best, self.prepared.kernel.size);
+        let size = self.prepared.kernel.size;
+        let removals = self.prepared.reduced.count;
+        let kernel = first_cells(&self.prepared.kernel.cells, size);
+        let best = best_of(&self.prepared.first.classes, &self.position.best, size);
+        let removed = first_cells(&self.prepared.reduced.removed, removals);
+        let partner = first_cells(&self.prepared.reduced.partner, removals);
         let matrices = roles::roles_of(
             &self.prepared.rows,
             self.prepared.layout.users,
-            &self.prepared.kernel.cells,
-            self.prepared.kernel.size,
-            &best,
+            kernel,
+            best,
             self.position.cursor.count,
-            &self.prepared.reduced.removed,
-            &self.prepared.reduced.partner,
-            self.prepared.reduced.count,
+            removed,
+            partner,
         );
         let counts = counts_at(
             self.position.cursor.count,

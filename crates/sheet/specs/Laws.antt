@@ -2,10 +2,12 @@
 pub mod Stands
 pub mod CellsStanding
 pub mod LineParts
-pub mod SpelledFound
+pub mod Spelled
 pub mod UserLineFound
 pub mod UserLines
 pub mod UserLinesFound
+pub mod FirstLine
 pub mod FirstLineFound
+pub mod KeptSheet
 pub mod KeptRead
 pub mod KeptFound

@@ -4,22 +4,16 @@ use Prim.Native.Nat.{ℕ, _*_}
 use lib.ListN.{replicate}
 use Rattle.spec.specs.Limits.{user-limit}
 use Rattle.cells.specs.Rows.{row-words}
-use Rattle.names.specs.Places.{BlankPast}
+use Rattle.names.specs.Places.{BlankPast, no-places}
 use Rattle.sheet.specs.FirstLine.{Run}
-use Rattle.names.specs.declared.places.Places.{Places}
 use Rattle.names.specs.declared.layout.Layout.{Layout}
 use Rattle.sheet.specs.declared.reading.SheetRead.{SheetRead}
 
 -- no place is noted past the counts, and the permissions' names are those of the first line, one behind the other
 pub record OnlyNames (layout : Layout) : Type 0 where
-  pub users-end : BlankPast (layout .users) (layout .«user_places» .from) (layout .«user_places» .to)
-  pub permissions-end : BlankPast (layout .permissions) (layout .«permission_places» .from)
-      (layout .«permission_places» .to)
-  pub permissions-run : Run (layout .«permission_places» .from) (layout .«permission_places» .to) (layout .permissions)
-
--- no place is noted
-abbrev pub no-places : Places
-no-places = record { from = replicate user-limit 0; to = replicate user-limit 0 }
+  pub users-end : BlankPast (layout .users) (layout .«user_places» .at)
+  pub permissions-end : BlankPast (layout .permissions) (layout .«permission_places» .at)
+  pub permissions-run : Run (layout .«permission_places» .at) (layout .permissions)
 
 -- the layout of nothing
 abbrev pub no-layout : Layout

@@ -1,7 +1,7 @@
 -- The lines of users one after the other, their names at noted places and their cells in words. Assumes nothing.
 use Prim.Native.Nat.{ℕ, _*_, _≤_, _<_}
 use mathlib.Core.Path.{_≡_}
-use mathlib.Core.Bool.{Bool, So}
+use mathlib.Core.Bool.{Bool}
 use mathlib.Core.List.{List, _++_, List·Memᴰ}
 use lib.ListN.{length, getD, drop}
 use Rattle.spec.specs.Vocabulary.{list-of}
@@ -11,40 +11,42 @@ use Rattle.spec.specs.Rules.{Name, user-lines}
 use Rattle.bits.specs.Counting.{count-below, sum-below}
 use Rattle.bits.specs.Bit.{bit, word-bits}
 use Rattle.cells.specs.Rows.{row-words}
-use Rattle.names.specs.Places.{BlankPast}
-use Rattle.sheet.specs.Laws.Stands.{Stands}
+use Rattle.names.specs.Places.{from-at, to-at, BlankPast}
+use Rattle.sheet.specs.Stands.{Stands}
 use Rattle.sheet.specs.UserLine.{UserAt, line-of}
-use Rattle.sheet.specs.declared.user_lines.UserLines.{UserLines}
+use Rattle.sheet.specs.declared.user_lines.UserLinesRead.{UserLinesRead}
+use Rattle.sheet.specs.declared.user_lines.UserLinesRead.the-variants as read
 
 -- there is room for as many users as there can be, and no place is noted and no word has a position yet
-pub record Room (from to words : List ℕ) : Type 0 where
-  pub from-room : length from ≡ user-limit
-  pub to-room : length to ≡ user-limit
+pub record Room (places words : List ℕ) : Type 0 where
+  pub places-room : length places ≡ user-limit
   pub words-room : length words ≡ user-limit * row-words
-  pub unnoted : BlankPast 0 from to
-  pub blank : (i : ℕ) → getD words i 0 ≡ 0
+  pub unnoted : BlankPast 0 places
+  pub blank : BlankPast 0 words
 
 -- line u, by where its name stands and by its word
-abbrev pub line-at : Bytes → ℕ → List ℕ → List ℕ → List ℕ → ℕ → Line
-line-at text width from to words u = line-of text width (getD from u 0) (getD to u 0) (getD words u 0)
+abbrev pub line-at : Bytes → ℕ → List ℕ → List ℕ → ℕ → Line
+line-at text width places words u = line-of text width (from-at places u) (to-at places u) (getD words u 0)
 
 -- the first n lines
-abbrev pub lines-at : Bytes → ℕ → List ℕ → List ℕ → List ℕ → ℕ → List Line
-lines-at text width from to words n = list-of n (line-at text width from to words)
+abbrev pub lines-at : Bytes → ℕ → List ℕ → List ℕ → ℕ → List Line
+lines-at text width places words n = list-of n (line-at text width places words)
 
 -- how many cells of the first n lines are `1`
 abbrev pub ones-at : List ℕ → ℕ → ℕ
 ones-at words n = sum-below n (λ u. count-below word-bits (bit (getD words u 0)))
 
 -- the first n lines stand in the text from `start` up to `at`, and their names and words are noted
-pub record LinesRead (text : Bytes) (start width : ℕ) (from to words : List ℕ) (n ones at : ℕ) : Type 0 where
+pub record LinesNoted (text : Bytes) (start width : ℕ) (places words : List ℕ) (n ones at : ℕ) : Type 0 where
+  pub places-room : length places ≡ user-limit
+  pub words-room : length words ≡ user-limit * row-words
   pub few : n ≤ user-limit
-  pub each : (u : ℕ) → u < n → UserAt text width (getD from u 0) (getD to u 0) (getD words u 0)
-  pub stands : Stands text start (text-of (lines-at text width from to words n)) at
-  pub starts : (u : ℕ) → u < n → drop (getD from u 0) text ≡ text-of (drop u (lines-at text width from to words n)) ++
-      drop at text
-  pub unnoted : BlankPast n from to
-  pub beyond : (i : ℕ) → n ≤ i → getD words i 0 ≡ 0
+  pub each : (u : ℕ) → u < n → UserAt text width (from-at places u) (to-at places u) (getD words u 0)
+  pub stands : Stands text start (text-of (lines-at text width places words n)) at
+  pub starts : (u : ℕ) → u < n → drop (from-at places u) text ≡ text-of (drop u (lines-at text width places words n))
+      ++ drop at text
+  pub unnoted : BlankPast n places
+  pub beyond : BlankPast n words
   pub counted : ones ≡ ones-at words n
 
 -- names and rows such as the lines of users have
@@ -54,9 +56,10 @@ pub record Fit (width : ℕ) (names : List Bytes) (rows : List (List Bool)) : Ty
   pub each : (name : Bytes) → List·Memᴰ name names → Name name
   pub even : (row : List Bool) → List·Memᴰ row rows → length row ≡ width
 
--- what reading the lines of the users up to the end of the text gives
-pub record UserLinesRead (text : Bytes) (start width : ℕ) (from to words : List ℕ) (r : UserLines) : Type 0 where
-  pub good : So (r .good) → LinesRead text start width from to words (r .users) (r .grants) (length text)
-  pub found : (names : List Bytes) (rows : List (List Bool)) → Fit width names rows → drop start text ≡ text-of
-      (user-lines names rows)
-      → So (r .good)
+-- what reading the lines of the users gives: those up to the end of the text, or that no such lines stand there
+abbrev pub UserLinesReads : Bytes → ℕ → ℕ → List ℕ → List ℕ → UserLinesRead → Type 0
+UserLinesReads text start width places words (read.Lines lines) =
+    LinesNoted text start width places words (lines .users) (lines .grants) (length text)
+UserLinesReads text start width places words read.NoLines =
+    (names : List Bytes) (rows : List (List Bool)) → Fit width names rows
+    → drop start text ≡ text-of (user-lines names rows) → ⊥

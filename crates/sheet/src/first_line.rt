@@ -1,78 +1,66 @@
 // The first line of a sheet: `user` and the names of the permissions.
+use crate::spelled::NameRead;
 use crate::spelled::read_name;
+use names::place_of;
 use numbers::PERMISSION_LIMIT;
 use numbers::USER_LIMIT;
+use refusal::is_user;
 use text::COMMA;
 use text::LINE_FEED;
-use text::same_bytes;
 use text::stands_at;
 ghost use mathlib.Core.Path.{_≡_};
-ghost use mathlib.Core.Bool.{false};
-ghost use Rattle.sheet.specs.FirstLine.{says-user, NamesRoom, FirstLineRead};
+ghost use Prim.Native.Nat.{_≤_};
+ghost use lib.ListN.{length};
+ghost use Rattle.spec.specs.Limits.{sheet-limit};
+ghost use Rattle.sheet.specs.FirstLine.{says-user, NamesRoom, FirstLineReads};
 
-// Whether such a line stands there with some names and no more than there can be permissions, how many there are, and
-// where the next line starts.
+// How many names the line has, and where the next line starts.
 pub struct FirstLine {
-    pub good: bool,
     pub permissions: usize,
     pub next: usize,
 }
 
-impl FirstLine {
-    // No such line.
-    fn none() -> Self
-        ensures { λ r. ⌜ r .good ≡ false ⌝ }
-    {
-        Self {
-            good: false,
-            permissions: 0,
-            next: 0,
-        }
-    }
+// What the first line is read as: such a line with some names and no more than there can be permissions, or not.
+pub enum FirstLineRead {
+    Line(FirstLine),
+    NoLine,
 }
 
 // How many bytes `user` has.
 const USER_LENGTH: usize = 4;
 
 // Reads the first line, and notes where the names stand.
-pub fn read_first_line<'a>(
-    s: &[u8],
-    from: &'a mut [usize; USER_LIMIT],
-    to: &'a mut [usize; USER_LIMIT],
-) -> FirstLine
-    requires { ⌜ NamesRoom (now from) (now to) ⌝ }
-    ensures { λ r. ⌜ FirstLineRead (now (s .entry)) (now (from .exit)) (now (to .exit)) r ⌝ }
+pub fn read_first_line(s: &[u8], places: &mut [u64; USER_LIMIT]) -> FirstLineRead
+    requires { ⌜ (length (now s) ≤ sheet-limit) × NamesRoom (now places) ⌝ }
+    ensures { λ r. ⌜ FirstLineReads (now (s .entry)) (now (places .exit)) r ⌝ }
 {
     if !starts_with_user(s) {
-        return FirstLine::none();
+        return FirstLineRead::NoLine;
     }
     let mut count = 0;
     let mut at = USER_LENGTH;
     while stands_at(s, at, COMMA) {
         if count == PERMISSION_LIMIT {
-            return FirstLine::none();
+            return FirstLineRead::NoLine;
         }
         let start = at + 1;
-        let name = read_name(s, start);
-        if !name.good {
-            return FirstLine::none();
-        }
-        from[count] = start;
-        to[count] = name.to;
+        let NameRead::Name(to) = read_name(s, start) else {
+            return FirstLineRead::NoLine;
+        };
+        places[count] = place_of(start, to);
         count += 1;
-        at = name.to;
+        at = to;
     }
     if count == 0 {
-        return FirstLine::none();
+        return FirstLineRead::NoLine;
     }
     if !stands_at(s, at, LINE_FEED) {
-        return FirstLine::none();
+        return FirstLineRead::NoLine;
     }
-    FirstLine {
-        good: true,
+    FirstLineRead::Line(FirstLine {
         permissions: count,
         next: at + 1,
-    }
+    })
 }
 
 // Whether a text starts with `user`.
@@ -82,5 +70,5 @@ fn starts_with_user(s: &[u8]) -> bool
     if s.len() < USER_LENGTH {
         return false;
     }
-    same_bytes(&s[0..USER_LENGTH], b"user")
+    is_user(&s[0..USER_LENGTH])
 }

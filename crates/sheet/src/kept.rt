@@ -1,93 +1,75 @@
 // A sheet that keeps all rules, read in one pass.
+use crate::first_line::FirstLineRead;
 use crate::first_line::read_first_line;
+use crate::user_lines::UserLinesRead;
 use crate::user_lines::read_user_lines;
-use names::Places;
-use names::repeated;
+use names::repeated_in;
 use numbers::CELL_WORDS;
 use numbers::GRANT_LIMIT;
 use numbers::SHEET_LIMIT;
 use numbers::USER_LIMIT;
 ghost use mathlib.Core.Path.{_≡_};
-ghost use mathlib.Core.Bool.{false, So, not, _&&_};
+ghost use mathlib.Core.Bool.{not, _&&_};
 ghost use Rattle.spec.specs.Vocabulary.{repeats};
 ghost use Rattle.spec.specs.Text.{same-name};
-ghost use Rattle.names.specs.NamesAt.{Inside, names-at};
-ghost use Rattle.sheet.specs.KeptSheet.{SheetRoom, notes-of, SheetLines};
+ghost use Rattle.names.specs.NamesAt.{Inside, all-names};
+ghost use Rattle.sheet.specs.KeptSheet.{SheetRoom, SheetLines};
 
-// Whether a sheet's lines are such as the rules ask for, within all limits, and its counts.
+// The counts of a sheet.
 pub struct Counts {
-    pub good: bool,
     pub users: usize,
     pub permissions: usize,
     pub grants: usize,
 }
 
-impl Counts {
-    // Some line is not such a line, or a limit is passed.
-    fn none() -> Self
-        ensures { λ r. ⌜ r .good ≡ false ⌝ }
-    {
-        Self {
-            good: false,
-            users: 0,
-            permissions: 0,
-            grants: 0,
-        }
-    }
+// What a sheet's lines are read as: such as the rules ask for, within all limits, or not.
+pub enum LinesRead {
+    Lines(Counts),
+    NoLines,
 }
 
 // Reads a sheet line by line, and notes where its names stand and the words of its cells. Whether a name stands twice
 // is not asked here.
 pub fn read_lines<'a>(
     s: &[u8],
-    permission_from: &'a mut [usize; USER_LIMIT],
-    permission_to: &'a mut [usize; USER_LIMIT],
-    user_from: &'a mut [usize; USER_LIMIT],
-    user_to: &'a mut [usize; USER_LIMIT],
+    permissions: &'a mut [u64; USER_LIMIT],
+    users: &'a mut [u64; USER_LIMIT],
     rows: &'a mut [u64; CELL_WORDS],
-) -> Counts
-    requires { ⌜ SheetRoom (now «permission_from») (now «permission_to») (now «user_from») (now «user_to»)
-        (now rows) ⌝ }
-    ensures { λ r. ⌜ SheetLines (now (s .entry)) (notes-of (now («permission_from» .exit)) (now («permission_to» .exit))
-        (now («user_from» .exit)) (now («user_to» .exit)) (now (rows .exit)) r) (r .good) ⌝ }
+) -> LinesRead
+    requires { ⌜ SheetRoom (now permissions) (now users) (now rows) ⌝ }
+    ensures { λ r. ⌜ SheetLines (now (s .entry)) (now (permissions .exit)) (now (users .exit)) (now (rows .exit)) r ⌝ }
 {
     if SHEET_LIMIT < s.len() {
-        return Counts::none();
+        return LinesRead::NoLines;
     }
-    let first = read_first_line(s, permission_from, permission_to);
-    if !first.good {
-        return Counts::none();
-    }
-    let lines = read_user_lines(s, first.next, first.permissions, user_from, user_to, rows);
-    if !lines.good {
-        return Counts::none();
-    }
+    let FirstLineRead::Line(first) = read_first_line(s, permissions) else {
+        return LinesRead::NoLines;
+    };
+    let UserLinesRead::Lines(lines) = read_user_lines(s, first.next, first.permissions, users, rows)
+    else {
+        return LinesRead::NoLines;
+    };
     if lines.users == 0 {
-        return Counts::none();
+        return LinesRead::NoLines;
     }
     if GRANT_LIMIT < lines.grants {
-        return Counts::none();
+        return LinesRead::NoLines;
     }
-    Counts {
-        good: true,
+    LinesRead::Lines(Counts {
         users: lines.users,
         permissions: first.permissions,
         grants: lines.grants,
-    }
+    })
 }
 
-// Whether the lines are such lines, and no name stands twice.
-pub fn is_kept(s: &[u8], counts: Counts, users: Places, permissions: Places) -> bool
-    requires { ⌜ (So (counts .good) → Inside (now s) users (counts .users) × Inside (now s) permissions
-        (counts .permissions)) ⌝ }
-    ensures { λ r. ⌜ r ≡ (counts .good && (not (repeats same-name (names-at (now (s .entry)) users (counts .users)))
-        && not (repeats same-name (names-at (now (s .entry)) permissions (counts .permissions))))) ⌝ }
+// Whether no two users and no two permissions have one name.
+pub fn are_apart<'a>(s: &'a [u8], users: &'a [u64], permissions: &'a [u64]) -> bool
+    requires { ⌜ Inside (now s) (now users) × Inside (now s) (now permissions) ⌝ }
+    ensures { λ r. ⌜ r ≡ (not (repeats same-name (all-names (now (s .entry)) (now (users .entry))))
+        && not (repeats same-name (all-names (now (s .entry)) (now (permissions .entry))))) ⌝ }
 {
-    if !counts.good {
+    if repeated_in(s, users) {
         return false;
     }
-    if repeated(s, users, counts.users) {
-        return false;
-    }
-    !repeated(s, permissions, counts.permissions)
+    !repeated_in(s, permissions)
 }

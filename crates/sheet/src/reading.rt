@@ -1,5 +1,6 @@
 // Reading a sheet: the number for which it is refused, and of a sheet that is not refused its layout and its rows.
-use crate::kept::is_kept;
+use crate::kept::LinesRead;
+use crate::kept::are_apart;
 use crate::kept::read_lines;
 use cells::no_rows;
 use names::Layout;
@@ -27,10 +28,7 @@ impl SheetRead {
     fn refused(number: usize) -> Self
         ensures { λ r. ⌜ r ≡ refused-as number ⌝ }
     {
-        let places = Places {
-            from: [0; USER_LIMIT],
-            to: [0; USER_LIMIT],
-        };
+        let places = Places::none();
         let layout = Layout {
             users: 0,
             permissions: 0,
@@ -55,38 +53,32 @@ pub fn read(s: &[u8]) -> SheetRead
         × OnlyNames (r .layout)) ⌝ }
     ensures { λ r. ⌜ (0 < r .number → r ≡ refused-as (r .number)) ⌝ }
 {
-    let mut permission_from = [0; USER_LIMIT];
-    let mut permission_to = [0; USER_LIMIT];
-    let mut user_from = [0; USER_LIMIT];
-    let mut user_to = [0; USER_LIMIT];
+    let mut permission_places = [0; USER_LIMIT];
+    let mut user_places = [0; USER_LIMIT];
     let mut rows = no_rows();
-    let counts = read_lines(
+    let LinesRead::Lines(counts) = read_lines(
         s,
-        &mut permission_from,
-        &mut permission_to,
-        &mut user_from,
-        &mut user_to,
+        &mut permission_places,
+        &mut user_places,
         &mut rows,
-    );
-    let users = Places {
-        from: user_from,
-        to: user_to,
+    ) else {
+        return SheetRead::refused(judge(s));
     };
-    let permissions = Places {
-        from: permission_from,
-        to: permission_to,
-    };
-    if !is_kept(s, counts, users, permissions) {
+    let users = counts.users;
+    let permissions = counts.permissions;
+    if !are_apart(s, &user_places[..users], &permission_places[..permissions]) {
         return SheetRead::refused(judge(s));
     }
     SheetRead {
         number: 0,
         layout: Layout {
-            users: counts.users,
-            permissions: counts.permissions,
+            users,
+            permissions,
             grants: counts.grants,
-            user_places: users,
-            permission_places: permissions,
+            user_places: Places { at: user_places },
+            permission_places: Places {
+                at: permission_places,
+            },
         },
         rows,
     }

@@ -1,24 +1,6 @@
 -- "First cover": placements of grants into classes, three groupings of the kernel in grant order, and the first best.
-use Rattle.spec.specs.Vocabulary.{
-  ℕ,
-  zero,
-  suc,
-  max,
-  Bool,
-  true,
-  _&&_,
-  cond,
-  Option·getD,
-  List,
-  [],
-  _∷_,
-  eqb,
-  leb,
-  length,
-  getD,
-  lowest-below,
-  implies,
-}
+use Rattle.spec.specs.Vocabulary.{ℕ, zero, suc, max, Bool, true, _&&_, cond, Option·getD, List, [], _∷_, eqb}
+use Rattle.spec.specs.Vocabulary.{leb, length, getD, lowest-below, implies}
 use Rattle.spec.specs.Sheet.{Sheet, Grant}
 use Rattle.spec.specs.Fit.{fits}
 use Rattle.spec.specs.Reduction.{kernel}

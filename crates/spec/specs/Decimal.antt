@@ -1,26 +1,6 @@
 -- "The book", its counts: decimal, and what a decimal count says.
-use Rattle.spec.specs.Vocabulary.{
-  ℕ,
-  zero,
-  suc,
-  _+_,
-  _-_,
-  _*_,
-  _/_,
-  _%_,
-  code,
-  Bool,
-  false,
-  _&&_,
-  cond,
-  [],
-  _∷_,
-  _++_,
-  eqb,
-  ltb,
-  empty,
-  all,
-}
+use Rattle.spec.specs.Vocabulary.{ℕ, zero, suc, _+_, _-_, _*_, _/_, _%_, code, Bool, false, _&&_, cond, [], _∷_}
+use Rattle.spec.specs.Vocabulary.{_++_, eqb, ltb, empty, all}
 use Rattle.spec.specs.Text.{Bytes, between}
 
 -- the digit of a number below ten
@@ -34,8 +14,8 @@ decimal-in (suc more) n =
     let front : Bytes = decimal-in more (n / 10) in
     cond (ltb n 10) (digit n ∷ []) (front ++ digit (n % 10) ∷ [])
 
--- counts are decimal without leading zeros; n has at most n + 1 digits. The law `number-of-decimal` (book,
--- DecimalLaws) shows that these are enough: they say the number
+-- counts are decimal without leading zeros; n has at most n + 1 digits. The law `number-of-decimal` (decimal,
+-- Laws/Decimal) shows that these are enough: they say the number
 unfoldable pub decimal : ℕ → Bytes
 decimal n = decimal-in (suc n) n
 
@@ -52,7 +32,7 @@ abbrev pub number-after : ℕ → Bytes → ℕ
 number-after n [] = n
 number-after n (b ∷ rest) = number-after (10 * n + (b - code "0")) rest
 
--- the number that a decimal count says; counts and numbers correspond one to one, by `number-of-decimal` (book,
--- DecimalLaws) and `count-is-decimal` (book, CountLaws)
+-- the number that a decimal count says; counts and numbers correspond one to one, by `number-of-decimal` (decimal,
+-- Laws/Decimal) and `count-is-decimal` (decimal, Laws/Count)
 abbrev pub number-of : Bytes → ℕ
 number-of count = number-after 0 count

@@ -1,23 +1,8 @@
 -- The customer's three demands as statements. The limits that they speak of stand here and in `Rules` and `Right` as
 -- the paper has them, and not by the names that the tests and the machine use; the refusal numbers stand once, in
 -- `Refusal`, and 2·(1!+2!+..+k!)+1 in `Sequence`.
-use Rattle.spec.specs.Vocabulary.{
-  ℕ,
-  _+_,
-  _≤_,
-  _≡_,
-  _≢_,
-  _⊎_,
-  _↔_,
-  So,
-  none,
-  some,
-  List,
-  [],
-  _∷_,
-  List·Memᴰ,
-  length,
-}
+use Rattle.spec.specs.Vocabulary.{ℕ, _+_, _≤_, _≡_, _≢_, _⊎_, _↔_, So, none, some, List, [], _∷_, List·Memᴰ}
+use Rattle.spec.specs.Vocabulary.{length}
 use Rattle.spec.specs.Text.{Bytes}
 use Rattle.spec.specs.Sheet.{Sheet, sheet-of}
 use Rattle.spec.specs.Rules.{Keeps}
@@ -28,39 +13,11 @@ use Rattle.spec.specs.Book.{Said}
 use Rattle.spec.specs.Right.{Right}
 use Rattle.spec.specs.Session.{Session}
 use Rattle.spec.specs.Refusal.{Cause, sheet-causes, search-causes, write-causes, check-causes, accepted}
-use Rattle.spec.specs.Calls.{
-  LoadAnswer,
-  load-answer,
-  load-refused,
-  SearchAnswer,
-  search-refused,
-  WriteAnswer,
-  write-refused,
-  CheckAnswer,
-  check,
-  check-refused,
-  check-counts,
-  Loads,
-  Searches,
-  Writes,
-  Checks,
-}
-use Rattle.spec.specs.Sequence.{
-  Call,
-  load,
-  search,
-  write,
-  WriteOutcome,
-  Outcome,
-  Happens,
-  Event,
-  Led,
-  calls,
-  last-accepted,
-  budgets-given,
-  enough,
-  brought-out,
-}
+use Rattle.spec.specs.Calls.{LoadAnswer, load-answer, load-refused, SearchAnswer, search-refused, WriteAnswer}
+use Rattle.spec.specs.Calls.{write-refused, CheckAnswer, check, check-refused, check-counts, Loads, Searches}
+use Rattle.spec.specs.Calls.{Writes, Checks}
+use Rattle.spec.specs.Sequence.{Call, load, search, write, WriteOutcome, Outcome, Happens, Event, Led, calls}
+use Rattle.spec.specs.Sequence.{last-accepted, budgets-given, enough, brought-out}
 
 -- number is the lowest of the causes that apply, and 0 exactly where none applies
 pub record LowestThatApplies (causes : List Cause) (number : ℕ) : Type 0 where

@@ -1,44 +1,11 @@
 -- "The checker", the form of a book for a sheet, line by line, and what a book of the form says.
-use Rattle.spec.specs.Vocabulary.{
-  ℕ,
-  suc,
-  Bool,
-  false,
-  _&&_,
-  _||_,
-  cond,
-  Option·getD,
-  List,
-  [],
-  _∷_,
-  map,
-  tail,
-  eqb,
-  leb,
-  length,
-  getD,
-  every-below,
-  lowest-below,
-  empty,
-  any,
-  all,
-  same-by,
-  list-of,
-  parted-by,
-}
+use Rattle.spec.specs.Vocabulary.{ℕ, suc, Bool, false, _&&_, _||_, cond, Option·getD, List, [], _∷_, map, tail}
+use Rattle.spec.specs.Vocabulary.{eqb, leb, length, getD, every-below, lowest-below, empty, any, all, same-by}
+use Rattle.spec.specs.Vocabulary.{list-of, parted-by}
 use Rattle.spec.specs.Limits.{role-limit}
 use Rattle.spec.specs.Text.{Bytes, Line, ascii, same-bytes, same-name, last-byte, line-feed, lines-of}
-use Rattle.spec.specs.Sheet.{
-  Sheet,
-  Grant,
-  first-field,
-  first-line,
-  is-one,
-  is-bit,
-  user-count,
-  permission-count,
-  user-name,
-}
+use Rattle.spec.specs.Sheet.{Sheet, Grant, first-field, first-line, is-one, is-bit, user-count}
+use Rattle.spec.specs.Sheet.{permission-count, user-name}
 use Rattle.spec.specs.Roles.{Standing, witnessed, searched, unsettled}
 use Rattle.spec.specs.Decimal.{is-count, number-of}
 use Rattle.spec.specs.Book.{Said, Block, standing-word, role-name, counts-heading, witness-heading}

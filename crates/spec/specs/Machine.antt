@@ -1,26 +1,6 @@
 -- "The search machine" over a kernel: where it stands, one step, and a search within a budget.
-use Rattle.spec.specs.Vocabulary.{
-  ℕ,
-  zero,
-  suc,
-  _+_,
-  max,
-  Bool,
-  true,
-  _&&_,
-  cond,
-  Option,
-  none,
-  some,
-  List,
-  [],
-  _∷_,
-  eqb,
-  leb,
-  ltb,
-  length,
-  lowest-below,
-}
+use Rattle.spec.specs.Vocabulary.{ℕ, zero, suc, _+_, max, Bool, true, _&&_, cond, Option, none, some, List, []}
+use Rattle.spec.specs.Vocabulary.{_∷_, eqb, leb, ltb, length, lowest-below}
 use Rattle.spec.specs.Limits.{search-limit}
 use Rattle.spec.specs.Cover.{used, joins}
 
@@ -94,7 +74,7 @@ move kernel st (some c) = place kernel st c
 move kernel st none = take-back-or-close st (st .placed)
 
 -- one step places one grant, takes one back, or closes the search. No list of classes is placed twice within one load:
--- the law `placed-once-a-load` (session, PlacedOnce)
+-- the law `placed-once-a-load` (demands, PlacedOnce)
 unfoldable pub step : Kernel → State → State
 step kernel st = move kernel st (choice kernel st)
 

@@ -1,22 +1,7 @@
 -- "The book", the program: a sheet on standard input, the budget as its argument, the book or a refusal number on
 -- standard output.
-use Rattle.spec.specs.Vocabulary.{
-  ℕ,
-  Bool,
-  _&&_,
-  not,
-  cond,
-  List,
-  [],
-  _∷_,
-  _++_,
-  eqb,
-  leb,
-  take,
-  replicate,
-  empty,
-  all,
-}
+use Rattle.spec.specs.Vocabulary.{ℕ, Bool, _&&_, not, cond, List, [], _∷_, _++_, eqb, leb, take, replicate}
+use Rattle.spec.specs.Vocabulary.{empty, all}
 use Rattle.spec.specs.Limits.{budget-limit, book-limit}
 use Rattle.spec.specs.Text.{Bytes, line-feed}
 use Rattle.spec.specs.Decimal.{decimal, is-digit, number-of}

@@ -1,25 +1,6 @@
 -- "Reduction": sweeps over the grants that remove singles and tie dominating grants, and what they leave.
-use Rattle.spec.specs.Vocabulary.{
-  ℕ,
-  zero,
-  suc,
-  Bool,
-  _&&_,
-  not,
-  cond,
-  Option,
-  none,
-  some,
-  List,
-  [],
-  _∷_,
-  eqb,
-  length,
-  implies,
-  empty,
-  all,
-  first,
-}
+use Rattle.spec.specs.Vocabulary.{ℕ, zero, suc, Bool, _&&_, not, cond, Option, none, some, List, [], _∷_, eqb}
+use Rattle.spec.specs.Vocabulary.{length, implies, empty, all, first}
 use Rattle.spec.specs.Sheet.{Sheet, Grant, same-grant, grants}
 use Rattle.spec.specs.Fit.{is-or-fits, without, partners}
 

@@ -1,55 +1,12 @@
 -- "Refused, and how": the causes of the paper's table, and the lowest number that applies. Each cause looks at the
 -- whole text, whatever the others say.
-use Rattle.spec.specs.Vocabulary.{
-  ℕ,
-  suc,
-  Bool,
-  true,
-  false,
-  _&&_,
-  _||_,
-  not,
-  Bool·beq,
-  List,
-  [],
-  _∷_,
-  _++_,
-  tail,
-  eqb,
-  ltb,
-  length,
-  every-below,
-  empty,
-  any,
-  all,
-  repeats,
-}
+use Rattle.spec.specs.Vocabulary.{ℕ, suc, Bool, true, false, _&&_, _||_, not, Bool·beq, List, [], _∷_, _++_}
+use Rattle.spec.specs.Vocabulary.{tail, eqb, ltb, length, every-below, empty, any, all, repeats}
 use Rattle.spec.specs.Limits.{sheet-limit, permission-limit, user-limit, name-limit, grant-limit, book-limit}
-use Rattle.spec.specs.Text.{
-  Bytes,
-  Line,
-  ascii,
-  same-bytes,
-  between,
-  last-byte,
-  line-feed,
-  allowed-byte,
-  same-name,
-  lines-of,
-}
-use Rattle.spec.specs.Sheet.{
-  Sheet,
-  Grant,
-  first-field,
-  first-line,
-  is-bit,
-  sheet-of,
-  user-count,
-  permission-count,
-  holds,
-  held,
-  grants,
-}
+use Rattle.spec.specs.Text.{Bytes, Line, ascii, same-bytes, between, last-byte, line-feed, allowed-byte}
+use Rattle.spec.specs.Text.{same-name, lines-of}
+use Rattle.spec.specs.Sheet.{Sheet, Grant, first-field, first-line, is-bit, sheet-of, user-count}
+use Rattle.spec.specs.Sheet.{permission-count, holds, held, grants}
 use Rattle.spec.specs.Fit.{fits}
 use Rattle.spec.specs.RoleSet.{RoleSet, product}
 use Rattle.spec.specs.Roles.{Standing, witnessed, searched, unsettled}

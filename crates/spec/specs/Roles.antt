@@ -37,8 +37,7 @@ put-back (single g) classes =
 put-back (tied g h) classes =
     record {
       members = record { grant = g; class = class-of (classes .members) h } ∷ classes .members;
-      count =
-          classes .count;
+      count = classes .count;
     }
 
 -- in reverse order of removal: the latest stands first

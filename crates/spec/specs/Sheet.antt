@@ -1,24 +1,7 @@
 -- "The sheet": what a sheet's bytes say: the users, the permissions, who holds what, and the grants in order. Users
 -- and permissions are numbered from 0 in sheet order.
-use Rattle.spec.specs.Vocabulary.{
-  ℕ,
-  suc,
-  Bool,
-  true,
-  false,
-  _&&_,
-  _||_,
-  List,
-  [],
-  _∷_,
-  _++_,
-  map,
-  tail,
-  eqb,
-  length,
-  getD,
-  keep,
-}
+use Rattle.spec.specs.Vocabulary.{ℕ, suc, Bool, true, false, _&&_, _||_, List, [], _∷_, _++_, map, tail, eqb}
+use Rattle.spec.specs.Vocabulary.{length, getD, keep}
 use Rattle.spec.specs.Text.{Bytes, Line, ascii, same-bytes, lines-of}
 
 -- what a sheet says (user-permission assignment)

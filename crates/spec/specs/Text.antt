@@ -1,23 +1,6 @@
 -- Bytes, names, lines and fields, read and written.
-use Rattle.spec.specs.Vocabulary.{
-  ℕ,
-  code,
-  Bool,
-  _&&_,
-  _||_,
-  List,
-  [],
-  _∷_,
-  _++_,
-  map,
-  eqb,
-  leb,
-  ended-by,
-  parted-by,
-  joined,
-  concat,
-  same-by,
-}
+use Rattle.spec.specs.Vocabulary.{ℕ, code, Bool, _&&_, _||_, List, [], _∷_, _++_, map, eqb, leb, ended-by}
+use Rattle.spec.specs.Vocabulary.{parted-by, joined, concat, same-by}
 use Prim.Native.String.{String, [] as no-character, _∷_ as _then_}
 
 -- a text, a field or a name: each a list of bytes

@@ -9,7 +9,7 @@ use Rattle.table.specs.declared.table.HolderCells.{HolderCells}
 
 -- the cells of both words are those whose permissions this user holds
 pub record HeldBy (rows cells : List ℕ) (user : ℕ) (h : HolderCells) : Type 0 where
-  pub owner : h .user ≡ user
+  pub owner : h .user .0 ≡ user
   pub low : FirstBits (permission-held rows cells 0 user) word-bits (h .low)
   pub high : FirstBits (permission-held rows cells word-bits user) word-bits (h .high)
 
@@ -17,5 +17,5 @@ module _ {rows cells : List ℕ} {user : ℕ} {h : HolderCells} (held : HeldBy r
   pub same-user : {other : ℕ} → user ≡ other → HeldBy rows cells other h
   same-user e = rw e at held
 
-  pub own-user : HeldBy rows cells (h .user) h
+  pub own-user : HeldBy rows cells (h .user .0) h
   own-user = same-user (sym (held .owner))

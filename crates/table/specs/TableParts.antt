@@ -1,7 +1,7 @@
 -- The parts of a fit table's words. A word has the cells from a place on. Those that fit the grant at a cell are the
 -- ones whose permissions its user holds and whose users hold its permission: the first are the same for all grants of
 -- a user, the second for all grants of a permission.
-use Prim.Native.Nat.{ℕ, _+_, _/_, _%_, _<_, _≤_}
+use Prim.Native.Nat.{ℕ, _+_, _/_, _%_, _^_, _<_, _≤_}
 use mathlib.Core.Bool.{Bool, So, _&&_}
 use mathlib.Core.List.{List}
 use lib.Dec.{ltb}
@@ -9,12 +9,28 @@ use lib.ListN.{length, getD}
 use Rattle.bits.specs.Bit.{bit, word-bits}
 use Rattle.cells.specs.Rows.{row-bits, cell}
 use Rattle.table.specs.TableWords.{FirstBits}
+use Rattle.table.specs.declared.table.Line.{Line}
+use Rattle.table.specs.declared.table.Line.the-variants.{Column, Row}
 
 -- how many of the cells from a place on are in a word
 pub record CellsFrom (size from count : ℕ) : Type 0 where
   pub not-past : count ≤ word-bits
   pub there : (q : ℕ) → q < count → from + q < size
   pub all : (q : ℕ) → q < word-bits → count ≤ q → size ≤ from + q
+
+-- the permission has a place in a row, and the user's number is one of the machine's
+abbrev pub LineWithin : Line → Type 0
+LineWithin (Column p) = p .0 < row-bits
+LineWithin (Row u) = u .0 < 2 ^ word-bits
+
+-- the cell n is on the line: its user holds the permission, or the user holds its permission
+abbrev pub on-line : List ℕ → Line → ℕ → Bool
+on-line rows (Column p) n = cell rows (n / row-bits) (p .0)
+on-line rows (Row u) n = cell rows (u .0) (n % row-bits)
+
+-- there is such a cell, and it is on the line
+abbrev pub on-line-from : List ℕ → List ℕ → ℕ → Line → ℕ → Bool
+on-line-from rows cells from line q = ltb (from + q) (length cells) && on-line rows line (getD cells (from + q) 0)
 
 -- the user of a cell holds the permission p
 abbrev pub user-holds-at : List ℕ → List ℕ → ℕ → ℕ → ℕ → Bool

@@ -5,11 +5,13 @@ use cells::holds;
 use cells::permission_of;
 use cells::user_of;
 use numbers::CELL_WORDS;
+use numbers::CellNo;
 use numbers::KERNEL_LIMIT;
 use numbers::KERNEL_WORDS;
 use numbers::PermissionNo;
 use numbers::ROW_BITS;
 use numbers::TABLE_WORDS;
+use numbers::UserNo;
 ghost use mathlib.Core.Path.{_≡_};
 ghost use mathlib.Core.Bool.{So};
 ghost use mathlib.Core.List.{map};
@@ -22,7 +24,7 @@ ghost use Rattle.cells.specs.Rows.{row-bits};
 ghost use Rattle.cells.specs.CellPlaces.{grant-of, Shown};
 ghost use Rattle.cells.specs.KernelArray.{KernelListed};
 ghost use Rattle.table.specs.TableWords.{table-limit, FirstBits, Table};
-ghost use Rattle.table.specs.TableParts.{CellsFrom, user-holds, permission-held, ColumnsOf};
+ghost use Rattle.table.specs.TableParts.{CellsFrom, LineWithin, on-line, on-line-from, ColumnsOf};
 ghost use Rattle.table.specs.TableHeld.{HeldBy};
 
 // The cells of a word from a place on: as many as there are, or as the word has positions.
@@ -38,34 +40,34 @@ fn cells_from(size: usize, from: usize) -> usize
     WORD_BITS
 }
 
-// The cells of a word whose users hold a permission.
-fn holders<'a>(rows: &'a [u64], cells: &'a [u16], from: usize, p: usize) -> u64
-    requires { ⌜ (from < table-limit) × (p < row-bits) ⌝ }
-    ensures { λ r. ⌜ FirstBits (user-holds (now (rows .entry)) (now (cells .entry)) from p) word-bits r ⌝ }
-{
-    let count = cells_from(cells.len(), from);
-    let mut word = 0;
-    let mut q = 0;
-    while q < count {
-        if holds(rows, user_of(cells[from + q]), PermissionNo(p)) {
-            word = bits::with(word, q);
-        }
-        q += 1;
-    }
-    word
+// Some cells: those whose users hold a permission, or those whose permissions a user holds.
+pub enum Line {
+    Column(PermissionNo),
+    Row(UserNo),
 }
 
-// The cells of a word whose permissions the user of a cell holds.
-fn held_word<'a>(rows: &'a [u64], cells: &'a [u16], from: usize, it: u16) -> u64
-    requires { ⌜ from < table-limit ⌝ }
-    ensures { λ r. ⌜ FirstBits (permission-held (now (rows .entry)) (now (cells .entry)) from (it / row-bits))
-        word-bits r ⌝ }
+// Whether a cell is one of them.
+fn on_line(rows: &[u64], at: CellNo, line: Line) -> bool
+    requires { ⌜ LineWithin line ⌝ }
+    ensures { λ r. ⌜ r ≡ on-line (now (rows .entry)) line (at .0) ⌝ }
+{
+    match line {
+        Line::Column(p) => holds(rows, user_of(at), p),
+        Line::Row(u) => holds(rows, u, permission_of(at)),
+    }
+}
+
+// Those of them that are in a word.
+fn line_word<'a>(rows: &'a [u64], cells: &'a [u16], from: usize, line: Line) -> u64
+    requires { ⌜ (from < table-limit) × LineWithin line ⌝ }
+    ensures { λ r. ⌜ FirstBits (on-line-from (now (rows .entry)) (now (cells .entry)) from line) word-bits r ⌝ }
 {
     let count = cells_from(cells.len(), from);
     let mut word = 0;
     let mut q = 0;
     while q < count {
-        if holds(rows, user_of(it), permission_of(cells[from + q])) {
+        let at = cells[from + q] as usize;
+        if on_line(rows, CellNo(at), line) {
             word = bits::with(word, q);
         }
         q += 1;
@@ -81,7 +83,8 @@ fn permissions_among(cells: &[u16], count: usize) -> u64
     let mut word = 0;
     let mut i = 0;
     while i < count {
-        word = bits::with(word, permission_of(cells[i]).0);
+        let at = cells[i] as usize;
+        word = bits::with(word, permission_of(CellNo(at)).0);
         i += 1;
     }
     word
@@ -96,7 +99,7 @@ fn columns<'a>(rows: &'a [u64], cells: &'a [u16], from: usize, some: u64) -> [u6
     let mut p = 0;
     while p < ROW_BITS {
         if bits::has(some, p) {
-            words[p] = holders(rows, cells, from, p);
+            words[p] = line_word(rows, cells, from, Line::Column(PermissionNo(p)));
         }
         p += 1;
     }
@@ -105,30 +108,27 @@ fn columns<'a>(rows: &'a [u64], cells: &'a [u16], from: usize, some: u64) -> [u6
 
 // A user, and the cells whose permissions the user holds, in two words.
 struct HolderCells {
-    user: usize,
+    user: UserNo,
     low: u64,
     high: u64,
 }
 
 // The user of a cell, and the cells whose permissions that user holds.
-fn held_by<'a>(rows: &'a [u64], cells: &'a [u16], it: u16) -> HolderCells
-    ensures { λ r. ⌜ HeldBy (now (rows .entry)) (now (cells .entry)) (it / row-bits) r ⌝ }
+fn held_by<'a>(rows: &'a [u64], cells: &'a [u16], it: CellNo) -> HolderCells
+    ensures { λ r. ⌜ HeldBy (now (rows .entry)) (now (cells .entry)) (it .0 / row-bits) r ⌝ }
 {
-    let low = held_word(rows, cells, 0, it);
-    let high = held_word(rows, cells, WORD_BITS, it);
-    HolderCells {
-        user: user_of(it).0,
-        low,
-        high,
-    }
+    let user = user_of(it);
+    let low = line_word(rows, cells, 0, Line::Row(user));
+    let high = line_word(rows, cells, WORD_BITS, Line::Row(user));
+    HolderCells { user, low, high }
 }
 
 // The same, where they may have been found already.
-fn held_again<'a>(last: HolderCells, rows: &'a [u64], cells: &'a [u16], it: u16) -> HolderCells
-    requires { ⌜ HeldBy (now rows) (now cells) (last .user) last ⌝ }
-    ensures { λ r. ⌜ HeldBy (now (rows .entry)) (now (cells .entry)) (it / row-bits) r ⌝ }
+fn held_again<'a>(last: HolderCells, rows: &'a [u64], cells: &'a [u16], it: CellNo) -> HolderCells
+    requires { ⌜ HeldBy (now rows) (now cells) (last .user .0) last ⌝ }
+    ensures { λ r. ⌜ HeldBy (now (rows .entry)) (now (cells .entry)) (it .0 / row-bits) r ⌝ }
 {
-    if last.user == user_of(it).0 {
+    if last.user.0 == user_of(it).0 {
         return last;
     }
     held_by(rows, cells, it)
@@ -155,11 +155,12 @@ fn table_of<'a>(rows: &'a [u64], cells: &'a [u16]) -> [u64; TABLE_WORDS]
     let some = permissions_among(cells, count);
     let low = columns(rows, cells, 0, some);
     let high = columns(rows, cells, WORD_BITS, some);
-    let mut last = held_by(rows, cells, 0);
+    let mut last = held_by(rows, cells, CellNo(0));
     let mut words = [0; TABLE_WORDS];
     let mut i = 0;
     while i < count {
-        let it = cells[i];
+        let at = cells[i] as usize;
+        let it = CellNo(at);
         last = held_again(last, rows, cells, it);
         let p = permission_of(it).0;
         words[i * KERNEL_WORDS] = last.low & low[p];

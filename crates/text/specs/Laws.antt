@@ -3,3 +3,4 @@ pub mod LastByte
 pub mod Text
 pub mod Byte
 pub mod TextBytes
+pub mod Line

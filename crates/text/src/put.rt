@@ -1,7 +1,7 @@
 // Bytes into a buffer.
 ghost use Prim.Native.Nat.{_≤_};
 ghost use lib.ListN.{length};
-ghost use Rattle.text.specs.LineLaws.{behind-comma, line-end};
+ghost use Rattle.text.specs.Line.{behind-comma, line-end};
 ghost use Rattle.text.specs.Written.{Written};
 
 // Writes the bytes at the front of the buffer, and answers how many they are.

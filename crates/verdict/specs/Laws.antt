@@ -1,7 +1,6 @@
 -- The laws behind what contracts cite.
 pub mod Near
 pub mod NearWord
-pub mod PositionWalk
 pub mod Misfit
 pub mod MisfitWalk
 pub mod Candidate
@@ -12,3 +11,4 @@ pub mod Inside
 pub mod ReductionWork
 pub mod ReductionRemove
 pub mod ReductionVisit
+pub mod NearTie

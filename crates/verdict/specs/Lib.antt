@@ -3,7 +3,6 @@ pub mod Log
 pub mod NearCells
 pub mod Misfits
 pub mod ReductionVerdict
-pub mod NearTieLaws
 pub mod Insides
 pub mod ReductionWork
 pub mod Laws

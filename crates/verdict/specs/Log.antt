@@ -7,11 +7,13 @@ use lib.ListN.{getD}
 use Rattle.spec.specs.Reduction.{Removal, single, tied}
 use Rattle.cells.specs.CellPlaces.{grant-of}
 
--- removal i, as two lists of cells say it: a grant whose partner is itself was removed as single
+-- a removal by its cell and its partner's: a grant whose partner is itself was removed as single
+abbrev pub removal-of : ℕ → ℕ → Removal
+removal-of it other = cond (eqb it other) (single (grant-of it)) (tied (grant-of it) (grant-of other))
+
+-- removal i, as two lists of cells say it
 abbrev pub removal-at : List ℕ → List ℕ → ℕ → Removal
-removal-at removed partner i =
-    cond (eqb (getD removed i 0) (getD partner i 0)) (single (grant-of (getD removed i 0)))
-    (tied (grant-of (getD removed i 0)) (grant-of (getD partner i 0)))
+removal-at removed partner i = removal-of (getD removed i 0) (getD partner i 0)
 
 -- the first so many removals, the latest first
 abbrev pub log-of : List ℕ → List ℕ → ℕ → List Removal

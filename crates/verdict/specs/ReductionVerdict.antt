@@ -5,13 +5,11 @@ use mathlib.Core.Path.{_≡_}
 use mathlib.Core.Logic.{_≢_}
 use mathlib.Core.Bool.{Bool, So, false}
 use mathlib.Core.List.{List}
-use Rattle.spec.specs.Limits.{user-limit}
 use Rattle.spec.specs.Sheet.{Sheet}
 use Rattle.spec.specs.Reduction.{stays, is-single, is-tied, verdict}
 use Rattle.spec.specs.Reduction as Reduction
 use Rattle.cells.specs.CellSets.{cell-grants}
-use Rattle.cells.specs.CellPlaces.{grant-of, marked, Shown, Part}
-use Rattle.verdict.specs.NearCells.{cells-of}
+use Rattle.cells.specs.CellPlaces.{grant-of, marked, Shown, Shows, Part, cells-of}
 use Rattle.verdict.specs.declared.judgement.Found.{Found}
 use Rattle.verdict.specs.declared.judgement.Found.the-variants.{At, Nothing}
 use Rattle.verdict.specs.declared.judgement.Verdict.{Verdict}
@@ -39,9 +37,9 @@ verdict-of Stays = stays
 verdict-of Single = is-single
 verdict-of (Tied n) = is-tied (grant-of (n .0))
 
--- a grant that can be judged: its cell is one of left, all of whose cells are grants
+-- a grant that can be judged: its cell is one of left, all of whose cells are grants of the sheet that the rows show
 pub record Judgeable (rows left : List ℕ) (users it : ℕ) : Type 0 where
-  pub few-users : users ≤ user-limit
+  pub shows : Shows rows users
   pub part : Part left rows
   pub within : it < cells-of users
   pub set : So (marked left it)

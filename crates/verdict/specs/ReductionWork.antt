@@ -8,7 +8,7 @@ use mathlib.Core.Bool.{So, not, _&&_}
 use mathlib.Core.List.{List, map, List·Memᴰ}
 use lib.Dec.{eqb}
 use lib.ListN.{length, getD}
-use Rattle.spec.specs.Limits.{user-limit, grant-limit}
+use Rattle.spec.specs.Limits.{grant-limit}
 use Rattle.spec.specs.Sheet.{Sheet}
 use Rattle.spec.specs.Reduction.{Reduction, visits, reduction}
 use Rattle.bits.specs.Bit.{bit, word-bits}
@@ -16,7 +16,7 @@ use Rattle.bits.specs.Counting.{count-below}
 use Rattle.lists.specs.PassingBelow.{passing-below}
 use Rattle.cells.specs.Blank.{BlankFrom}
 use Rattle.cells.specs.CellSets.{cell-grants}
-use Rattle.cells.specs.CellPlaces.{cell-limit, grant-of, marked, Shown, Part}
+use Rattle.cells.specs.CellPlaces.{cell-limit, grant-of, marked, Shown, Shows, Part}
 use Rattle.verdict.specs.Log.{log-of}
 
 -- what remains, and so many removals
@@ -56,9 +56,9 @@ pub record Logged (work : Work) : Type 0 where
   pub removed-blank : BlankFrom (work .count) (work .removed)
   pub partner-blank : BlankFrom (work .count) (work .partner)
 
--- the work can go on: only cells of the rows remain, and the log has room for all of them
+-- the work can go on: the rows show a sheet, only cells of them remain, and the log has room for all of them
 pub record WorkReady (rows : List ℕ) (users : ℕ) (work : Work) : Type 0 where
-  pub few-users : users ≤ user-limit
+  pub shows : Shows rows users
   pub part : Part (work .left) rows
   pub room : work .count + remaining-cells (work .left) ≤ grant-limit
   pub logged : Logged work

@@ -1,20 +1,18 @@
 // The words that grants of one user can be tied to: those whose remaining grants are all in that user's row.
-use bits::WORD_BITS;
+use cells::mark;
 use fit::COLUMN_WORDS;
 use numbers::CELL_WORDS;
 use numbers::ROW_WORDS;
 ghost use mathlib.Core.Path.{_≡_};
-ghost use mathlib.Core.Bool.{_&&_, _||_};
+ghost use mathlib.Core.Bool.{_&&_};
 ghost use Prim.Native.Nat.{ℕ, _*_, _/_, _≤_, _<_};
-ghost use lib.Dec.{eqb, ltb};
-ghost use lib.ListN.{length};
+ghost use lib.Dec.{ltb};
 ghost use Rattle.spec.specs.Vocabulary.{some-below, every-below};
 ghost use Rattle.spec.specs.Limits.{user-limit};
 ghost use Rattle.bits.specs.Bit.{bit, word-bits};
 ghost use Rattle.bits.specs.Truth.{implies};
 ghost use Rattle.cells.specs.Rows.{row-words};
 ghost use Rattle.cells.specs.CellPlaces.{cell-words, marked};
-ghost use Rattle.fit.specs.Columns.{column-words};
 ghost use Rattle.verdict.specs.Insides.{may-tie};
 
 // Whether w has a position, and own all of w's.
@@ -26,16 +24,6 @@ fn is_inside(w: u64, own: u64) -> bool
         return false;
     }
     bits::within(w, own)
-}
-
-// Word k is put into a set of words.
-fn put_word(words: &mut [u64; COLUMN_WORDS], k: usize)
-    requires { ⌜ (k < cell-words) × (length (now words) ≡ column-words) ⌝ }
-    ensures { λ r. ⌜ (length (now (words .exit)) ≡ column-words)
-        × ((m : ℕ) → marked (now (words .exit)) m ≡ (marked (now (words .entry)) m || eqb m k)) ⌝ }
-{
-    let j = k / WORD_BITS;
-    words[j] = bits::with(words[j], k % WORD_BITS);
 }
 
 // The users' words that have cells of left, all in the row of word i's user.
@@ -53,7 +41,7 @@ pub fn insides<'a>(
     let mut k = 0;
     while k < users * ROW_WORDS {
         if is_inside(left[k], rows[i / ROW_WORDS * ROW_WORDS + k % ROW_WORDS]) {
-            put_word(&mut words, k);
+            mark(&mut words, k);
         }
         k += 1;
     }

@@ -1,8 +1,8 @@
 // The judgement of one grant against those remaining.
-use crate::domination::apart;
 use crate::domination::holders;
 use crate::domination::misfit;
 use bits::WORD_BITS;
+use cells::permission_of;
 use fit::COLUMN_WORDS;
 use fit::PLACE_WORDS;
 use fit::partners_in_column;
@@ -14,21 +14,15 @@ ghost use mathlib.Core.Path.{_≡_};
 ghost use mathlib.Core.Bool.{So};
 ghost use Prim.Native.Nat.{ℕ, _+_, _*_, _/_, _<_, _≤_};
 ghost use lib.Dec.{eqb};
-ghost use lib.ListN.{length};
-ghost use Rattle.spec.specs.Vocabulary.{filter};
 ghost use Rattle.spec.specs.Limits.{user-limit};
-ghost use Rattle.spec.specs.Sheet.{Sheet};
-ghost use Rattle.spec.specs.Fit.{fits};
 ghost use Rattle.bits.specs.Counting.{count-below};
 ghost use Rattle.bits.specs.Bit.{bit, word-bits};
 ghost use Rattle.cells.specs.Rows.{row-words};
-ghost use Rattle.cells.specs.CellSets.{cell-grants};
-ghost use Rattle.cells.specs.CellPlaces.{cell-words, cell-limit, grant-of, marked, Shown, Part};
+ghost use Rattle.cells.specs.CellPlaces.{cell-words, cell-limit, marked, near, Part, cells-of};
 ghost use Rattle.fit.specs.Columns.{Columns};
 ghost use Rattle.verdict.specs.Insides.{Insides};
 ghost use Rattle.verdict.specs.Misfits.{words-before};
-ghost use Rattle.verdict.specs.NearCells.{cells-of, tie-at};
-ghost use Rattle.verdict.specs.NearTieLaws.{Untried};
+ghost use Rattle.verdict.specs.NearCells.{tie-at, Untried};
 ghost use Rattle.verdict.specs.ReductionVerdict.{FoundIn, Judgeable, GrantJudged};
 
 // The cell that a grant is tied to, if there is one.
@@ -59,11 +53,9 @@ fn is_single<'a>(
     left: &'a [u64; CELL_WORDS],
     it: CellNo,
 ) -> bool
-    requires { ⌜ (it .0 < cell-limit) × So (marked (now left) (it .0)) × Columns (now rows) (now columns) ⌝ }
-    ensures { λ r. ⌜ ((users : ℕ) (sheet : Sheet) → users ≤ user-limit → it .0 < cells-of users
-        → Shown (now (rows .entry)) users sheet
-        → Part (now (left .entry)) (now (rows .entry))
-        → r ≡ eqb (length (filter (fits sheet (grant-of (it .0))) (cell-grants sheet (now (left .entry))))) 1) ⌝ }
+    requires { ⌜ (it .0 < cell-limit) × So (marked (now left) (it .0)) × Part (now left) (now rows)
+        × Columns (now rows) (now columns) ⌝ }
+    ensures { λ r. ⌜ r ≡ eqb (count-below cell-limit (near (now (rows .entry)) (now (left .entry)) (it .0))) 1 ⌝ }
 {
     let at = it.0;
     if !is_one(left[at / WORD_BITS]) {
@@ -118,7 +110,7 @@ fn tie_in<'a>(
         if j == users * ROW_WORDS {
             return Found::At(CellNo(other));
         }
-        w = apart(w, rows[j / ROW_WORDS * ROW_WORDS + i % ROW_WORDS]);
+        w = bits::apart(w, rows[j / ROW_WORDS * ROW_WORDS + i % ROW_WORDS]);
     }
     Found::Nothing
 }
@@ -141,8 +133,7 @@ fn tie_among<'a>(
     ensures { λ r. ⌜ FoundIn (tie-at (now (rows .entry)) (now (left .entry)) users (it .0))
         (words-before users j * word-bits) (words-before users (j + 1) * word-bits) r ⌝ }
 {
-    let at = it.0;
-    let mut w = holders(columns, users, at % ROW_BITS, j) & inside[j];
+    let mut w = holders(columns, users, permission_of(it), j) & inside[j];
     while w != 0 {
         let i = j * WORD_BITS + bits::lowest(w);
         let found = tie_in(rows, columns, left, users, it, i);

@@ -1,2 +1,5 @@
 -- The laws behind what contracts cite.
 pub mod WitnessTaken
+pub mod CountChange
+pub mod FitCounts
+pub mod Counts

@@ -6,6 +6,5 @@ pub mod WitnessGreedy
 pub mod WitnessSingles
 pub mod WitnessRows
 pub mod CountChange
-pub mod FitCounts
 pub mod Counts
 pub mod Laws

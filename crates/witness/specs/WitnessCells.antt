@@ -1,16 +1,15 @@
--- Sets of cells for the greedy choice: what is left once a grant is taken, and two sets together.
+-- Sets of cells for the greedy choice: what is left once a grant is taken.
 use Prim.Native.Nat.{ℕ, _+_, _*_, _<_}
 use mathlib.Core.Path.{_≡_}
-use mathlib.Core.Bool.{Bool, not, _&&_, _||_}
+use mathlib.Core.Bool.{Bool, not, _&&_}
 use mathlib.Core.List.{List}
-use lib.Bits.{bitOr}
 use lib.ListN.{getD}
 use Rattle.bits.specs.Truth.{and-left}
 use Rattle.bits.specs.Bit.{bit, word-bits}
-use Rattle.bits.specs.Laws.Bit.{bit-or}
 use Rattle.cells.specs.CellPlaces.{grant-of, marked, fit-in, FittingWord, Part}
 use Rattle.fit.specs.Laws.FitWord.{marked-in-word}
-use Rattle.fit.specs.WitnessWords.{MadeCells, made-part}
+use Rattle.cells.specs.MadeCells.{MadeCells}
+use Rattle.cells.specs.Laws.MadeCells.{made-part}
 
 -- the cell is set in left, and its grant does not fit that at the cell it
 abbrev pub left-over : List ℕ → List ℕ → ℕ → ℕ → Bool
@@ -28,13 +27,3 @@ pub left-over-part : (rows left : List ℕ) (it end : ℕ) (rest : List ℕ) →
 left-over-part rows left it end rest made =
     made-part (left-over rows left it) end rest left made
     (λ n. and-left (marked left n) (not (fit-in rows (grant-of it) (grant-of n))))
-
--- the cell is set in one of two
-abbrev pub either : List ℕ → List ℕ → ℕ → Bool
-either some others n = marked some n || marked others n
-
--- a word of each
-pub either-word : (some others : List ℕ) (i q : ℕ) → q < word-bits
-    → bit (bitOr (getD some i 0) (getD others i 0)) q ≡ either some others (i * word-bits + q)
-either-word some others i q l =
-    rw (marked-in-word some i q l, marked-in-word others i q l) (bit-or (getD some i 0) (getD others i 0) q)

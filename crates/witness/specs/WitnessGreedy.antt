@@ -8,24 +8,23 @@ use mathlib.Core.List.{List, [], map}
 use mathlib.Core.Option.{some}
 use borrow.Author.Tests.{eqb-true, eq-eqb}
 use lib.Dec.{eqb}
-use lib.ListN.{replicate}
 use Rattle.spec.specs.Limits.{grant-limit}
 use Rattle.spec.specs.Sheet.{Sheet, Grant, same-grant}
 use Rattle.spec.specs.Fit.{fits, among}
 use Rattle.spec.specs.Witness.{fewest-partners, left-after, taken}
-use Rattle.bits.specs.Truth.{not-both, same-truth, and-left, or-cases}
+use Rattle.bits.specs.Truth.{same-truth, and-left, or-cases}
 use Rattle.lists.specs.AppendLaws.{filter-map}
 use Rattle.lists.specs.PassingBelow.{passing-below, passing-filter, passing-ext}
 use Rattle.cells.specs.Rows.{row-bits}
 use Rattle.cells.specs.Laws.Grant.{same-grant-equal}
 use Rattle.fit.specs.Laws.Fit.{fits-itself}
 use Rattle.cells.specs.CellSets.{cell-grants}
-use Rattle.cells.specs.CellPlaces.{grant-of, marked, fit-in, Shown, Part}
+use Rattle.cells.specs.CellPlaces.{grant-of, marked, fit-in, Shown, Part, cells-of}
 use Rattle.cells.specs.Laws.CellList.{marked-holds, cell-grants-by-cell}
 use Rattle.fit.specs.Laws.FitWord.{fits-in-rows}
-use Rattle.verdict.specs.NearCells.{cells-of}
 use Rattle.verdict.specs.Laws.Near.{same-cell, row-cells}
-use Rattle.fit.specs.WitnessWords.{MadeCells, made-part, no-cells}
+use Rattle.cells.specs.MadeCells.{MadeCells}
+use Rattle.cells.specs.Laws.MadeCells.{made-part}
 use Rattle.witness.specs.WitnessCells.{left-over}
 
 -- ---- what is left once a grant is taken
@@ -69,34 +68,32 @@ module _ {rows left : List ℕ} {users : ℕ} {sheet : Sheet} (shown : Shown row
 
 -- ---- the choice in the making
 
--- of a set of cells some are taken, and with so many choices more the others will be taken from those left
-pub record Greedy (sheet : Sheet) (rows kernel left chosen : List ℕ) (more : ℕ) : Type 0 where
+-- of the kernel some are taken and put in with the first cells, and with so many choices more the others will be
+-- taken from those left
+pub record Greedy (sheet : Sheet) (rows kernel first left chosen : List ℕ) (more : ℕ) : Type 0 where
   pub left-part : Part left rows
-  pub chosen-part : Part chosen rows
+  pub chosen-part : Part first rows → Part chosen rows
   pub so-far :
-      (n : ℕ) → among (taken sheet grant-limit (cell-grants sheet kernel)) (grant-of n)
+      (n : ℕ) → (marked first n || among (taken sheet grant-limit (cell-grants sheet kernel)) (grant-of n))
       ≡ (marked chosen n || among (taken sheet more (cell-grants sheet left)) (grant-of n))
 
-pub greedy-starts : (sheet : Sheet) (rows kernel : List ℕ) (count : ℕ) → Part kernel rows
-    → Greedy sheet rows kernel kernel (replicate count 0) grant-limit
-greedy-starts sheet rows kernel count part = record {
-  left-part = part;
-  chosen-part = record { held = λ n p. absurd (not-both p (no-cells count n)) };
-  so-far = λ n. rw (no-cells count n);
-}
+pub greedy-starts : (sheet : Sheet) (rows kernel first : List ℕ) → Part kernel rows
+    → Greedy sheet rows kernel first kernel first grant-limit
+greedy-starts sheet rows kernel first part =
+    record { left-part = part; chosen-part = λ p. p; so-far = λ n. refl }
 
-module _ {rows : List ℕ} {users : ℕ} {sheet : Sheet} (shown : Shown rows users sheet) (kernel left chosen : List ℕ)
-    (more : ℕ) where
+module _ {rows : List ℕ} {users : ℕ} {sheet : Sheet} (shown : Shown rows users sheet)
+    (kernel first left chosen : List ℕ) (more : ℕ) where
   -- the grant at a cell is taken
-  pub greedy-goes-on : Greedy sheet rows kernel left chosen (suc more) → (it : ℕ) → So (marked left it)
+  pub greedy-goes-on : Greedy sheet rows kernel first left chosen (suc more) → (it : ℕ) → So (marked left it)
       → fewest-partners sheet (cell-grants sheet left) ≡ some (grant-of it)
       → (rest : List ℕ) → MadeCells (left-over rows left it) (cells-of users) rest
       → (also : List ℕ) → ((n : ℕ) → marked also n ≡ (marked chosen n || eqb n it))
-      → Greedy sheet rows kernel rest also more
+      → Greedy sheet rows kernel first rest also more
   greedy-goes-on greedy it p found rest made also says = record {
     left-part = rest-part shown (greedy .left-part) it p made;
-    chosen-part = record {
-      held = λ n q. ⊎-elim (greedy .chosen-part .held n) (here n)
+    chosen-part = λ whole. record {
+      held = λ n q. ⊎-elim (greedy .chosen-part whole .held n) (here n)
           (or-cases (marked chosen n) (eqb n it) (sym (says n) ∙ q));
     };
     so-far = λ n.
@@ -112,16 +109,17 @@ module _ {rows : List ℕ} {users : ℕ} {sheet : Sheet} (shown : Shown rows use
       turned m n = same-truth (eqb n m) (eqb m n) (λ e. eq-eqb m n (sym (eqb-true n m e)))
           (λ e. eq-eqb n m (sym (eqb-true m n e)))
 
--- the cells of the grants taken
-pub record Chosen (sheet : Sheet) (rows kernel chosen : List ℕ) : Type 0 where
-  pub part : Part chosen rows
-  pub says : (n : ℕ) → marked chosen n ≡ among (taken sheet grant-limit (cell-grants sheet kernel)) (grant-of n)
+-- the first cells and those of the grants taken
+pub record Chosen (sheet : Sheet) (rows kernel first chosen : List ℕ) : Type 0 where
+  pub part : Part first rows → Part chosen rows
+  pub says : (n : ℕ) → marked chosen n ≡ (marked first n || among (taken sheet grant-limit (cell-grants sheet kernel))
+      (grant-of n))
 
 -- none is left to choose, or no choice
-pub greedy-ends : (sheet : Sheet) (rows kernel left chosen : List ℕ) (more : ℕ) → Greedy sheet rows kernel left chosen
-    more
-    → taken sheet more (cell-grants sheet left) ≡ [] → Chosen sheet rows kernel chosen
-greedy-ends sheet rows kernel left chosen more greedy e = record {
+pub greedy-ends : (sheet : Sheet) (rows kernel first left chosen : List ℕ) (more : ℕ)
+    → Greedy sheet rows kernel first left chosen more
+    → taken sheet more (cell-grants sheet left) ≡ [] → Chosen sheet rows kernel first chosen
+greedy-ends sheet rows kernel first left chosen more greedy e = record {
   part = greedy .chosen-part;
   says = λ n. sym (greedy .so-far n ∙ rw e (or-false (marked chosen n)));
 }

@@ -3,8 +3,7 @@
 use Prim.Native.Nat.{ℕ, _*_, _≤_}
 use native.Mathlib.Nat.{le-refl, le-trans}
 use mathlib.Core.Path.{_≡_, sym, ap, subst, _∙_}
-use mathlib.Core.Logic.{⊎-elim}
-use mathlib.Core.Bool.{_||_}
+use mathlib.Core.Bool.{_||_, or-comm}
 use mathlib.Core.List.{List, List·Memᴰ}
 use lib.ListN.{length, length-map}
 use Rattle.spec.specs.Limits.{user-limit, grant-limit}
@@ -12,7 +11,6 @@ use Rattle.spec.specs.Sheet.{Sheet, Grant, grants}
 use Rattle.spec.specs.Fit.{among}
 use Rattle.spec.specs.Reduction as reduction
 use Rattle.spec.specs.Witness.{taken, chosen, witness}
-use Rattle.bits.specs.Truth.{or-cases}
 use Rattle.bits.specs.Counting.{count-below}
 use Rattle.lists.specs.FilterLength.{filter-length}
 use Rattle.lists.specs.FilterSame.{filter-same}
@@ -20,14 +18,11 @@ use Rattle.lists.specs.PassingBelow.{passing-below, passing-length}
 use Rattle.cells.specs.Rows.{row-bits}
 use Rattle.cells.specs.Laws.Grant.{grant-held}
 use Rattle.cells.specs.CellSets.{in-cells, cell-grants}
-use Rattle.cells.specs.CellPlaces.{grant-of, marked, Shown, Part}
+use Rattle.cells.specs.CellPlaces.{grant-of, marked, Shown, Part, cells-of}
 use Rattle.cells.specs.Laws.CellPlace.{cell-marked}
-use Rattle.cells.specs.Laws.CellList.{cell-of, grant-of-cell, cell-below, cell-grants-by-cell}
-use Rattle.verdict.specs.NearCells.{cells-of}
+use Rattle.cells.specs.Laws.CellList.{cell-of, grant-of-cell, cell-grants-by-cell}
 use Rattle.verdict.specs.Laws.Near.{row-cells}
 use Rattle.witness.specs.Laws.WitnessTaken.{taken-enough}
-use Rattle.fit.specs.WitnessWords.{MadeCells, made-part}
-use Rattle.witness.specs.WitnessCells.{either}
 use Rattle.witness.specs.WitnessGreedy.{Chosen}
 use Rattle.witness.specs.WitnessSingles.{CellsOf}
 
@@ -62,48 +57,40 @@ module _ {rows : List ℕ} {users : ℕ} {sheet : Sheet} (shown : Shown rows use
       ∙ sym (length-map (passing-below (users * row-bits) (marked left)) grant-of)
       ∙ ap length (sym (cell-grants-by-cell shown part)))
 
-  module _ {kernel singles : List ℕ} (reduced : ReducedTo sheet rows kernel singles) {taken-cells : List ℕ}
-      (chosen-cells : Chosen sheet rows kernel taken-cells) where
+  module _ {kernel singles : List ℕ} (reduced : ReducedTo sheet rows kernel singles) {cells : List ℕ}
+      (chosen-cells : Chosen sheet rows kernel singles cells) where
     -- the choices do not run out
-    chosen-by-cell : (n : ℕ) → marked taken-cells n ≡ among (chosen sheet) (grant-of n)
+    all-chosen : taken sheet grant-limit (cell-grants sheet kernel) ≡ chosen sheet
     unfolding chosen
-    chosen-by-cell n =
-        chosen-cells .says n ∙ ap (λ l. among l (grant-of n)) (enough ∙ ap (λ l. taken sheet (length l) l)
-        (reduced .kernel-grants))
-      where
-        enough : taken sheet grant-limit (cell-grants sheet kernel) ≡ taken sheet (length (cell-grants sheet kernel))
-            (cell-grants sheet kernel)
-        enough =
-            taken-enough sheet grant-limit (length (cell-grants sheet kernel)) (cell-grants sheet kernel)
-            (le-trans (filter-length (in-cells kernel) (grants sheet)) (reduced .few-grants))
-            (le-refl (length (cell-grants sheet kernel)))
+    all-chosen =
+        taken-enough sheet grant-limit (length (cell-grants sheet kernel)) (cell-grants sheet kernel)
+        (le-trans (filter-length (in-cells kernel) (grants sheet)) (reduced .few-grants))
+        (le-refl (length (cell-grants sheet kernel)))
+        ∙ ap (λ l. taken sheet (length l) l) (reduced .kernel-grants)
 
-    module _ {cells : List ℕ} (made : MadeCells (either taken-cells singles) (cells-of users) cells) where
-      pub witness-part : Part cells rows
-      witness-part =
-          made-part (either taken-cells singles) (cells-of users) cells rows made
-          (λ n p. ⊎-elim (chosen-cells .part .held n) (reduced .singles-part .held n) (or-cases (marked taken-cells n)
-          (marked singles n) p))
+    witness-part : Part cells rows
+    witness-part = chosen-cells .part (reduced .singles-part)
 
-      -- a grant of the sheet stands in the witness where its cell is set
-      by-cell : (g : Grant) → List·Memᴰ g (grants sheet) → in-cells cells g ≡ (among (chosen sheet) g
-          || among (reduction.singles sheet) g)
-      by-cell g m =
-          let held = grant-held sheet m in
-          let e : grant-of (cell-of g) ≡ g = grant-of-cell g (shown .short (g .user) (g .permission) held) in
-          subst (λ h. in-cells cells h ≡ (among (chosen sheet) h || among (reduction.singles sheet) h)) e
-          (cell-marked cells (cell-of g) ∙ made .inside (cell-of g) (rw (row-cells users) (cell-below shown g held))
-          ∙ rw (chosen-by-cell (cell-of g), reduced .singles-cells .cell (cell-of g)))
+    -- a grant of the sheet stands in the witness where its cell is set
+    by-cell : (g : Grant) → List·Memᴰ g (grants sheet) → in-cells cells g ≡ (among (chosen sheet) g
+        || among (reduction.singles sheet) g)
+    by-cell g m =
+        let e : grant-of (cell-of g) ≡ g = grant-of-cell g (shown .short (g .user) (g .permission)
+        (grant-held sheet m)) in
+        subst (λ h. in-cells cells h ≡ (among (chosen sheet) h || among (reduction.singles sheet) h)) e
+        (cell-marked cells (cell-of g) ∙ chosen-cells .says (cell-of g)
+        ∙ rw (all-chosen, reduced .singles-cells .cell (cell-of g))
+        (or-comm (among (reduction.singles sheet) (grant-of (cell-of g)))
+        (among (chosen sheet) (grant-of (cell-of g)))))
 
-      pub witness-grants : cell-grants sheet cells ≡ witness sheet
-      unfolding witness
-      witness-grants = filter-same (in-cells cells) (λ g. among (chosen sheet) g || among (reduction.singles sheet) g)
-          (grants sheet) by-cell
+    witness-grants : cell-grants sheet cells ≡ witness sheet
+    unfolding witness
+    witness-grants = filter-same (in-cells cells) (λ g. among (chosen sheet) g || among (reduction.singles sheet) g)
+        (grants sheet) by-cell
 
-      pub witnessed : (count : ℕ) → count ≡ count-below (cells-of users) (marked cells) → Witnessed sheet rows cells
-          count
-      witnessed count e = record {
-        part = witness-part;
-        in-order = witness-grants;
-        counted = e ∙ cells-count witness-part ∙ ap length witness-grants;
-      }
+    pub witnessed : (count : ℕ) → count ≡ count-below (cells-of users) (marked cells) → Witnessed sheet rows cells count
+    witnessed count e = record {
+      part = witness-part;
+      in-order = witness-grants;
+      counted = e ∙ cells-count witness-part ∙ ap length witness-grants;
+    }

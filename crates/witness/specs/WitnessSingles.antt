@@ -17,7 +17,7 @@ use Rattle.cells.specs.CellPlaces.{grant-of, marked, Shown, Part}
 use Rattle.cells.specs.Laws.CellList.{marked-holds}
 use Rattle.verdict.specs.Log.{log-of}
 use Rattle.verdict.specs.Laws.Near.{same-cell}
-use Rattle.fit.specs.WitnessWords.{no-cells}
+use Rattle.cells.specs.Laws.MadeCells.{no-cells}
 
 -- the cells of some grants
 pub record CellsOf (words : List ℕ) (l : List Grant) : Type 0 where

@@ -16,7 +16,7 @@ use Rattle.spec.specs.Limits.{user-limit}
 use Rattle.spec.specs.Sheet.{Sheet, Grant}
 use Rattle.spec.specs.Fit.{partners}
 use Rattle.bits.specs.Truth.{not-both}
-use Rattle.bits.specs.Counting.{Lowest}
+use Rattle.bits.specs.Counting.{Lowest, Skipped}
 use Rattle.bits.specs.Laws.Below.{below-or-from}
 use Rattle.bits.specs.Bit.{bit, word-bits}
 use Rattle.bits.specs.Laws.Bit.{bit-of-zero}
@@ -29,19 +29,10 @@ use Rattle.cells.specs.CellPlaces.{grant-of, marked, Shown, Part}
 use Rattle.cells.specs.Laws.CellList.{cell-grants-by-cell}
 use Rattle.fit.specs.Laws.FitWord.{marked-in-word}
 use Rattle.verdict.specs.Laws.Near.{partners-one-fewer}
-use Rattle.cells.specs.KernelWalk.{Skipped}
-use Rattle.witness.specs.Counts.{Counted, counted-grants}
-use Rattle.witness.specs.WitnessChoice.{
-  no-choice,
-  better-of,
-  ChoiceWithin,
-  Fewest,
-  Least,
-  none-seen,
-  one-more-seen,
-  none-standing,
-  better-standing,
-}
+use Rattle.witness.specs.Counts.{Counted}
+use Rattle.witness.specs.Laws.Counts.{counted-grants}
+use Rattle.witness.specs.WitnessChoice.{no-choice, better-of, ChoiceWithin, Fewest, Least, none-seen}
+use Rattle.witness.specs.WitnessChoice.{one-more-seen, none-standing, better-standing}
 
 -- how many partners a grant has among those of left
 abbrev pub partner-count : Sheet → List ℕ → Grant → ℕ

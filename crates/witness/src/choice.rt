@@ -6,18 +6,16 @@ use numbers::CELL_WORDS;
 use numbers::CellNo;
 use numbers::ROW_WORDS;
 ghost use mathlib.Core.Path.{_≡_};
-ghost use mathlib.Core.Bool.{not, _&&_};
 ghost use mathlib.Core.List.{List};
 ghost use Prim.Native.Nat.{ℕ, _+_, _*_, _≤_, _<_};
 ghost use Rattle.spec.specs.Limits.{user-limit};
-ghost use Rattle.bits.specs.Bit.{bit, word-bits};
+ghost use Rattle.bits.specs.Bit.{word-bits};
 ghost use Rattle.cells.specs.Rows.{row-words};
-ghost use Rattle.cells.specs.CellPlaces.{cell-words, cell-limit};
+ghost use Rattle.cells.specs.CellPlaces.{cell-words, cell-limit, cells-of};
 ghost use Rattle.witness.specs.Counts.{Counted};
-ghost use Rattle.verdict.specs.NearCells.{cells-of};
 ghost use Rattle.witness.specs.WitnessWalk.{Walked};
 ghost use Rattle.witness.specs.WitnessChoice.{better-of, Fewest};
-ghost use Rattle.fit.specs.WitnessWords.{MadeCells};
+ghost use Rattle.cells.specs.MadeCells.{MadeCells};
 ghost use Rattle.witness.specs.WitnessCells.{left-over};
 
 // A grant by its cell, and how many remaining grants fit it, itself among them: none at all where there is no grant.
@@ -86,13 +84,6 @@ pub fn fewest<'a>(
     best
 }
 
-// The positions of a word that another has not.
-pub fn less(word: u64, other: u64) -> u64
-    ensures { λ r. ⌜ ((q : ℕ) → bit r q ≡ (bit word q && not (bit other q))) ⌝ }
-{
-    word & !other
-}
-
 // What is left for further choice once the grant at a cell is taken: the grants that do not fit it.
 pub fn dropped<'a>(
     rows: &'a [u64; CELL_WORDS],
@@ -106,7 +97,7 @@ pub fn dropped<'a>(
     let mut words = [0; CELL_WORDS];
     let mut i = 0;
     while i < users * ROW_WORDS {
-        words[i] = less(left[i], fitting(rows, it, i));
+        words[i] = bits::apart(left[i], fitting(rows, it, i));
         i += 1;
     }
     words

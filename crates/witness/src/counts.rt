@@ -1,6 +1,5 @@
 // How many of the grants open to choice fit each of them, by their cells. What stands at other cells says nothing. A
 // row is one word, so a word of a set is a user's.
-use crate::choice::less;
 use bits::WORD_BITS;
 use fit::COLUMN_WORDS;
 use fit::PLACE_WORDS;
@@ -8,187 +7,133 @@ use fit::union_of;
 use numbers::CELL_LIMIT;
 use numbers::CELL_WORDS;
 use numbers::ROW_WORDS;
+use numbers::UserNo;
 ghost use mathlib.Core.Path.{_≡_};
 ghost use mathlib.Core.Bool.{So};
-ghost use Prim.Native.Nat.{ℕ, _+_, _-_, _/_, _≤_, _<_};
+ghost use Prim.Native.Nat.{ℕ, _/_, _≤_, _<_};
 ghost use lib.ListN.{length, getD};
 ghost use Rattle.spec.specs.Limits.{user-limit};
 ghost use Rattle.bits.specs.Bit.{word-bits};
 ghost use Rattle.cells.specs.CellPlaces.{cell-words, cell-limit, marked};
-ghost use Rattle.witness.specs.CountChange.{at-position, Changed};
-ghost use Rattle.witness.specs.FitCounts.{fit-count, UserChanged, UsersChanged, WordChanged};
+ghost use Rattle.witness.specs.CountChange.{changed-by, CanChange, at-position, fit-count, Changed};
+ghost use Rattle.witness.specs.CountChange.{UserChanged, UsersChanged, WordChanged};
 ghost use Rattle.fit.specs.Columns.{column-words, Columns};
 ghost use Rattle.witness.specs.Counts.{Counted};
 
-// Adds to the counts at the positions of word u.
-fn raise(counts: &mut [u16; CELL_LIMIT], u: usize, some: u64, by: u16)
-    requires { ⌜ (u < cell-words) × (length (now counts) ≡ cell-limit)
-        × ((n : ℕ) → So (at-position u some n) → getD (now counts) n 0 + by ≤ cell-limit) ⌝ }
-    ensures { λ r. ⌜ Changed (_+_) u some by (now (counts .entry)) (now (counts .exit)) ⌝ }
+// What becomes of a count: a number is added to it, or taken off it.
+pub enum Change {
+    Added,
+    TakenOff,
+}
+
+// A count with a number added or taken off.
+fn changed(change: Change, count: u16, by: u16) -> u16
+    requires { ⌜ CanChange change count by ⌝ }
+    ensures { λ r. ⌜ r ≡ changed-by change count by ⌝ }
 {
-    let from = u * WORD_BITS;
+    match change {
+        Change::Added => count + by,
+        Change::TakenOff => count - by,
+    }
+}
+
+// Changes the counts at the positions of user u's word.
+fn change_at(counts: &mut [u16; CELL_LIMIT], change: Change, u: UserNo, some: u64, by: u16)
+    requires { ⌜ (u .0 < cell-words) × (length (now counts) ≡ cell-limit)
+        × ((n : ℕ) → So (at-position (u .0) some n) → CanChange change (getD (now counts) n 0) by) ⌝ }
+    ensures { λ r. ⌜ Changed change (u .0) some by (now (counts .entry)) (now (counts .exit)) ⌝ }
+{
     let mut w = some;
     while w != 0 {
-        let n = from + bits::lowest(w);
-        counts[n] = counts[n] + by;
+        let n = u.0 * WORD_BITS + bits::lowest(w);
+        counts[n] = changed(change, counts[n], by);
         w = bits::without_lowest(w);
     }
 }
 
-// Takes off the counts at the positions of word u.
-fn lower(counts: &mut [u16; CELL_LIMIT], u: usize, some: u64, by: u16)
-    requires { ⌜ (u < cell-words) × (length (now counts) ≡ cell-limit)
-        × ((n : ℕ) → So (at-position u some n) → by ≤ getD (now counts) n 0) ⌝ }
-    ensures { λ r. ⌜ Changed (_-_) u some by (now (counts .entry)) (now (counts .exit)) ⌝ }
-{
-    let from = u * WORD_BITS;
-    let mut w = some;
-    while w != 0 {
-        let n = from + bits::lowest(w);
-        counts[n] = counts[n] - by;
-        w = bits::without_lowest(w);
-    }
+// Some grants of a user, at the positions of a word.
+pub struct SomeGrants {
+    pub user: UserNo,
+    pub word: u64,
 }
 
-// Adds the grants at the positions of word i to the counts of user u's open grants. They fit those whose permission
-// the user of word i holds, if u holds theirs.
-fn add_to_user<'a>(
+// Adds some grants to the counts of user u's open grants, or takes them off. They fit those whose permission their
+// user holds, if u holds theirs.
+fn change_for_user<'a>(
     counts: &mut [u16; CELL_LIMIT],
+    change: Change,
     rows: &'a [u64; CELL_WORDS],
     left: &'a [u64; CELL_WORDS],
-    i: usize,
-    word: u64,
-    u: usize,
+    these: SomeGrants,
+    u: UserNo,
 )
-    requires { ⌜ (i < cell-words) × (u < cell-words) × (length (now counts) ≡ cell-limit)
-        × ((n : ℕ) → n / word-bits ≡ u → So (marked (now left) n) → getD (now counts) n 0 + fit-count (now rows) i
-        word n ≤ cell-limit) ⌝ }
-    ensures { λ r. ⌜ UserChanged (_+_) (now (rows .entry)) (now (left .entry)) i word u (now (counts .entry))
-        (now (counts .exit)) ⌝ }
+    requires { ⌜ (these .user .0 < cell-words) × (u .0 < cell-words) × (length (now counts) ≡ cell-limit)
+        × ((n : ℕ) → n / word-bits ≡ u .0 → So (marked (now left) n) → CanChange change (getD (now counts) n 0)
+        (fit-count (now rows) (these .user .0) (these .word) n)) ⌝ }
+    ensures { λ r. ⌜ UserChanged change (now (rows .entry)) (now (left .entry)) (these .user .0) (these .word) (u .0)
+        (now (counts .entry)) (now (counts .exit)) ⌝ }
 {
-    let some = left[u] & rows[i];
-    if some != 0 {
-        raise(counts, u, some, bits::count(word & rows[u]) as u16);
+    let at = u.0;
+    let user = these.user.0;
+    let own = left[at] & rows[user];
+    if own != 0 {
+        change_at(
+            counts,
+            change,
+            u,
+            own,
+            bits::count(these.word & rows[at]) as u16,
+        );
     }
 }
 
-// Takes them off these counts.
-fn take_from_user<'a>(
+// The same for the users at the positions of word j of a column.
+fn change_for_users<'a>(
     counts: &mut [u16; CELL_LIMIT],
+    change: Change,
     rows: &'a [u64; CELL_WORDS],
     left: &'a [u64; CELL_WORDS],
-    i: usize,
-    word: u64,
-    u: usize,
-)
-    requires { ⌜ (i < cell-words) × (u < cell-words) × (length (now counts) ≡ cell-limit)
-        × ((n : ℕ) → n / word-bits ≡ u → So (marked (now left) n) → fit-count (now rows) i word n ≤ getD (now counts)
-        n 0) ⌝ }
-    ensures { λ r. ⌜ UserChanged (_-_) (now (rows .entry)) (now (left .entry)) i word u (now (counts .entry))
-        (now (counts .exit)) ⌝ }
-{
-    let some = left[u] & rows[i];
-    if some != 0 {
-        lower(counts, u, some, bits::count(word & rows[u]) as u16);
-    }
-}
-
-// Adds them to the counts of the users at the positions of word j of a column.
-fn add_to_users<'a>(
-    counts: &mut [u16; CELL_LIMIT],
-    rows: &'a [u64; CELL_WORDS],
-    left: &'a [u64; CELL_WORDS],
-    i: usize,
-    word: u64,
+    these: SomeGrants,
     j: usize,
     some: u64,
 )
-    requires { ⌜ (i < cell-words) × (j < column-words) × (length (now counts) ≡ cell-limit)
-        × ((n : ℕ) → So (at-position j some (n / word-bits)) → So (marked (now left) n) → getD (now counts) n 0 +
-        fit-count (now rows) i word n ≤ cell-limit) ⌝ }
-    ensures { λ r. ⌜ UsersChanged (_+_) (now (rows .entry)) (now (left .entry)) i word j some (now (counts .entry))
-        (now (counts .exit)) ⌝ }
+    requires { ⌜ (these .user .0 < cell-words) × (j < column-words) × (length (now counts) ≡ cell-limit)
+        × ((n : ℕ) → So (at-position j some (n / word-bits)) → So (marked (now left) n) → CanChange change
+        (getD (now counts) n 0) (fit-count (now rows) (these .user .0) (these .word) n)) ⌝ }
+    ensures { λ r. ⌜ UsersChanged change (now (rows .entry)) (now (left .entry)) (these .user .0) (these .word) j some
+        (now (counts .entry)) (now (counts .exit)) ⌝ }
 {
     let from = j * WORD_BITS;
     let mut w = some;
     while w != 0 {
-        add_to_user(counts, rows, left, i, word, from + bits::lowest(w));
+        let u = from + bits::lowest(w);
+        change_for_user(counts, change, rows, left, these, UserNo(u));
         w = bits::without_lowest(w);
     }
 }
 
-// Takes them off the counts of the users at the positions of word j of a column.
-fn take_from_users<'a>(
+// The same for all users. Only those who hold a permission of these grants have any that fit.
+fn change_all<'a>(
     counts: &mut [u16; CELL_LIMIT],
-    rows: &'a [u64; CELL_WORDS],
-    left: &'a [u64; CELL_WORDS],
-    i: usize,
-    word: u64,
-    j: usize,
-    some: u64,
-)
-    requires { ⌜ (i < cell-words) × (j < column-words) × (length (now counts) ≡ cell-limit)
-        × ((n : ℕ) → So (at-position j some (n / word-bits)) → So (marked (now left) n) → fit-count (now rows) i word
-        n ≤ getD (now counts) n 0) ⌝ }
-    ensures { λ r. ⌜ UsersChanged (_-_) (now (rows .entry)) (now (left .entry)) i word j some (now (counts .entry))
-        (now (counts .exit)) ⌝ }
-{
-    let from = j * WORD_BITS;
-    let mut w = some;
-    while w != 0 {
-        take_from_user(counts, rows, left, i, word, from + bits::lowest(w));
-        w = bits::without_lowest(w);
-    }
-}
-
-// Adds the grants at the positions of word i to the counts of the open grants. Only users who hold a permission of
-// these have any that fit.
-fn add<'a>(
-    counts: &mut [u16; CELL_LIMIT],
+    change: Change,
     rows: &'a [u64; CELL_WORDS],
     columns: &'a [u64; PLACE_WORDS],
     left: &'a [u64; CELL_WORDS],
-    i: usize,
-    word: u64,
+    these: SomeGrants,
 )
-    requires { ⌜ (i < cell-words) × Columns (now rows) (now columns) × (length (now counts) ≡ cell-limit)
-        × ((n : ℕ) → n / word-bits < cell-words → So (marked (now left) n) → getD (now counts) n 0 + fit-count
-        (now rows) i word n ≤ cell-limit) ⌝ }
-    ensures { λ r. ⌜ WordChanged (_+_) (now (rows .entry)) (now (left .entry)) i word cell-words (now (counts .entry))
-        (now (counts .exit)) ⌝ }
+    requires { ⌜ (these .user .0 < cell-words) × Columns (now rows) (now columns) × (length (now counts) ≡ cell-limit)
+        × ((n : ℕ) → n / word-bits < cell-words → So (marked (now left) n) → CanChange change (getD (now counts) n 0)
+        (fit-count (now rows) (these .user .0) (these .word) n)) ⌝ }
+    ensures { λ r. ⌜ WordChanged change (now (rows .entry)) (now (left .entry)) (these .user .0) (these .word)
+        cell-words (now (counts .entry)) (now (counts .exit)) ⌝ }
 {
-    if word == 0 {
+    if these.word == 0 {
         return;
     }
     let mut j = 0;
     while j < COLUMN_WORDS {
-        add_to_users(counts, rows, left, i, word, j, union_of(columns, word, j));
-        j += 1;
-    }
-}
-
-// Takes the grants at the positions of word i off the counts of the open grants. Only users who hold a permission of
-// these have any that fit.
-fn take<'a>(
-    counts: &mut [u16; CELL_LIMIT],
-    rows: &'a [u64; CELL_WORDS],
-    columns: &'a [u64; PLACE_WORDS],
-    left: &'a [u64; CELL_WORDS],
-    i: usize,
-    word: u64,
-)
-    requires { ⌜ (i < cell-words) × Columns (now rows) (now columns) × (length (now counts) ≡ cell-limit)
-        × ((n : ℕ) → n / word-bits < cell-words → So (marked (now left) n) → fit-count (now rows) i word n ≤ getD
-        (now counts) n 0) ⌝ }
-    ensures { λ r. ⌜ WordChanged (_-_) (now (rows .entry)) (now (left .entry)) i word cell-words (now (counts .entry))
-        (now (counts .exit)) ⌝ }
-{
-    if word == 0 {
-        return;
-    }
-    let mut j = 0;
-    while j < COLUMN_WORDS {
-        take_from_users(counts, rows, left, i, word, j, union_of(columns, word, j));
+        let some = union_of(columns, these.word, j);
+        change_for_users(counts, change, rows, left, these, j, some);
         j += 1;
     }
 }
@@ -206,7 +151,12 @@ pub fn first_counts<'a>(
     let mut counts = [0; CELL_LIMIT];
     let mut i = 0;
     while i < users * ROW_WORDS {
-        add(&mut counts, rows, columns, left, i, left[i]);
+        let word = left[i];
+        let these = SomeGrants {
+            user: UserNo(i),
+            word,
+        };
+        change_all(&mut counts, Change::Added, rows, columns, left, these);
         i += 1;
     }
     counts
@@ -228,7 +178,12 @@ pub fn recount<'a>(
 {
     let mut i = 0;
     while i < users * ROW_WORDS {
-        take(counts, rows, columns, rest, i, less(left[i], rest[i]));
+        let word = bits::apart(left[i], rest[i]);
+        let closed = SomeGrants {
+            user: UserNo(i),
+            word,
+        };
+        change_all(counts, Change::TakenOff, rows, columns, rest, closed);
         i += 1;
     }
 }

@@ -1,5 +1,5 @@
 // Sets of cells as rows of words.
-use bits::WORD_BITS;
+use cells::mark;
 use numbers::CELL_WORDS;
 use numbers::CellNo;
 use numbers::ROW_WORDS;
@@ -7,41 +7,18 @@ ghost use mathlib.Core.Path.{_≡_};
 ghost use mathlib.Core.Bool.{_||_};
 ghost use Prim.Native.Nat.{ℕ, _≤_, _<_};
 ghost use lib.Dec.{eqb};
+ghost use lib.ListN.{length};
 ghost use Rattle.spec.specs.Limits.{user-limit};
 ghost use Rattle.bits.specs.Counting.{count-below};
-ghost use Rattle.cells.specs.CellPlaces.{cell-limit, marked};
-ghost use Rattle.verdict.specs.NearCells.{cells-of};
-ghost use Rattle.fit.specs.WitnessWords.{MadeCells};
-ghost use Rattle.witness.specs.WitnessCells.{either};
+ghost use Rattle.cells.specs.CellPlaces.{cell-words, cell-limit, marked, cells-of};
 
-// The cells of two sets.
-pub fn joined<'a>(
-    some: &'a [u64; CELL_WORDS],
-    others: &'a [u64; CELL_WORDS],
-    users: usize,
-) -> [u64; CELL_WORDS]
-    requires { ⌜ users ≤ user-limit ⌝ }
-    ensures { λ r. ⌜ MadeCells (either (now (some .entry)) (now (others .entry))) (cells-of users) r ⌝ }
+// Puts a cell into a set.
+pub fn put_cell(words: &mut [u64; CELL_WORDS], cell: CellNo)
+    requires { ⌜ (cell .0 < cell-limit) × (length (now words) ≡ cell-words) ⌝ }
+    ensures { λ r. ⌜ (length (now (words .exit)) ≡ cell-words)
+        × ((m : ℕ) → marked (now (words .exit)) m ≡ (marked (now (words .entry)) m || eqb m (cell .0))) ⌝ }
 {
-    let mut words = [0; CELL_WORDS];
-    let mut i = 0;
-    while i < users * ROW_WORDS {
-        words[i] = some[i] | others[i];
-        i += 1;
-    }
-    words
-}
-
-// The cells of a set, and one more.
-pub fn with_cell(words: [u64; CELL_WORDS], cell: CellNo) -> [u64; CELL_WORDS]
-    requires { ⌜ cell .0 < cell-limit ⌝ }
-    ensures { λ r. ⌜ ((m : ℕ) → marked r m ≡ (marked words m || eqb m (cell .0))) ⌝ }
-{
-    let mut more = words;
-    let n = cell.0;
-    let i = n / WORD_BITS;
-    more[i] = bits::with(more[i], n % WORD_BITS);
-    more
+    mark(words, cell.0);
 }
 
 // How many cells of the users a set has.

@@ -4,74 +4,73 @@ use crate::choice::fewest;
 use crate::counts::first_counts;
 use crate::counts::recount;
 use crate::sets::counted;
-use crate::sets::joined;
-use crate::sets::with_cell;
+use crate::sets::put_cell;
 use cells::next_cell;
-use fit::columns_of;
+use fit::PLACE_WORDS;
 use numbers::CELL_WORDS;
 use numbers::CellNo;
 use numbers::GRANT_LIMIT;
 use numbers::ROW_BITS;
+ghost use mathlib.Core.Path.{_≡_};
 ghost use Prim.Native.Nat.{ℕ, _≤_, _<_};
-ghost use lib.ListN.{getD};
+ghost use lib.ListN.{length, getD};
 ghost use Rattle.spec.specs.Limits.{grant-limit, user-limit};
 ghost use Rattle.spec.specs.Sheet.{Sheet};
 ghost use Rattle.spec.specs.Reduction.{singles-of};
 ghost use Rattle.verdict.specs.Log.{log-of};
-ghost use Rattle.cells.specs.CellPlaces.{cell-limit, Shown, Part};
+ghost use Rattle.cells.specs.CellPlaces.{cell-words, cell-limit, Shown, Part};
+ghost use Rattle.fit.specs.Columns.{Columns};
 ghost use Rattle.witness.specs.WitnessGreedy.{Chosen};
 ghost use Rattle.witness.specs.WitnessSingles.{CellsOf};
 ghost use Rattle.witness.specs.WitnessRows.{ReducedTo, ReducedRows, Witnessed};
 
-// The grants taken from a set one after the other, each with the fewest partners among those left, and dropped with
-// them.
-fn chosen_by_counts<'a>(
+// Puts the grants taken from a set one after the other into another, each with the fewest partners among those left,
+// and dropped with them.
+fn choose_by_counts<'a>(
+    cells: &mut [u64; CELL_WORDS],
     rows: &'a [u64; CELL_WORDS],
+    columns: &'a [u64; PLACE_WORDS],
     kernel: &'a [u64; CELL_WORDS],
     users: usize,
-) -> [u64; CELL_WORDS]
-    requires { ⌜ users ≤ user-limit ⌝ }
+)
+    requires { ⌜ (users ≤ user-limit) × Columns (now rows) (now columns) × (length (now cells) ≡ cell-words) ⌝ }
     ensures { λ r. ⌜ ((sheet : Sheet) → Shown (now (rows .entry)) users sheet → Part (now (kernel .entry))
         (now (rows .entry))
-        → Chosen sheet (now (rows .entry)) (now (kernel .entry)) r) ⌝ }
+        → Chosen sheet (now (rows .entry)) (now (kernel .entry)) (now (cells .entry)) (now (cells .exit))) ⌝ }
 {
-    let columns = columns_of(rows);
-    let mut counts = first_counts(rows, &columns, kernel, users);
+    let mut counts = first_counts(rows, columns, kernel, users);
     let mut left = *kernel;
-    let mut taken = [0; CELL_WORDS];
     let mut count = 0;
     while count < GRANT_LIMIT {
         let best = fewest(&left, &counts, users);
         let cell = best.cell;
         if best.partners == 0 {
-            return taken;
+            return;
         }
-        let more = with_cell(taken, cell);
+        put_cell(cells, cell);
         let rest = dropped(rows, &left, users, cell);
-        recount(&mut counts, rows, &columns, &left, &rest, users);
-        taken = more;
+        recount(&mut counts, rows, columns, &left, &rest, users);
         left = rest;
         count += 1;
     }
-    taken
 }
 
 // The same, with nothing to count where the set is empty.
-fn chosen<'a>(
+fn choose<'a>(
+    cells: &mut [u64; CELL_WORDS],
     rows: &'a [u64; CELL_WORDS],
+    columns: &'a [u64; PLACE_WORDS],
     kernel: &'a [u64; CELL_WORDS],
     users: usize,
-) -> [u64; CELL_WORDS]
-    requires { ⌜ users ≤ user-limit ⌝ }
+)
+    requires { ⌜ (users ≤ user-limit) × Columns (now rows) (now columns) × (length (now cells) ≡ cell-words) ⌝ }
     ensures { λ r. ⌜ ((sheet : Sheet) → Shown (now (rows .entry)) users sheet → Part (now (kernel .entry))
         (now (rows .entry))
-        → Chosen sheet (now (rows .entry)) (now (kernel .entry)) r) ⌝ }
+        → Chosen sheet (now (rows .entry)) (now (kernel .entry)) (now (cells .entry)) (now (cells .exit))) ⌝ }
 {
-    let first = next_cell(kernel, users, 0);
-    if first < users * ROW_BITS {
-        chosen_by_counts(rows, kernel, users)
-    } else {
-        [0; CELL_WORDS]
+    let first = next_cell(kernel, users, CellNo(0));
+    if first.0 < users * ROW_BITS {
+        choose_by_counts(cells, rows, columns, kernel, users);
     }
 }
 
@@ -90,8 +89,7 @@ pub fn single_cells<'a>(
         let at = removed[i];
         if at == partner[i] {
             let cell = at as usize;
-            let more = with_cell(cells, CellNo(cell));
-            cells = more;
+            put_cell(&mut cells, CellNo(cell));
         }
         i += 1;
     }
@@ -108,17 +106,18 @@ pub struct Witness {
 // The witness of the sheet that the rows show: the grants taken from its kernel and all its singles.
 pub fn witness_of<'a>(
     rows: &'a [u64; CELL_WORDS],
+    columns: &'a [u64; PLACE_WORDS],
     kernel: &'a [u64; CELL_WORDS],
-    singles: &'a [u64; CELL_WORDS],
+    singles: [u64; CELL_WORDS],
     users: usize,
 ) -> Witness
-    requires { ⌜ ReducedRows (now rows) users (now kernel) (now singles) ⌝ }
+    requires { ⌜ Columns (now rows) (now columns) × ReducedRows (now rows) users (now kernel) singles ⌝ }
     ensures { λ r. ⌜ ((sheet : Sheet) → Shown (now (rows .entry)) users sheet
-        → ReducedTo sheet (now (rows .entry)) (now (kernel .entry)) (now (singles .entry))
+        → ReducedTo sheet (now (rows .entry)) (now (kernel .entry)) singles
         → Witnessed sheet (now (rows .entry)) (r .cells) (r .count)) ⌝ }
 {
-    let taken = chosen(rows, kernel, users);
-    let cells = joined(&taken, singles, users);
+    let mut cells = singles;
+    choose(&mut cells, rows, columns, kernel, users);
     let count = counted(&cells, users);
     Witness { cells, count }
 }

@@ -4,36 +4,14 @@ use mathlib.Core.Path.{_≡_, refl, sym, ap, _∙_}
 use mathlib.Core.Logic.{_⊎_, inl, inr, ⊎-elim}
 use mathlib.Core.Bool.{Bool, false, So, not, _&&_, _||_, false≢true, or-false, and-true}
 use Prim.Native.Nat.{ℕ, zero, suc, _+_, _≤_, _<_}
-use native.Mathlib.Nat.{
-  add-zero,
-  add-suc,
-  le-refl,
-  le-step,
-  le-of-suc-le-suc,
-  lt-of-lt-of-le,
-  not-suc-le-zero,
-  eq-or-lt-of-le,
-}
+use native.Mathlib.Nat.{add-zero, add-suc, le-refl, le-step, le-of-suc-le-suc, not-suc-le-zero, eq-or-lt-of-le}
 use native.Mathlib.Omega.{arith}
 use borrow.Author.Tests.{not-false, ltb-true, ltb-false}
 use lib.Dec.{ltb}
 use Rattle.spec.specs.Vocabulary.{some-below, every-below}
-use Rattle.bits.specs.Truth.{
-  passes-or-fails,
-  not-both,
-  fails-unless,
-  same-truth,
-  and-intro,
-  and-left,
-  and-right,
-  and-left-comm,
-  or-left,
-  or-right,
-  or-cases,
-  or-left-comm,
-  not-passes,
-  not-fails,
-}
+use Rattle.bits.specs.Truth.{passes-or-fails, not-both, fails-unless, same-truth, and-intro, and-left}
+use Rattle.bits.specs.Truth.{and-right, and-left-comm, or-left, or-right, or-cases, or-left-comm, not-passes}
+use Rattle.bits.specs.Truth.{not-fails}
 use Rattle.bits.specs.Counting.{Found, Missed}
 
 -- a number below suc n
@@ -132,9 +110,6 @@ pub every-below-ext : (n : ℕ) (f g : ℕ → Bool) → ((i : ℕ) → i < n �
 every-below-ext n f g h =
     same-truth (every-below n f) (every-below n g) (every-below-mono n f g (λ i l p. sym (h i l) ∙ p))
     (every-below-mono n g f (λ i l p. h i l ∙ p))
-
-pub every-below-fewer : (m n : ℕ) (f : ℕ → Bool) → m ≤ n → So (every-below n f) → So (every-below m f)
-every-below-fewer m n f h e = every-below-intro m f (λ i l. every-below-elim n f e (lt-of-lt-of-le l h))
 
 pub every-below-add : (a b : ℕ) (f : ℕ → Bool) → every-below (a + b) f ≡ (every-below a f
     && every-below b (λ i. f (a + i)))

@@ -3,29 +3,16 @@
 -- (`bit-first`, `bit-next`).
 use mathlib.Core.Path.{_≡_, refl, sym, ap, _∙_}
 use mathlib.Core.Logic.{_⊎_, inl, inr, ⊎-elim}
-use mathlib.Core.Bool.{Bool, false, So, not, _&&_, _||_, xor}
+use mathlib.Core.Bool.{Bool, false, So, not, _&&_, _||_}
 use Prim.Native.Nat.{ℕ, zero, suc, _+_, _-_, _*_, _/_, _%_, _^_, _≤_, _<_, suc-le-suc}
-use native.Mathlib.Nat.{
-  pow-suc,
-  zero-div,
-  div-one,
-  div-eq-of-lt,
-  mod-lt,
-  mod-eq-of-lt,
-  mul-mod-left,
-  one-mul,
-  sub-zero,
-  lt-of-lt-of-le,
-  le-of-suc-le-suc,
-  not-suc-le-zero,
-  zero-lt-suc,
-}
+use native.Mathlib.Nat.{pow-suc, zero-div, div-one, div-eq-of-lt, mod-lt, mod-eq-of-lt, mul-mod-left, one-mul}
+use native.Mathlib.Nat.{sub-zero, lt-of-lt-of-le, le-of-suc-le-suc, not-suc-le-zero, zero-lt-suc}
 use native.Mathlib.Omega.{arith}
 use native.Mathlib.Numerals.{one-add}
 use borrow.Author.Tests.{lt-ltb, le-ltb}
 use lib.Dec.{eqb, ltb, eqb·zero-suc, eqb·suc-zero, eqb·suc-suc}
 use lib.Pow.{pow-pos, pow-mono, pow-lt, ones-lt, shr-shr, shl-shr}
-use lib.Bits.{bitAnd, bitOr, bitXor, and-shr, or-shr, xor-shr, and-mod, or-mod, xor-mod, shifted-half, shifted-even}
+use lib.Bits.{bitAnd, bitOr, and-shr, or-shr, and-mod, or-mod, shifted-half, shifted-even}
 use Rattle.bits.specs.Truth.{not-both}
 use Rattle.bits.specs.Bit.{bit}
 use Rattle.bits.specs.Counting.{one-if}
@@ -106,12 +93,6 @@ pub bit-or : (a b p : ℕ) → bit (bitOr a b) p ≡ (bit a p || bit b p)
 bit-or =
     bit-of-op bitOr _||_ or-shr or-mod
     (on-digits (λ x y. eqb (bitOr x y) 1 ≡ (eqb x 1 || eqb y 1)) refl refl refl refl)
-
-pub bit-xor : (a b p : ℕ) → bit (bitXor a b) p ≡ xor (bit a p) (bit b p)
-unfolding xor
-bit-xor =
-    bit-of-op bitXor xor xor-shr xor-mod
-    (on-digits (λ x y. eqb (bitXor x y) 1 ≡ xor (eqb x 1) (eqb y 1)) refl refl refl refl)
 
 -- ---- not, below the width
 

@@ -1,18 +1,13 @@
 -- What holds below m * k, taken as m blocks of k: the number i * k + j is the place j of the block i. So a row of
 -- words is counted and searched word by word. Each law is an induction on the blocks, by the law for a sum of bounds.
-use mathlib.Core.Path.{_≡_, sym, _∙_}
+use mathlib.Core.Path.{_≡_}
 use mathlib.Core.Bool.{Bool, or-comm, and-comm}
-use Prim.Native.Nat.{ℕ, zero, suc, _+_, _*_, _/_, _%_, _^_, _<_}
+use Prim.Native.Nat.{ℕ, zero, suc, _+_, _*_}
 use native.Mathlib.Nat.{zero-mul, suc-mul}
-use lib.Arith.{digits-div, digits-mod}
-use lib.Count.{ones}
 use Rattle.spec.specs.Vocabulary.{some-below, every-below}
 use Rattle.bits.specs.Counting.{count-below, sum-below}
 use Rattle.bits.specs.Laws.Below.{some-below-add, every-below-add}
-use Rattle.bits.specs.Laws.Count.{count-below-add, count-below-ext}
-use Rattle.bits.specs.Laws.Sum.{sum-below-ext}
-use Rattle.bits.specs.Bit.{bit}
-use Rattle.bits.specs.Laws.Word.{ones-count}
+use Rattle.bits.specs.Laws.Count.{count-below-add}
 
 pub count-below-blocks : (m k : ℕ) (f : ℕ → Bool) → count-below (m * k) f ≡ sum-below m
     (λ i. count-below k (λ j. f (i * k + j)))
@@ -35,15 +30,3 @@ every-below-blocks zero k f = rw (zero-mul k)
 every-below-blocks (suc m) k f =
     rw (suc-mul m k, every-below-add (m * k) k f, every-below-blocks m k f)
     (and-comm (every-below m (λ i. every-below k (λ j. f (i * k + j)))) (every-below k (λ j. f (m * k + j))))
-
--- the place p of a row of words of k positions is the position p % k of the word p / k
-pub words-count : (m k : ℕ) (word : ℕ → ℕ) → ((i : ℕ) → i < m → word i < 2 ^ k)
-    → sum-below m (λ i. ones (word i)) ≡ count-below (m * k) (λ p. bit (word (p / k)) (p % k))
-words-count m k word h =
-    sum-below-ext m (λ i. ones (word i)) (λ i. count-below k (λ j. place (i * k + j))) (λ i l.
-    ones-count k (word i) (h i l)
-    ∙ count-below-ext k (bit (word i)) (λ j. place (i * k + j)) (λ j s. rw (digits-div i s, digits-mod i s)))
-    ∙ sym (count-below-blocks m k place)
-  where
-    place : ℕ → Bool
-    place p = bit (word (p / k)) (p % k)

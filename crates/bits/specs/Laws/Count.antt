@@ -7,10 +7,9 @@ use mathlib.Core.Bool.{Bool, true, false, So, false≢true}
 use Prim.Native.Nat.{ℕ, zero, suc, _+_, _≤_, _<_}
 use native.Mathlib.Nat.{add-zero, add-suc, le-refl, le-step, le-dest, not-suc-le-zero}
 use native.Mathlib.Omega.{arith}
-use Rattle.spec.specs.Vocabulary.{some-below}
-use Rattle.bits.specs.Truth.{passes-or-fails, fails-unless}
-use Rattle.bits.specs.Counting.{one-if, count-below, Found}
-use Rattle.bits.specs.Laws.Below.{last-or-below, some-below-elim, none-below-elim}
+use Rattle.bits.specs.Truth.{fails-unless}
+use Rattle.bits.specs.Counting.{one-if, count-below}
+use Rattle.bits.specs.Laws.Below.{last-or-below}
 
 -- ---- what one number adds
 
@@ -93,18 +92,3 @@ unfolding count-below
 count-below-all-intro zero f h = refl
 count-below-all-intro (suc n) f h =
     rw (count-below-all-intro n f (λ i l. h i (le-step l)), h n (le-refl (suc n))) (omega arith)
-
-pub count-below-all-elim : (n : ℕ) (f : ℕ → Bool) → count-below n f ≡ n → {i : ℕ} → i < n → So (f i)
-count-below-all-elim n f e {i} l =
-    ⊎-elim (λ p. p) (λ p. absurd (omega (
-      arith,
-      count-below-less n f (λ j. true) (λ j k q. refl) l p refl,
-      count-below-all-intro n (λ j. true) (λ j k. refl),
-    )))
-    (passes-or-fails (f i))
-
-pub count-below-found : (n : ℕ) (f : ℕ → Bool) → 0 < count-below n f → Found n f
-count-below-found n f h =
-    ⊎-elim (λ e. some-below-elim n f e)
-    (λ e. absurd (omega (arith, count-below-none-intro n f (λ i l. none-below-elim n f e l))))
-    (passes-or-fails (some-below n f))

@@ -5,22 +5,13 @@ use mathlib.Core.Path.{_≡_, refl, sym, _∙_}
 use mathlib.Core.Logic.{_⊎_, inl, inr, ⊎-elim}
 use mathlib.Core.Bool.{Bool, false, So}
 use mathlib.Core.Option.{none, some}
-use Prim.Native.Nat.{ℕ, zero, suc, _+_, _-_, _≤_, _<_, suc-le-suc}
-use native.Mathlib.Nat.{
-  le-refl,
-  le-step,
-  le-of-suc-le-suc,
-  lt-of-not-le,
-  lt-trans,
-  not-suc-le-zero,
-  zero-lt-suc,
-  add-sub-of-le,
-}
+use Prim.Native.Nat.{ℕ, zero, suc, _≤_, _<_, suc-le-suc}
+use native.Mathlib.Nat.{le-refl, le-step, le-of-suc-le-suc, lt-of-not-le, lt-trans, not-suc-le-zero, zero-lt-suc}
 use native.Mathlib.Omega.{arith}
 use Rattle.spec.specs.Vocabulary.{some-below, lowest-below}
 use Rattle.bits.specs.Truth.{passes-or-fails, not-both}
 use Rattle.bits.specs.Counting.{Lowest}
-use Rattle.bits.specs.Laws.Below.{last-or-below, below-or-from, some-below-elim}
+use Rattle.bits.specs.Laws.Below.{last-or-below, some-below-elim}
 
 pub lowest-below-none-intro : (n : ℕ) (f : ℕ → Bool) → ((i : ℕ) → i < n → f i ≡ false) → lowest-below n f ≡ none
 unfolding lowest-below
@@ -99,31 +90,7 @@ lowest-next n f {i} e w = record { within = suc-le-suc (w .within); holds = w .h
     before zero l = e
     before (suc j) l = w .first j (le-of-suc-le-suc l)
 
-pub lowest-unique : {m n : ℕ} {f : ℕ → Bool} {i j : ℕ} → Lowest m f i → Lowest n f j → i ≡ j
-lowest-unique v w = let a = lowest-le v (w .holds) in let b = lowest-le w (v .holds) in omega arith
-
 pub lowest-below-ext : (n : ℕ) (f g : ℕ → Bool) → ((i : ℕ) → i < n → f i ≡ g i) → lowest-below n f ≡ lowest-below n g
 unfolding lowest-below
 lowest-below-ext zero f g h = refl
 lowest-below-ext (suc n) f g h = rw (lowest-below-ext n f g (λ i l. h i (le-step l)), h n (le-refl (suc n)))
-
--- a greater bound changes nothing once a number is found
-pub lowest-below-more : (m n : ℕ) (f : ℕ → Bool) {i : ℕ} → m ≤ n → lowest-below m f ≡ some i → lowest-below n f ≡ some i
-lowest-below-more m n f h e =
-    let w = lowest-below-elim m f e in
-    lowest-below-intro n f (record { within = omega arith; holds = w .holds; first = w .first })
-
--- where no number below a passes, the search goes on from a
-pub lowest-below-later : (a b : ℕ) (f : ℕ → Bool) {i : ℕ} → lowest-below a f ≡ none → lowest-below b (λ j. f (a + j))
-    ≡ some i
-    → lowest-below (a + b) f ≡ some (a + i)
-lowest-below-later a b f {i} e s =
-    lowest-below-intro (a + b) f (record { within = omega (arith, w .within); holds = w .holds; first = before })
-  where
-    w : Lowest b (λ j. f (a + j)) i
-    w = lowest-below-elim b (λ j. f (a + j)) s
-
-    before : (j : ℕ) → j < a + i → f j ≡ false
-    before j l =
-        ⊎-elim (λ k. lowest-below-none-elim a f e k) (λ h. rw (add-sub-of-le h) at (w .first (j - a) (omega arith)))
-        (below-or-from j a)

@@ -4,12 +4,8 @@ use mathlib.Core.Path.{_≡_}
 use mathlib.Core.Bool.{Bool, _&&_, _||_}
 use Prim.Native.Nat.{ℕ, _+_}
 use native.Mathlib.Numerals.{add-one}
-use Rattle.spec.specs.Vocabulary.{some-below, every-below, found-or, lowest-below}
-use Rattle.bits.specs.Counting.{one-if, count-below, sum-below}
-
-pub count-below-step : (n : ℕ) (f : ℕ → Bool) → count-below (n + 1) f ≡ count-below n f + one-if (f n)
-unfolding count-below
-count-below-step n f = rw (add-one n)
+use Rattle.spec.specs.Vocabulary.{some-below, every-below}
+use Rattle.bits.specs.Counting.{sum-below}
 
 pub sum-below-step : (n : ℕ) (g : ℕ → ℕ) → sum-below (n + 1) g ≡ sum-below n g + g n
 unfolding sum-below
@@ -22,7 +18,3 @@ some-below-step n f = rw (add-one n)
 pub every-below-step : (n : ℕ) (f : ℕ → Bool) → every-below (n + 1) f ≡ (f n && every-below n f)
 unfolding every-below
 every-below-step n f = rw (add-one n)
-
-pub lowest-below-step : (n : ℕ) (f : ℕ → Bool) → lowest-below (n + 1) f ≡ found-or (lowest-below n f) (f n) n
-unfolding lowest-below
-lowest-below-step n f = rw (add-one n)

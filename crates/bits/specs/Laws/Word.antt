@@ -13,25 +13,9 @@ use lib.Pow.{pow-pos}
 use lib.Bits.{bitAnd, and-le-l, and-le-r}
 use lib.Count.{ones, ones-step, ones-le, trailingZeros}
 use Rattle.spec.specs.Vocabulary.{some-below, every-below}
-use Rattle.bits.specs.Truth.{
-  implies,
-  implies-intro,
-  and-absorbs,
-  and-right,
-  not-both,
-  not-passes,
-  not-fails,
-  same-truth,
-}
+use Rattle.bits.specs.Truth.{implies, implies-intro, and-absorbs, and-right, not-both, same-truth}
 use Rattle.bits.specs.Counting.{one-if, count-below, Lowest}
-use Rattle.bits.specs.Laws.Below.{
-  some-below-intro,
-  some-below-ext,
-  none-below-intro,
-  none-below-elim,
-  every-below-intro,
-  every-below-elim,
-}
+use Rattle.bits.specs.Laws.Below.{some-below-intro, every-below-intro, every-below-elim}
 use Rattle.bits.specs.Laws.Lowest.{lowest-ext, lowest-at-zero, lowest-next}
 use Rattle.bits.specs.Laws.Count.{count-below-ext, count-below-first}
 use Rattle.bits.specs.Laws.CountJoin.{count-below-without}
@@ -53,11 +37,6 @@ ones-count (suc k) n h =
       count-below-first k (bit n),
       count-below-ext k (λ p. bit n (suc p)) (bit (n / 2)) (λ p l. bit-next n p),
     )
-
-pub ones-and : (k a b : ℕ) → a < 2 ^ k → ones (bitAnd a b) ≡ count-below k (λ p. bit a p && bit b p)
-ones-and k a b h =
-    ones-count k (bitAnd a b) (lt-of-le-of-lt (and-le-l a b) h)
-    ∙ count-below-ext k (bit (bitAnd a b)) (λ p. bit a p && bit b p) (λ p l. bit-and a b p)
 
 -- ---- the lowest one
 
@@ -121,17 +100,6 @@ some-bit k n p h = let low = lowest-trailing k n p h in some-below-intro k (bit 
 
 pub no-bit : (k n : ℕ) → n < 2 ^ k → ((p : ℕ) → p < k → bit n p ≡ false) → n ≡ 0
 no-bit k n h e = bit-ext k n 0 h (pow-pos k) (λ p l. e p l ∙ sym (bit-of-zero p))
-
-pub zero-test : (k n : ℕ) → n < 2 ^ k → eqb n 0 ≡ not (some-below k (bit n))
-zero-test k n h =
-    same-truth (eqb n 0) (not (some-below k (bit n)))
-    (λ e. not-passes (some-below k (bit n)) (none-below-intro k (bit n) (λ p l. rw (eqb-true n 0 e) (bit-of-zero p))))
-    (λ e. eq-eqb n 0 (no-bit k n h (λ p l. none-below-elim k (bit n) (not-fails (some-below k (bit n)) e) l)))
-
-pub disjoint-test : (k a b : ℕ) → a < 2 ^ k → eqb (bitAnd a b) 0 ≡ not (some-below k (λ p. bit a p && bit b p))
-disjoint-test k a b h =
-    zero-test k (bitAnd a b) (lt-of-le-of-lt (and-le-l a b) h)
-    ∙ ap not (some-below-ext k (bit (bitAnd a b)) (λ p. bit a p && bit b p) (λ p l. bit-and a b p))
 
 pub within-test : (k a b : ℕ) → a < 2 ^ k → eqb (bitAnd a b) a ≡ every-below k (λ p. implies (bit a p) (bit b p))
 within-test k a b h =

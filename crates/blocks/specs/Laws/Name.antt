@@ -1,12 +1,16 @@
 -- Role names as they are written: `R`, then the number from 1 on.
-use Prim.Native.Nat.{ℕ, _+_}
+use Prim.Native.Nat.{ℕ, _+_, _≤_, _<_}
 use native.Mathlib.Numerals.{add-one}
+use native.Mathlib.Omega.{arith}
 use mathlib.Core.Path.{_≡_, ap}
 use mathlib.Core.List.{_++_}
+use lib.ListN.{length}
 use Rattle.spec.specs.Text.{ascii}
 use Rattle.spec.specs.Decimal.{decimal}
 use Rattle.spec.specs.Book.{role-name}
-use Rattle.text.specs.LineLaws.{behind-comma}
+use Rattle.cells.specs.Rows.{row-words, row-bits}
+use Rattle.decimal.specs.Laws.Decimal.{decimal-length-two}
+use Rattle.text.specs.Line.{behind-comma}
 
 -- a name, and a name behind a comma
 pub role-name-parts : (r : ℕ) → role-name r ≡ ascii "R" ++ decimal (r + 1)
@@ -15,3 +19,8 @@ role-name-parts r = rw (add-one r)
 
 pub role-field-parts : (r : ℕ) → behind-comma (role-name r) ≡ ascii ",R" ++ decimal (r + 1)
 role-field-parts r = ap behind-comma (role-name-parts r)
+
+-- no name of a role is longer than `R64`
+pub role-name-short : (r : ℕ) → r < row-bits → length (role-name r) ≤ 3
+unfolding row-bits row-words
+role-name-short r h = rw (role-name-parts r) (omega (arith, decimal-length-two (r + 1) (omega arith)))

@@ -1,16 +1,14 @@
--- Parts that are empty: a walk that goes past them has written and added all parts before its place. Assumes nothing.
+-- Parts that are empty: a walk that goes past them has written all parts before its place. Assumes nothing.
 use Prim.Native.Nat.{ℕ, zero, suc, _≤_, _<_}
-use native.Mathlib.Nat.{le-trans, mul-le-mul-right, eq-or-lt-of-le, le-of-suc-le-suc}
+use native.Mathlib.Nat.{eq-or-lt-of-le, le-of-suc-le-suc}
 use native.Mathlib.Omega.{arith}
 use mathlib.Core.Path.{_≡_, sym, ap, _∙_}
 use mathlib.Core.Logic.{⊎-elim}
 use mathlib.Core.Bool.{Bool, false}
 use mathlib.Core.List.{[], append-nil}
-use lib.ListN.{length}
 use Rattle.spec.specs.Text.{Bytes}
 use Rattle.lists.specs.Listed.{listed, listed-suc}
-use Rattle.cell_text.specs.Laws.ListedWritten.{Listing}
-use Rattle.decimal.specs.Measured.{Adding}
+use Rattle.cell_text.specs.Laws.Parts.{Listing}
 use Rattle.blocks.specs.WitnessText.{line-if}
 use Rattle.text.specs.Written.{written-as}
 
@@ -39,11 +37,4 @@ module _ {n : ℕ} {part : ℕ → Bytes} {i j : ℕ} (l : i ≤ j) (within : j 
     fits = w .fits;
     written = written-as (listed-past part i j l empty) (w .written);
     same-length = w .same-length;
-  }
-
-  pub adding-past : {most total : ℕ} → Adding n part most i total → Adding n part most j total
-  adding-past {most} a = record {
-    below = within;
-    counted = a .counted ∙ ap length (listed-past part i j l empty);
-    small = le-trans (a .small) (mul-le-mul-right most l);
   }

@@ -8,8 +8,8 @@ use mathlib.Core.Bool.{Bool}
 use mathlib.Core.List.{List}
 use lib.ListN.{getD}
 use Rattle.bits.specs.Bit.{bit, word-bits}
+use Rattle.bits.specs.Counting.{NextFrom}
 use Rattle.cells.specs.Rows.{row-words, row-bits, cell}
-use Rattle.cells.specs.KernelWalk.{NextFrom}
 
 -- the word of a row
 abbrev pub row-word : List ℕ → ℕ → ℕ

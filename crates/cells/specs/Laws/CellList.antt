@@ -17,15 +17,8 @@ use Rattle.bits.specs.Counting.{count-below}
 use Rattle.lists.specs.AppendLaws.{filter-map}
 use Rattle.lists.specs.OrderedMap.{ordered-map}
 use Rattle.lists.specs.OrderedUnique.{ordered-unique}
-use Rattle.lists.specs.PassingBelow.{
-  passing-below,
-  passing-only,
-  passing-member,
-  passing-rises,
-  passing-filter,
-  passing-length,
-  passing-ext,
-}
+use Rattle.lists.specs.PassingBelow.{passing-below, passing-only, passing-member, passing-rises, passing-filter}
+use Rattle.lists.specs.PassingBelow.{passing-length, passing-ext}
 use Rattle.cells.specs.Rows.{row-bits}
 use Rattle.cells.specs.Laws.Grant.{same-parts, grant-held, held-grant}
 use Rattle.cells.specs.Laws.GrantOrder.{Before, grants-ordered}

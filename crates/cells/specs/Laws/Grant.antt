@@ -7,17 +7,8 @@ use native.Mathlib.Omega.{arith}
 use mathlib.Core.Path.{_≡_, refl, sym, ap, _∙_}
 use mathlib.Core.Logic.{⊎-elim}
 use mathlib.Core.Bool.{Bool, false, So, false≢true}
-use mathlib.Core.List.{
-  List,
-  [],
-  _∷_,
-  List·Memᴰ,
-  List·Memᴰ·not-nil,
-  List·Memᴰ·append-cases,
-  Memᴰ·cast,
-  Memᴰ·append-left,
-  Memᴰ·append-right,
-}
+use mathlib.Core.List.{List, [], _∷_, List·Memᴰ, List·Memᴰ·not-nil, List·Memᴰ·append-cases, Memᴰ·cast}
+use mathlib.Core.List.{Memᴰ·append-left, Memᴰ·append-right}
 use borrow.Author.Tests.{eqb-true, eq-eqb}
 use lib.Dec.{eqb}
 use lib.ListN.{length, getD, List·getD-eq-default}

@@ -8,7 +8,7 @@ use mathlib.Core.Path.{_≡_, sym, ap, _∙_}
 use mathlib.Core.Bool.{So}
 use mathlib.Core.List.{List}
 use borrow.Author.Tests.{eqb-true}
-use lib.ListN.{length, replicate}
+use lib.ListN.{length}
 use Rattle.spec.specs.Limits.{user-limit, book-limit}
 use Rattle.spec.specs.Text.{Bytes}
 use Rattle.spec.specs.Sheet.{sheet-of}
@@ -18,21 +18,16 @@ use Rattle.cells.specs.Rows.{row-words, cell}
 use Rattle.names.specs.LaidOut.{LaidOut}
 use Rattle.names.specs.declared.layout.Layout.{Layout}
 use Rattle.rules.specs.AcceptedFacts.{accepted-lawful}
-use Rattle.roles.specs.RoleMatrices.{no-cells}
-use Rattle.form.specs.declared.counts_block.Counts.{Counts}
+use Rattle.blocks.specs.declared.counts.Counts.{Counts}
 use Rattle.form.specs.declared.witness_block.Witness.{Witness}
 use Rattle.form.specs.Steps.{Reads}
 use Rattle.form.specs.Pieces.{users-part}
-use Rattle.form.specs.RowSteps.{AllBlank}
 use Rattle.form.specs.WitnessSteps.{WitnessPart}
 use Rattle.right.specs.Judgement.{refused-by-sheet, too-long-book, Unwritten, unwritten-book, written-book}
 use Rattle.checker.specs.BookSays.{JudgedAs}
 use Rattle.checker.specs.BookRead.{FrontRead, said-read, read-is-written, read-is-said}
 
 -- ---- rows to read into
-
-pub zeros-blank : (n : ℕ) → AllBlank (replicate n 0)
-zeros-blank n = record { rows = λ row. record { none = no-cells n .shown row } }
 
 -- rows of as many as there can be have room for as many as there are
 pub rows-within : (rows limit size : ℕ) → rows ≤ limit → limit * row-words ≤ size → rows * row-words ≤ size

@@ -15,14 +15,8 @@ use Rattle.bits.specs.Truth.{passes-or-fails, not-both}
 use Rattle.bits.specs.Laws.Below.{last-or-below, below-or-from, none-below-intro}
 use Rattle.bits.specs.Laws.Lowest.{lowest-below-cases, lowest-below-intro, lowest-le}
 use Rattle.lists.specs.Classing.{class-in}
-use Rattle.lists.specs.PlacementLaws.{
-  class-in-latest,
-  class-in-earlier,
-  class-below-used,
-  joins-intro,
-  earlier-uses-fewer,
-  latest-below-used,
-}
+use Rattle.lists.specs.PlacementLaws.{class-in-latest, class-in-earlier, class-below-used, joins-intro}
+use Rattle.lists.specs.PlacementLaws.{earlier-uses-fewer, latest-below-used}
 use Rattle.lists.specs.GroupingLaws.{class-taken, grouping-length, grouping-grown}
 use Rattle.lists.specs.KeyLaws.{has-key, by-key}
 use Rattle.lists.specs.KeyStep.{next-class, next-class-new}

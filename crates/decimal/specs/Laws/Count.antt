@@ -14,16 +14,8 @@ use Rattle.spec.specs.Vocabulary.{empty, all}
 use Rattle.spec.specs.Text.{Bytes}
 use Rattle.spec.specs.Decimal.{digit, decimal, is-digit, is-count, number-after, number-of}
 use Rattle.bits.specs.Truth.{and-intro, and-left, and-right}
-use Rattle.decimal.specs.Laws.Decimal.{
-  decimal-of-digit,
-  decimal-of-more,
-  decimal-induction,
-  number-of-decimal,
-  is-digit-intro,
-  is-digit-elim,
-  digits-and-one,
-  decimal-digits,
-}
+use Rattle.decimal.specs.Laws.Decimal.{decimal-of-digit, decimal-of-more, decimal-induction, number-of-decimal}
+use Rattle.decimal.specs.Laws.Decimal.{is-digit-intro, is-digit-elim, digits-and-one, decimal-digits}
 
 -- ---- a number's decimal is a count
 

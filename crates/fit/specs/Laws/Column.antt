@@ -1,8 +1,8 @@
 -- Counting by columns. The positions of a column's word are taken one after the other, and each adds the cells near
 -- the grant in one word. A word that is not in the column of the grant's permission has none, so the words of the
 -- column count them all.
-use Prim.Native.Nat.{ℕ, zero, suc, _+_, _*_, _/_, _%_, _≤_, _<_}
-use native.Mathlib.Nat.{add-zero, le-dest, not-suc-le-zero, mod-lt, le-div-iff-mul-le}
+use Prim.Native.Nat.{ℕ, zero, suc, min, _+_, _*_, _/_, _%_, _≤_, _<_}
+use native.Mathlib.Nat.{not-suc-le-zero}
 use native.Mathlib.Omega.{arith}
 use mathlib.Core.Path.{_≡_, refl, sym, ap, _∙_}
 use mathlib.Core.Logic.{⊎-elim}
@@ -11,25 +11,21 @@ use mathlib.Core.List.{List}
 use borrow.Author.Tests.{eq-eqb, ne-eqb}
 use lib.Dec.{eqb}
 use lib.Bits.{bitAnd}
-use lib.ListN.{length, getD}
-use Rattle.spec.specs.Vocabulary.{filter}
+use lib.ListN.{getD}
 use Rattle.spec.specs.Limits.{user-limit}
-use Rattle.spec.specs.Sheet.{Sheet}
-use Rattle.spec.specs.Fit.{fits}
 use Rattle.bits.specs.Counting.{count-below, sum-below, Lowest}
-use Rattle.bits.specs.Laws.Below.{last-or-below}
+use Rattle.bits.specs.Laws.Below.{below-or-from, last-or-below}
 use Rattle.bits.specs.Laws.Block.{count-below-blocks}
 use Rattle.bits.specs.Laws.Count.{count-below-le, count-below-ext, count-below-none-intro}
 use Rattle.bits.specs.Laws.Sum.{sum-below-ext, sum-below-add, sum-below-none, sum-below-le}
-use Rattle.bits.specs.Truth.{passes-or-fails, fails-unless}
+use Rattle.bits.specs.Truth.{passes-or-fails}
 use Rattle.bits.specs.Bit.{bit, word-bits}
 use Rattle.bits.specs.Laws.Bit.{bit-of-zero}
 use Rattle.bits.specs.Word.{LowestDropped}
 use Rattle.cells.specs.Rows.{row-words, row-bits}
-use Rattle.cells.specs.CellSets.{cell-grants}
-use Rattle.cells.specs.CellPlaces.{cell-words, grant-of, marked, near, FittingWord, CountedBelow, Shown, Part}
-use Rattle.cells.specs.Laws.CellPlace.{row-words-pos, row-bits-pos, fit-by-word}
-use Rattle.fit.specs.Laws.FitWord.{marked-in-word, near-word, near-count}
+use Rattle.cells.specs.CellPlaces.{cell-words, cell-limit, marked, near, FittingWord, CountedBelow}
+use Rattle.cells.specs.Laws.CellPlace.{fit-by-word}
+use Rattle.fit.specs.Laws.FitWord.{marked-in-word, near-word}
 use Rattle.fit.specs.Columns.{column-words, held-in, near-in-word, near-if, Columns}
 
 -- ---- the positions of a word, one after the other
@@ -121,6 +117,14 @@ module _ (rows left : List ℕ) (it : ℕ) where
   column-or-none i = ⊎-elim (λ e. rw e) (λ e. rw e (sym (none-near i e)))
       (passes-or-fails (held-in rows (it % row-bits) i))
 
+  -- so the words of the column count all
+  pub column-counts-all : column-sum (it % row-bits) cell-words ≡ count-below cell-limit (near rows left it)
+  column-counts-all =
+      sum-below-ext cell-words (λ i. near-if (held-in rows (it % row-bits) i) rows left it i)
+      (near-in-word rows left it)
+      (λ i l. column-or-none i)
+      ∙ sym (count-below-blocks cell-words word-bits (near rows left it))
+
 -- a count that goes on where another ended
 pub counted-on : {most whole n r : ℕ} (more : ℕ) → CountedBelow most whole n → CountedBelow most (n + more) r
     → CountedBelow most (whole + more) r
@@ -129,35 +133,11 @@ counted-on more first then = record {
   not-more = omega (arith, first .not-more, then .not-more);
 }
 
--- ---- all words
+-- which is cut at most
+pub cut-at : {most whole n : ℕ} → CountedBelow most whole n → most < n → most ≡ min most whole
+cut-at counted l = omega (arith, counted .not-more)
 
-module _ {rows : List ℕ} {users : ℕ} {sheet : Sheet} (shown : Shown rows users sheet) {left : List ℕ}
-    (part : Part left rows) (it : ℕ) where
-  -- past the users nobody holds anything
-  none-past : (i : ℕ) → users * row-words ≤ i → held-in rows (it % row-bits) i ≡ false
-  none-past i l =
-      fails-unless (held-in rows (it % row-bits) i) (λ e.
-      omega (
-        arith,
-        le-div-iff-mul-le row-words-pos .1 l,
-        shown .few (i / row-words) (it % row-bits)
-            (sym (shown .cells .shows (i / row-words) (it % row-bits) (mod-lt it row-bits-pos)) ∙ e),
-      ))
-
-  pub column-counts-all : users * row-words ≤ cell-words
-      → column-sum rows left it (it % row-bits) cell-words ≡ length (filter (fits sheet (grant-of it))
-      (cell-grants sheet left))
-  column-counts-all few =
-      let more = le-dest few in
-      ap (column-sum rows left it (it % row-bits)) (sym (more .1))
-      ∙ sum-below-add (users * row-words) (more .0) (λ i. near-if (held-in rows (it % row-bits) i) rows left it i)
-      ∙ ap (λ n. column-sum rows left it (it % row-bits) (users * row-words) + n)
-      (sum-below-none (more .0) (λ i. near-if (held-in rows (it % row-bits) (users * row-words + i)) rows left it
-      (users * row-words + i))
-      (λ i l. rw (none-past (users * row-words + i) (omega arith))))
-      ∙ add-zero (column-sum rows left it (it % row-bits) (users * row-words))
-      ∙ sum-below-ext (users * row-words) (λ i. near-if (held-in rows (it % row-bits) i) rows left it i)
-      (near-in-word rows left it)
-      (λ i l. column-or-none rows left it i)
-      ∙ sym (count-below-blocks (users * row-words) word-bits (near rows left it))
-      ∙ near-count shown part it
+pub not-cut : {most whole n : ℕ} → CountedBelow most whole n → n ≤ most → n ≡ min most whole
+not-cut {most} {n = n} counted l =
+    ⊎-elim (λ (k : n < most). omega (arith, counted .below k)) (λ (k : most ≤ n). omega (arith, counted .not-more))
+    (below-or-from n most)

@@ -5,7 +5,7 @@ use mathlib.Core.Path.{_≡_, refl}
 use mathlib.Core.Bool.{So, and-comm}
 use Rattle.spec.specs.Sheet.{Sheet, Grant, holds}
 use Rattle.spec.specs.Fit.{fits}
-use Rattle.bits.specs.Truth.{and-intro, and-left, and-right}
+use Rattle.bits.specs.Truth.{and-intro, and-left}
 
 -- a grant whose cell says yes
 abbrev pub Held : Sheet → Grant → Type 0
@@ -22,9 +22,6 @@ fits-intro sheet g h = and-intro (holds sheet (g .user) (h .permission)) (holds 
 
 pub fits-first : (sheet : Sheet) (g h : Grant) → So (fits sheet g h) → So (holds sheet (g .user) (h .permission))
 fits-first sheet g h = and-left (holds sheet (g .user) (h .permission)) (holds sheet (h .user) (g .permission))
-
-pub fits-second : (sheet : Sheet) (g h : Grant) → So (fits sheet g h) → So (holds sheet (h .user) (g .permission))
-fits-second sheet g h = and-right (holds sheet (g .user) (h .permission)) (holds sheet (h .user) (g .permission))
 
 pub one-permission-fits : (sheet : Sheet) (g h : Grant) → Held sheet g → Held sheet h → g .permission ≡ h .permission
     → So (fits sheet g h)

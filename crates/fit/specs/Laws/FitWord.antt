@@ -1,11 +1,11 @@
 -- Fit by the words. The rows say of any two cells what the sheet says of their grants. The word i of the cells near a
 -- grant is that of left and that of the fitting cells together, so the cells near it are counted word by word; and as
 -- many grants of the set fit it.
-use Prim.Native.Nat.{ℕ, _+_, _*_, _/_, _%_, _<_}
-use native.Mathlib.Nat.{mod-lt, mul-assoc}
+use Prim.Native.Nat.{ℕ, _+_, _*_, _/_, _%_, _≤_, _<_}
+use native.Mathlib.Nat.{add-zero, le-dest, mod-lt, mul-assoc}
 use native.Mathlib.Omega.{arith}
 use mathlib.Core.Path.{_≡_, sym, ap, _∙_}
-use mathlib.Core.Bool.{Bool, _&&_}
+use mathlib.Core.Bool.{Bool, false, _&&_, and-false}
 use mathlib.Core.List.{List}
 use lib.Arith.{digits-div, digits-mod}
 use lib.Bits.{bitAnd}
@@ -14,12 +14,13 @@ use Rattle.spec.specs.Vocabulary.{filter}
 use Rattle.spec.specs.Sheet.{Sheet}
 use Rattle.spec.specs.Fit.{fits}
 use Rattle.bits.specs.Counting.{count-below}
-use Rattle.bits.specs.Laws.Count.{count-below-ext, count-below-add}
+use Rattle.bits.specs.Laws.Count.{count-below-ext, count-below-add, count-below-none-intro}
 use Rattle.bits.specs.Bit.{bit, word-bits}
+use Rattle.bits.specs.Truth.{fails-unless}
 use Rattle.bits.specs.Laws.Bit.{bit-and}
-use Rattle.cells.specs.Rows.{row-words, row-bits}
+use Rattle.cells.specs.Rows.{row-words, row-bits, cell}
 use Rattle.cells.specs.CellSets.{cell-grants}
-use Rattle.cells.specs.CellPlaces.{grant-of, marked, fit-in, near, FittingWord, Shown, Part}
+use Rattle.cells.specs.CellPlaces.{cell-limit, cells-of, grant-of, marked, fit-in, near, FittingWord, Shown, Part}
 use Rattle.cells.specs.Laws.CellPlace.{row-bits-pos}
 use Rattle.cells.specs.Laws.CellList.{passing-grants-count}
 
@@ -67,3 +68,27 @@ module _ {rows : List ℕ} {users : ℕ} {sheet : Sheet} (shown : Shown rows use
       (grant-of n))
       (λ n l. rw (fits-in-rows it n))
       ∙ sym (passing-grants-count shown part (fits sheet (grant-of it))))
+
+  -- past the users nobody holds anything
+  none-near-past : (left : List ℕ) (it n : ℕ) → cells-of users ≤ n → near rows left it n ≡ false
+  unfolding row-words row-bits
+  none-near-past left it n l =
+      let none = fails-unless (cell rows (n / row-bits) (it % row-bits)) (λ e.
+      omega (
+        arith,
+        shown .few (n / row-bits) (it % row-bits)
+            (sym (shown .cells .shows (n / row-bits) (it % row-bits) (mod-lt it row-bits-pos)) ∙ e),
+      )) in
+      rw (none, and-false (cell rows (it / row-bits) (n % row-bits)), and-false (marked left n))
+
+  pub near-count-all : {left : List ℕ} → Part left rows → (it : ℕ) → cells-of users ≤ cell-limit
+      → count-below cell-limit (near rows left it) ≡ length (filter (fits sheet (grant-of it))
+      (cell-grants sheet left))
+  near-count-all {left} part it few =
+      let more = le-dest few in
+      ap (λ n. count-below n (near rows left it)) (sym (more .1))
+      ∙ count-below-add (cells-of users) (more .0) (near rows left it)
+      ∙ ap (λ n. count-below (cells-of users) (near rows left it) + n)
+      (count-below-none-intro (more .0) (λ i. near rows left it (cells-of users + i))
+      (λ i l. none-near-past left it (cells-of users + i) (omega arith)))
+      ∙ add-zero (count-below (cells-of users) (near rows left it)) ∙ near-count part it

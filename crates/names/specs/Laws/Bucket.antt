@@ -9,18 +9,18 @@ use mathlib.Core.Bool.{So, _||_}
 use mathlib.Core.List.{List, [], _∷_}
 use borrow.Author.Tests.{eqb-true, eqb-false, eq-eqb}
 use lib.Dec.{eqb}
-use lib.ListN.{length, getD, set, length-set, drop, replicate, length-replicate, getD-replicate, List·getD-eq-default}
+use lib.ListN.{length, getD, set, length-set, drop, replicate, length-replicate}
 use lib.Seq.{drop-cons, getD-set-same, getD-set-other}
 use Rattle.spec.specs.Text.{Bytes, same-name}
 use Rattle.bits.specs.Truth.{passes-or-fails, not-both, or-left, or-right, or-cases}
-use Rattle.bits.specs.Laws.Below.{last-or-below, below-or-from}
+use Rattle.bits.specs.Laws.Below.{last-or-below}
 use Rattle.bits.specs.Bit.{bit, word-bits}
 use Rattle.bits.specs.Laws.Bit.{bit-of-zero}
 use Rattle.lists.specs.TestLaws.{same-bytes-equal}
 use Rattle.names.specs.NamesAt.{Inside, name-there}
+use Rattle.names.specs.Laws.Places.{zero-there}
 use Rattle.names.specs.Laws.NamesAt.{inside-part}
 use Rattle.names.specs.Buckets.{bucket-count, bucket-words, spread, bucket-after, bucket-of, Noted, BitsNamed}
-use Rattle.names.specs.declared.places.Places.{Places}
 
 -- ---- the bucket of a name
 
@@ -76,27 +76,21 @@ module _ (table : List ℕ) (at p w : ℕ) (l : at < length table)
       (eq-eqb p p refl))
 
 -- the word of the name j in its bucket
-abbrev word-of : Bytes → Places → ℕ → ℕ
+abbrev word-of : Bytes → List ℕ → ℕ → ℕ
 word-of text places j = bucket-of (name-there text places j) * bucket-words + j / word-bits
 
 -- a table of no bits notes no name
-pub none-noted : (text : Bytes) (places : Places) → Noted (replicate (bucket-count * bucket-words) 0) text places 0
+pub none-noted : (text : Bytes) (places : List ℕ) → Noted (replicate (bucket-count * bucket-words) 0) text places 0
 none-noted text places =
     record {
       size = length-replicate {A = ℕ} (bucket-count * bucket-words) 0;
-      below = λ h k p l m s. absurd (not-both s (rw (clear (h * bucket-words + k)) (bit-of-zero p)));
+      below = λ h k p l m s. absurd (not-both s (rw (zero-there (bucket-count * bucket-words) (h * bucket-words + k))
+          (bit-of-zero p)));
       each = λ j l. absurd (not-suc-le-zero l);
     }
-  where
-    clear : (x : ℕ) → getD {A = ℕ} (replicate (bucket-count * bucket-words) 0) x 0 ≡ 0
-    clear x =
-        ⊎-elim (λ l. getD-replicate (bucket-count * bucket-words) x 0 0 l)
-        (λ l. List·getD-eq-default (replicate (bucket-count * bucket-words) 0) 0 {n = x}
-        (rw (length-replicate {A = ℕ} (bucket-count * bucket-words) 0) l))
-        (below-or-from x (bucket-count * bucket-words))
 
 -- the name n is noted by its bit in its bucket
-pub one-noted : (table : List ℕ) (text : Bytes) (places : Places) (n w : ℕ) → n / word-bits < bucket-words
+pub one-noted : (table : List ℕ) (text : Bytes) (places : List ℕ) (n w : ℕ) → n / word-bits < bucket-words
     → Noted table text places n
     → ((q : ℕ) → bit w q ≡ (bit (getD table (word-of text places n) 0) q || eqb q (n % word-bits)))
     → Noted (set table (word-of text places n) w) text places (suc n)
@@ -121,9 +115,9 @@ one-noted table text places n w few noted with-bit =
     last h k p l e f = omega arith
 
 -- names that are noted before number n stand in the text
-pub noted-standing : {table : List ℕ} {text : Bytes} {places : Places} {n count : ℕ} → Noted table text places n
-    → Inside text places count
-    → n ≤ count → BitsNamed table text (places .from) (places .to)
+pub noted-standing : {table : List ℕ} {text : Bytes} {places : List ℕ} {n : ℕ} → Noted table text places n
+    → Inside text places
+    → n ≤ length places → BitsNamed table text places
 noted-standing noted inside few =
     record {
       part = λ h k p l m s. inside-part inside (k * word-bits + p) (let before = noted .below h k p l m s

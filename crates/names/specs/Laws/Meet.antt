@@ -9,7 +9,7 @@ use mathlib.Core.Bool.{Bool, true, false, So, not, _&&_, _||_, and-false}
 use mathlib.Core.List.{List}
 use borrow.Author.Tests.{eqb-true, ltb-true, lt-ltb}
 use lib.Dec.{eqb, ltb}
-use lib.ListN.{getD, set, replicate}
+use lib.ListN.{length, getD, set, replicate}
 use Rattle.spec.specs.Vocabulary.{repeats}
 use Rattle.spec.specs.Limits.{user-limit}
 use Rattle.spec.specs.Text.{Bytes, same-name}
@@ -19,16 +19,15 @@ use Rattle.bits.specs.Laws.Below.{last-or-below, some-below-intro, some-below-e
 use Rattle.bits.specs.Bit.{bit, word-bits}
 use Rattle.bits.specs.Laws.Bit.{bit-of-zero}
 use Rattle.bits.specs.Word.{LowestDropped}
-use Rattle.names.specs.NamesAt.{Inside, name-there, names-at}
+use Rattle.names.specs.NamesAt.{Inside, name-there, all-names, Apart}
 use Rattle.names.specs.Buckets.{bucket-count, bucket-words, bucket-of, Noted, meets-at, meets-word, meets-bucket}
 use Rattle.names.specs.Laws.Bucket.{same-bucket, none-noted, one-noted}
-use Rattle.names.specs.RepeatsLaws.{Apart, equal-names-repeat}
-use Rattle.names.specs.declared.places.Places.{Places}
+use Rattle.names.specs.Laws.Repeats.{equal-names-repeat}
 
 -- ---- a word's positions, the lowest first
 
 -- rest has positions of the word only, and those that it lacks are not met
-pub record Walked (text : Bytes) (places : Places) (word first : ℕ) (name : Bytes) (rest : ℕ) : Type 0 where
+pub record Walked (text : Bytes) (places : List ℕ) (word first : ℕ) (name : Bytes) (rest : ℕ) : Type 0 where
   pub part : (p : ℕ) → So (bit rest p) → So (bit word p)
   pub same : meets-word text places rest first name ≡ meets-word text places word first name
 
@@ -36,7 +35,7 @@ unless-dropped : (there dropped equal : Bool) → dropped ≡ false → ((there 
 unless-dropped true dropped equal f = rw f
 unless-dropped false dropped equal f = refl
 
-module _ (text : Bytes) (places : Places) (word first : ℕ) (name : Bytes) where
+module _ (text : Bytes) (places : List ℕ) (word first : ℕ) (name : Bytes) where
   pub none-walked : Walked text places word first name word
   none-walked = record { part = λ p s. s; same = refl }
 
@@ -71,7 +70,7 @@ module _ (text : Bytes) (places : Places) (word first : ℕ) (name : Bytes) wher
 
 -- ---- a bucket
 
-module _ (table : List ℕ) (text : Bytes) (places : Places) (n : ℕ) (noted : Noted table text places n) where
+module _ (table : List ℕ) (text : Bytes) (places : List ℕ) (n : ℕ) (noted : Noted table text places n) where
   -- a name of the bucket that equals name n stands before it
   pub met-before : (bucket words : ℕ) → words ≤ bucket-words
       → So (meets-bucket text places table bucket words (name-there text places n))
@@ -120,7 +119,7 @@ module _ (table : List ℕ) (text : Bytes) (places : Places) (n : ℕ) (noted : 
           (same-name (name-there text places (j / word-bits * word-bits + j % word-bits)) name) there (rw number p)))
 
 -- one name more that equals none before it
-pub apart-more : (text : Bytes) (places : Places) (n : ℕ) → Apart text places n
+pub apart-more : (text : Bytes) (places : List ℕ) (n : ℕ) → Apart text places n
     → ((j : ℕ) → j < n → same-name (name-there text places j) (name-there text places n) ≡ false)
     → Apart text places (suc n)
 apart-more text places n apart unlike i j h k =
@@ -129,16 +128,15 @@ apart-more text places n apart unlike i j h k =
 -- ---- a turn of the loop that notes the names
 
 -- what is known before the name n is looked at
-pub record Searched (table : List ℕ) (text : Bytes) (places : Places) (n : ℕ) : Type 0 where
+pub record Searched (table : List ℕ) (text : Bytes) (places : List ℕ) (n : ℕ) : Type 0 where
   pub noted : Noted table text places n
   pub apart : Apart text places n
 
-pub none-searched : (text : Bytes) (places : Places) → Searched (replicate (bucket-count * bucket-words) 0) text
+pub none-searched : (text : Bytes) (places : List ℕ) → Searched (replicate (bucket-count * bucket-words) 0) text
     places 0
 none-searched text places = record { noted = none-noted text places; apart = λ i j h k. absurd (not-suc-le-zero k) }
 
-module _ (table : List ℕ) (text : Bytes) (places : Places) (count n : ℕ) (inside : Inside text places count)
-    (l : n < count)
+module _ (table : List ℕ) (text : Bytes) (places : List ℕ) (n : ℕ) (inside : Inside text places) (l : n < length places)
     (searched : Searched table text places n) (name : Bytes) (named : name ≡ name-there text places n) where
   -- the words of a bucket up to that of the name n
   few-words : n / word-bits < bucket-words
@@ -147,11 +145,11 @@ module _ (table : List ℕ) (text : Bytes) (places : Places) (count n : ℕ) (in
 
   -- a name that is met stands twice
   pub met-repeats : (bucket : ℕ) → So (meets-bucket text places table bucket (n / word-bits + 1) name)
-      → So (repeats same-name (names-at text places count))
+      → So (repeats same-name (all-names text places))
   met-repeats bucket met =
       let earlier = met-before table text places n (searched .noted) bucket (n / word-bits + 1)
       (omega (arith, few-words)) (rw named at met) in
-      equal-names-repeat text places count (earlier .0) n (earlier .1) l (earlier .2)
+      equal-names-repeat text places (length places) (earlier .0) n (earlier .1) l (earlier .2)
 
   -- a name that is not met is noted
   pub unmet-searched : (bucket : ℕ) → bucket ≡ bucket-of name → meets-bucket text places table bucket
@@ -169,15 +167,16 @@ module _ (table : List ℕ) (text : Bytes) (places : Places) (count n : ℕ) (in
 
 -- ---- a turn of the loop over few names, each compared with all before it
 
-module _ (text : Bytes) (places : Places) (count n word : ℕ) (l : n < count) (all-before : (q : ℕ)
+module _ (text : Bytes) (places : List ℕ) (n word : ℕ) (l : n < length places) (all-before : (q : ℕ)
     → bit word q ≡ ltb q n) (name : Bytes)
     (named : name ≡ name-there text places n) where
   equal-few : (p : ℕ) → p < n → So (same-name (name-there text places (0 + p)) name)
-      → So (repeats same-name (names-at text places count))
+      → So (repeats same-name (all-names text places))
   equal-few p h equal =
-      let number : 0 + p ≡ p = omega arith in equal-names-repeat text places count p n h l (rw (number, named) at equal)
+      let number : 0 + p ≡ p = omega arith in equal-names-repeat text places (length places) p n h l
+      (rw (number, named) at equal)
 
-  pub met-few : So (meets-word text places word 0 name) → So (repeats same-name (names-at text places count))
+  pub met-few : So (meets-word text places word 0 name) → So (repeats same-name (all-names text places))
   met-few met =
       let found = some-below-elim word-bits (meets-at text places word 0 name) met in
       let p = found .place in

@@ -3,24 +3,15 @@
 -- is written.
 use Prim.Native.Nat.{ℕ}
 use mathlib.Core.Path.{_≡_, refl, sym, ap, _∙_}
-use mathlib.Core.Bool.{Bool, true, false, So, cond}
+use mathlib.Core.Bool.{Bool, true, false, So}
 use mathlib.Core.List.{List, [], _∷_}
 use mathlib.Core.Option.{some}
 use borrow.Author.Tests.{eq-eqb}
-use lib.ListN.{take}
 use Rattle.spec.specs.Text.{Bytes}
 use Rattle.spec.specs.Session.{fresh}
 use Rattle.spec.specs.Refusal.{refusal, accepted, write-causes}
-use Rattle.spec.specs.Calls.{
-  load-answer,
-  after-load,
-  search-answer,
-  WriteAnswer,
-  write-refused,
-  write-answer,
-  buffer-after,
-  Writes,
-}
+use Rattle.spec.specs.Calls.{load-answer, after-load, search-answer, WriteAnswer, write-refused}
+use Rattle.spec.specs.Calls.{Writes}
 use Rattle.spec.specs.Sequence.{load, search, write, Call, Event, WriteOutcome, Led, brought-out}
 use Rattle.spec.specs.Demands.{Judged, Believed, BookOwed, WriteOwed}
 use Rattle.bits.specs.Truth.{not-both}

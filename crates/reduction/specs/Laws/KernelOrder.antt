@@ -10,20 +10,8 @@ use lib.ListN.{length}
 use Rattle.spec.specs.Vocabulary.{empty}
 use Rattle.spec.specs.Sheet.{Sheet, Grant, same-grant, grants}
 use Rattle.spec.specs.Fit.{partners}
-use Rattle.spec.specs.Reduction.{
-  Reduction,
-  dominated,
-  is-single,
-  tied-if,
-  carry-out,
-  visit,
-  visits,
-  sweep,
-  sweeps,
-  unreduced,
-  reduction,
-  kernel,
-}
+use Rattle.spec.specs.Reduction.{Reduction, dominated, is-single, tied-if, carry-out, visit, visits, sweep, sweeps}
+use Rattle.spec.specs.Reduction.{unreduced, reduction, kernel}
 use Rattle.spec.specs.Cover.{grant-at}
 use Rattle.lists.specs.Ordered.{Ordered, ordered-filter, ordered-places}
 use Rattle.cells.specs.Laws.Grant.{grant-held}
@@ -62,16 +50,17 @@ module _ (sheet : Sheet) where
       either true after later = after
       either false after later = later
 
-  kernel-in-order : Ordered Before (kernel sheet)
+  -- the kernel's grants are in order
+  pub kernel-ordered : Ordered Before (kernel sheet)
   unfolding kernel reduction
-  kernel-in-order = sweeps-ordered (suc (length (grants sheet))) (unreduced sheet) (grants-ordered sheet)
+  kernel-ordered = sweeps-ordered (suc (length (grants sheet))) (unreduced sheet) (grants-ordered sheet)
 
   -- a later grant has no lower user
   pub kernel-users-rise : (i j : ℕ) → i < j → j < length (kernel sheet) → grant-at (kernel sheet) i .user ≤ grant-at
       (kernel sheet) j .user
   kernel-users-rise i j k l =
       ⊎-elim (λ lower. le-of-lt lower) (λ same. rw (same .0) (le-refl (grant-at (kernel sheet) j .user)))
-      (ordered-places Before (kernel sheet) kernel-in-order i j (record { user = 0; permission = 0 }) k l)
+      (ordered-places Before (kernel sheet) kernel-ordered i j (record { user = 0; permission = 0 }) k l)
 
   pub kernel-is-held : (i : ℕ) → i < length (kernel sheet) → Held sheet (grant-at (kernel sheet) i)
   kernel-is-held i l = grant-held sheet (kernel-granted sheet (grant-at (kernel sheet) i)

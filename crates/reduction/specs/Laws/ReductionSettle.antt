@@ -19,10 +19,9 @@ use Rattle.bits.specs.Laws.Count.{count-below-add, count-below-none-intro}
 use Rattle.lists.specs.PassingBelow.{passing-below, passing-length}
 use Rattle.cells.specs.Rows.{row-bits}
 use Rattle.cells.specs.CellSets.{cell-grants}
-use Rattle.cells.specs.CellPlaces.{cell-limit, grant-of, marked, Shown, Part}
+use Rattle.cells.specs.CellPlaces.{cell-limit, grant-of, marked, Shown, Part, cells-of}
 use Rattle.cells.specs.Laws.CellPlace.{row-bits-pos}
 use Rattle.cells.specs.Laws.CellList.{marked-holds, grants-by-cell, cell-grants-by-cell}
-use Rattle.verdict.specs.NearCells.{cells-of}
 use Rattle.verdict.specs.Laws.Near.{row-cells}
 use Rattle.verdict.specs.Laws.ReductionVisit.{cells-within}
 use Rattle.verdict.specs.ReductionWork.{Work, state-of, remaining-cells, WorkReady, Visited, Settled}
@@ -134,9 +133,9 @@ module _ {rows : List ℕ} {users : ℕ} {before after : Work} (settling : Settl
       (cell-grants sheet (before .left))
   balance sheet shown =
       rw (
-        remaining-count shown (settling .ready .few-users) (after-ready .part),
+        remaining-count shown (settling .ready .shows .few-users) (after-ready .part),
         remaining-count shown
-            (settling .ready .few-users) (settling .ready .part),
+            (settling .ready .shows .few-users) (settling .ready .part),
       )
       (visited .total)
 

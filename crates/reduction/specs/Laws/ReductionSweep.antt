@@ -14,14 +14,8 @@ use Rattle.bits.specs.Laws.Bit.{bit-of-zero}
 use Rattle.bits.specs.Truth.{and-left, and-right, not-fails}
 use Rattle.bits.specs.Counting.{Lowest}
 use Rattle.bits.specs.Word.{LowestDropped}
-use Rattle.lists.specs.PassingBelow.{
-  passing-below,
-  passing-ext,
-  passing-only,
-  passing-none,
-  passing-lowest,
-  passing-add,
-}
+use Rattle.lists.specs.PassingBelow.{passing-below, passing-ext, passing-only, passing-none, passing-lowest}
+use Rattle.lists.specs.PassingBelow.{passing-add}
 use Rattle.cells.specs.CellPlaces.{marked}
 use Rattle.fit.specs.Laws.FitWord.{marked-in-word}
 use Rattle.verdict.specs.ReductionWork.{Work, word-cells, WorkReady, Visited}

@@ -12,23 +12,8 @@ use lib.ListN.{length}
 use Rattle.spec.specs.Vocabulary.{empty}
 use Rattle.spec.specs.Sheet.{Sheet, Grant, grants}
 use Rattle.spec.specs.Fit.{partners}
-use Rattle.spec.specs.Reduction.{
-  Removal,
-  single,
-  tied,
-  Reduction,
-  dominated,
-  is-single,
-  tied-if,
-  carry-out,
-  visit,
-  visits,
-  sweep,
-  sweeps,
-  unreduced,
-  reduction,
-  kernel,
-}
+use Rattle.spec.specs.Reduction.{Removal, single, tied, Reduction, dominated, is-single, tied-if, carry-out, visit}
+use Rattle.spec.specs.Reduction.{visits, sweep, sweeps, unreduced, reduction, kernel}
 use Rattle.bits.specs.Laws.Below.{last-or-below}
 use Rattle.lists.specs.TestLaws.{first-passes}
 use Rattle.reduction.specs.Laws.Without.{without-member}

@@ -14,7 +14,8 @@ use Rattle.spec.specs.Text.{Bytes, Line, lines-of}
 use Rattle.spec.specs.Sheet.{first-field, is-bit}
 use Rattle.spec.specs.Refusal.{has-name-length}
 use Rattle.names.specs.Places.{part}
-use Rattle.refusal.specs.FieldLaws.{line-fields, first-line-read}
+use Rattle.refusal.specs.FirstLine.{line-fields}
+use Rattle.refusal.specs.Laws.Fields.{first-line-read}
 use Rattle.refusal.specs.ReadLine.{ReadLine}
 use Rattle.refusal.specs.Body.{no-lines, add-read-line, add-line, add-lines, ones-after-names, body-of}
 use Rattle.refusal.specs.declared.line.LineRead.{LineRead}

@@ -9,7 +9,8 @@ use lib.ListN.{length, getD, drop}
 use Rattle.spec.specs.Text.{Bytes, Line}
 use Rattle.lists.specs.DropLaws.{left-below, left-first, left-rest, none-left}
 use Rattle.text.specs.Fields.{field-read}
-use Rattle.refusal.specs.FieldLaws.{line-fields, later-fields, FieldStep, field-step}
+use Rattle.refusal.specs.FirstLine.{line-fields}
+use Rattle.refusal.specs.Laws.Fields.{later-fields, FieldStep, field-step}
 use Rattle.names.specs.Places.{part, Part}
 use Rattle.text.specs.declared.cursor.FieldRead.{FieldRead}
 

@@ -10,40 +10,18 @@ use lib.Dec.{eqb, leb, ltb}
 use lib.ListN.{length, take, drop}
 use Rattle.spec.specs.Vocabulary.{all, repeats}
 use Rattle.spec.specs.Limits.{permission-limit, user-limit, grant-limit}
-use Rattle.spec.specs.Text.{
-  ascii,
-  same-bytes,
-  Bytes,
-  Line,
-  comma,
-  line-feed,
-  between,
-  fields,
-  lines,
-  lines-of,
-  same-name,
-}
+use Rattle.spec.specs.Text.{ascii, same-bytes, Bytes, Line, comma, line-feed, between, fields, lines, lines-of}
+use Rattle.spec.specs.Text.{same-name}
 use Rattle.spec.specs.Sheet.{first-field, sheet-of, grants}
-use Rattle.spec.specs.Refusal.{
-  too-long,
-  bad-bytes,
-  bad-first-line,
-  bad-line-count,
-  has-name-length,
-  bad-name,
-  uneven-line,
-  bad-cell,
-  name-twice,
-  too-many-grants,
-  refuse-if,
-  refusal,
-}
+use Rattle.spec.specs.Refusal.{too-long, bad-bytes, bad-first-line, bad-line-count, has-name-length, bad-name}
+use Rattle.spec.specs.Refusal.{uneven-line, bad-cell, name-twice, too-many-grants, refuse-if, refusal}
 use Rattle.bits.specs.Truth.{same-truth, and-right}
 use Rattle.lists.specs.Span.{span}
 use Rattle.lists.specs.CutLaws.{parted-some}
 use Rattle.lists.specs.TailLaws.{length-tail}
 use Rattle.names.specs.Places.{part}
-use Rattle.refusal.specs.FieldLaws.{line-fields, first-line-read}
+use Rattle.refusal.specs.FirstLine.{line-fields}
+use Rattle.refusal.specs.Laws.Fields.{first-line-read}
 use Rattle.refusal.specs.ReadLine.{ReadLine}
 use Rattle.refusal.specs.Body.{body-of}
 use Rattle.refusal.specs.Laws.Ones.{rows-ones}

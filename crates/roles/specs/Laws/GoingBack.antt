@@ -68,18 +68,18 @@ log-length removed partner zero = refl
 log-length removed partner (suc n) = ap suc (log-length removed partner n)
 
 -- a class of all grants is below as many as the kernel has classes and there are removals
-pub class-below : (kernel : List ℕ) (size : ℕ) (placed removed partner : List ℕ) (count limit : ℕ) → 0 < limit
-    → used (latest-first placed size) + count ≤ limit → (g : Grant)
-    → class-of (classes-in kernel size placed removed partner count .members) g < limit
+pub class-below : (kernel placed removed partner : List ℕ) (limit : ℕ) → 0 < limit
+    → used (latest-first placed (length kernel)) + length removed ≤ limit → (g : Grant)
+    → class-of (classes-in kernel placed removed partner .members) g < limit
 unfolding classes-of
-class-below kernel size placed removed partner count limit pos l g =
-    let start = kernel-classes (listed kernel size) (latest-first placed size) in
+class-below kernel placed removed partner limit pos l g =
+    let start = kernel-classes (listed kernel (length kernel)) (latest-first placed (length kernel)) in
     omega (
       arith,
-      put-all-back-counted (log-of removed partner count) start (paired-counted (reverse (listed kernel size))
-          (latest-first placed size)) g,
-      put-all-back-opens (log-of removed partner count) start,
-      log-length removed partner count,
+      put-all-back-counted (log-of removed partner (length removed)) start
+          (paired-counted (reverse (listed kernel (length kernel))) (latest-first placed (length kernel))) g,
+      put-all-back-opens (log-of removed partner (length removed)) start,
+      log-length removed partner (length removed),
     )
 
 -- ---- all removals gone back over
@@ -90,14 +90,13 @@ pub record GoingBack (class : List ℕ) (count : ℕ) (left : List Removal) (who
   pub at : ClassesAt class count classes
   pub leads : put-all-back left classes ≡ whole
 
-pub going-back-starts : {class : List ℕ} {count : ℕ} (kernel : List ℕ) (size : ℕ) (placed removed partner : List ℕ)
-    (removals : ℕ)
-    → ClassAt class (paired-in kernel placed size) → count ≡ used (latest-first placed size)
-    → GoingBack class count (log-of removed partner removals) (classes-in kernel size placed removed partner removals)
+pub going-back-starts : {class : List ℕ} {count : ℕ} (kernel placed removed partner : List ℕ)
+    → ClassAt class (paired-in kernel placed (length kernel)) → count ≡ used (latest-first placed (length kernel))
+    → GoingBack class count (log-of removed partner (length removed)) (classes-in kernel placed removed partner)
 unfolding classes-of
-going-back-starts kernel size placed removed partner removals each total =
+going-back-starts kernel placed removed partner each total =
     record {
-      classes = kernel-classes (listed kernel size) (latest-first placed size);
+      classes = kernel-classes (listed kernel (length kernel)) (latest-first placed (length kernel));
       at = record { each = each; total = total };
       leads = refl;
     }

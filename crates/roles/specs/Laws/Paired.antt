@@ -7,19 +7,8 @@ use native.Mathlib.Omega.{arith}
 use mathlib.Core.Path.{_≡_, refl, sym, ap, _∙_}
 use mathlib.Core.Logic.{⊎-elim}
 use mathlib.Core.Bool.{false}
-use mathlib.Core.List.{
-  List,
-  [],
-  _∷_,
-  reverse,
-  reverse-reverse,
-  List·Memᴰ,
-  List·Memᴰ·head,
-  List·Memᴰ·tail,
-  List·Memᴰ·not-nil,
-  List·Memᴰ·cases-cons,
-  Memᴰ·cast,
-}
+use mathlib.Core.List.{List, [], _∷_, reverse, reverse-reverse, List·Memᴰ, List·Memᴰ·head, List·Memᴰ·tail}
+use mathlib.Core.List.{List·Memᴰ·not-nil, List·Memᴰ·cases-cons, Memᴰ·cast}
 use lib.ListN.{length, length-reverse}
 use Rattle.spec.specs.Sheet.{Grant, same-grant}
 use Rattle.spec.specs.Cover.{grant-at}

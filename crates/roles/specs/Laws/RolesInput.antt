@@ -48,6 +48,11 @@ granted-cell-below {sheet} shown few n m =
     (div-lt-iff-lt-mul row-bits-pos .0 (lt-of-lt-of-le (shown .few (n / row-bits) (n % row-bits) (grant-held sheet m))
     few))
 
+-- the cells of a whole list, listed
+pub listed-whole : (cells : List ℕ) → listed cells (length cells) ≡ map grant-of cells
+listed-whole cells =
+    sym (map-list-of grant-of (length cells) (λ i. getD cells i 0)) ∙ ap (map grant-of) (list-of-places cells 0)
+
 -- the first cells of an array, listed and taken
 pub listed-taken : (cells : List ℕ) (size : ℕ) → size ≤ length cells → listed cells size ≡ map grant-of
     (take size cells)
@@ -82,26 +87,28 @@ class-limit-pos : 0 < class-limit
 unfolding grant-limit
 class-limit-pos = lit< tt
 
-module _ {rows : List ℕ} {users : ℕ} {cells : List ℕ} {size : ℕ} {placed : List ℕ} {total : ℕ}
-    {removed partner : List ℕ} {count : ℕ}
-    {sheet : Sheet} {placement : List ℕ}
-    (belongs : Belongs rows users cells size placed total removed partner count sheet placement) where
+module _ {rows : List ℕ} {users : ℕ} {cells placed : List ℕ} {total : ℕ} {removed partner : List ℕ} {sheet : Sheet}
+    {placement : List ℕ} (belongs : Belongs rows users cells placed total removed partner sheet placement) where
   -- there is room for the cells of all grants
   pub all-roomy : Roomy rows (users * row-bits)
   all-roomy = shown-roomy (belongs .shown) (part-all rows) (belongs .few-grants)
 
   -- ---- the cells of the kernel and of the log
 
-  pub kernel-below : CellsBelow size cells
+  kernel-whole : listed cells (length cells) ≡ kernel sheet
+  kernel-whole = listed-whole cells ∙ belongs .kernel-listed
+
+  pub kernel-below : CellsBelow (length cells) cells
   kernel-below =
-      listed-below (belongs .shown) (belongs .few-users) cells size (λ g m. kernel-granted sheet g
-      (rw (belongs .kernel-listed) at m))
+      listed-below (belongs .shown) (belongs .few-users) cells (length cells)
+      (λ g m. kernel-granted sheet g (rw kernel-whole at m))
 
-  removal-granted : (i : ℕ) → i < count → RemovalOf (grants sheet) (removal-at removed partner i)
+  removal-granted : (i : ℕ) → i < length removed → RemovalOf (grants sheet) (removal-at removed partner i)
   removal-granted =
-      logged-removal (grants sheet) removed partner count (rw (belongs .log-held) (reduction-granted sheet .removals))
+      logged-removal (grants sheet) removed partner (length removed)
+      (rw (belongs .log-held) (reduction-granted sheet .removals))
 
-  pub removed-below : CellsBelow count removed
+  pub removed-below : CellsBelow (length removed) removed
   removed-below =
       record {
         below = λ i l.
@@ -116,7 +123,7 @@ module _ {rows : List ℕ} {users : ℕ} {cells : List ℕ} {size : ℕ} {placed
       it i true m = m
       it i false m = m .0
 
-  pub partner-below : CellsBelow count partner
+  pub partner-below : CellsBelow (length removed) partner
   partner-below =
       record {
         below = λ i l.
@@ -134,15 +141,15 @@ module _ {rows : List ℕ} {users : ℕ} {cells : List ℕ} {size : ℕ} {placed
   -- ---- classes and roles
 
   -- the classes that the arrays say are those of all grants
-  pub classes-belong : classes-in cells size placed removed partner count ≡ classes-of (reduction sheet) placement
+  pub classes-belong : classes-in cells placed removed partner ≡ classes-of (reduction sheet) placement
   unfolding kernel
   classes-belong = rw (same, belongs .placement-held .so-far)
     where
-      same : reduction-in cells size removed partner count ≡ reduction sheet
-      same = λ i. record { remaining = belongs .kernel-listed i; removed = belongs .log-held i }
+      same : reduction-in cells removed partner ≡ reduction sheet
+      same = λ i. record { remaining = kernel-whole i; removed = belongs .log-held i }
 
   module _ {class : List ℕ} {opened : ℕ} (all : List ℕ) (n : ℕ) (whole : listed all n ≡ grants sheet)
-      (at : ClassesAt class opened (classes-in cells size placed removed partner count)) where
+      (at : ClassesAt class opened (classes-in cells placed removed partner)) where
     pub all-below : CellsBelow n all
     all-below = listed-below (belongs .shown) (belongs .few-users) all n (λ g m. rw whole at m)
 
@@ -160,12 +167,12 @@ module _ {rows : List ℕ} {users : ℕ} {cells : List ℕ} {size : ℕ} {placed
           (few (grant-of (getD all i 0)));
     }
       where
-        counted : used (latest-first placed size) + count ≤ class-limit
+        counted : used (latest-first placed (length cells)) + length removed ≤ class-limit
         counted = rw (belongs .placement-held .so-far, ← belongs .placement-held .in-use)
             (omega (arith, belongs .few-classes, belongs .few-removals))
 
-        few : (g : Grant) → class-of (classes-in cells size placed removed partner count .members) g < class-limit
-        few = class-below cells size placed removed partner count class-limit class-limit-pos counted
+        few : (g : Grant) → class-of (classes-in cells placed removed partner .members) g < class-limit
+        few = class-below cells placed removed partner class-limit class-limit-pos counted
 
     pub all-class-at : ClassAt class (classes-of (reduction sheet) placement .members)
     all-class-at = rw classes-belong at (at .each)

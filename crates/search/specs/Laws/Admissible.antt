@@ -6,10 +6,9 @@ use mathlib.Core.List.{List, _∷_}
 use lib.ListN.{length}
 use native.Mathlib.Nat.{le-of-lt}
 use Rattle.spec.specs.Cover.{used}
-use Rattle.spec.specs.Machine.{Kernel, State, depth, start, step, run, search}
+use Rattle.spec.specs.Machine.{Kernel, State, depth, start, step}
 use Rattle.lists.specs.Classing.{Grown}
 use Rattle.search.specs.Laws.Steps.{Stepped, placing, improving, taking-back, closing, step-cases}
-use Rattle.search.specs.Laws.Runs.{run-keeps, search-keeps}
 
 pub record Admissible (kernel : Kernel) (st : State) : Type 0 where
   pub grown : Grown (st .placed)
@@ -40,11 +39,3 @@ step-admissible kernel st s = by-cases (step-cases kernel st)
         let l : suc (length earlier) ≤ kernel .size = rw e at (s .depth-le) in
         record { grown = g .1; next-le = suc-le-suc (g .0); depth-le = le-of-lt l }
     by-cases (closing e h) = record { grown = tt; next-le = rw e at (s .next-le); depth-le = zero-le }
-
-pub run-admissible : (kernel : Kernel) (budget : ℕ) (st : State) → Admissible kernel st
-    → Admissible kernel (run kernel budget st .state)
-run-admissible kernel = run-keeps kernel (Admissible kernel) (λ st e. step-admissible kernel st)
-
-pub search-admissible : (kernel : Kernel) (budget : ℕ) (st : State) → Admissible kernel st
-    → Admissible kernel (search kernel budget st .state)
-search-admissible kernel = search-keeps kernel (Admissible kernel) (λ st e. step-admissible kernel st)

@@ -7,9 +7,9 @@ use mathlib.Core.Logic.{_⊎_, inl, inr, ⊎-elim}
 use native.Mathlib.Nat.{le-refl, le-of-eq, le-of-lt, le-trans}
 use native.Mathlib.Omega.{arith}
 use Rattle.spec.specs.Cover.{used}
-use Rattle.spec.specs.Machine.{Kernel, State, depth, best-count, step, run, search}
+use Rattle.spec.specs.Machine.{Kernel, State, depth, best-count, step, search}
 use Rattle.search.specs.Laws.Steps.{Stepped, placing, improving, taking-back, closing, step-cases}
-use Rattle.search.specs.Laws.Runs.{run-keeps, search-keeps}
+use Rattle.search.specs.Laws.Runs.{search-keeps}
 
 -- the whole placement was copied as the best one, and has fewer classes than the best before
 pub record Improves (kernel : Kernel) (before after : State) : Type 0 where
@@ -29,20 +29,9 @@ step-keeps-or-improves kernel st = by-cases (step-cases kernel st)
     by-cases (taking-back a earlier e h) = inl refl
     by-cases (closing e h) = inl refl
 
--- a step that is no improvement keeps the best placement
-pub no-improvement-keeps : (kernel : Kernel) (st : State) → (Improves kernel st (step kernel st) → ⊥)
-    → step kernel st .best ≡ st .best
-no-improvement-keeps kernel st h = ⊎-elim (λ e. e) (λ i. absurd (h i)) (step-keeps-or-improves kernel st)
-
 pub step-best-le : (kernel : Kernel) (st : State) → best-count (step kernel st) ≤ best-count st
 step-best-le kernel st =
     ⊎-elim (λ e. le-of-eq (ap used e)) (λ i. le-of-lt (i .better)) (step-keeps-or-improves kernel st)
-
-pub run-best-le : (kernel : Kernel) (budget : ℕ) (st : State) → best-count (run kernel budget st .state) ≤ best-count st
-run-best-le kernel budget st =
-    run-keeps kernel (λ later. best-count later ≤ best-count st) (λ later e l. le-trans (step-best-le kernel later) l)
-    budget st
-    (le-refl (best-count st))
 
 pub search-best-le : (kernel : Kernel) (budget : ℕ) (st : State) → best-count (search kernel budget st .state) ≤
     best-count st

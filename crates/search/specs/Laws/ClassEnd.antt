@@ -13,9 +13,10 @@ use Rattle.spec.specs.Cover.{used}
 use Rattle.spec.specs.Machine.{Kernel, State, depth, best-count, possible, choice}
 use Rattle.bits.specs.Truth.{fails-unless}
 use Rattle.bits.specs.Laws.Below.{below-or-from}
-use Rattle.search.specs.View.{placed-of, kernel-given, class-end, joinable}
+use Rattle.search.specs.declared.machine.Sizes.{Sizes}
+use Rattle.search.specs.View.{kernel-given, class-end, joinable}
 use Rattle.bits.specs.Laws.Cut.{lowest-below-cut}
-use Rattle.search.specs.Laws.Placed.{length-placed-of}
+use Rattle.lists.specs.LatestFirst.{latest-first, latest-first-length}
 
 -- class c may be tried
 pub record Tried (depth size in-use count c : ℕ) : Type 0 where
@@ -65,27 +66,36 @@ possible-tried kernel st c l e =
     }
 
 -- the machine's choice is the lowest class below `class-end` that can be joined
-pub choice-below-end : (table : List ℕ) (size singles witness : ℕ) (classes best : List ℕ) (d next : ℕ)
-    (finished : Bool)
-    → choice (kernel-given table size singles witness)
-    (record { placed = placed-of classes d; next = next; best = placed-of best size; finished = finished })
-    ≡ lowest-below (class-end d size (used (placed-of classes d)) (used (placed-of best size)))
+pub choice-below-end : (table : List ℕ) (sizes : Sizes) (classes best : List ℕ) (d next : ℕ) (finished : Bool)
+    → choice (kernel-given table sizes)
+    (record {
+      placed = latest-first classes d;
+      next = next;
+      best = latest-first best (sizes .kernel);
+      finished =
+          finished;
+    })
+    ≡ lowest-below (class-end d (sizes .kernel) (used (latest-first classes d))
+    (used (latest-first best (sizes .kernel))))
     (joinable table classes d next)
-choice-below-end table size singles witness classes best d next finished =
+choice-below-end table sizes classes best d next finished =
     lowest-below-cut (suc in-use) end (possible kernel st) (joinable table classes d next)
     (class-end-le d size in-use count) same later
   where
     kernel : Kernel
-    kernel = kernel-given table size singles witness
+    kernel = kernel-given table sizes
+
+    size : ℕ
+    size = sizes .kernel
 
     st : State
-    st = record { placed = placed-of classes d; next = next; best = placed-of best size; finished = finished }
+    st = record { placed = latest-first classes d; next = next; best = latest-first best size; finished = finished }
 
     in-use : ℕ
-    in-use = used (placed-of classes d)
+    in-use = used (latest-first classes d)
 
     count : ℕ
-    count = used (placed-of best size)
+    count = used (latest-first best size)
 
     end : ℕ
     end = class-end d size in-use count
@@ -94,7 +104,7 @@ choice-below-end table size singles witness classes best d next finished =
     same c l =
         let w = below-class-end d size in-use count l in
         rw (
-          length-placed-of classes d,
+          latest-first-length classes d,
           lt-ltb d size (w .room),
           lt-ltb (max in-use (suc c)) count (w .below-best),
           and-true,
@@ -104,5 +114,5 @@ choice-below-end table size singles witness classes best d next finished =
     later c l k =
         fails-unless (possible kernel st c) (λ e.
         let w = possible-tried kernel st c (omega arith) e in
-        let m : c < end = within-class-end d size in-use count (rw (length-placed-of classes d) at w) in
+        let m : c < end = within-class-end d size in-use count (rw (latest-first-length classes d) at w) in
         omega arith)

@@ -12,30 +12,15 @@ use native.Mathlib.Nat.{le-trans, eq-or-lt-of-le}
 use native.Mathlib.Omega.{arith}
 use borrow.Author.Tests.{lt-ltb, le-leb}
 use Rattle.spec.specs.Cover.{used}
-use Rattle.spec.specs.Machine.{Kernel, State, depth, best-count, reaches-witness, start, possible, step, run, search}
+use Rattle.spec.specs.Machine.{Kernel, State, depth, best-count, reaches-witness, start, possible, step, search}
 use Rattle.bits.specs.Truth.{and-intro, not-both}
 use Rattle.bits.specs.Laws.Below.{below-or-from}
 use Rattle.lists.specs.Classing.{Classing}
-use Rattle.lists.specs.Beginning.{
-  Begins,
-  nothing-begins,
-  begins-and-goes-on,
-  begins-length-le,
-  begins-used-le,
-  begins-valid,
-  begins-grown,
-}
-use Rattle.search.specs.Laws.Steps.{
-  Chosen,
-  NoneChosen,
-  Stepped,
-  placing,
-  improving,
-  taking-back,
-  closing,
-  step-cases,
-}
-use Rattle.search.specs.Laws.Runs.{run-keeps, search-keeps}
+use Rattle.lists.specs.Beginning.{Begins, nothing-begins, begins-and-goes-on, begins-length-le, begins-used-le}
+use Rattle.lists.specs.Beginning.{begins-valid, begins-grown}
+use Rattle.search.specs.Laws.Steps.{Chosen, NoneChosen, Stepped, placing, improving, taking-back, closing}
+use Rattle.search.specs.Laws.Steps.{step-cases}
+use Rattle.search.specs.Laws.Runs.{search-keeps}
 use Rattle.search.specs.Laws.SoundState.{Whole, SoundState, sound-step}
 use Rattle.search.specs.Laws.Canonical.{canonical}
 
@@ -167,11 +152,6 @@ passed-step kernel st s p = by-cases (step-cases kernel st)
 both-step : (kernel : Kernel) (st : State) → st .finished ≡ false → SoundState kernel st × Passed kernel st
     → SoundState kernel (step kernel st) × Passed kernel (step kernel st)
 both-step kernel st e h = (sound-step kernel st (h .0), passed-step kernel st (h .0) (h .1))
-
-pub passed-run : (kernel : Kernel) (budget : ℕ) (st : State) → SoundState kernel st → Passed kernel st
-    → Passed kernel (run kernel budget st .state)
-passed-run kernel budget st s p =
-    run-keeps kernel (λ later. SoundState kernel later × Passed kernel later) (both-step kernel) budget st (s, p) .1
 
 pub passed-search : (kernel : Kernel) (budget : ℕ) (st : State) → SoundState kernel st → Passed kernel st
     → Passed kernel (search kernel budget st .state)

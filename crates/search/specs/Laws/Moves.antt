@@ -17,27 +17,21 @@ use Rattle.spec.specs.Cover.{used}
 use Rattle.spec.specs.Machine.{State, choice, place, take-back-or-close, move, step}
 use Rattle.search.specs.declared.machine.Cursor.{Cursor}
 use Rattle.search.specs.declared.machine.Position.{Position}
+use Rattle.search.specs.declared.machine.Sizes.{Sizes}
 use Rattle.search.specs.Marks.{mark-limit}
-use Rattle.search.specs.View.{
-  placed-of,
-  kernel-given,
-  view,
-  Trail,
-  PositionStands,
-  class-end,
-  joinable,
-  CursorPlaced,
-  taken-back,
-}
-use Rattle.search.specs.Laws.Placed.{length-placed-of, placed-of-next, grown-class-le}
+use Rattle.search.specs.View.{kernel-given, view, Trail, PositionStands, class-end, joinable, CursorPlaced}
+use Rattle.search.specs.View.{taken-back}
+use Rattle.search.specs.Laws.Placed.{grown-class-le}
 use Rattle.search.specs.Laws.Trail.{trail-used-le, trail-placed, trail-taken-back}
 use Rattle.search.specs.Laws.ClassEnd.{Tried, below-class-end, choice-below-end}
 use Rattle.bits.specs.Laws.Cut.{getD-found, getD-missing}
+use Rattle.lists.specs.LatestFirst.{latest-first, latest-first-length, latest-first-next}
 
 -- the view of a position moves as the machine does in one step, and the position stands
-abbrev pub Follows : List ℕ → ℕ → ℕ → ℕ → Position → Position → Type 0
-Follows table size singles witness before after =
-    (view after size ≡ step (kernel-given table size singles witness) (view before size)) × PositionStands size after
+abbrev pub Follows : List ℕ → Sizes → Position → Position → Type 0
+Follows table sizes before after =
+    (view after (sizes .kernel) ≡ step (kernel-given table sizes) (view before (sizes .kernel)))
+    × PositionStands (sizes .kernel) after
 
 -- a class was found for the next grant below the end of the classes to try, or it is the end
 pub record Looked (table : List ℕ) (size : ℕ) (position : Position) (end class : ℕ) : Type 0 where
@@ -85,39 +79,39 @@ module _ {size : ℕ} {p : Position} (s : PositionStands size p) where
 
 -- ---- what the machine chooses
 
-module _ (table : List ℕ) (size singles witness : ℕ) (p : Position) (s : PositionStands size p) {end class : ℕ}
-    (w : Looked table size p end class) where
+module _ (table : List ℕ) (sizes : Sizes) (p : Position) (s : PositionStands (sizes .kernel) p) {end class : ℕ}
+    (w : Looked table (sizes .kernel) p end class) where
   -- the machine's choice is what was looked for
-  choice-looked : choice (kernel-given table size singles witness) (view p size)
+  choice-looked : choice (kernel-given table sizes) (view p (sizes .kernel))
       ≡ lowest-below end (joinable table (p .classes) (p .cursor .depth) (p .cursor .next))
   choice-looked =
-      choice-below-end table size singles witness (p .classes) (p .best) (p .cursor .depth) (p .cursor .next)
+      choice-below-end table sizes (p .classes) (p .best) (p .cursor .depth) (p .cursor .next)
       (p .cursor .finished)
       ∙ rw (← s .trail .used-counted, ← s .best-counted, ← w .ends)
 
   steps-by-placing : class < end
-      → step (kernel-given table size singles witness) (view p size) ≡ place (kernel-given table size singles witness)
-      (view p size) class
+      → step (kernel-given table sizes) (view p (sizes .kernel)) ≡ place (kernel-given table sizes)
+      (view p (sizes .kernel)) class
   unfolding step
   steps-by-placing l =
-      ap (move (kernel-given table size singles witness) (view p size))
+      ap (move (kernel-given table sizes) (view p (sizes .kernel)))
       (choice-looked
       ∙ getD-found (lowest-below end (joinable table (p .classes) (p .cursor .depth) (p .cursor .next))) end
       (w .finds) l)
 
   steps-by-taking-back : end ≤ class
-      → step (kernel-given table size singles witness) (view p size) ≡ take-back-or-close (view p size)
-      (placed-of (p .classes) (p .cursor .depth))
+      → step (kernel-given table sizes) (view p (sizes .kernel)) ≡ take-back-or-close (view p (sizes .kernel))
+      (latest-first (p .classes) (p .cursor .depth))
   unfolding step
   steps-by-taking-back l =
-      ap (move (kernel-given table size singles witness) (view p size))
+      ap (move (kernel-given table sizes) (view p (sizes .kernel)))
       (choice-looked ∙ getD-missing end (joinable table (p .classes) (p .cursor .depth) (p .cursor .next)) (w .finds) l)
 
   -- ---- the four ways
 
   -- no grant is placed, and no class is found: the search is closed
   pub closes : end ≤ class → p .cursor .depth ≡ 0
-      → Follows table size singles witness p
+      → Follows table sizes p
       (record {
         cursor =
             record {
@@ -139,9 +133,9 @@ module _ (table : List ℕ) (size singles witness : ℕ) (p : Position) (s : Pos
   -- no class is found: the latest grant is taken back
   pub takes-back : end ≤ class → 0 < p .cursor .depth → (after : Cursor)
       → after ≡ taken-back (p .cursor) (getD (p .classes) (p .cursor .depth - 1) 0)
-      → Follows table size singles witness p (record { cursor = after; classes = p .classes; best = p .best })
+      → Follows table sizes p (record { cursor = after; classes = p .classes; best = p .best })
   takes-back l pos after e = (
-    rw (e, steps-by-taking-back l, ap (placed-of (p .classes)) latest)
+    rw (e, steps-by-taking-back l, ap (latest-first (p .classes)) latest)
         (same-state refl (add-one (getD (p .classes) (p .cursor .depth - 1) 0)) refl refl),
     record {
       size-within = s .size-within;
@@ -156,27 +150,28 @@ module _ (table : List ℕ) (size singles witness : ℕ) (p : Position) (s : Pos
   -- the next grant is placed in the class found
   module _ (l : class < end) (stored : p .cursor .depth < length (p .classes)) (after : Cursor)
       (placed : CursorPlaced (p .cursor) class after) where
-    placed-next : placed-of (set (p .classes) (p .cursor .depth) class) (after .depth) ≡ class ∷ placed-of
+    placed-next : latest-first (set (p .classes) (p .cursor .depth) class) (after .depth) ≡ class ∷ latest-first
         (p .classes) (p .cursor .depth)
     placed-next =
-        ap (placed-of (set (p .classes) (p .cursor .depth) class)) (placed .depth) ∙ placed-of-next (p .classes)
+        ap (latest-first (set (p .classes) (p .cursor .depth) class)) (placed .depth) ∙ latest-first-next (p .classes)
         (p .cursor .depth) class stored
 
-    trail-after : Trail size (after .depth) (after .used) (after .opened) (set (p .classes) (p .cursor .depth) class)
+    trail-after : Trail (sizes .kernel) (after .depth) (after .used) (after .opened)
+        (set (p .classes) (p .cursor .depth) class)
     trail-after =
         let t = tried s (w .ends) l in
         rw (placed .depth)
         (trail-placed (s .trail) class (after .used) (after .opened) stored (t .room) (t .used-or-next)
         (placed .in-use) (placed .opened))
 
-    pub places : (suc (p .cursor .depth) ≡ size → ⊥)
-        → Follows table size singles witness p
+    pub places : (suc (p .cursor .depth) ≡ sizes .kernel → ⊥)
+        → Follows table sizes p
         (record { cursor = after; classes = set (p .classes) (p .cursor .depth) class; best = p .best })
     places not-whole = (
       rw (
         steps-by-placing l,
-        length-placed-of (p .classes) (p .cursor .depth),
-        ne-eqb (suc (p .cursor .depth)) size
+        latest-first-length (p .classes) (p .cursor .depth),
+        ne-eqb (suc (p .cursor .depth)) (sizes .kernel)
             not-whole,
       )
           (same-state placed-next (placed .next) refl (placed .finished)),
@@ -184,8 +179,9 @@ module _ (table : List ℕ) (size singles witness : ℕ) (p : Position) (s : Pos
     )
 
     -- all grants are placed: the placement is the best one
-    pub improves : suc (p .cursor .depth) ≡ size → (finished : Bool) → finished ≡ eqb (after .used + singles) witness
-        → Follows table size singles witness p
+    pub improves : suc (p .cursor .depth) ≡ sizes .kernel → (finished : Bool)
+        → finished ≡ eqb (after .used + sizes .singles) (sizes .witness)
+        → Follows table sizes p
         (record {
           cursor =
               record {
@@ -202,17 +198,18 @@ module _ (table : List ℕ) (size singles witness : ℕ) (p : Position) (s : Pos
     improves whole finished e = (
       rw (
         steps-by-placing l,
-        length-placed-of (p .classes) (p .cursor .depth),
-        eq-eqb (suc (p .cursor .depth)) size
+        latest-first-length (p .classes) (p .cursor .depth),
+        eq-eqb (suc (p .cursor .depth)) (sizes .kernel)
             whole,
       )
           (same-state placed-next (placed .next) best-is (e ∙ rw counted)),
       record { size-within = s .size-within; trail = trail-after; best-counted = counted ∙ ap used (sym best-is) },
     )
       where
-        best-is : placed-of (set (p .classes) (p .cursor .depth) class) size ≡ class ∷ placed-of (p .classes)
+        best-is : latest-first (set (p .classes) (p .cursor .depth) class) (sizes .kernel) ≡ class ∷ latest-first
+            (p .classes)
             (p .cursor .depth)
-        best-is = rw (← whole) (placed-of-next (p .classes) (p .cursor .depth) class stored)
+        best-is = rw (← whole) (latest-first-next (p .classes) (p .cursor .depth) class stored)
 
-        counted : after .used ≡ max (suc class) (used (placed-of (p .classes) (p .cursor .depth)))
+        counted : after .used ≡ max (suc class) (used (latest-first (p .classes) (p .cursor .depth)))
         counted = placed .in-use ∙ ap (max (suc class)) (s .trail .used-counted)

@@ -7,25 +7,18 @@ use mathlib.Core.Logic.{_⊎_, inl, inr, ⊎-elim}
 use mathlib.Core.Bool.{So}
 use mathlib.Core.List.{List, _∷_}
 use lib.ListN.{length}
-use native.Mathlib.Nat.{le-refl, le-trans, le-of-eq, le-of-lt}
+use native.Mathlib.Nat.{le-trans, le-of-eq}
 use native.Mathlib.Omega.{arith}
 use Rattle.spec.specs.Limits.{search-limit}
 use Rattle.spec.specs.Machine.{Kernel, State, depth, start, step, run, search}
 use Rattle.spec.specs.Sequence.{enough}
 use Rattle.bits.specs.Truth.{passes-or-fails}
-use Rattle.bits.specs.Laws.Below.{below-or-from}
 use Rattle.lists.specs.GrownLaws.{grown-used-le}
 use Rattle.search.specs.Laws.Steps.{Chosen, Stepped, placing, improving, taking-back, closing, step-cases}
-use Rattle.search.specs.Laws.Runs.{run-finished, run-step, run-steps-le, run-settles, search-within}
+use Rattle.search.specs.Laws.Runs.{run-finished, run-step, search-within}
 use Rattle.search.specs.Laws.Admissible.{Admissible, start-admissible, step-admissible}
-use Rattle.search.specs.Laws.Potential.{
-  potential,
-  potential-of,
-  potential-start,
-  potential-positive,
-  placing-lowers,
-  taking-back-lowers,
-}
+use Rattle.search.specs.Laws.Potential.{potential, potential-of, potential-start, potential-positive}
+use Rattle.search.specs.Laws.Potential.{placing-lowers, taking-back-lowers}
 
 -- where grant d is not placed, one more is left than after it
 one-more-left : (size d : ℕ) → d < size → size - d ≡ suc (size - suc d)
@@ -87,17 +80,6 @@ pub enough-ends-search : (kernel : Kernel) (first : List ℕ) (budget : ℕ) →
     → So (search kernel budget (start kernel first) .state .finished)
 enough-ends-search kernel first budget s l =
     rw (search-within kernel budget (start kernel first) s) (enough-ends kernel first budget l)
-
--- no budget leads to more steps
-pub steps-le-enough : (kernel : Kernel) (first : List ℕ) (budget : ℕ) → run kernel budget (start kernel first) .steps
-    ≤ enough (kernel .size)
-steps-le-enough kernel first budget =
-    let bound = enough (kernel .size) in
-    ⊎-elim (λ l. le-trans (run-steps-le kernel budget (start kernel first)) (le-of-lt l))
-    (λ l.
-    rw (run-settles kernel bound budget (start kernel first) l (enough-ends kernel first bound (le-refl bound)))
-    (run-steps-le kernel bound (start kernel first)))
-    (below-or-from budget bound)
 
 -- the number of steps that the paper gives for its kernel of 12 grants
 twelve-grants : enough 12 ≡ 1_045_912_627

@@ -2,7 +2,7 @@
 -- its budget or stops early unfinished, and what each step keeps every run keeps. Each law is an induction on the
 -- budget by `run-finished` and `run-step`. Assumes nothing.
 use Prim.Native.Nat.{ℕ, zero, suc, _+_, _-_, _≤_, _<_, zero-le, suc-le-suc}
-use mathlib.Core.Path.{_≡_, refl, ap, _∙_}
+use mathlib.Core.Path.{_≡_, refl, ap}
 use mathlib.Core.Logic.{⊎-elim}
 use mathlib.Core.Bool.{false, So}
 use native.Mathlib.Nat.{zero-add, suc-add, add-zero, add-sub-of-le}
@@ -105,13 +105,6 @@ pub search-above : (kernel : Kernel) (budget : ℕ) (st : State) → search-limi
     ≡ no-step st
 unfolding search
 search-above kernel budget st l = rw (lt-ltb search-limit (kernel .size) l)
-
-pub search-finished : (kernel : Kernel) (budget : ℕ) (st : State) → So (st .finished) → search kernel budget st ≡
-    no-step st
-search-finished kernel budget st e =
-    ⊎-elim (λ l. search-above kernel budget st l) (λ l. search-within kernel budget st l ∙ run-finished kernel budget
-    st e)
-    (below-or-from search-limit (kernel .size))
 
 pub search-add : (kernel : Kernel) (m n : ℕ) (st : State)
     → search kernel (m + n) st ≡ followed-by (search kernel m st) (search kernel n (search kernel m st .state))

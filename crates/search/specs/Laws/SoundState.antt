@@ -8,12 +8,11 @@ use lib.ListN.{length}
 use native.Mathlib.Nat.{le-refl}
 use native.Mathlib.Omega.{arith}
 use Rattle.spec.specs.Cover.{used}
-use Rattle.spec.specs.Machine.{Kernel, State, depth, best-count, start, step, run, search}
-use Rattle.lists.specs.Classing.{class-in, Valid, Grown, Classing}
+use Rattle.spec.specs.Machine.{Kernel, State, depth, best-count, start, step, search}
+use Rattle.lists.specs.Classing.{Valid, Grown}
 use Rattle.lists.specs.GrownLaws.{grown-used-le}
-use Rattle.lists.specs.PlacementLaws.{valid-is-classing}
 use Rattle.search.specs.Laws.Steps.{Stepped, placing, improving, taking-back, closing, step-cases}
-use Rattle.search.specs.Laws.Runs.{run-keeps, search-keeps}
+use Rattle.search.specs.Laws.Runs.{search-keeps}
 use Rattle.search.specs.Laws.Admissible.{Admissible, start-admissible, step-admissible}
 
 -- a placement of the whole kernel: valid, and its classes are numbered by first appearance
@@ -76,16 +75,6 @@ sound-step kernel st s = by-cases (step-cases kernel st) (step-admissible kernel
               (s .whole-no-better);
         }
 
-pub sound-run : (kernel : Kernel) (budget : ℕ) (st : State) → SoundState kernel st
-    → SoundState kernel (run kernel budget st .state)
-sound-run kernel = run-keeps kernel (SoundState kernel) (λ st e. sound-step kernel st)
-
 pub sound-search : (kernel : Kernel) (budget : ℕ) (st : State) → SoundState kernel st
     → SoundState kernel (search kernel budget st .state)
 sound-search kernel = search-keeps kernel (SoundState kernel) (λ st e. sound-step kernel st)
-
--- the best placement classes the kernel
-pub best-is-classing : (kernel : Kernel) (st : State) → SoundState kernel st
-    → Classing (kernel .fit) (kernel .size) (best-count st) (class-in (st .best))
-best-is-classing kernel st s =
-    rw (s .best-whole .size) at (valid-is-classing (kernel .fit) (st .best) (s .best-whole .valid))

@@ -10,20 +10,8 @@ use lib.Dec.{eqb}
 use native.Mathlib.Omega.{arith}
 use borrow.Author.Tests.{ltb-true, leb-true, eqb-true, eqb-false}
 use Rattle.spec.specs.Cover.{used, joins}
-use Rattle.spec.specs.Machine.{
-  Kernel,
-  State,
-  depth,
-  best-count,
-  possible,
-  choice,
-  improved,
-  placed-in,
-  place,
-  take-back-or-close,
-  move,
-  step,
-}
+use Rattle.spec.specs.Machine.{Kernel, State, depth, best-count, possible, choice, improved, placed-in, place}
+use Rattle.spec.specs.Machine.{take-back-or-close, move, step}
 use Rattle.bits.specs.Laws.Lowest.{lowest-below-elim, lowest-below-none-elim}
 
 -- class c is the one in which grant d is placed

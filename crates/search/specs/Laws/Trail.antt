@@ -16,10 +16,10 @@ use Rattle.bits.specs.Truth.{passes-or-fails}
 use Rattle.bits.specs.Counting.{one-if}
 use Rattle.bits.specs.Laws.Below.{last-or-below}
 use Rattle.lists.specs.GrownLaws.{grown-used-le}
+use Rattle.lists.specs.LatestFirst.{latest-first, latest-first-length, latest-first-later}
 use Rattle.search.specs.declared.marks.Marks.{Marks}
 use Rattle.search.specs.Marks.{marked}
-use Rattle.search.specs.View.{placed-of, Trail}
-use Rattle.search.specs.Laws.Placed.{length-placed-of, placed-of-set}
+use Rattle.search.specs.View.{Trail}
 
 -- no grant is placed
 pub trail-none : (size : ℕ) (opened : Marks) (classes : List ℕ) → Trail size 0 0 opened classes
@@ -30,7 +30,13 @@ trail-none size opened classes =
 pub trail-used-le : {size depth in-use : ℕ} {opened : Marks} {classes : List ℕ} → Trail size depth in-use opened
     classes → in-use ≤ depth
 trail-used-le {depth} {in-use} {classes} s =
-    omega (arith, s .used-counted, grown-used-le (placed-of classes depth) (s .grown), length-placed-of classes depth)
+    omega (
+      arith,
+      s .used-counted,
+      grown-used-le (latest-first classes depth) (s .grown),
+      latest-first-length classes
+          depth,
+    )
 
 -- grant d placed in a class that is in use or the next one
 pub trail-placed : {size d in-use : ℕ} {opened : Marks} {classes : List ℕ} → Trail size d in-use opened classes
@@ -49,11 +55,11 @@ trail-placed {size} {d} {in-use} {opened} {classes} s class in-use′ opened′ 
     here : getD (set classes d class) d 0 ≡ class
     here = getD-set-same classes d class 0 stored
 
-    earlier : placed-of (set classes d class) d ≡ placed-of classes d
-    earlier = placed-of-set classes d d class (le-refl d)
+    earlier : latest-first (set classes d class) d ≡ latest-first classes d
+    earlier = latest-first-later classes d class d (le-refl d)
 
     opens : (i : ℕ) → i < suc d → marked opened′ i ≡ eqb (getD (set classes d class) i 0)
-        (used (placed-of (set classes d class) i))
+        (used (latest-first (set classes d class) i))
     opens i k =
         ⊎-elim
         (λ (e : i ≡ d). marks i ∙ rw (e, eq-eqb d d refl, here, earlier, s .used-counted))
@@ -62,8 +68,7 @@ trail-placed {size} {d} {in-use} {opened} {classes} s class in-use′ opened′ 
         ∙ rw (
           ne-eqb i d (λ e. omega arith),
           getD-set-other classes d i class 0 (λ e. omega arith),
-          placed-of-set
-              classes i d class (omega arith),
+          latest-first-later classes d class i (omega arith),
         )
         (s .opened-marked i h))
         (last-or-below k)
@@ -80,17 +85,17 @@ trail-taken-back {size} {in-use} d {opened} {classes} s =
       opened-marked = λ i l. s .opened-marked i (le-step l);
     }
   where
-    counted : in-use - one-if (marked opened d) ≡ used (placed-of classes d)
+    counted : in-use - one-if (marked opened d) ≡ used (latest-first classes d)
     counted =
         ⊎-elim
         (λ e.
-        let opened-it : getD classes d 0 ≡ used (placed-of classes d) = eqb-true (getD classes d 0)
-        (used (placed-of classes d)) e in
+        let opened-it : getD classes d 0 ≡ used (latest-first classes d) = eqb-true (getD classes d 0)
+        (used (latest-first classes d)) e in
         rw (s .opened-marked d (le-refl (suc d)), e) (omega (arith, s .used-counted)))
         (λ e.
-        let joined-it = eqb-false (getD classes d 0) (used (placed-of classes d)) e in
+        let joined-it = eqb-false (getD classes d 0) (used (latest-first classes d)) e in
         rw (s .opened-marked d (le-refl (suc d)), e) (omega (arith, s .used-counted, s .grown .0)))
-        (passes-or-fails (eqb (getD classes d 0) (used (placed-of classes d))))
+        (passes-or-fails (eqb (getD classes d 0) (used (latest-first classes d))))
 
 -- a class is in use where a grant is placed
 pub trail-used-pos : {size in-use : ℕ} (d : ℕ) {opened : Marks} {classes : List ℕ} → Trail size (suc d) in-use opened

@@ -6,7 +6,7 @@ use borrow.Author.Needs.{needs}
 use Rattle.spec.specs.Limits.{search-limit}
 use Rattle.search.specs.Laws.Carried.{searched-steps-le}
 use Rattle.search.specs.View.{PositionStands, kernel-given, view}
-use Rattle.search_cases.specs.Crown.{grants, part, most}
+use Rattle.search_cases.specs.Crown.{grants, sizes, part, most}
 use Rattle.search_cases.proofs.many_searches.Statement.{statement}
 use Rattle.search_cases.proofs.many_searches.Tie as tie
 
@@ -32,7 +32,7 @@ few-steps c =
     let at-loop = c .before .before .before .before in
     let start = at-loop .before .before in
     let fit = start .args .fit .now in
-    searched-steps-le (kernel-given fit grants 0 3) part grants (view (at-loop .loop .position) grants)
+    searched-steps-le (kernel-given fit sizes) part grants (view (at-loop .loop .position) grants)
     (c .search .result)
     (c .search .ensures .0)
 

@@ -4,7 +4,7 @@ use borrow.Author.Needs.{needs}
 use Prim.Native.Nat.{_≤_}
 use Rattle.spec.specs.Limits.{search-limit}
 use Rattle.search.specs.Laws.Carried.{started-stands}
-use Rattle.search_cases.specs.Crown.{users, grants}
+use Rattle.search_cases.specs.Crown.{users, grants, sizes}
 use Rattle.search_cases.proofs.start.Statement.{statement}
 use Rattle.search_cases.proofs.start.Tie as tie
 
@@ -14,7 +14,7 @@ few = omega arith
 
 returns : tie.Need-returns
 returns c =
-    rw (c .start .ensures) (started-stands (c .before .by-user .result) grants users 0 3 (c .before .by-user .ensures)
+    rw (c .start .ensures) (started-stands (c .before .by-user .result) users sizes (c .before .by-user .ensures)
     few)
 
 pub start-spec : {M : Type 1} → statement M

@@ -1,31 +1,28 @@
 -- A session made anew from an accepted sheet: it keeps the sheet's bytes, what was found of them, and the position
 -- before the first step with the first cover as its best placement. So it stands for that sheet where the machine
 -- starts, and is one with an accepted sheet.
-use Prim.Native.Nat.{ℕ, _+_, _≤_, _<_}
-use native.Mathlib.Omega.{arith}
+use Prim.Native.Nat.{ℕ, _+_, _≤_}
 use mathlib.Core.Path.{_≡_, refl, sym, ap, _∙_}
 use mathlib.Core.Bool.{Bool, true, false, So, cond}
 use mathlib.Core.List.{List}
 use borrow.Author.Tests.{leb-true}
 use lib.Dec.{eqb, leb}
-use lib.ListN.{length, getD}
+use lib.ListN.{length}
 use Rattle.spec.specs.Limits.{search-limit}
 use Rattle.spec.specs.Text.{Bytes}
 use Rattle.spec.specs.Sheet.{sheet-of}
-use Rattle.spec.specs.Cover.{used, first-best}
+use Rattle.spec.specs.Cover.{used}
 use Rattle.spec.specs.Machine.{State, best-count}
 use Rattle.spec.specs.Roles.{kernel-of, start-of}
 use Rattle.spec.specs.Session.{loaded}
-use Rattle.lists.specs.PlacementLaws.{class-below-used}
-use Rattle.lists.specs.GrownLaws.{grown-used-le}
-use Rattle.lists.specs.LatestFirst.{latest-first, latest-first-length, latest-first-class}
-use Rattle.search.specs.View.{placed-of, started, PositionStands}
+use Rattle.lists.specs.LatestFirst.{latest-first}
+use Rattle.search.specs.View.{started, PositionStands}
 use Rattle.search.specs.View as position
 use Rattle.search.specs.Laws.Carried.{started-stands}
 use Rattle.search.specs.declared.machine.Position.{Position}
-use Rattle.minimality.specs.SheetRoles.{first-best-whole}
 use Rattle.minimality.specs.StateBound.{searching-start}
 use Rattle.session.specs.Prepared.{PreparedFor}
+use Rattle.session.specs.Laws.TableKernel.{sizes-found}
 use Rattle.session.specs.CodeSession.{text-in, size-in, state-in, view, Holds}
 use Rattle.session.specs.declared.prepared.Prepared.{Prepared}
 use Rattle.session.specs.declared.Session.{Session as CodeSession}
@@ -33,19 +30,6 @@ use Rattle.session.specs.declared.Session.{Session as CodeSession}
 -- ---- the first cover
 
 module _ {text : Bytes} {p : Prepared} (found : PreparedFor text p) where
-  -- each of its classes is below the size of the kernel
-  pub first-class-below : (i : ℕ) → i < p .kernel .size → getD (p .first .classes) i 0 < p .kernel .size
-  first-class-below i l =
-      omega (
-        arith,
-        rw (latest-first-class (p .first .classes) (p .kernel .size) l, found .first .so-far) at
-            (class-below-used (latest-first (p .first .classes) (p .kernel .size)) {i = i}
-            (rw (latest-first-length (p .first .classes) (p .kernel .size)) l)),
-        grown-used-le (first-best (sheet-of text)) (first-best-whole (sheet-of text) .grown),
-        ap length (found .first .so-far),
-        latest-first-length (p .first .classes) (p .kernel .size),
-      )
-
   -- its class count is that of the machine's start
   first-counted : p .first .used ≡ best-count (start-of (sheet-of text))
   unfolding start-of
@@ -61,9 +45,9 @@ module _ {text : Bytes} {p : Prepared} (found : PreparedFor text p) where
   )
 
   -- the position before the first step, with the first cover as its best placement
-  started-at : (first : List ℕ) → placed-of first (p .kernel .size) ≡ latest-first (p .first .classes) (p .kernel .size)
-      → position.view (started first (p .first .used) (p .reduced .singles) (p .witness .count)) (p .kernel .size) ≡
-      start-of (sheet-of text)
+  started-at : (first : List ℕ)
+      → latest-first first (p .kernel .size) ≡ latest-first (p .first .classes) (p .kernel .size)
+      → position.view (started first (p .first .used) (sizes-found p)) (p .kernel .size) ≡ start-of (sheet-of text)
   unfolding start-of
   started-at first e = rw (e, found .first .so-far, first-finishes)
 
@@ -81,10 +65,9 @@ pub record Anew (text : Bytes) (s : CodeSession) : Type 0 where
   pub kept : text-in s ≡ text
   pub found : PreparedFor text (s .prepared)
   pub first : List ℕ
-  pub same : size-in s ≤ search-limit → placed-of first (size-in s) ≡ latest-first (s .prepared .first .classes)
+  pub same : size-in s ≤ search-limit → latest-first first (size-in s) ≡ latest-first (s .prepared .first .classes)
       (size-in s)
-  pub starts : s .position ≡ started first (s .prepared .first .used) (s .prepared .reduced .singles)
-      (s .prepared .witness .count)
+  pub starts : s .position ≡ started first (s .prepared .first .used) (sizes-found (s .prepared))
 
 module _ {text : Bytes} {s : CodeSession} (anew : Anew text s) where
   -- its machine is at the start
@@ -105,8 +88,7 @@ module _ {text : Bytes} {s : CodeSession} (anew : Anew text s) where
   stands-anew : size-in s ≤ search-limit → PositionStands (size-in s) (s .position)
   stands-anew l =
       rw (anew .starts)
-      (started-stands (anew .first) (size-in s) (s .prepared .first .used) (s .prepared .reduced .singles)
-      (s .prepared .witness .count)
+      (started-stands (anew .first) (s .prepared .first .used) (sizes-found (s .prepared))
       (anew .found .first .in-use ∙ ap used (sym (anew .found .first .so-far) ∙ sym (anew .same l))) l)
 
   pub holds-anew : Holds s

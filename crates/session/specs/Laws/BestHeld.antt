@@ -6,7 +6,8 @@ use native.Mathlib.Omega.{arith}
 use mathlib.Core.Path.{_≡_, sym, ap, _∙_}
 use mathlib.Core.Logic.{⊎-elim}
 use mathlib.Core.List.{List}
-use borrow.Author.Tests.{lt-leb}
+use borrow.Author.Tests.{lt-leb, lt-ltb, le-ltb}
+use lib.ListN.{length, take}
 use Rattle.spec.specs.Limits.{permission-limit, grant-limit, search-limit}
 use Rattle.spec.specs.Sheet.{sheet-of}
 use Rattle.spec.specs.Cover.{first-best}
@@ -22,7 +23,7 @@ use Rattle.roles.specs.Laws.ReducedBelongs.{reduced-belongs}
 use Rattle.blocks.specs.Laws.Laid.{few-users}
 use Rattle.form.specs.Laws.RoleLimit.{permissions-fit-a-row}
 use Rattle.session.specs.CodeSession.{text-in, size-in, state-in, Holds}
-use Rattle.session.specs.BestOf.{BestOf}
+use Rattle.session.specs.BestOf.{best-classes}
 use Rattle.session.specs.Laws.MovedOn.{state-within}
 use Rattle.session.specs.Laws.CountsHeld.{roles-held, few-roles-held}
 use Rattle.session.specs.declared.Session.{Session as CodeSession}
@@ -32,37 +33,37 @@ best-above : (s : CodeSession) → search-limit < size-in s → state-in s .best
 unfolding start-of
 best-above s l = rw (lt-leb (size-in s) search-limit l)
 
--- the best placement as an array, with its class count
-abbrev pub BestIn : CodeSession → List ℕ → Type 0
-BestIn s classes = Placed (state-in s .best) classes (size-in s) (s .position .cursor .count)
+-- the classes of the best placement
+abbrev pub best-in : CodeSession → List ℕ
+best-in s = best-classes (s .prepared .first .classes) (s .position .best) (size-in s)
 
--- the sheet's roles are found from these arrays and that one
-abbrev pub BelongsIn : CodeSession → List ℕ → Type 0
-BelongsIn s classes =
-    Belongs (s .prepared .rows) (s .prepared .layout .users) (s .prepared .kernel .cells) (size-in s) classes
-    (s .position .cursor .count)
-    (s .prepared .reduced .removed) (s .prepared .reduced .partner) (s .prepared .reduced .count)
-    (sheet-of (text-in s)) (state-in s .best)
+-- the sheet's roles are found from these parts of what the session keeps
+abbrev pub BelongsIn : CodeSession → Type 0
+BelongsIn s =
+    Belongs (s .prepared .rows) (s .prepared .layout .users) (take (size-in s) (s .prepared .kernel .cells))
+    (take (size-in s) (best-in s)) (s .position .cursor .count)
+    (take (s .prepared .reduced .count) (s .prepared .reduced .removed))
+    (take (s .prepared .reduced .count) (s .prepared .reduced .partner)) (sheet-of (text-in s)) (state-in s .best)
+
+-- and so from lists that are these parts
+pub parts-belong-in : (s : CodeSession) → BelongsIn s → {cells classes removed partner : List ℕ}
+    → cells ≡ take (size-in s) (s .prepared .kernel .cells) → classes ≡ take (size-in s) (best-in s)
+    → removed ≡ take (s .prepared .reduced .count) (s .prepared .reduced .removed)
+    → partner ≡ take (s .prepared .reduced .count) (s .prepared .reduced .partner)
+    → Belongs (s .prepared .rows) (s .prepared .layout .users) cells classes (s .position .cursor .count) removed
+    partner (sheet-of (text-in s)) (state-in s .best)
+parts-belong-in s belongs k c r p = rw (k, c, r, p) belongs
 
 module _ {s : CodeSession} (h : Holds s) where
-  -- the first cover, or the position's
-  pub best-held : {classes : List ℕ} → BestOf (s .prepared .first .classes) (s .position .best) (size-in s) classes
-      → BestIn s classes
-  best-held {classes} b =
-      ⊎-elim
-      (λ (l : search-limit < size-in s).
-      record {
-        so-far = ap (λ (c : List ℕ). latest-first c (size-in s)) (b .above l) ∙ h .prepared .first .so-far
-            ∙ sym (best-above s l);
-        in-use = h .counted;
-      })
-      (λ (l : size-in s ≤ search-limit).
-      record {
-        so-far = b .within l (size-in s) l ∙ sym (ap (λ (st : State). st .best) (state-within s l));
-        in-use =
-            h .counted;
-      })
-      (below-or-from search-limit (size-in s))
+  -- it is the best placement of the sheet where the search stands
+  best-held : Placed (state-in s .best) (best-in s) (size-in s) (s .position .cursor .count)
+  best-held = record { so-far = ⊎-elim above within (below-or-from search-limit (size-in s)); in-use = h .counted }
+    where
+      above : search-limit < size-in s → latest-first (best-in s) (size-in s) ≡ state-in s .best
+      above l = rw (lt-ltb search-limit (size-in s) l) (h .prepared .first .so-far ∙ sym (best-above s l))
+
+      within : size-in s ≤ search-limit → latest-first (best-in s) (size-in s) ≡ state-in s .best
+      within l = rw (le-ltb search-limit (size-in s) l) (sym (ap (λ (st : State). st .best) (state-within s l)))
 
   -- no more classes than roles
   few-classes : s .position .cursor .count ≤ grant-limit
@@ -73,10 +74,21 @@ module _ {s : CodeSession} (h : Holds s) where
   unfolding role-count
   few-roles = omega (arith, roles-held h, few-roles-held h, permissions-fit-a-row)
 
-  pub best-belongs : {classes : List ℕ} → BestIn s classes → BelongsIn s classes
-  best-belongs placed =
-      let found = h .prepared in
-      reduced-belongs (found .shown) (few-users (found .laid))
-      (accepted-lawful (text-in s) (found .laid .accepts) .few-grants)
-      (s .prepared .reduced) (s .prepared .kernel) (found .reduced) (found .listed) (found .room) placed few-classes
-      few-roles
+  module _ (best : length (s .position .best) ≡ search-limit) where
+    -- the array has a class for each grant of the kernel
+    pub best-room : size-in s ≤ length (best-in s)
+    best-room = ⊎-elim above within (below-or-from search-limit (size-in s))
+      where
+        above : search-limit < size-in s → size-in s ≤ length (best-in s)
+        above l = rw (lt-ltb search-limit (size-in s) l, h .prepared .first-room) (h .prepared .listed .few)
+
+        within : size-in s ≤ search-limit → size-in s ≤ length (best-in s)
+        within l = rw (le-ltb search-limit (size-in s) l, best) l
+
+    pub best-belongs : BelongsIn s
+    best-belongs =
+        let found = h .prepared in
+        reduced-belongs (found .shown) (few-users (found .laid))
+        (accepted-lawful (text-in s) (found .laid .accepts) .few-grants)
+        (s .prepared .reduced) (s .prepared .kernel) (found .reduced) (found .listed) (found .room) best-held
+        best-room few-classes few-roles

@@ -1,16 +1,15 @@
 -- Class numbers copied one after another from an array into another: of as many as were copied, both hold the same
--- placement. The session's two arrays of classes, of two bytes and of one byte each, are copied so. Assumes nothing.
+-- placement. The first cover's classes are copied so into a position. Assumes nothing.
 use Prim.Native.Nat.{ℕ, zero, suc, _≤_, _<_}
-use mathlib.Core.Path.{_≡_, refl, ap, _∙_}
+use mathlib.Core.Path.{_≡_, refl, _∙_}
 use mathlib.Core.Logic.{⊎-elim}
-use mathlib.Core.List.{List, _∷_}
+use mathlib.Core.List.{List}
 use native.Mathlib.Nat.{le-of-lt, not-suc-le-zero}
 use native.Mathlib.Omega.{arith}
 use lib.ListN.{length, getD, set}
 use lib.Seq.{getD-set-same, getD-set-other}
 use Rattle.bits.specs.Laws.Below.{last-or-below}
 use Rattle.lists.specs.LatestFirst.{latest-first}
-use Rattle.search.specs.View.{placed-of}
 
 -- the first n numbers were copied
 pub record ClassesCopied (from to : List ℕ) (n : ℕ) : Type 0 where
@@ -37,8 +36,3 @@ pub copied-placement : {from to : List ℕ} {n : ℕ} → ClassesCopied from to 
     → latest-first to m ≡ latest-first from m
 copied-placement c zero l = refl
 copied-placement c (suc m) l = rw (c .same l, copied-placement c m (le-of-lt l))
-
--- a placement is read from an array in one way
-pub placed-latest : (classes : List ℕ) (n : ℕ) → placed-of classes n ≡ latest-first classes n
-placed-latest classes zero = refl
-placed-latest classes (suc n) = ap (λ l. getD classes n 0 ∷ l) (placed-latest classes n)

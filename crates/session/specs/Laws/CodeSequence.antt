@@ -2,7 +2,7 @@
 -- their contracts give what is said here (`Tied`), each call is a step of a sequence of demand 3, between the
 -- sessions that the two values stand for; so the demands hold of every sequence of calls of the code.
 use Prim.Native.Nat.{ℕ}
-use mathlib.Core.Path.{_≡_, refl, sym, ap, _∙_}
+use mathlib.Core.Path.{_≡_, sym, ap, _∙_}
 use mathlib.Core.List.{List, [], _∷_}
 use mathlib.Core.Option.{some}
 use mathlib.Core.Logic.{_≢_, _↔_}
@@ -13,21 +13,9 @@ use Rattle.spec.specs.Book.{Said}
 use Rattle.spec.specs.Right.{Right}
 use Rattle.spec.specs.Session.{Session, fresh}
 use Rattle.spec.specs.Refusal.{Cause, sheet-causes, search-causes, write-causes}
-use Rattle.spec.specs.Calls.{LoadAnswer, load-refused, search-refused, write-refused}
-use Rattle.spec.specs.Sequence.{
-  Call,
-  load,
-  search,
-  write,
-  WriteOutcome,
-  Outcome,
-  Event,
-  Happens,
-  Led,
-  calls,
-  last-accepted,
-  brought-out,
-}
+use Rattle.spec.specs.Calls.{LoadAnswer, SearchAnswer, load-refused, search-refused, write-refused}
+use Rattle.spec.specs.Sequence.{Call, load, search, write, WriteOutcome, Outcome, Event, Happens, Led, calls}
+use Rattle.spec.specs.Sequence.{last-accepted, brought-out}
 use Rattle.spec.specs.Demands.{Judged, OwedOfAll}
 use Rattle.demands.specs.Demand1.{demand-1}
 use Rattle.demands.specs.Demand2.{demand-2}
@@ -53,24 +41,52 @@ pub record Fresh (s : CodeSession) : Type 0 where
   pub stands : view s ≡ fresh
   pub sound : Sound s
 
--- a way to make calls: which values are made fresh, and between which values a call with its outcome is made, as its
--- contract has it
+-- calls of one kind, their contract kept: the value that each was made on, what it was given, what it answered, and
+-- the value after it
+pub record Way (Given Answer : Type 0) : Type 2 where
+  pub Made : Type 1
+  pub on : Made → CodeSession
+  pub given : Made → Given
+  pub gave : Made → Answer
+  pub led : Made → CodeSession
+
+-- a way to make calls: the values that are made fresh, and the calls of each kind
 pub record Calling : Type 2 where
-  pub Made : CodeSession → Type 1
-  pub Step : (call : Call) → Outcome call → CodeSession → CodeSession → Type 1
+  pub Begun : Type 1
+  pub begun : Begun → CodeSession
+  pub loads : Way Bytes LoadAnswer
+  pub searches : Way ℕ SearchAnswer
+  pub writes : Way Bytes WriteOutcome
+
+-- a call of this kind was made on the value before with this outcome, and led to the value after
+abbrev MadeAs : {Given Answer : Type 0} → Way Given Answer → Given → Answer → CodeSession → CodeSession → Type 1
+MadeAs way given answer before after =
+    (made : way .Made) × (before ≡ way .on made) × (given ≡ way .given made) × (answer ≡ way .gave made)
+    × (after ≡ way .led made)
+
+abbrev pub Step : Calling → (call : Call) → Outcome call → CodeSession → CodeSession → Type 1
+Step calling (load text) answer before after = MadeAs (calling .loads) text answer before after
+Step calling (search budget) answer before after = MadeAs (calling .searches) budget answer before after
+Step calling (write buffer) written before after = MadeAs (calling .writes) buffer written before after
 
 -- the events, the latest first, of the calls that led from a fresh value to this one
 abbrev pub Ran : Calling → List Event → CodeSession → Type 1
-Ran calling [] s = calling .Made s
+Ran calling [] s = (first : calling .Begun) × (s ≡ calling .begun first)
 Ran calling (event ∷ earlier) s =
-    (before : CodeSession) × Ran calling earlier before × calling .Step (event .call) (event .outcome) before s
+    (before : CodeSession) × Ran calling earlier before × Step calling (event .call) (event .outcome) before s
 
 -- the contracts give what the demands need; each may require that its value came from the calls
 pub record Tied (calling : Calling) : Type 1 where
-  pub fresh : (s : CodeSession) → calling .Made s → Fresh s
-  pub step : (call : Call) (outcome : Outcome call) (before after : CodeSession) → calling .Step call outcome before
-      after → Sound before
-      → Ensured call outcome before after
+  pub begins : (first : calling .Begun) → Fresh (calling .begun first)
+  pub loads : (made : calling .loads .Made)
+      → let way = calling .loads in
+      Sound (way .on made) → Ensured (load (way .given made)) (way .gave made) (way .on made) (way .led made)
+  pub searches : (made : calling .searches .Made)
+      → let way = calling .searches in
+      Sound (way .on made) → Ensured (search (way .given made)) (way .gave made) (way .on made) (way .led made)
+  pub writes : (made : calling .writes .Made)
+      → let way = calling .writes in
+      Sound (way .on made) → Ensured (write (way .given made)) (way .gave made) (way .on made) (way .led made)
 
 -- ---- the demands of calls of the code
 
@@ -92,7 +108,7 @@ Refused (write buffer) written before after =
 abbrev pub Demand1Of : Calling → Type 1
 Demand1Of calling =
     (earlier : List Event) (before : CodeSession) → Ran calling earlier before
-    → (call : Call) (outcome : Outcome call) (after : CodeSession) → calling .Step call outcome before after
+    → (call : Call) (outcome : Outcome call) (after : CodeSession) → Step calling call outcome before after
     → Judged (causes call (view before)) (answered call outcome) (Refused call outcome before after)
 
 -- demand 2: a load is answered by 0 exactly where its bytes keep the rules, and then by the counts of the sheet that
@@ -100,7 +116,7 @@ Demand1Of calling =
 pub record Demand2Of (calling : Calling) : Type 1 where
   pub accepts-sheets : (earlier : List Event) (before after : CodeSession) (text : Bytes) (answer : LoadAnswer)
       → Ran calling earlier before
-      → calling .Step (load text) answer before after → (answer .number ≡ 0) ↔ ((sheet : Sheet) × Keeps text sheet)
+      → Step calling (load text) answer before after → (answer .number ≡ 0) ↔ ((sheet : Sheet) × Keeps text sheet)
   pub own-books : (earlier : List Event) (s : CodeSession) (buffer : Bytes) (written : WriteOutcome)
       → Ran calling (record { call = write buffer; outcome = written } ∷ earlier) s → written .answer .number ≡ 0
       → (text : Bytes) × (says : Said) × (last-accepted (calls earlier) ≡ some text) × Right (sheet-of text)
@@ -126,30 +142,40 @@ judged (write buffer) written before after e =
     record { lowest = j .lowest; refused = λ n. (j .refused n .0, j .refused n .1, e .kept n) }
 
 module _ {calling : Calling} (tied : Tied calling) where
+  ensured : (call : Call) (outcome : Outcome call) (before after : CodeSession)
+      → Step calling call outcome before after → Sound before
+      → Ensured call outcome before after
+  ensured (load text) answer before after (made, on, given, gave, led) sound =
+      rw (on, given, gave, led) (tied .loads made (rw on at sound))
+  ensured (search budget) answer before after (made, on, given, gave, led) sound =
+      rw (on, given, gave, led) (tied .searches made (rw on at sound))
+  ensured (write buffer) written before after (made, on, given, gave, led) sound =
+      rw (on, given, gave, led) (tied .writes made (rw on at sound))
+
   -- what the calls led to is what the next call requires
   pub ran-sound : (events : List Event) (s : CodeSession) → Ran calling events s → Sound s
-  ran-sound [] s ran = tied .fresh s ran .sound
+  ran-sound [] s (first, same) = rw same (tied .begins first .sound)
   ran-sound (event ∷ earlier) s ran =
-      tied .step (event .call) (event .outcome) (ran .0) s (ran .2) (ran-sound earlier (ran .0) (ran .1)) .sound
+      ensured (event .call) (event .outcome) (ran .0) s (ran .2) (ran-sound earlier (ran .0) (ran .1)) .sound
 
   -- the calls of the code are a sequence of demand 3
   pub ran-led : (events : List Event) (s : CodeSession) → Ran calling events s → Led events (view s)
-  ran-led [] s ran = tied .fresh s ran .stands
+  ran-led [] s (first, same) = rw same (tied .begins first .stands)
   ran-led (event ∷ earlier) s ran = (
     view (ran .0),
     ran-led earlier (ran .0) (ran .1),
-    tied .step (event .call) (event .outcome) (ran .0) s (ran .2) (ran-sound earlier (ran .0) (ran .1)) .happens,
+    ensured (event .call) (event .outcome) (ran .0) s (ran .2) (ran-sound earlier (ran .0) (ran .1)) .happens,
   )
 
   pub tied-demand-1 : Demand1Of calling
   tied-demand-1 earlier before ran call outcome after step =
-      judged call outcome before after (tied .step call outcome before after step (ran-sound earlier before ran))
+      judged call outcome before after (ensured call outcome before after step (ran-sound earlier before ran))
 
   pub tied-demand-2 : Demand2Of calling
   tied-demand-2 =
       record {
         accepts-sheets = λ earlier before after text answer ran step.
-            let happens = tied .step (load text) answer before after step (ran-sound earlier before ran) .happens in
+            let happens = ensured (load text) answer before after step (ran-sound earlier before ran) .happens in
             let same = ap (λ (a : LoadAnswer). a .number) (happens .answers) in
             let exact = demand-2 .accepts-sheets text in
             (λ z. exact .0 (sym same ∙ z), λ keeps. same ∙ exact .1 keeps);

@@ -16,8 +16,10 @@ use Rattle.spec.specs.Session.{Session, no-sheet, loaded}
 use Rattle.spec.specs.Refusal.{refusal, accepted}
 use Rattle.spec.specs.Calls.{LoadAnswer, load-refused, load-counts, load-answer, after-load, Loads}
 use Rattle.rules.specs.AcceptedFacts.{accepted-short}
+use Rattle.session.specs.Prepared.{PreparedFor, counts-in}
 use Rattle.session.specs.CodeSession.{text-in, state-in, view}
 use Rattle.session.specs.declared.Session.{Session as CodeSession}
+use Rattle.session.specs.declared.prepared.Prepared.{Prepared}
 
 module _ (before : Session) (text : Bytes) where
   -- refused
@@ -49,3 +51,14 @@ text-loaded s text st e = by-case (s .loaded) (text-in s) (state-in s) e
         → own ≡ text
     by-case true own at e = cc
     by-case false own at e = let z : _≡_ {A = ℕ} 0 1 = cc in absurd (omega arith)
+
+-- the counts found of an accepted sheet are the sheet's own
+pub counts-found : (text : Bytes) (p : Prepared) → PreparedFor text p → counts-in p ≡ load-counts (sheet-of text)
+counts-found text p found =
+    cc (
+      found .laid .user-total,
+      found .laid .permission-total,
+      found .laid .grant-total,
+      found .kernel-size,
+      found .witness .counted,
+    )

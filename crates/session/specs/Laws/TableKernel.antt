@@ -17,14 +17,19 @@ use Rattle.spec.specs.Cover.{fit-at}
 use Rattle.spec.specs.Machine.{Kernel}
 use Rattle.spec.specs.Roles.{kernel-of}
 use Rattle.table.specs.TableWords.{table-row, table-limit, table-bit}
+use Rattle.search.specs.declared.machine.Sizes.{Sizes}
 use Rattle.search.specs.View.{fit-in, kernel-given}
 use Rattle.search.specs.Laws.SameFit.{SameKernel}
 use Rattle.session.specs.Prepared.{PreparedFor}
 use Rattle.session.specs.declared.prepared.Prepared.{Prepared}
 
+-- how many grants the kernel has, how many singles there are, and how many grants are in the witness
+abbrev pub sizes-found : Prepared → Sizes
+sizes-found p = record { kernel = p .kernel .size; singles = p .reduced .singles; witness = p .witness .count }
+
 -- the kernel that is searched
 abbrev pub table-kernel : Prepared → Kernel
-table-kernel p = kernel-given (p .table) (p .kernel .size) (p .reduced .singles) (p .witness .count)
+table-kernel p = kernel-given (p .table) (sizes-found p)
 
 -- every number of a kernel that can be searched has its place in the table
 within-table : (i size : ℕ) → size ≤ search-limit → i < size → i < table-limit

@@ -17,11 +17,11 @@ use Rattle.bits.specs.Laws.Below.{below-or-from}
 use Rattle.lists.specs.TestLaws.{member-at}
 use Rattle.names.specs.Places.{part}
 use Rattle.sheet.specs.Laws.LineParts.{joined-in-parts}
-use Rattle.sheet.specs.Spelled.{NameReads}
-use Rattle.sheet.specs.Laws.SpelledFound.{behind, name-found}
+use Rattle.sheet.specs.Spelled.{name-read}
+use Rattle.sheet.specs.Laws.Spelled.{behind, name-found}
 use Rattle.sheet.specs.Laws.UserLineFound.{Behind, byte-found}
 use Rattle.sheet.specs.FirstLine.{says-user, NamesFit}
-use Rattle.sheet.specs.declared.spelled.NameRead.{NameRead}
+use Rattle.sheet.specs.declared.spelled.NameRead.the-variants.{Name}
 
 -- names, each behind a comma
 abbrev pub behind-commas : List Bytes → Bytes
@@ -101,20 +101,29 @@ module _ (text : Bytes) (n at : ℕ) (left : NamesLeft text n at) (names : List 
       past l = let same : line-feed ≡ comma = one-byte text at comma line-feed rest found (past-names l)
           in absurd (omega arith)
 
-  pub next-name : So (ltb at (length text) && eqb (getD text at 0) comma) → (r : NameRead) → NameReads text (at + 1) r
-      → So (r .good) × (drop (r .to) text ≡ behind-commas (drop (suc n) names) ++ line-feed ∷ rest)
-  next-name found r read =
+  -- it is read, and behind it are the others
+  abbrev next-end : ℕ
+  next-end = at + 1 + length (getD names n [])
+
+  behind-comma : n < length names
+      → drop (at + 1) text ≡ getD names n [] ++ (behind-commas (drop (suc n) names) ++ line-feed ∷ rest)
+  behind-comma below =
+      behind text at (comma ∷ []) (getD names n [] ++ (behind-commas (drop (suc n) names) ++ line-feed ∷ rest))
+      (before-name below)
+
+  pub next-name : So (ltb at (length text) && eqb (getD text at 0) comma) → name-read text (at + 1) ≡ Name next-end
+  next-name found =
       let below = name-below found in
-      let there = behind text at (comma ∷ []) (getD names n [] ++ (behind-commas (drop (suc n) names) ++ line-feed ∷
-      rest)) (before-name below) in
       let b = names-behind (drop (suc n) names) rest in
-      let name = name-found text (at + 1) r (getD names n []) (b .byte) (b .rest) read
-      (fit .each (getD names n []) (member-at names n [] below))
-      (b .ends) (there ∙ ap (λ (l : Bytes). getD names n [] ++ l) (b .starts)) in (
-        name .0,
-        rw (name .1) (behind text (at + 1) (getD names n []) (behind-commas (drop (suc n) names) ++ line-feed
-            ∷ rest) there),
-      )
+      name-found text (at + 1) (getD names n []) (b .byte) (b .rest)
+      (fit .each (getD names n []) (member-at names n [] below)) (b .ends)
+      (behind-comma below ∙ ap (λ (l : Bytes). getD names n [] ++ l) (b .starts))
+
+  behind-next : So (ltb at (length text) && eqb (getD text at 0) comma)
+      → drop next-end text ≡ behind-commas (drop (suc n) names) ++ line-feed ∷ rest
+  behind-next found =
+      behind text (at + 1) (getD names n []) (behind-commas (drop (suc n) names) ++ line-feed ∷ rest)
+      (behind-comma (name-below found))
 
   -- where no comma stands, none is left
   pub all-read : (ltb at (length text) && eqb (getD text at 0) comma) ≡ false → n ≡ length names
@@ -129,8 +138,9 @@ module _ (text : Bytes) (n at : ℕ) (left : NamesLeft text n at) (names : List 
   feed-left q = past-names (omega arith)
 
 -- a name that was read leaves the others
-pub names-left-next : (text : Bytes) (n at : ℕ) → NamesLeft text n at
+pub names-left-next : (text : Bytes) (n at end : ℕ) → NamesLeft text n at
     → So (ltb at (length text) && eqb (getD text at 0) comma)
-    → (r : NameRead) → NameReads text (at + 1) r → NamesLeft text (suc n) (r .to)
-names-left-next text n at left found r read names rest fit e =
-    (name-below text n at left names rest fit e found, next-name text n at left names rest fit e found r read .1)
+    → Name end ≡ name-read text (at + 1) → NamesLeft text (suc n) end
+names-left-next text n at end left found named names rest fit e =
+    let same : end ≡ at + 1 + length (getD names n []) = cc (next-name text n at left names rest fit e found) in
+    (name-below text n at left names rest fit e found, rw same (behind-next text n at left names rest fit e found))

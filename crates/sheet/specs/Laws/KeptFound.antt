@@ -2,37 +2,30 @@
 use Prim.Native.Nat.{_≤_}
 use native.Mathlib.Omega.{arith}
 use mathlib.Core.Path.{_≡_, ap, _∙_}
-use mathlib.Core.Bool.{Bool, So, not, _&&_}
+use mathlib.Core.Bool.{So, not}
 use mathlib.Core.List.{[], _∷_, _++_}
 use borrow.Author.Tests.{eq-eqb}
-use lib.ListN.{length}
+use lib.ListN.{length, take}
 use Rattle.spec.specs.Vocabulary.{repeats}
 use Rattle.spec.specs.Limits.{grant-limit, permission-limit, user-limit}
 use Rattle.spec.specs.Text.{ascii, Bytes, line-text, text-of, same-name}
 use Rattle.spec.specs.Sheet.{sheet-of}
 use Rattle.spec.specs.Rules.{user-lines}
 use Rattle.spec.specs.Refusal.{refusal, accepted}
-use Rattle.bits.specs.Truth.{and-intro, and-left, and-right}
+use Rattle.bits.specs.Truth.{and-intro}
 use Rattle.lists.specs.TestLaws.{same-bytes-equal}
 use Rattle.lists.specs.SameLaws.{no-repeats}
-use Rattle.names.specs.NamesAt.{Inside, places-of}
+use Rattle.names.specs.NamesAt.{Inside, all-names}
+use Rattle.names.specs.Laws.NamesAt.{placed-names, placed-inside}
 use Rattle.rules.specs.SheetLines.{sheet-text-lines}
 use Rattle.rules.specs.Accepted.{accepted-keeps}
 use Rattle.rules.specs.AcceptedFacts.{accepted-lawful}
 use Rattle.sheet.specs.FirstLine.{NamesFit}
 use Rattle.sheet.specs.UserLines.{Fit}
-use Rattle.sheet.specs.KeptSheet.{
-  Notes,
-  noted,
-  LinesStand,
-  SheetLines,
-  users-are-inside,
-  permissions-are-inside,
-  noted-grants,
-  noted-users,
-  noted-said,
-}
-use Rattle.sheet.specs.Laws.KeptRead.{apart, layout-of, KeptAs, kept-read}
+use Rattle.sheet.specs.KeptSheet.{Notes, LinesStand, SheetStands}
+use Rattle.sheet.specs.Laws.KeptSheet.{noted, users-placed, permissions-placed, noted-grants, noted-users}
+use Rattle.sheet.specs.Laws.KeptSheet.{noted-permissions, noted-said}
+use Rattle.sheet.specs.Laws.KeptRead.{apart}
 
 module _ (text : Bytes) (p : So (accepted text)) where
   pub accepted-names : NamesFit (sheet-of text .permissions)
@@ -52,7 +45,7 @@ module _ (text : Bytes) (p : So (accepted text)) where
       record { few = k .few-users; as-many = k .a-row-each; each = k .user-names .each; even = k .even-rows }
 
   -- what was noted is within the limits
-  pub accepted-users : (n : Notes) → LinesStand text n → 1 ≤ n .users
+  pub accepted-users : (n : Notes) → LinesStand text n → 1 ≤ n .counts .users
   accepted-users n s =
       omega (
         arith,
@@ -61,7 +54,7 @@ module _ (text : Bytes) (p : So (accepted text)) where
         noted-users text n s,
       )
 
-  pub accepted-grants : (n : Notes) → LinesStand text n → n .total ≤ grant-limit
+  pub accepted-grants : (n : Notes) → LinesStand text n → n .counts .grants ≤ grant-limit
   accepted-grants n s = omega (
     arith,
     rw (noted-said text n s) at (accepted-lawful text p .few-grants),
@@ -78,21 +71,27 @@ module _ (text : Bytes) (p : So (accepted text)) where
       (ap not (rw (noted-said text n s) at (no-repeats same-name same-bytes-equal [] (sheet-of text .permissions)
       (k .permission-names .distinct))))
 
--- so a sheet is accepted exactly where its lines are found and no name stands twice
-module _ (text : Bytes) (n : Notes) (good : Bool) (read : SheetLines text n good) where
-  pub kept-inside : So good
-      → Inside text (places-of (n .user-from) (n .user-to)) (n .users)
-      × Inside text (places-of (n .permission-from) (n .permission-to)) (n .permissions)
-  kept-inside p = (
-    users-are-inside text n (read .stands p .stand),
-    permissions-are-inside text n
-        (read .stands p .stand),
+-- so a sheet whose lines are found is accepted exactly where no name stands twice
+module _ (text : Bytes) (n : Notes) (s : SheetStands text n) where
+  pub kept-inside : Inside text (take (n .counts .users) (n .users))
+      × Inside text (take (n .counts .permissions) (n .permissions))
+  unfolding permission-limit user-limit
+  kept-inside = (
+    placed-inside text (take (n .counts .users) (n .users)) (noted text n .users) (users-placed text n (s .stand))
+        (omega (arith, noted-users text n (s .stand), s .stand .lines .few)),
+    placed-inside text (take (n .counts .permissions) (n .permissions)) (noted text n .permissions)
+        (permissions-placed text n (s .stand))
+        (omega (arith, noted-permissions text n (s .stand), s .stand .first .few)),
   )
 
-  pub kept-as : So (good && apart text n) → KeptAs text (layout-of n) (n .words)
-  kept-as p = kept-read text n (read .stands (and-left good (apart text n) p)) (and-right good (apart text n) p)
+  -- the names at the places are those noted
+  pub kept-names : (all-names text (take (n .counts .users) (n .users)) ≡ noted text n .users)
+      × (all-names text (take (n .counts .permissions) (n .permissions)) ≡ noted text n .permissions)
+  kept-names = (
+    placed-names text (take (n .counts .users) (n .users)) (noted text n .users) (users-placed text n (s .stand)),
+    placed-names text (take (n .counts .permissions) (n .permissions)) (noted text n .permissions)
+        (permissions-placed text n (s .stand)),
+  )
 
-  pub unrefused-kept : refusal text ≡ 0 → So (good && apart text n)
-  unrefused-kept e =
-      let p = eq-eqb (refusal text) 0 e in
-      and-intro good (apart text n) (read .found p) (accepted-apart text p n (read .stands (read .found p) .stand))
+  pub unrefused-apart : refusal text ≡ 0 → So (apart text n)
+  unrefused-apart e = accepted-apart text (eq-eqb (refusal text) 0 e) n (s .stand)

@@ -6,7 +6,7 @@ use mathlib.Core.Path.{_≡_, refl, sym, ap, _∙_}
 use mathlib.Core.Bool.{Bool, So, not, _&&_}
 use mathlib.Core.List.{List, [], _∷_, _++_, append-nil, List·Memᴰ, List·Memᴰ·tail}
 use borrow.Author.Tests.{eqb-true, not-true}
-use lib.ListN.{getD, drop}
+use lib.ListN.{drop}
 use lib.Seq.{drop-length}
 use Rattle.spec.specs.Vocabulary.{repeats}
 use Rattle.spec.specs.Text.{Bytes, lines-of, text-of, same-name}
@@ -14,31 +14,18 @@ use Rattle.spec.specs.Sheet.{sheet-of}
 use Rattle.spec.specs.Rules.{Keeps}
 use Rattle.spec.specs.Refusal.{refusal, accepted}
 use Rattle.bits.specs.Truth.{and-left, and-right}
-use Rattle.names.specs.Places.{NamesPlaced}
-use Rattle.names.specs.NamesAt.{places-of, names-at}
-use Rattle.names.specs.Laws.NamesAt.{names-total, name-of}
+use Rattle.names.specs.Places.{from-at}
 use Rattle.text.specs.Laws.Text.{Lines, read-as-written, read-lines}
 use Rattle.rules.specs.WrittenLaws.{written-lines}
 use Rattle.rules.specs.Accepted.{accepts-sheets}
 use Rattle.names.specs.LaidOut.{LaidOut}
 use Rattle.cells.specs.RowsRead.{RowsRead}
-use Rattle.sheet.specs.Spelled.{NameAt}
 use Rattle.sheet.specs.UserLines.{lines-at}
 use Rattle.sheet.specs.OnlyNames.{OnlyNames}
 use Rattle.cells.specs.Laws.WordRows.{word-rows-read}
-use Rattle.sheet.specs.KeptSheet.{
-  Notes,
-  noted,
-  LinesStand,
-  SheetStands,
-  noted-lines,
-  noted-grants,
-  noted-users,
-  noted-permissions,
-  noted-written,
-  noted-said,
-  noted-keeps,
-}
+use Rattle.sheet.specs.KeptSheet.{Notes, LinesStand, SheetStands}
+use Rattle.sheet.specs.Laws.KeptSheet.{noted, users-placed, permissions-placed, noted-lines, noted-grants}
+use Rattle.sheet.specs.Laws.KeptSheet.{noted-users, noted-permissions, noted-written, noted-said, noted-keeps}
 use Rattle.names.specs.declared.layout.Layout.{Layout}
 
 -- what is left of a list are elements of it
@@ -47,43 +34,29 @@ left-member zero l m = m
 left-member (suc n) [] m = m
 left-member (suc n) (b ∷ l) m = List·Memᴰ·tail (left-member n l m)
 
-placed-at : (text : Bytes) (from to : List ℕ) (n : ℕ) → ((i : ℕ) → i < n → NameAt text (getD from i 0) (getD to i 0))
-    → NamesPlaced text (places-of from to) (names-at text (places-of from to) n)
-placed-at text from to n each =
-    record {
-      each = λ i l.
-          (let below : i < n = omega (arith, names-total text (places-of from to) n) in
-          let name = each i below in
-          record {
-            forward = omega (arith, name .forward);
-            within = name .within;
-            reads = sym
-                (name-of text (places-of from to) n i below);
-          });
-    }
-
 -- ---- where the lines of users start
 
 module _ (text : Bytes) (n : Notes) (s : LinesStand text n) where
   later-lines : (u : ℕ)
-      → drop (suc u) (lines-of text) ≡ drop u (lines-at text (n .permissions) (n .user-from) (n .user-to) (n .words)
-      (n .users))
+      → drop (suc u) (lines-of text) ≡ drop u (lines-at text (n .counts .permissions) (n .users) (n .words)
+      (n .counts .users))
   later-lines u = ap (drop (suc u)) (written-lines text (noted text n) (noted-written text n s))
       ∙ ap (drop u) (noted-lines text n s)
 
-  lines-there : (u : ℕ) → Lines (drop u (lines-at text (n .permissions) (n .user-from) (n .user-to) (n .words)
-      (n .users)))
+  lines-there : (u : ℕ) → Lines (drop u (lines-at text (n .counts .permissions) (n .users) (n .words)
+      (n .counts .users)))
   lines-there u line m = read-lines text line (left-member (suc u) (lines-of text) (rw (later-lines u) m))
 
-  from-line : (u : ℕ) → u < n .users → lines-of (drop (getD (n .user-from) u 0) text) ≡ drop (suc u) (lines-of text)
+  from-line : (u : ℕ) → u < n .counts .users → lines-of (drop (from-at (n .users) u) text) ≡ drop (suc u)
+      (lines-of text)
   from-line u h =
       ap (λ (t : Bytes). lines-of t)
       (s .lines .starts u h
-      ∙ ap (λ (l : Bytes). text-of (drop u (lines-at text (n .permissions) (n .user-from) (n .user-to) (n .words)
-      (n .users))) ++ l) (drop-length text)
-      ∙ append-nil (text-of (drop u (lines-at text (n .permissions) (n .user-from) (n .user-to) (n .words)
-      (n .users)))))
-      ∙ read-as-written (drop u (lines-at text (n .permissions) (n .user-from) (n .user-to) (n .words) (n .users)))
+      ∙ ap (λ (l : Bytes). text-of (drop u (lines-at text (n .counts .permissions) (n .users) (n .words)
+      (n .counts .users))) ++ l) (drop-length text)
+      ∙ append-nil (text-of (drop u (lines-at text (n .counts .permissions) (n .users) (n .words)
+      (n .counts .users)))))
+      ∙ read-as-written (drop u (lines-at text (n .counts .permissions) (n .users) (n .words) (n .counts .users)))
       (lines-there u)
       ∙ sym (later-lines u)
 
@@ -93,11 +66,11 @@ module _ (text : Bytes) (n : Notes) (s : LinesStand text n) where
 abbrev pub layout-of : Notes → Layout
 layout-of n =
     record {
-      users = n .users;
-      permissions = n .permissions;
-      grants = n .total;
-      «user_places» = places-of (n .user-from) (n .user-to);
-      «permission_places» = places-of (n .permission-from) (n .permission-to);
+      users = n .counts .users;
+      permissions = n .counts .permissions;
+      grants = n .counts .grants;
+      «user_places» = record { at = n .users };
+      «permission_places» = record { at = n .permissions };
     }
 
 -- the sheet is accepted, and this is its layout and these are its rows
@@ -132,7 +105,8 @@ keeps-as text n s keeps =
     rows : RowsRead (n .words) (sheet-of text)
     rows =
         rw (noted-said text n s)
-        (word-rows-read (n .users) (n .permissions) (n .words) (λ u l. s .lines .each u l .narrow) (s .lines .beyond)
+        (word-rows-read (n .counts .users) (n .counts .permissions) (n .words) (λ u l. s .lines .each u l .narrow)
+        (s .lines .beyond)
         (noted text n) refl
         (noted-users text n s))
 
@@ -143,10 +117,8 @@ keeps-as text n s keeps =
           user-total = rw (noted-said text n s) (sym (noted-users text n s));
           permission-total = rw (noted-said text n s) (sym (noted-permissions text n s));
           grant-total = rw (noted-said text n s) (sym (noted-grants text n s));
-          user-names = rw (noted-said text n s) (placed-at text (n .user-from) (n .user-to) (n .users)
-              (λ u l. s .lines .each u l .name));
-          permission-names = rw (noted-said text n s) (placed-at text (n .permission-from) (n .permission-to)
-              (n .permissions) (s .first .each));
+          user-names = rw (noted-said text n s) (users-placed text n s);
+          permission-names = rw (noted-said text n s) (permissions-placed text n s);
           user-lines = λ u l. from-line text n s u (omega (arith, rw (noted-said text n s) at l, noted-users text n s));
         }
 

@@ -12,12 +12,7 @@ use lib.Seq.{drop-cons, drop-drop}
 use Rattle.spec.specs.Text.{Bytes}
 use Rattle.bits.specs.Truth.{and-left, and-right}
 use Rattle.names.specs.Places.{part}
-
--- these bytes stand in the text at a place, and it goes on at the next
-pub record Stands (text : Bytes) (at : ℕ) (bytes : Bytes) (next : ℕ) : Type 0 where
-  pub forward : at ≤ next
-  pub within : next ≤ length text
-  pub reads : drop at text ≡ bytes ++ drop next text
+use Rattle.sheet.specs.Stands.{Stands}
 
 pub stands-nothing : (text : Bytes) (at : ℕ) → at ≤ length text → Stands text at [] at
 stands-nothing text at h = record { forward = omega arith; within = h; reads = refl }

@@ -1,6 +1,7 @@
 -- The line of a user that stands in a text is found, and what follows it. Assumes nothing.
 use Prim.Native.Nat.{ℕ, zero, suc, _+_, _*_, _≤_, _<_}
 use native.Mathlib.Omega.{arith}
+use native.Mathlib.Numerals.{add-one}
 use mathlib.Core.Path.{_≡_, refl, sym, ap, _∙_}
 use mathlib.Core.Bool.{Bool, So, _&&_}
 use mathlib.Core.List.{[], _∷_, _++_, append-assoc}
@@ -11,14 +12,17 @@ use lib.Seq.{getD-drop}
 use Rattle.spec.specs.Text.{Bytes, comma, line-feed}
 use Rattle.spec.specs.Sheet.{cell-text}
 use Rattle.bits.specs.Truth.{and-intro}
+use Rattle.bits.specs.Bit.{bit}
+use Rattle.names.specs.Places.{part}
 use Rattle.text.specs.Fields.{separator}
-use Rattle.cell_text.specs.CellsWord.{CellsStand}
-use Rattle.sheet.specs.Laws.CellsStanding.{cells-text, cells-length, cells-stand}
+use Rattle.cell_text.specs.CellsWord.{CellsStand, CellsIn}
+use Rattle.sheet.specs.Laws.CellsStanding.{cells-text, cells-length, cells-stand, stands-cells}
 use Rattle.sheet.specs.Laws.LineParts.{fields-text, line-in-parts}
-use Rattle.sheet.specs.Spelled.{NameReads}
-use Rattle.sheet.specs.UserLine.{Spells}
-use Rattle.sheet.specs.Laws.SpelledFound.{behind, name-found}
-use Rattle.sheet.specs.declared.spelled.NameRead.{NameRead}
+use Rattle.sheet.specs.Spelled.{name-read}
+use Rattle.sheet.specs.UserLine.{Spells, LineStands}
+use Rattle.sheet.specs.Laws.Stands.{stands-then, stands-found, stands-part}
+use Rattle.sheet.specs.Laws.Spelled.{behind, name-stands, name-found}
+use Rattle.sheet.specs.declared.spelled.NameRead.the-variants.{Name}
 
 -- fields behind commas and a line feed start with a byte that ends a field
 pub record Behind (text : Bytes) : Type 0 where
@@ -50,11 +54,11 @@ module _ (text : Bytes) (at width : ℕ) (name : Bytes) (ones : ℕ → Bool) (r
       ∙ append-assoc (name ++ cells-text width ones) (line-feed ∷ []) rest ∙ append-assoc name (cells-text width ones)
       (line-feed ∷ rest)
 
-  pub line-name-found : (r : NameRead) → NameReads text at r → So (r .good) × (r .to ≡ at + length name)
-  line-name-found r read =
+  pub line-name-found : name-read text at ≡ Name (at + length name)
+  line-name-found =
       let b = fields-behind width (λ i. cell-text (ones i)) rest in
-      name-found text at r name (b .byte) (b .rest) read (line .named) (b .ends) (in-parts
-      ∙ ap (λ (l : Bytes). name ++ l) (b .starts))
+      name-found text at name (b .byte) (b .rest) (line .named) (b .ends)
+      (in-parts ∙ ap (λ (l : Bytes). name ++ l) (b .starts))
 
   behind-name : drop (at + length name) text ≡ cells-text width ones ++ line-feed ∷ rest
   behind-name = behind text at name (cells-text width ones ++ line-feed ∷ rest) in-parts
@@ -82,3 +86,23 @@ module _ (text : Bytes) (at width : ℕ) (name : Bytes) (ones : ℕ → Bool) (r
 
   pub behind-line : drop (at + length name + 2 * width + 1) text ≡ rest
   behind-line = behind text (at + length name + 2 * width) (line-feed ∷ []) rest behind-cells
+
+-- a name, cells and a line feed are such a line
+pub line-stands : (text : Bytes) (at width to word : ℕ) → at ≤ length text → Name to ≡ name-read text at
+    → CellsIn text to width word
+    → So (ltb (to + 2 * width) (length text) && eqb (getD text (to + 2 * width) 0) line-feed)
+    → LineStands text at width (record { to = to; word = word; next = to + 2 * width + 1 })
+line-stands text at width to word h named cells p =
+    let name = name-stands text at to h named in
+    record {
+      user = record { name = name; narrow = cells .beyond };
+      forward = omega (arith, name .forward);
+      stands = rw (add-one, line-in-parts (part at to text) width (λ i. cell-text (bit word i)))
+          (stands-then
+          (stands-then (stands-part text at to (omega (arith, name .forward)) (name .within))
+          (stands-cells text to width (bit word) (cells .stand)))
+          (stands-found text (to + 2 * width) line-feed p));
+      behind = λ other ones rest line.
+          (let end : to ≡ at + length other = cc (line-name-found text at width other ones rest line) in
+          rw end (behind-line text at width other ones rest line));
+    }

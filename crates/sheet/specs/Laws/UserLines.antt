@@ -21,16 +21,13 @@ use Rattle.bits.specs.Bit.{bit, word-bits}
 use Rattle.lists.specs.JoinLaws.{concat-append}
 use Rattle.lists.specs.ListOfLaws.{list-of-last, list-of-same, length-list-of}
 use Rattle.cells.specs.Rows.{row-words}
-use Rattle.names.specs.PlacesLaws.{zero-there, new-blank, blank-kept}
-use Rattle.sheet.specs.Laws.Stands.{Stands, stands-nothing, stands-then}
+use Rattle.names.specs.Places.{place-base, place-of, from-at, to-at}
+use Rattle.names.specs.Laws.Places.{note-place, place-stays, noted-from, noted-to, zero-there, blank-kept}
+use Rattle.sheet.specs.Stands.{Stands}
+use Rattle.sheet.specs.Laws.Stands.{stands-nothing, stands-then}
 use Rattle.sheet.specs.UserLine.{UserAt, line-of, LineStands}
-use Rattle.sheet.specs.UserLines.{Room, line-at, lines-at, ones-at, LinesRead}
-
--- the lists that are written have as many places as they are to have
-pub record Sizes (from to words : List ℕ) : Type 0 where
-  pub from-room : length from ≡ user-limit
-  pub to-room : length to ≡ user-limit
-  pub words-room : length words ≡ user-limit * row-words
+use Rattle.sheet.specs.UserLines.{Room, line-at, lines-at, ones-at, LinesNoted}
+use Rattle.sheet.specs.declared.user_line.UserLine.{UserLine}
 
 -- one line more in a text
 pub text-more : (lines : List Line) (line : Line) → text-of (lines ++ line ∷ []) ≡ text-of lines ++ line-text line
@@ -39,17 +36,19 @@ text-more lines line =
     ∙ ap (λ (l : Bytes). text-of lines ++ l) (append-nil (line-text line))
 
 -- no line yet
-pub lines-start : (text : Bytes) (start width : ℕ) (from to words : List ℕ) → start ≤ length text → Room from to words
-    → LinesRead text start width from to words 0 0 start
+pub lines-start : (text : Bytes) (start width : ℕ) (places words : List ℕ) → start ≤ length text → Room places words
+    → LinesNoted text start width places words 0 0 start
 unfolding sum-below
-lines-start text start width from to words h room =
+lines-start text start width places words h room =
     record {
+      places-room = room .places-room;
+      words-room = room .words-room;
       few = omega arith;
       each = λ u l. absurd (not-suc-le-zero l);
       stands = stands-nothing text start h;
       starts = λ u l. absurd (not-suc-le-zero l);
       unnoted = room .unnoted;
-      beyond = λ i l. room .blank i;
+      beyond = room .blank;
       counted = refl;
     }
 
@@ -60,122 +59,122 @@ few-ones words n =
     (bit (getD words u 0)))
 
 -- one line more
-module _ (text : Bytes) (start width : ℕ) (from to words : List ℕ) (n ones at : ℕ) (read : LinesRead text start width
-    from to words n ones at)
-    (sizes : Sizes from to words) (h : n < user-limit) (end word next : ℕ) (line : LineStands text at width end word
-    next) where
-  here-from : getD (set from n at) n 0 ≡ at
-  here-from = getD-set-same from n at 0 (omega (arith, sizes .from-room))
+module _ (text : Bytes) (start width : ℕ) (places words : List ℕ) (n ones at : ℕ)
+    (read : LinesNoted text start width places words n ones at)
+    (small : length text < place-base) (h : n < user-limit) (line : UserLine) (stands : LineStands text at width line)
+  where
+    abbrev noted : List ℕ
+    noted = note-place places n at (line .to)
 
-  here-to : getD (set to n end) n 0 ≡ end
-  here-to = getD-set-same to n end 0 (omega (arith, sizes .to-room))
+    abbrev worded : List ℕ
+    worded = set words n (line .word)
 
-  here-word : getD (set words n word) n 0 ≡ word
-  unfolding row-words
-  here-word = getD-set-same words n word 0 (omega (arith, sizes .words-room))
+    abbrev new-line : Line
+    new-line = line-of text width at (line .to) (line .word)
 
-  earlier : (l : List ℕ) (v u : ℕ) → u < n → getD (set l n v) u 0 ≡ getD l u 0
-  earlier l v u k = getD-set-other l n u v 0 (ne-of-lt k)
+    room : n < length places
+    room = omega (arith, read .places-room)
 
-  same-line : (u : ℕ) → u < n
-      → line-at text width (set from n at) (set to n end) (set words n word) u ≡ line-at text width from to words u
-  same-line u k = rw (earlier from at u k, earlier to end u k, earlier words word u k)
+    end : line .to < place-base
+    end = omega (arith, stands .user .name .within)
 
-  new-line : line-at text width (set from n at) (set to n end) (set words n word) n ≡ line-of text width at end word
-  new-line = rw (here-from, here-to, here-word)
+    here-from : from-at noted n ≡ at
+    here-from = noted-from places n at (line .to) room end
 
-  lines-grow : lines-at text width (set from n at) (set to n end) (set words n word) (suc n)
-      ≡ lines-at text width from to words n ++ line-of text width at end word ∷ []
-  lines-grow =
-      list-of-last n (line-at text width (set from n at) (set to n end) (set words n word))
-      ∙ rw (
-        list-of-same n (line-at text width (set from n at) (set to n end) (set words n word))
-            (line-at text width from to words) same-line,
-        new-line,
-      )
+    here-to : to-at noted n ≡ line .to
+    here-to = noted-to places n at (line .to) room end
 
-  before-length : length (lines-at text width from to words n) ≡ n
-  before-length = length-list-of n (line-at text width from to words)
+    here-word : getD worded n 0 ≡ line .word
+    unfolding row-words
+    here-word = getD-set-same words n (line .word) 0 (omega (arith, read .words-room))
 
-  starts-here : drop at text ≡ text-of (drop n (lines-at text width from to words n ++ line-of text width at end word
-      ∷ [])) ++ drop next text
-  starts-here =
-      rw (
-        drop-at (lines-at text width from to words n) (line-of text width at end word ∷ []) n before-length,
-        append-nil (line-text (line-of text width at end word)),
-      ) (line .stands .reads)
+    place : (u : ℕ) → u < n → getD noted u 0 ≡ getD places u 0
+    place u k = place-stays places n at (line .to) u k
 
-  starts-before : (u : ℕ) → u < n
-      → drop (getD from u 0) text ≡ text-of (drop u (lines-at text width from to words n ++ line-of text width at end
-      word ∷ [])) ++ drop next text
-  starts-before u k =
-      read .starts u k
-      ∙ ap (λ (l : Bytes). text-of (drop u (lines-at text width from to words n)) ++ l) (line .stands .reads)
-      ∙ sym (append-assoc (text-of (drop u (lines-at text width from to words n)))
-      (line-text (line-of text width at end word)) (drop next text))
-      ∙ rw (
-        drop-append-le u (lines-at text width from to words n) (line-of text width at end word ∷ [])
-            (omega (arith, before-length)),
-        text-more (drop u (lines-at text width from to words n)) (line-of text width at end word),
-      )
+    word : (u : ℕ) → u < n → getD worded u 0 ≡ getD words u 0
+    word u k = getD-set-other words n u (line .word) 0 (ne-of-lt k)
 
-  user-here : (u : ℕ) → u ≡ n → UserAt text width (getD (set from n at) u 0) (getD (set to n end) u 0)
-      (getD (set words n word) u 0)
-  user-here u e = rw (e, here-from, here-to, here-word) (line .user)
+    lines-grow : lines-at text width noted worded (suc n) ≡ lines-at text width places words n ++ new-line ∷ []
+    lines-grow =
+        list-of-last n (line-at text width noted worded)
+        ∙ rw (
+          list-of-same n (line-at text width noted worded) (line-at text width places words)
+              (λ u k. rw (place u k, word u k)),
+          here-from,
+          here-to,
+          here-word,
+        )
 
-  line-here : (u : ℕ) → u ≡ n
-      → drop (getD (set from n at) u 0) text ≡ text-of
-      (drop u (lines-at text width from to words n ++ line-of text width at end word ∷ [])) ++ drop next text
-  line-here u e = rw (e, here-from) starts-here
+    before-length : length (lines-at text width places words n) ≡ n
+    before-length = length-list-of n (line-at text width places words)
 
-  counted-more : ones + count-below word-bits (bit word) ≡ ones-at (set words n word) (suc n)
-  counted-more =
-      rw (
-        ← add-one n,
-        sum-below-step n (λ u. count-below word-bits (bit (getD (set words n word) u 0))),
-        here-word,
-        read .counted,
-        sum-below-ext n (λ u. count-below word-bits (bit (getD (set words n word) u 0)))
-            (λ u. count-below word-bits (bit (getD words u 0)))
-            (λ u k. rw (earlier words word u k)),
-      )
+    starts-here : drop at text ≡ text-of (drop n (lines-at text width places words n ++ new-line ∷ []))
+        ++ drop (line .next) text
+    starts-here =
+        rw (
+          drop-at (lines-at text width places words n) (new-line ∷ []) n before-length,
+          append-nil (line-text new-line),
+        ) (stands .stands .reads)
 
-  pub lines-more : LinesRead text start width (set from n at) (set to n end) (set words n word) (suc n)
-      (ones + count-below word-bits (bit word)) next
-  lines-more =
-      record {
-        few = h;
-        each = λ u l.
-            ⊎-elim (user-here u)
-            (λ k. rw (earlier from at u k, earlier to end u k, earlier words word u k) (read .each u k))
-            (last-or-below l);
-        stands = subst (λ (l : List Line). Stands text start (text-of l) next) (sym lines-grow)
-            (rw (text-more (lines-at text width from to words n) (line-of text width at end word))
-            (stands-then (read .stands) (line .stands)));
-        starts = λ u l.
-            subst (λ (l : List Line). drop (getD (set from n at) u 0) text ≡ text-of (drop u l) ++ drop next text)
-            (sym lines-grow)
-            (⊎-elim (line-here u) (λ k. rw (earlier from at u k) (starts-before u k)) (last-or-below l));
-        unnoted = blank-kept n from to at end (read .unnoted);
-        beyond = λ i l. getD-set-other words n i word 0 (λ e. omega arith) ∙ read .beyond i (omega arith);
-        counted = counted-more;
-      }
+    starts-before : (u : ℕ) → u < n
+        → drop (from-at places u) text ≡ text-of (drop u (lines-at text width places words n ++ new-line ∷ []))
+        ++ drop (line .next) text
+    starts-before u k =
+        read .starts u k
+        ∙ ap (λ (l : Bytes). text-of (drop u (lines-at text width places words n)) ++ l) (stands .stands .reads)
+        ∙ sym (append-assoc (text-of (drop u (lines-at text width places words n))) (line-text new-line)
+        (drop (line .next) text))
+        ∙ rw (
+          drop-append-le u (lines-at text width places words n) (new-line ∷ []) (omega (arith, before-length)),
+          text-more (drop u (lines-at text width places words n)) new-line,
+        )
 
-  pub sizes-kept : Sizes (set from n at) (set to n end) (set words n word)
-  sizes-kept =
-      record {
-        from-room = length-set from n at ∙ sizes .from-room;
-        to-room = length-set to n end ∙ sizes .to-room;
-        words-room = length-set words n word ∙ sizes .words-room;
-      }
+    user-here : (u : ℕ) → u ≡ n → UserAt text width (from-at noted u) (to-at noted u) (getD worded u 0)
+    user-here u e = rw (e, here-from, here-to, here-word) (stands .user)
+
+    line-here : (u : ℕ) → u ≡ n
+        → drop (from-at noted u) text ≡ text-of (drop u (lines-at text width places words n ++ new-line ∷ []))
+        ++ drop (line .next) text
+    line-here u e = rw (e, here-from) starts-here
+
+    counted-more : ones + count-below word-bits (bit (line .word)) ≡ ones-at worded (suc n)
+    counted-more =
+        rw (
+          ← add-one n,
+          sum-below-step n (λ u. count-below word-bits (bit (getD worded u 0))),
+          here-word,
+          read .counted,
+          sum-below-ext n (λ u. count-below word-bits (bit (getD worded u 0)))
+              (λ u. count-below word-bits (bit (getD words u 0)))
+              (λ u k. rw (word u k)),
+        )
+
+    pub lines-more : LinesNoted text start width noted worded (suc n)
+        (ones + count-below word-bits (bit (line .word))) (line .next)
+    lines-more =
+        record {
+          places-room = length-set places n (place-of at (line .to)) ∙ read .places-room;
+          words-room = length-set words n (line .word) ∙ read .words-room;
+          few = h;
+          each = λ u l. ⊎-elim (user-here u) (λ k. rw (place u k, word u k) (read .each u k)) (last-or-below l);
+          stands = subst (λ (l : List Line). Stands text start (text-of l) (line .next)) (sym lines-grow)
+              (rw (text-more (lines-at text width places words n) new-line)
+              (stands-then (read .stands) (stands .stands)));
+          starts = λ u l.
+              subst (λ (l : List Line). drop (from-at noted u) text ≡ text-of (drop u l) ++ drop (line .next) text)
+              (sym lines-grow)
+              (⊎-elim (line-here u) (λ k. rw (place u k) (starts-before u k)) (last-or-below l));
+          unnoted = blank-kept n places (place-of at (line .to)) (read .unnoted);
+          beyond = blank-kept n words (line .word) (read .beyond);
+          counted = counted-more;
+        }
 
 -- new lists have room
-pub new-room : Room (replicate user-limit 0) (replicate user-limit 0) (replicate (user-limit * row-words) 0)
+pub new-room : Room (replicate user-limit 0) (replicate (user-limit * row-words) 0)
 new-room =
     record {
-      from-room = length-replicate user-limit 0;
-      to-room = length-replicate user-limit 0;
+      places-room = length-replicate user-limit 0;
       words-room = length-replicate (user-limit * row-words) 0;
-      unnoted = new-blank user-limit 0;
-      blank = zero-there (user-limit * row-words);
+      unnoted = λ i l. zero-there user-limit i;
+      blank = λ i l. zero-there (user-limit * row-words) i;
     }

@@ -4,7 +4,7 @@ use Prim.Native.Nat.{ℕ, suc, _≤_, _<_}
 use native.Mathlib.Omega.{arith}
 use mathlib.Core.Path.{_≡_, sym, ap, _∙_}
 use mathlib.Core.Logic.{⊎-elim}
-use mathlib.Core.Bool.{Bool, false, So}
+use mathlib.Core.Bool.{Bool, false}
 use mathlib.Core.List.{List, [], map}
 use lib.ListN.{length, getD, drop, length-drop, drop-of-length-le}
 use lib.Seq.{drop-cons}
@@ -16,9 +16,11 @@ use Rattle.spec.specs.Rules.{user-lines}
 use Rattle.bits.specs.Laws.Below.{below-or-from}
 use Rattle.lists.specs.TestLaws.{member-at}
 use Rattle.lists.specs.ListOfLaws.{list-of-places, map-list-of}
-use Rattle.sheet.specs.UserLine.{Spells, UserLineReads}
-use Rattle.sheet.specs.UserLines.{Fit}
+use Rattle.sheet.specs.UserLine.{Spells, LineStands, UserLineReads}
+use Rattle.sheet.specs.UserLines.{Fit, UserLinesReads}
 use Rattle.sheet.specs.declared.user_line.UserLine.{UserLine}
+use Rattle.sheet.specs.declared.user_line.UserLineRead.the-variants.{NoLine}
+use Rattle.sheet.specs.declared.user_lines.UserLinesRead.the-variants.{NoLines}
 
 -- of any lines that the text is made of from `start` on, all but the first n are left from `at` on
 abbrev pub LinesLeft : Bytes → ℕ → ℕ → ℕ → ℕ → Type 0
@@ -70,18 +72,16 @@ module _ (text : Bytes) (start width n at : ℕ) (left : LinesLeft text start wi
 -- a line that was read leaves the others
 pub left-next : (text : Bytes) (start width n at : ℕ) → LinesLeft text start width n at → at < length text
     → (line : UserLine)
-    → UserLineReads text at width line → LinesLeft text start width (suc n) (line .next)
-left-next text start width n at left h line read names rows fit e =
-    read .found (getD names n []) (λ i. getD (getD rows n []) i false)
+    → LineStands text at width line → LinesLeft text start width (suc n) (line .next)
+left-next text start width n at left h line stands names rows fit e =
+    stands .behind (getD names n []) (λ i. getD (getD rows n []) i false)
     (text-of (user-lines (drop (suc n) names) (drop (suc n) rows)))
-    (next-spells text start width n at left h names rows fit e) .1
+    (next-spells text start width n at left h names rows fit e)
 
--- and while bytes are left one is read
-pub line-found : (text : Bytes) (start width n at : ℕ) → LinesLeft text start width n at → at < length text
-    → (line : UserLine)
-    → UserLineReads text at width line → (names : List Bytes) (rows : List (List Bool)) → Fit width names rows
-    → drop start text ≡ text-of (user-lines names rows) → So (line .good)
-line-found text start width n at left h line read names rows fit e =
-    read .found (getD names n []) (λ i. getD (getD rows n []) i false)
+-- and where no line was read, the text is made of no such lines
+pub no-line-left : (text : Bytes) (start width n at : ℕ) → LinesLeft text start width n at → at < length text
+    → UserLineReads text at width NoLine → UserLinesReads text start width [] [] NoLines
+no-line-left text start width n at left h none names rows fit e =
+    none (getD names n []) (λ i. getD (getD rows n []) i false)
     (text-of (user-lines (drop (suc n) names) (drop (suc n) rows)))
-    (next-spells text start width n at left h names rows fit e) .0
+    (next-spells text start width n at left h names rows fit e)

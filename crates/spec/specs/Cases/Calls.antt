@@ -10,16 +10,8 @@ use Rattle.spec.specs.Decimal.{decimal}
 use Rattle.spec.specs.Book.{book}
 use Rattle.spec.specs.Session.{Session, fresh, session-book}
 use Rattle.spec.specs.Refusal.{refusal, write-causes}
-use Rattle.spec.specs.Calls.{
-  after-load,
-  SearchAnswer,
-  search-answer,
-  searched-on,
-  after-search,
-  WriteAnswer,
-  write-answer,
-  buffer-after,
-}
+use Rattle.spec.specs.Calls.{after-load, SearchAnswer, search-answer, searched-on, after-search, WriteAnswer}
+use Rattle.spec.specs.Calls.{write-answer, buffer-after}
 use Rattle.spec.specs.Program.{is-budget, budget-of, program-buffer, printed, program-output}
 use Rattle.spec.specs.Sequence.{Call, load, search as searching, write, last-accepted, budgets-given, enough}
 

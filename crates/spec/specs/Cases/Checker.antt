@@ -2,22 +2,8 @@
 -- the form.
 use Prim.Native.String.{String}
 use mathlib.Core.Path.{refl}
-use Rattle.spec.specs.Vocabulary.{
-  ℕ,
-  _≡_,
-  Bool,
-  true,
-  false,
-  List,
-  [],
-  _∷_,
-  _++_,
-  map,
-  some-below,
-  every-below,
-  lowest-below,
-  list-of,
-}
+use Rattle.spec.specs.Vocabulary.{ℕ, _≡_, Bool, true, false, List, [], _∷_, _++_, map, some-below, every-below}
+use Rattle.spec.specs.Vocabulary.{lowest-below, list-of}
 use Rattle.spec.specs.Limits.{permission-limit, role-limit}
 use Rattle.spec.specs.Text.{Bytes, ascii}
 use Rattle.spec.specs.Sheet.{Sheet}

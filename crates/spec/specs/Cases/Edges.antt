@@ -7,34 +7,14 @@ use Rattle.spec.specs.Sheet.{Grant, sheet-of}
 use Rattle.spec.specs.Reduction.{kernel}
 use Rattle.spec.specs.Witness.{witness}
 use Rattle.spec.specs.Machine.{depth, search}
-use Rattle.spec.specs.Roles.{
-  Standing,
-  witnessed,
-  searched,
-  unsettled,
-  kernel-of,
-  start-of,
-  role-count,
-  bound,
-  standing,
-}
+use Rattle.spec.specs.Roles.{Standing, witnessed, searched, unsettled, kernel-of, start-of, role-count, bound}
+use Rattle.spec.specs.Roles.{standing}
 use Rattle.spec.specs.Decimal.{decimal}
 use Rattle.spec.specs.Book.{book}
 use Rattle.spec.specs.Session.{Session, no-sheet, loaded, fresh, session-book}
 use Rattle.spec.specs.Refusal.{refusal, write-causes}
-use Rattle.spec.specs.Calls.{
-  LoadAnswer,
-  load-answer,
-  load-refused,
-  after-load,
-  SearchAnswer,
-  search-answer,
-  search-refused,
-  searched-on,
-  after-search,
-  write-answer,
-  buffer-after,
-}
+use Rattle.spec.specs.Calls.{LoadAnswer, load-answer, load-refused, after-load, SearchAnswer, search-answer}
+use Rattle.spec.specs.Calls.{search-refused, searched-on, after-search, write-answer, buffer-after}
 use Rattle.spec.specs.Program.{is-budget, budget-of, program-buffer, printed, program-output}
 
 -- a sheet to load into a fresh session, and the budget of one search after it

@@ -7,16 +7,8 @@ use Rattle.spec.specs.Text.{ascii}
 use Rattle.spec.specs.Sheet.{Sheet}
 use Rattle.spec.specs.Reduction.{reduction}
 use Rattle.spec.specs.RoleSet.{RoleSet}
-use Rattle.spec.specs.Roles.{
-  Standing,
-  witnessed,
-  searched,
-  unsettled,
-  classes-of,
-  standing-of,
-  bound-of,
-  roles-of,
-}
+use Rattle.spec.specs.Roles.{Standing, witnessed, searched, unsettled, classes-of, standing-of, bound-of}
+use Rattle.spec.specs.Roles.{roles-of}
 
 -- what four roles say with three or four witness grants, before and after the search is finished
 record Says : Type 0 where

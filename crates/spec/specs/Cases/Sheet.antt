@@ -1,34 +1,13 @@
 -- "The sheet" and causes 1 to 9: which bytes are allowed, a sheet for each cause and its neighbours, and both sides of
 -- each limit, computed from the definitions.
 use mathlib.Core.Path.{refl}
-use Rattle.spec.specs.Vocabulary.{
-  ℕ,
-  suc,
-  _≡_,
-  Bool,
-  true,
-  false,
-  List,
-  [],
-  _∷_,
-  _++_,
-  map,
-  length,
-  replicate,
-  filter,
-  list-of,
-}
+use Rattle.spec.specs.Vocabulary.{ℕ, suc, _≡_, Bool, true, false, List, [], _∷_, _++_, map, length, replicate}
+use Rattle.spec.specs.Vocabulary.{filter, list-of}
 use Rattle.spec.specs.Limits.{sheet-limit, permission-limit, user-limit, name-limit, grant-limit}
 use Rattle.spec.specs.Text.{Bytes, ascii, allowed-byte}
 use Rattle.spec.specs.Sheet.{Sheet}
-use Rattle.spec.specs.Refusal.{
-  too-long,
-  bad-first-line,
-  bad-line-count,
-  has-name-length,
-  too-many-grants,
-  refusal,
-}
+use Rattle.spec.specs.Refusal.{too-long, bad-first-line, bad-line-count, has-name-length, too-many-grants}
+use Rattle.spec.specs.Refusal.{refusal}
 
 -- of all 256 bytes these are allowed
 bytes : filter allowed-byte (list-of 256 (λ b. b))

@@ -17,14 +17,8 @@ use Rattle.bits.specs.Bit.{bit, word-bits}
 use Rattle.bits.specs.Laws.Bit.{bit-of-zero, bit-and}
 use Rattle.cells.specs.Rows.{row-bits}
 use Rattle.table.specs.TableWords.{table-row, table-limit, table-word, FirstBits}
-use Rattle.table.specs.TableParts.{
-  CellsFrom,
-  user-holds-at,
-  user-holds,
-  permission-held-at,
-  permission-held,
-  ColumnsOf,
-}
+use Rattle.table.specs.TableParts.{CellsFrom, user-holds-at, user-holds, permission-held-at, permission-held}
+use Rattle.table.specs.TableParts.{ColumnsOf}
 use Rattle.table.specs.Laws.Table.{FirstWords, word-put-in}
 
 -- a word of the cells that are there has no other

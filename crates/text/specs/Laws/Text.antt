@@ -12,19 +12,8 @@ use lib.ListN.{length}
 use Rattle.spec.specs.Vocabulary.{joined, concat}
 use Rattle.spec.specs.Text.{last-byte, Bytes, Line, comma, line-feed, lines, fields, lines-of, text-of}
 use Rattle.lists.specs.JoinLaws.{joined-element, map-fixed}
-use Rattle.lists.specs.CutLaws.{
-  Free,
-  Parts,
-  closed,
-  ending,
-  parted-joined,
-  joined-parted,
-  parted-some,
-  ended-concat,
-  concat-ended,
-  parted-element,
-  ended-element,
-}
+use Rattle.lists.specs.CutLaws.{Free, Parts, closed, ending, parted-joined, joined-parted, parted-some, ended-concat}
+use Rattle.lists.specs.CutLaws.{concat-ended, parted-element, ended-element}
 
 -- a field that a line can hold: neither comma nor line feed stands in it
 pub record Field (field : Bytes) : Type 0 where

@@ -4,18 +4,8 @@ use Prim.Native.Nat.{ℕ}
 use mathlib.Core.Path.{_≡_, refl, _∙_}
 use mathlib.Core.Logic.{_⊎_, inl, inr, ⊎-elim}
 use mathlib.Core.Bool.{false, true≢false}
-use mathlib.Core.List.{
-  List,
-  [],
-  _∷_,
-  _++_,
-  map,
-  append-nil,
-  List·Memᴰ,
-  List·Memᴰ·append-cases,
-  List·Memᴰ·eq-of-singleton,
-  Memᴰ·of-map,
-}
+use mathlib.Core.List.{List, [], _∷_, _++_, map, append-nil, List·Memᴰ, List·Memᴰ·append-cases}
+use mathlib.Core.List.{List·Memᴰ·eq-of-singleton, Memᴰ·of-map}
 use Rattle.spec.specs.Vocabulary.{empty, joined}
 use Rattle.spec.specs.Text.{Bytes, Line, comma, line-feed, line-text, text-of, last-byte}
 use Rattle.lists.specs.JoinLaws.{InPart, concat-element, joined-element}

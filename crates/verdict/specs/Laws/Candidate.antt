@@ -16,8 +16,7 @@ use Rattle.bits.specs.Counting.{Lowest}
 use Rattle.cells.specs.Rows.{row-words}
 use Rattle.cells.specs.CellPlaces.{marked}
 use Rattle.fit.specs.Laws.FitWord.{marked-in-word}
-use Rattle.verdict.specs.NearCells.{tie-at}
-use Rattle.verdict.specs.NearTieLaws.{Untried}
+use Rattle.verdict.specs.NearCells.{tie-at, Untried}
 use Rattle.verdict.specs.Misfits.{row-word, misfit-at}
 use Rattle.verdict.specs.Laws.Misfit.{misfit-fails, misfit-of-others, misfit-held}
 

@@ -13,24 +13,18 @@ use lib.ListN.{getD}
 use Rattle.spec.specs.Vocabulary.{some-below, every-below}
 use Rattle.bits.specs.Bit.{bit, word-bits}
 use Rattle.bits.specs.Truth.{implies, implies-intro, passes-or-fails, not-both, and-intro}
-use Rattle.bits.specs.Laws.Below.{
-  below-or-from,
-  some-below-intro,
-  some-below-ext,
-  none-below-elim,
-  every-below-intro,
-  every-below-ext,
-}
+use Rattle.bits.specs.Laws.Below.{below-or-from, some-below-intro, some-below-ext, none-below-elim, every-below-intro}
+use Rattle.bits.specs.Laws.Below.{every-below-ext}
 use Rattle.cells.specs.Rows.{row-words, row-bits}
 use Rattle.cells.specs.CellPlaces.{marked, Part}
 use Rattle.cells.specs.Laws.CellPlace.{user-of-cell}
 use Rattle.fit.specs.Laws.FitWord.{marked-in-word}
 use Rattle.verdict.specs.NearCells.{tie-at}
 use Rattle.verdict.specs.Laws.NearWord.{unless-in-own-row, unless-held}
-use Rattle.verdict.specs.NearTieLaws.{none-in-word}
-use Rattle.verdict.specs.Laws.PositionWalk.{Walk, walk-begun}
-use Rattle.verdict.specs.Misfits.{row-word, HoldersWord}
-use Rattle.verdict.specs.Laws.Misfit.{no-holder}
+use Rattle.verdict.specs.Laws.NearTie.{none-in-word}
+use Rattle.bits.specs.Laws.Walk.{Walk, walk-begun}
+use Rattle.verdict.specs.Misfits.{row-word}
+use Rattle.verdict.specs.Laws.Misfit.{HoldersWord, no-holder}
 use Rattle.verdict.specs.Laws.TieWalk.{NoneAt}
 use Rattle.verdict.specs.ReductionWork.{Work, Visited}
 use Rattle.verdict.specs.Insides.{has-cells, in-row, may-tie, Insides}

@@ -8,10 +8,10 @@ use mathlib.Core.Path.{_≡_, refl, sym, ap, subst, _∙_}
 use mathlib.Core.Logic.{⊎-elim}
 use mathlib.Core.Bool.{Bool, true, false, So, not, _&&_, and-true, and-false}
 use mathlib.Core.List.{List}
-use borrow.Author.Tests.{lt-ltb, ltb-true}
+use borrow.Author.Tests.{eq-eqb, ne-eqb, eqb-true, lt-ltb, ltb-true}
 use lib.Arith.{digits-div, digits-mod}
 use lib.Bits.{bitAnd}
-use lib.Dec.{ltb, lit<}
+use lib.Dec.{eqb, ltb, lit<}
 use lib.ListN.{getD}
 use Rattle.spec.specs.Vocabulary.{every-below}
 use Rattle.spec.specs.Limits.{user-limit}
@@ -26,62 +26,61 @@ use Rattle.bits.specs.Truth.{
   and-left,
   and-right,
   not-fails,
+  not-passes,
+  not-both,
 }
 use Rattle.bits.specs.Laws.Below.{every-below-ext, every-below-intro, every-below-elim}
 use Rattle.cells.specs.Rows.{row-words, row-bits}
-use Rattle.cells.specs.CellPlaces.{cell-words, grant-of, marked, fit-in, FittingWord}
-use Rattle.cells.specs.Laws.CellPlace.{user-of-cell, word-of-cell, position-of-cell, fit-by-word}
+use Rattle.cells.specs.CellPlaces.{grant-of, marked, fit-in, FittingWord, cells-of}
+use Rattle.cells.specs.Laws.CellPlace.{row-bits-pos, user-of-cell, word-of-cell, position-of-cell, fit-by-word}
 use Rattle.fit.specs.Laws.FitWord.{marked-in-word}
 use Rattle.fit.specs.Columns.{column-words, held-in, Columns}
-use Rattle.verdict.specs.NearCells.{cells-of, dominates-in}
+use Rattle.fit.specs.Laws.Column.{column-position}
+use Rattle.verdict.specs.NearCells.{dominates-in}
 use Rattle.verdict.specs.Laws.NearWord.{every-in-word, every-word-fails, covered-at}
-use Rattle.verdict.specs.Misfits.{row-word, row-fits, misfit-at, HoldersWord, SuspectsWord}
+use Rattle.verdict.specs.Misfits.{row-word, row-fits, misfit-at, is-holder, is-suspect}
 
 -- ---- the words of the holders
 
--- a position of a column's word
-column-bit : (rows columns : List ℕ) → Columns rows columns → (p j q : ℕ) → p < row-bits → j < column-words
-    → q < word-bits
-    → bit (getD columns (p * column-words + j) 0) q ≡ held-in rows p (j * word-bits + q)
-unfolding user-limit row-words row-bits
-column-bit rows columns made p j q k l m =
-    let n = (p * column-words + j) * word-bits + q in
-    let permission : n / cell-words ≡ p = omega arith in
-    let word : n % cell-words ≡ j * word-bits + q = omega arith in
-    sym (marked-in-word columns (p * column-words + j) q m) ∙ made .inside n (omega arith) ∙ rw (permission, word)
-
-module _ (rows columns : List ℕ) (made : Columns rows columns) (users p j : ℕ) (few : users ≤ user-limit)
-    (k : p < row-bits)
-    (l : j * word-bits < users * row-words) where
-  within-column : j < column-words
-  unfolding user-limit row-words
-  within-column = omega arith
-
+module _ (columns : List ℕ) (users p j : ℕ) where
   -- all positions are of the users' words
-  pub whole-word-holds : (j + 1) * word-bits ≤ users * row-words → HoldersWord rows users p j
-      (getD columns (p * column-words + j) 0)
-  whole-word-holds all = record {
-    bits = λ q m. column-bit rows columns made p j q k within-column m
-        ∙ sym (rw (lt-ltb (j * word-bits + q) (users * row-words) (omega arith))
-        (and-true (held-in rows p (j * word-bits + q))));
-  }
+  pub whole-word-holds : (j + 1) * word-bits ≤ users * row-words → (q : ℕ) → q < word-bits
+      → bit (getD columns (p * column-words + j) 0) q ≡ is-holder columns users p j q
+  whole-word-holds all q m =
+      sym (rw (lt-ltb (j * word-bits + q) (users * row-words) (omega arith))
+      (and-true (bit (getD columns (p * column-words + j) 0) q)))
 
   -- or those below an end
-  pub cut-word-holds : (full : ℕ) → ((q : ℕ) → bit full q ≡ ltb q (users * row-words - j * word-bits))
-      → HoldersWord rows users p j (bitAnd (getD columns (p * column-words + j) 0) full)
-  cut-word-holds full says = record {
-    bits = λ q m. bit-and (getD columns (p * column-words + j) 0) full q
-        ∙ rw (column-bit rows columns made p j q k within-column m, says q)
-        (ap (λ b. held-in rows p (j * word-bits + q) && b) (end-moved q));
-  }
+  pub cut-word-holds : (full : ℕ) → ((q : ℕ) → bit full q ≡ ltb q (users * row-words - j * word-bits)) → (q : ℕ)
+      → bit (bitAnd (getD columns (p * column-words + j) 0) full) q ≡ is-holder columns users p j q
+  cut-word-holds full says q =
+      bit-and (getD columns (p * column-words + j) 0) full q
+      ∙ ap (λ b. bit (getD columns (p * column-words + j) 0) q && b) (says q ∙ end-moved)
     where
-      end-moved : (q : ℕ) → ltb q (users * row-words - j * word-bits) ≡ ltb (j * word-bits + q) (users * row-words)
-      end-moved q =
+      end-moved : ltb q (users * row-words - j * word-bits) ≡ ltb (j * word-bits + q) (users * row-words)
+      end-moved =
           same-truth (ltb q (users * row-words - j * word-bits)) (ltb (j * word-bits + q) (users * row-words))
           (λ e. lt-ltb (j * word-bits + q) (users * row-words)
           (omega (arith, ltb-true q (users * row-words - j * word-bits) e)))
           (λ e. lt-ltb q (users * row-words - j * word-bits)
           (omega (arith, ltb-true (j * word-bits + q) (users * row-words) e)))
+
+within-column : {users j : ℕ} → users ≤ user-limit → j * word-bits < users * row-words → j < column-words
+unfolding user-limit row-words
+within-column few l = omega arith
+
+-- the words of the users who hold the permission p, at the positions of word j of its column
+pub record HoldersWord (rows : List ℕ) (users p j word : ℕ) : Type 0 where
+  pub bits : (q : ℕ) → q < word-bits
+      → bit word q ≡ (held-in rows p (j * word-bits + q) && ltb (j * word-bits + q) (users * row-words))
+
+pub holders-word : {rows columns : List ℕ} → Columns rows columns → {users p j word : ℕ} → users ≤ user-limit
+    → p < row-bits → j * word-bits < users * row-words
+    → ((q : ℕ) → q < word-bits → bit word q ≡ is-holder columns users p j q) → HoldersWord rows users p j word
+holders-word {rows} {columns} made {users} {p} {j} few k l says = record {
+  bits = λ q m. says q m ∙ ap (λ b. b && ltb (j * word-bits + q) (users * row-words))
+      (column-position rows columns made p j q k (within-column few l) m);
+}
 
 module _ {rows : List ℕ} {users p j word : ℕ} (holders : HoldersWord rows users p j word) where
   pub holder-within : {q : ℕ} → q < word-bits → So (bit word q) → j * word-bits + q < users * row-words
@@ -129,34 +128,79 @@ own-row-fits rows left it j held =
 
 -- ---- the words that can be misfits
 
-module _ (rows left : List ℕ) (users it g j : ℕ) {held : ℕ} (holders : HoldersWord rows users (g % row-bits) j held)
-  where
-    -- all holders
-    pub suspects-all : SuspectsWord rows left users it g j held
-    suspects-all = record {
-      within = λ q l e. holder-within holders l e;
-      holds = λ q l e. holder-holds holders l e;
-      others = λ q l e inside. rw (no-holder holders l e inside);
-    }
+module _ (columns : List ℕ) (users it g j : ℕ) where
+  -- all holders
+  pub suspects-all : (it / row-bits ≡ g / row-bits → ⊥) → (q : ℕ)
+      → is-holder columns users (g % row-bits) j q ≡ is-suspect columns users it g j q
+  suspects-all other q =
+      sym (ap (λ b. is-holder columns users (g % row-bits) j q && not (b && is-holder columns users (it % row-bits) j
+      q))
+      (ne-eqb (it / row-bits) (g / row-bits) other)
+      ∙ and-true (is-holder columns users (g % row-bits) j q))
 
-    -- those who do not hold the permission of the cell it, whose user is that of g
-    pub suspects-apart : {both : ℕ} (word : ℕ) → HoldersWord rows users (it % row-bits) j both
-        → it / row-bits ≡ g / row-bits
-        → ((q : ℕ) → bit word q ≡ (bit held q && not (bit both q))) → SuspectsWord rows left users it g j word
-    suspects-apart {both} word with-it one-user says = record {
-      within = λ q l e. holder-within holders l (and-left (bit held q) (not (bit both q)) (sym (says q) ∙ e));
-      holds = λ q l e. holder-holds holders l (and-left (bit held q) (not (bit both q)) (sym (says q) ∙ e));
-      others = λ q l e inside. ⊎-elim
-          (λ (p : So (bit both q)). rw (fits (j * word-bits + q) (holder-holds with-it l p))
-          (and-false (held-in rows (g % row-bits) (j * word-bits + q))))
-          (λ (p : bit both q ≡ false). let unheld : bit held q ≡ false = sym (and-true (bit held q))
-          ∙ (rw p at (sym (says q) ∙ e)) in
-          rw (no-holder holders l unheld inside))
-          (passes-or-fails (bit both q));
-    }
-      where
-        fits : (i : ℕ) → So (held-in rows (it % row-bits) i) → So (row-fits rows left it (g / row-bits) i)
-        fits i p = subst (λ v. So (row-fits rows left it v i)) one-user (own-row-fits rows left it i p)
+  -- those who do not hold the permission of the cell it, whose user is that of g
+  pub suspects-apart : it / row-bits ≡ g / row-bits → (q : ℕ) {held both : Bool}
+      → held ≡ is-holder columns users (g % row-bits) j q → both ≡ is-holder columns users (it % row-bits) j q
+      → (held && not both) ≡ is-suspect columns users it g j q
+  suspects-apart one-user q {held} {both} of-other of-own =
+      ap (λ b. b && not both) of-other ∙ ap (λ b. is-holder columns users (g % row-bits) j q && not b) of-own
+      ∙ sym (ap (λ b. is-holder columns users (g % row-bits) j q
+      && not (b && is-holder columns users (it % row-bits) j q))
+      (eq-eqb (it / row-bits) (g / row-bits) one-user))
+
+-- the words that can be misfits for the cell g, at the positions of word j of its permission's column
+pub record SuspectsWord (rows left : List ℕ) (users it g j word : ℕ) : Type 0 where
+  pub within : (q : ℕ) → q < word-bits → So (bit word q) → j * word-bits + q < users * row-words
+  pub holds : (q : ℕ) → q < word-bits → So (bit word q) → So (held-in rows (g % row-bits) (j * word-bits + q))
+  pub others : (q : ℕ) → q < word-bits → bit word q ≡ false → j * word-bits + q < users * row-words
+      → misfit-at rows left it g (j * word-bits + q) ≡ false
+
+pub suspects-word : (rows columns left : List ℕ) → Columns rows columns → (users it g j word : ℕ) → users ≤ user-limit
+    → j * word-bits < users * row-words
+    → ((q : ℕ) → q < word-bits → bit word q ≡ is-suspect columns users it g j q)
+    → SuspectsWord rows left users it g j word
+suspects-word rows columns left made users it g j word few l says = record {
+  within = λ q m e. ltb-true (j * word-bits + q) (users * row-words)
+      (and-right (in-column g q) (ltb (j * word-bits + q) (users * row-words)) (holder q m e));
+  holds = λ q m e. sym (position g q m)
+      ∙ and-left (in-column g q) (ltb (j * word-bits + q) (users * row-words)) (holder q m e);
+  others = λ q m e inside. ⊎-elim (λ h. unless-suspect q m e inside h) (λ f. rw f)
+      (passes-or-fails (held-in rows (g % row-bits) (j * word-bits + q)));
+}
+  where
+    in-column : ℕ → ℕ → Bool
+    in-column n q = bit (getD columns (n % row-bits * column-words + j) 0) q
+
+    position : (n q : ℕ) → q < word-bits → in-column n q ≡ held-in rows (n % row-bits) (j * word-bits + q)
+    position n q m = column-position rows columns made (n % row-bits) j q (mod-lt n row-bits-pos)
+        (within-column few l) m
+
+    -- the cell it has g's user, and the word's user holds its permission
+    both : ℕ → Bool
+    both q = eqb (it / row-bits) (g / row-bits) && is-holder columns users (it % row-bits) j q
+
+    holder : (q : ℕ) → q < word-bits → So (bit word q) → So (is-holder columns users (g % row-bits) j q)
+    holder q m e = and-left (is-holder columns users (g % row-bits) j q) (not (both q)) (sym (says q m) ∙ e)
+
+    fits : (q : ℕ) → q < word-bits → So (both q) → So (row-fits rows left it (g / row-bits) (j * word-bits + q))
+    fits q m p =
+        let own = and-right (eqb (it / row-bits) (g / row-bits)) (is-holder columns users (it % row-bits) j q) p in
+        subst (λ v. So (row-fits rows left it v (j * word-bits + q)))
+        (eqb-true (it / row-bits) (g / row-bits)
+        (and-left (eqb (it / row-bits) (g / row-bits)) (is-holder columns users (it % row-bits) j q) p))
+        (own-row-fits rows left it (j * word-bits + q) (sym (position it q m)
+        ∙ and-left (in-column it q) (ltb (j * word-bits + q) (users * row-words)) own))
+
+    unless-suspect : (q : ℕ) → q < word-bits → bit word q ≡ false → j * word-bits + q < users * row-words
+        → So (held-in rows (g % row-bits) (j * word-bits + q))
+        → misfit-at rows left it g (j * word-bits + q) ≡ false
+    unless-suspect q m e inside h = ⊎-elim
+        (λ p. rw (fits q m p) (and-false (held-in rows (g % row-bits) (j * word-bits + q))))
+        (λ f. absurd (not-both (and-intro (is-holder columns users (g % row-bits) j q) (not (both q))
+        (and-intro (in-column g q) (ltb (j * word-bits + q) (users * row-words)) (position g q m ∙ h)
+        (lt-ltb (j * word-bits + q) (users * row-words) inside))
+        (not-passes (both q) f)) (sym (says q m) ∙ e)))
+        (passes-or-fails (both q))
 
 -- ---- domination
 

@@ -1,18 +1,20 @@
 -- The search for the first misfit by the words of a column: only the words at the positions of some can be misfits,
 -- and of them those are whose cells do not all fit.
-use Prim.Native.Nat.{ℕ, _+_, _-_, _*_, _/_, _%_, _≤_, _<_}
+use Prim.Native.Nat.{ℕ, _+_, _-_, _*_, _/_, _%_, _≤_, _<_, zero-le}
 use native.Mathlib.Nat.{add-sub-of-le}
 use native.Mathlib.Omega.{arith}
 use mathlib.Core.Path.{_≡_, subst}
 use mathlib.Core.Logic.{⊎-elim}
 use mathlib.Core.Bool.{false, So, not, _&&_, and-false}
 use mathlib.Core.List.{List}
+use Rattle.bits.specs.Counting.{NextFrom}
 use Rattle.bits.specs.Bit.{bit, word-bits}
 use Rattle.bits.specs.Truth.{passes-or-fails, and-intro, and-left, and-right}
 use Rattle.bits.specs.Laws.Below.{below-or-from}
 use Rattle.cells.specs.Rows.{row-words, row-bits}
 use Rattle.fit.specs.Columns.{held-in}
-use Rattle.verdict.specs.Misfits.{row-fits, misfit-at, words-before, SuspectsWord, FirstBelow}
+use Rattle.verdict.specs.Misfits.{row-fits, misfit-at, words-before}
+use Rattle.verdict.specs.Laws.Misfit.{SuspectsWord}
 
 -- none of the users' words before those at word j of the column is a misfit
 abbrev pub NoMisfitBefore : List ℕ → List ℕ → ℕ → ℕ → ℕ → ℕ → Type 0
@@ -20,7 +22,7 @@ NoMisfitBefore rows left users it g j = (n : ℕ) → n < words-before users j �
 
 module _ (rows left : List ℕ) (users it g j word q : ℕ) (inside : j * word-bits < users * row-words)
     (suspects : SuspectsWord rows left users it g j word)
-    (tried : FirstBelow (λ r. bit word r && not (row-fits rows left it (g / row-bits) (j * word-bits + r))) word-bits q)
+    (tried : NextFrom (λ r. bit word r && not (row-fits rows left it (g / row-bits) (j * word-bits + r))) 0 word-bits q)
     (before : NoMisfitBefore rows left users it g j) where
   not-misfit : (r : ℕ) → r < word-bits → j * word-bits + r < users * row-words
       → (bit word r && not (row-fits rows left it (g / row-bits) (j * word-bits + r))) ≡ false
@@ -34,19 +36,21 @@ module _ (rows left : List ℕ) (users it g j word q : ℕ) (inside : j * word-b
   none-below n l k few =
       ⊎-elim (λ (earlier : n < j * word-bits). before n (omega arith))
       (λ (from : j * word-bits ≤ n). subst (λ m. misfit-at rows left it g m ≡ false) (add-sub-of-le from)
-      (not-misfit (n - j * word-bits) (omega arith) (omega arith) (tried .earlier (n - j * word-bits) (omega arith))))
+      (not-misfit (n - j * word-bits) (omega arith) (omega arith) (tried .skipped (n - j * word-bits) zero-le
+      (omega arith))))
       (below-or-from n (j * word-bits))
 
-  pub first-misfit : q < word-bits → FirstBelow (misfit-at rows left it g) (users * row-words) (j * word-bits + q)
+  pub first-misfit : q < word-bits → NextFrom (misfit-at rows left it g) 0 (users * row-words) (j * word-bits + q)
   first-misfit l =
       let unfit = not (row-fits rows left it (g / row-bits) (j * word-bits + q)) in
       let set = and-left (bit word q) unfit (tried .passes l) in
       let few = suspects .within q l set in
       record {
-        within = omega (arith, few);
+        not-before = zero-le;
+        not-past = omega (arith, few);
         passes = λ k. and-intro (held-in rows (g % row-bits) (j * word-bits + q)) unfit (suspects .holds q l set)
             (and-right (bit word q) unfit (tried .passes l));
-        earlier = λ n k. none-below n k (omega arith) (omega (arith, few));
+        skipped = λ n from k. none-below n k (omega arith) (omega (arith, few));
       }
 
   pub no-misfit-then : word-bits ≤ q → NoMisfitBefore rows left users it g (j + 1)
@@ -55,6 +59,11 @@ module _ (rows left : List ℕ) (users it g j word q : ℕ) (inside : j * word-b
 -- none at all
 pub no-misfit-first : (rows left : List ℕ) (users it g j : ℕ) → users * row-words ≤ j * word-bits
     → NoMisfitBefore rows left users it g j
-    → FirstBelow (misfit-at rows left it g) (users * row-words) (users * row-words)
+    → NextFrom (misfit-at rows left it g) 0 (users * row-words) (users * row-words)
 no-misfit-first rows left users it g j end before =
-    record { within = omega arith; passes = λ l. absurd (omega arith); earlier = λ n l. before n (omega arith) }
+    record {
+      not-before = zero-le;
+      not-past = omega arith;
+      skipped = λ n from l. before n (omega arith);
+      passes = λ l. absurd (omega arith);
+    }

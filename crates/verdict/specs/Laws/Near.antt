@@ -27,10 +27,10 @@ use Rattle.cells.specs.Rows.{row-words, row-bits}
 use Rattle.cells.specs.Laws.Grant.{same-grant-equal, equal-same-grant}
 use Rattle.fit.specs.Laws.Fit.{fits-itself}
 use Rattle.cells.specs.CellSets.{cell-grants}
-use Rattle.cells.specs.CellPlaces.{grant-of, marked, fit-in, near, Shown, Part}
+use Rattle.cells.specs.CellPlaces.{grant-of, marked, fit-in, near, Shown, Part, cells-of}
 use Rattle.cells.specs.Laws.CellList.{cell-of, cell-of-grant, marked-holds, cell-grants-by-cell, passing-grants-count}
 use Rattle.fit.specs.Laws.FitWord.{fits-in-rows}
-use Rattle.verdict.specs.NearCells.{cells-of, dominates-in, tie-at}
+use Rattle.verdict.specs.NearCells.{dominates-in, tie-at}
 
 -- ---- two cells are one
 

@@ -11,24 +11,16 @@ use lib.Dec.{eqb}
 use lib.ListN.{getD}
 use Rattle.spec.specs.Vocabulary.{every-below}
 use Rattle.bits.specs.Bit.{bit, word-bits}
-use Rattle.bits.specs.Truth.{
-  implies,
-  implies-intro,
-  implies-elim,
-  fails-unless,
-  not-both,
-  and-intro,
-  and-left,
-  and-right,
-}
+use Rattle.bits.specs.Truth.{implies, implies-intro, implies-elim, fails-unless, not-both, and-intro, and-left}
+use Rattle.bits.specs.Truth.{and-right}
 use Rattle.bits.specs.Laws.Below.{every-below-add, every-below-intro, every-below-elim}
 use Rattle.cells.specs.Rows.{row-words, row-bits, cell}
 use Rattle.cells.specs.CellSets.{in-cells}
-use Rattle.cells.specs.CellPlaces.{grant-of, marked, fit-in, near, Part}
+use Rattle.cells.specs.CellPlaces.{grant-of, marked, fit-in, near, Part, cells-of}
 use Rattle.cells.specs.Laws.CellPlace.{user-of-cell, cell-marked, fit-by-word}
 use Rattle.fit.specs.Laws.FitWord.{marked-in-word}
 use Rattle.fit.specs.Columns.{held-in}
-use Rattle.verdict.specs.NearCells.{cells-of, dominates-in, tie-test, tie-at}
+use Rattle.verdict.specs.NearCells.{dominates-in, tie-test, tie-at}
 
 -- ---- every cell, word by word
 

@@ -6,7 +6,7 @@ use native.Mathlib.Numerals.{add-one}
 use native.Mathlib.Omega.{arith}
 use mathlib.Core.Path.{_≡_, refl, sym, ap, _∙_}
 use mathlib.Core.Logic.{⊎-elim, _≢_}
-use mathlib.Core.Bool.{false, So, not, cond, _&&_, and-true}
+use mathlib.Core.Bool.{false, So, not, _&&_, and-true}
 use mathlib.Core.List.{List, _∷_, map}
 use borrow.Author.Tests.{eq-eqb, ne-eqb, eqb-true, eqb-false}
 use lib.Dec.{eqb}
@@ -14,7 +14,6 @@ use lib.ListN.{length, getD, set, List·getD-eq-default}
 use lib.Seq.{getD-set-same, getD-set-other}
 use Rattle.spec.specs.Sheet.{Sheet, same-grant}
 use Rattle.spec.specs.Fit.{without}
-use Rattle.spec.specs.Reduction.{Removal, single, tied}
 use Rattle.bits.specs.Bit.{bit, word-bits}
 use Rattle.bits.specs.Laws.Bit.{bit-of-zero}
 use Rattle.bits.specs.Truth.{passes-or-fails, not-both, same-truth}
@@ -28,7 +27,7 @@ use Rattle.cells.specs.CellSets.{cell-grants}
 use Rattle.cells.specs.CellPlaces.{cell-limit, grant-of, marked, Shown, Part}
 use Rattle.cells.specs.Laws.CellList.{cell-grants-by-cell}
 use Rattle.verdict.specs.Laws.Near.{same-cell}
-use Rattle.verdict.specs.Log.{log-of}
+use Rattle.verdict.specs.Log.{removal-of, log-of}
 use Rattle.verdict.specs.ReductionWork.{Work, remaining-cells, Logged, Removed}
 
 -- ---- a bit of a word
@@ -99,10 +98,6 @@ log-kept before after (suc n) h k =
       log-kept before after n (λ i l. h i (le-step l))
           (λ i l. k i (le-step l)),
     )
-
--- a removal by its cell and its partner's
-abbrev pub removal-of : ℕ → ℕ → Removal
-removal-of it other = cond (eqb it other) (single (grant-of it)) (tied (grant-of it) (grant-of other))
 
 pub log-grown : {it other : ℕ} {before after : Work} → Removed it other before after
     → log-of (after .removed) (after .partner) (after .count) ≡ removal-of it other ∷ log-of (before .removed)

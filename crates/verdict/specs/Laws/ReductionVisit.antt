@@ -17,13 +17,12 @@ use Rattle.bits.specs.Truth.{and-left}
 use Rattle.bits.specs.Laws.Count.{count-below-pos}
 use Rattle.cells.specs.Rows.{row-words}
 use Rattle.cells.specs.CellSets.{cell-grants}
-use Rattle.cells.specs.CellPlaces.{cell-limit, grant-of, marked, Shown, Part}
-use Rattle.verdict.specs.NearCells.{cells-of}
-use Rattle.verdict.specs.Log.{log-of}
+use Rattle.cells.specs.CellPlaces.{cell-limit, grant-of, marked, Shown, Part, cells-of}
+use Rattle.verdict.specs.Log.{removal-of, log-of}
 use Rattle.verdict.specs.ReductionVerdict.{GrantJudged}
 use Rattle.verdict.specs.ReductionWork.{Work, state-of, WorkReady, Visited, Removable, Removed}
 use Rattle.verdict.specs.Laws.ReductionWork.{part-all, part-of-part}
-use Rattle.verdict.specs.Laws.ReductionRemove.{removal-of, without-cell, log-grown, logged-grown, one-fewer}
+use Rattle.verdict.specs.Laws.ReductionRemove.{without-cell, log-grown, logged-grown, one-fewer}
 use Rattle.verdict.specs.declared.judgement.Verdict.the-variants.{Stays, Single, Tied}
 use Rattle.numbers.specs.declared.numbers.CellNo.{CellNo}
 
@@ -39,13 +38,13 @@ removable {it} {work} ready inside set below =
     record {
       set = set;
       it-cell = at-it;
-      other-cell = lt-of-lt-of-le below (cells-within (ready .few-users));
+      other-cell = lt-of-lt-of-le below (cells-within (ready .shows .few-users));
       room = omega (arith, ready .room, count-below-pos cell-limit (marked (work .left)) at-it set);
       logged = ready .logged;
     }
   where
     at-it : it < cell-limit
-    at-it = lt-of-lt-of-le inside (cells-within (ready .few-users))
+    at-it = lt-of-lt-of-le inside (cells-within (ready .shows .few-users))
 
 -- the state with the grant of a cell removed
 abbrev without-it : Sheet → Work → ℕ → ℕ → Reduction
@@ -93,12 +92,12 @@ module _ {rows : List ℕ} {users it : ℕ} {before : Work} (ready : WorkReady r
         }
       where
         at-it : it < cell-limit
-        at-it = lt-of-lt-of-le inside (cells-within (ready .few-users))
+        at-it = lt-of-lt-of-le inside (cells-within (ready .shows .few-users))
 
     pub visit-single : GrantJudged rows (before .left) users it Single → Removed it it before after
         → Visited rows users (it ∷ []) before after
     visit-single judged removed =
-        removed-visited removed (lt-of-lt-of-le inside (cells-within (ready .few-users)))
+        removed-visited removed (lt-of-lt-of-le inside (cells-within (ready .shows .few-users)))
         (λ sheet shown. rw (eq-eqb it it refl) (ap (λ v. carry-out v (grant-of it) (state-of sheet before))
         (judged .right sheet shown)))
 
@@ -106,6 +105,6 @@ module _ {rows : List ℕ} {users it : ℕ} {before : Work} (ready : WorkReady r
         before after
         → Visited rows users (it ∷ []) before after
     visit-tied {other} judged removed =
-        removed-visited removed (lt-of-lt-of-le (judged .named .0) (cells-within (ready .few-users)))
+        removed-visited removed (lt-of-lt-of-le (judged .named .0) (cells-within (ready .shows .few-users)))
         (λ sheet shown. rw (ne-eqb it (other .0) (judged .named .1))
         (ap (λ v. carry-out v (grant-of it) (state-of sheet before)) (judged .right sheet shown)))

@@ -55,7 +55,7 @@ module _ {rows : List ℕ} {users : ℕ} where
       → WorkReady rows users after
   visited-ready ready v =
       record {
-        few-users = ready .few-users;
+        shows = ready .shows;
         part = part-of-part (v .part) (ready .part);
         room = omega (arith, v .total, ready .room);
         logged = v .logged;

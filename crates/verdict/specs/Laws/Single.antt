@@ -1,6 +1,6 @@
 -- Singles by the words. All cells of left in one word fit each other, so a single is the only one of its word; and a
--- count of the fitting grants that ends at 2 tells whether there is one.
-use Prim.Native.Nat.{ℕ, _+_, _*_, _/_, _%_, _^_, _≤_, _<_}
+-- count of the cells near it that is cut at 2 tells whether there is one.
+use Prim.Native.Nat.{ℕ, min, _+_, _*_, _/_, _%_, _^_, _≤_, _<_}
 use native.Mathlib.Nat.{mod-lt, div-add-mod', lt-trans}
 use native.Mathlib.Omega.{arith}
 use mathlib.Core.Path.{_≡_, sym, ap, subst, _∙_}
@@ -9,10 +9,7 @@ use mathlib.Core.Bool.{So}
 use mathlib.Core.List.{List}
 use borrow.Author.Tests.{eq-eqb, ne-eqb}
 use lib.Dec.{eqb, lit<}
-use lib.ListN.{length, getD}
-use Rattle.spec.specs.Vocabulary.{filter}
-use Rattle.spec.specs.Sheet.{Sheet}
-use Rattle.spec.specs.Fit.{fits}
+use lib.ListN.{getD}
 use Rattle.bits.specs.Bit.{bit, word-bits}
 use Rattle.bits.specs.Laws.Bit.{bit-of-zero}
 use Rattle.bits.specs.Truth.{and-intro}
@@ -22,10 +19,8 @@ use Rattle.bits.specs.Laws.Count.{count-below-pos, count-below-none-intro}
 use Rattle.bits.specs.Laws.CountJoin.{count-below-one-intro, count-below-one-elim}
 use Rattle.bits.specs.Word.{LowestDropped}
 use Rattle.bits.specs.Laws.Word.{some-bit, dropped-count}
-use Rattle.cells.specs.CellSets.{cell-grants}
-use Rattle.cells.specs.CellPlaces.{grant-of, marked, fit-in, near, CountedBelow, Shown, Part}
-use Rattle.fit.specs.Laws.FitWord.{marked-in-word, near-count}
-use Rattle.verdict.specs.NearCells.{cells-of}
+use Rattle.cells.specs.CellPlaces.{cell-limit, grant-of, marked, fit-in, near, Part}
+use Rattle.fit.specs.Laws.FitWord.{marked-in-word}
 use Rattle.verdict.specs.Laws.NearWord.{one-row-fits}
 
 -- ---- one position
@@ -52,25 +47,23 @@ one-position w rest pos fits dropped =
 
 -- ---- singles
 
--- a count that ends at 2 tells whether the whole is 1
-pub one-of-two : {whole count : ℕ} → CountedBelow 2 whole count → eqb count 1 ≡ eqb whole 1
-one-of-two {whole} {count} counted =
-    ⊎-elim (λ (l : count < 2). ap (λ n. eqb n 1) (counted .below l))
-    (λ (l : 2 ≤ count). ne-eqb count 1 (omega arith) ∙ sym (ne-eqb whole 1 (omega (arith, counted .not-more))))
-    (below-or-from count 2)
+-- a count cut at 2 tells whether the whole is 1
+pub one-of-two : (whole : ℕ) → eqb (min 2 whole) 1 ≡ eqb whole 1
+one-of-two whole =
+    ⊎-elim (λ (l : whole < 2). let same : min 2 whole ≡ whole = omega arith in ap (λ n. eqb n 1) same)
+    (λ (l : 2 ≤ whole). ne-eqb (min 2 whole) 1 (omega arith) ∙ sym (ne-eqb whole 1 (omega arith)))
+    (below-or-from whole 2)
 
-module _ {rows : List ℕ} {users : ℕ} {sheet : Sheet} (shown : Shown rows users sheet) {left : List ℕ}
-    (part : Part left rows) where
+module _ {rows left : List ℕ} (part : Part left rows) where
   -- the others of its word would fit it
-  alone-at : (i q : ℕ) → q < word-bits → i * word-bits + q < cells-of users → So (marked left (i * word-bits + q))
-      → length (filter (fits sheet (grant-of (i * word-bits + q))) (cell-grants sheet left)) ≡ 1
+  alone-at : (i q : ℕ) → q < word-bits → i * word-bits + q < cell-limit → So (marked left (i * word-bits + q))
+      → count-below cell-limit (near rows left (i * word-bits + q)) ≡ 1
       → count-below word-bits (bit (getD left i 0)) ≡ 1
   alone-at i q l inside set one =
       count-below-one-intro word-bits (bit (getD left i 0)) l (sym (marked-in-word left i q l) ∙ set) (λ r k p.
       omega (
         arith,
-        count-below-one-elim (cells-of users) (near rows left (i * word-bits + q))
-            (near-count shown part (i * word-bits + q) ∙ one)
+        count-below-one-elim cell-limit (near rows left (i * word-bits + q)) one
             inside (near-to q l set) (omega arith) (near-to r k (marked-in-word left i r k ∙ p)),
       ))
     where
@@ -81,11 +74,10 @@ module _ {rows : List ℕ} {users : ℕ} {sheet : Sheet} (shown : Shown rows use
           (grant-of (i * word-bits + r))) p
           (one-row-fits rows i q r l k (part .held (i * word-bits + q) set) (part .held (i * word-bits + r) p))
 
-  pub alone-in-word : (it : ℕ) → it < cells-of users → So (marked left it)
-      → length (filter (fits sheet (grant-of it)) (cell-grants sheet left)) ≡ 1 → count-below word-bits
-      (bit (getD left (it / word-bits) 0)) ≡ 1
+  pub alone-in-word : (it : ℕ) → it < cell-limit → So (marked left it)
+      → count-below cell-limit (near rows left it) ≡ 1
+      → count-below word-bits (bit (getD left (it / word-bits) 0)) ≡ 1
   alone-in-word it =
-      subst (λ n. n < cells-of users → So (marked left n)
-      → length (filter (fits sheet (grant-of n)) (cell-grants sheet left)) ≡ 1
+      subst (λ n. n < cell-limit → So (marked left n) → count-below cell-limit (near rows left n) ≡ 1
       → count-below word-bits (bit (getD left (it / word-bits) 0)) ≡ 1)
       (div-add-mod' it word-bits) (alone-at (it / word-bits) (it % word-bits) (mod-lt it (lit< tt)))

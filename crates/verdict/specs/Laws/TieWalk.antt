@@ -8,8 +8,8 @@ use mathlib.Core.Bool.{Bool}
 use Rattle.bits.specs.Bit.{bit, word-bits}
 use Rattle.bits.specs.Counting.{Lowest}
 use Rattle.cells.specs.Rows.{row-words}
-use Rattle.verdict.specs.NearTieLaws.{none-in-words, none-then-lowest}
-use Rattle.verdict.specs.Laws.PositionWalk.{Walk, walk-before, walk-ended}
+use Rattle.verdict.specs.Laws.NearTie.{none-in-words, none-then-lowest}
+use Rattle.bits.specs.Laws.Walk.{Walk, walk-before, walk-ended}
 use Rattle.verdict.specs.ReductionVerdict.{LowestIn, NoneIn}
 use Rattle.verdict.specs.Misfits.{words-before}
 

@@ -10,19 +10,8 @@ use Rattle.spec.specs.Decimal.{decimal}
 use Rattle.roles.specs.StandingCases.{standing-case}
 use Rattle.blocks.specs.Laws.Counts.{counts-parts}
 use Rattle.blocks.specs.CountsText.{standing-text}
-use Rattle.text.specs.Written.{
-  WrittenSoFar,
-  end-within,
-  fits-as,
-  front-fits,
-  place-within,
-  room-behind,
-  then-same-length,
-  then-written,
-  with-rest,
-  within-buffer,
-  written-as,
-}
+use Rattle.text.specs.Written.{WrittenSoFar, end-within, fits-as, front-fits, place-within, room-behind}
+use Rattle.text.specs.Written.{then-same-length, then-written, with-rest, within-buffer, written-as}
 use Rattle.blocks.proofs.counts.put_counts.Statement.{statement}
 use Rattle.blocks.proofs.counts.put_counts.Tie as tie
 

@@ -1,85 +1,73 @@
 -- `role_block::put_permission_fields`: where the names below i are written, a turn writes name i behind them.
 use borrow.Author.Needs.{needs}
-use Prim.Native.Nat.{_-_}
+use Prim.Native.Nat.{_-_, _<_}
 use native.Mathlib.Omega.{arith}
 use mathlib.Core.Path.{ap, sym}
-use Rattle.spec.specs.Sheet.{sheet-of, permission-name}
-use Rattle.names.specs.Laws.LaidOut.{permissions-at}
-use Rattle.blocks.specs.Laws.Laid.{permission-counted}
-use Rattle.text.specs.LineLaws.{behind-comma}
-use Rattle.cell_text.specs.Laws.ListedWritten.{
-  Listing,
-  listing-ends,
-  listing-starts,
-  part-ready,
-  part-within,
-  part-written,
-}
+use lib.ListN.{length}
+use Rattle.spec.specs.Sheet.{sheet-of, permission-count, permission-name}
+use Rattle.blocks.specs.Laws.Laid.{permission-counted, permissions-all}
+use Rattle.text.specs.Line.{behind-comma}
+use Rattle.cell_text.specs.Laws.Parts.{Listing, listing-ends, listing-starts, part-ready, part-within, part-written}
 use Rattle.text.specs.Written.{fits-as, room-behind, within-buffer, written-as}
 use Rattle.blocks.proofs.role_block.put_permission_fields.Statement.{statement}
 use Rattle.blocks.proofs.role_block.put_permission_fields.Tie as tie
 
 abbrev Inv-loop : tie.InvT-loop
-Inv-loop out₀ s permissions from to at₀ i₀ out at i =
-    Listing permissions (λ p. behind-comma (permission-name (sheet-of s) p)) i out₀ out at
+Inv-loop out₀ s places at₀ i₀ out at i =
+    Listing (permission-count (sheet-of s)) (λ p. behind-comma (permission-name (sheet-of s) p)) i out₀ out at
 
 abbrev μ-loop : tie.MeasureT-loop
-μ-loop out₀ s permissions from to at₀ i₀ out at i = permissions - i
+μ-loop out₀ s places at₀ i₀ out at i = length places - i
+
+abbrev start : tie.In-loop Inv-loop μ-loop → tie.Start Inv-loop μ-loop
+start c = c .before .before .before .before .before
+
+more : (c : tie.In-loop Inv-loop μ-loop)
+    → c .before .loop .i < permission-count (sheet-of (start c .args .s .now))
+more c = permission-counted (start c .pre .0) (c .loop-test .taken)
 
 loop-holds : tie.Need-loop-holds Inv-loop μ-loop
-loop-holds c = listing-starts _ _ (c .before .before .before .before .before .pre .1)
+loop-holds c = listing-starts _ _ (c .before .before .before .pre .1)
 
 permission-name-in-requires : tie.Need-permission-name-in-requires Inv-loop μ-loop
-permission-name-in-requires c κs =
-    let s = c .before .before .before .before .before .before .before .before .before in (
-      permissions-at (s .args .s .now) (s .args .layout) (s .pre .0),
-      permission-counted (s .pre .0)
-          (c .before .before .loop-test .taken),
-    )
+permission-name-in-requires c κs = (start c .pre .0, more c)
 
 sub-put-field : tie.Need-sub-put-field Inv-loop μ-loop
-sub-put-field c =
-    let at-loop = c .before .before .before .before in
-    within-buffer (part-ready (at-loop .loop .inv) (c .before .before .before .loop-test .taken))
+sub-put-field c = within-buffer (part-ready (c .before .before .loop .inv) (more (c .before)))
 
 part-put-field-start : tie.Need-part-put-field-start Inv-loop μ-loop
-part-put-field-start c =
-    let at-loop = c .before .before .before .before in
-    within-buffer (part-ready (at-loop .loop .inv) (c .before .before .before .loop-test .taken))
+part-put-field-start c = within-buffer (part-ready (c .before .before .loop .inv) (more (c .before)))
 
 put-field-requires : tie.Need-put-field-requires Inv-loop μ-loop
 put-field-requires c κs =
-    let at-loop-test = c .before .before .before .before in
-    let at-loop = at-loop-test .before in
+    let turn = c .before .before in
     fits-as (ap behind-comma (sym (c .before .permission-name-in .ensures)))
-    (room-behind (part-ready (at-loop .loop .inv) (at-loop-test .loop-test .taken)))
+    (room-behind (part-ready (turn .before .loop .inv) (more turn)))
 
 add-at : tie.Need-add-at Inv-loop μ-loop
 add-at c =
-    let at-permission-name-in = c .before .before .before .before in
-    let earlier = at-permission-name-in .before .before .before in
-    let a = earlier in
+    let put = c .before .before in
+    let named = put .before .before in
     omega (
       arith,
-      part-within (a .before .loop .inv) (a .loop-test .taken)
-          (written-as (ap behind-comma (at-permission-name-in .permission-name-in .ensures))
-          (c .before .before .put-field .ensures)),
+      part-within (named .before .before .loop .inv) (more (named .before))
+          (written-as (ap behind-comma (named .permission-name-in .ensures)) (put .put-field .ensures)),
     )
 
 loop-again : tie.Need-loop-again Inv-loop μ-loop
 loop-again c =
-    let at-permission-name-in = c .before .before .before .before in
-    let earlier = at-permission-name-in .before .before .before in
-    let a = earlier in
-    part-written (a .before .loop .inv) (a .loop-test .taken)
-    (written-as (ap behind-comma (at-permission-name-in .permission-name-in .ensures))
-    (c .before .before .put-field .ensures))
+    let put = c .before .before in
+    let named = put .before .before in
+    part-written (named .before .before .loop .inv) (more (named .before))
+    (written-as (ap behind-comma (named .permission-name-in .ensures)) (put .put-field .ensures))
 
 same-length : tie.Need-same-length Inv-loop μ-loop
 same-length c = c .before .loop .inv .same-length
 
 returns : tie.Need-returns Inv-loop μ-loop
-returns c = listing-ends (c .before .loop .inv) (c .loop-test .left)
+returns c =
+    let s = c .before .before .before .before .before in
+    listing-ends (c .before .loop .inv) (permissions-all (s .pre .0) (c .loop-test .left))
 
 pub put-permission-fields-spec : {M : Type 1} → statement M
 put-permission-fields-spec =

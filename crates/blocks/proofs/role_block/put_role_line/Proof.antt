@@ -1,102 +1,68 @@
--- `role_block::put_role_line`: the name, the cells behind it, and the line feed behind them.
+-- `role_block::put_role_line`: what is written at the front of the name's buffer is the role's name.
 use borrow.Author.Needs.{needs}
-use Prim.Native.Nat.{_+_}
+use Prim.Native.Nat.{_≤_}
 use native.Mathlib.Omega.{arith}
-use mathlib.Core.List.{_++_}
-use mathlib.Core.Path.{_≡_, sym}
+use mathlib.Core.Path.{_≡_, sym, ap, _∙_}
+use lib.ListN.{length, take}
+use lib.Seq.{length-take-le}
 use Rattle.spec.specs.Text.{Bytes, line-text}
-use Rattle.spec.specs.Book.{role-name}
-use Rattle.cell_text.specs.CellsText.{cells-text}
-use Rattle.text.specs.LineLaws.{line-end}
-use Rattle.blocks.specs.Laws.LineWritten.{LineRoom, behind-fields, behind-name, name-fits}
+use Rattle.text.specs.Written.{fits-as, written-as}
+use Rattle.blocks.specs.Laws.LineWritten.{front-written}
+use Rattle.blocks.specs.Laws.Name.{role-name-short}
+use Rattle.blocks.specs.Lines.{named-line}
 use Rattle.blocks.specs.RowsSaid.{role-line}
-use Rattle.blocks.specs.ShownLaws.{role-line-parts}
-use Rattle.text.specs.Written.{
-  WrittenSoFar,
-  Written,
-  byte-same-length,
-  byte-within,
-  fits-as,
-  place-within,
-  room-behind,
-  then-byte,
-  with-rest,
-  within-buffer,
-  written-as,
-}
+use Rattle.blocks.specs.Laws.Shown.{role-line-parts}
 use Rattle.blocks.proofs.role_block.put_role_line.Statement.{statement}
 use Rattle.blocks.proofs.role_block.put_role_line.Tie as tie
 
-abbrev name : tie.Start → Bytes
-name s = role-name (s .args .role .0)
-
-abbrev fields : tie.Start → Bytes
-fields s = cells-text (s .args .gives .now) (s .args .role .0) (s .args .permissions)
-
-parts : (s : tie.Start) → line-text (role-line (s .args .gives .now) (s .args .permissions) (s .args .role .0)) ≡
-    (name s ++ fields s) ++ line-end
-parts s = role-line-parts (s .args .gives .now) (s .args .permissions) (s .args .role .0)
-
-room : (s : tie.Start) → LineRoom (name s) (fields s) (s .args .out .now)
-room s = record { fits = fits-as (parts s) (s .pre .1) }
-
--- the line behind its name, and behind its fields
 abbrev start : tie.After-put-role-name → tie.Start
 start c = c .before .before .before .before
 
-written : (c : tie.After-put-role-name) → Written (name (start c)) (start c .args .out .now)
-    (c .put-role-name .last .0) (c .put-role-name .result)
-written c = c .put-role-name .ensures
+name-within : (c : tie.After-put-role-name) → c .put-role-name .result ≤ length (c .put-role-name .last .0)
+name-within c =
+    omega (
+      arith,
+      c .put-role-name .ensures .counted,
+      c .put-role-name .kept .0,
+      role-name-short (start c .args .role .0) (start c .pre .0 .0),
+    )
 
-behind-first : (c : tie.After-put-role-name)
-    → WrittenSoFar (name (start c)) (fields (start c)) (start c .args .out .now) (c .put-role-name .last .0)
-    (c .put-role-name .result)
-behind-first c = behind-name (room (start c)) (written c)
-
-behind-second : (c : tie.After-put-cells)
-    → let a = c .before .before .before .before in
-    WrittenSoFar (name (start a) ++ fields (start a)) line-end (start a .args .out .now)
-    (with-rest (a .put-role-name .result) (a .put-role-name .last .0) (c .put-cells .last .0))
-    (a .put-role-name .result + c .put-cells .result)
-behind-second c =
-    let a = c .before .before .before .before in
-    behind-fields (room (start a)) (written a) (c .put-cells .ensures)
+-- the line of that name is the role's line
+line-said : (c : tie.After-put-role-name)
+    → let s = start c in
+    named-line (take (c .put-role-name .result) (c .put-role-name .last .0)) (s .args .gives .now) (s .args .role .0)
+    (s .args .permissions)
+    ≡ line-text (role-line (s .args .gives .now) (s .args .permissions) (s .args .role .0))
+line-said c =
+    let s = start c in
+    ap (λ (n : Bytes). named-line n (s .args .gives .now) (s .args .role .0) (s .args .permissions))
+    (front-written (c .put-role-name .ensures))
+    ∙ sym (role-line-parts (s .args .gives .now) (s .args .permissions) (s .args .role .0))
 
 put-role-name-requires : tie.Need-put-role-name-requires
 put-role-name-requires c κs =
     let s = c .before .before .before in
-    (s .pre .0 .0, name-fits (room s))
+    (s .pre .0 .0, role-name-short (s .args .role .0) (s .pre .0 .0))
 
-sub-put-cells : tie.Need-sub-put-cells
-sub-put-cells c = within-buffer (behind-first (c .before .before))
+array-share-prefix-name : tie.Need-array-share-prefix-name
+array-share-prefix-name c = name-within (c .before .before)
 
-part-put-cells-start : tie.Need-part-put-cells-start
-part-put-cells-start c = within-buffer (behind-first (c .before .before))
+slice-aggregate-put-named-line : tie.Need-slice-aggregate-put-named-line
+slice-aggregate-put-named-line c =
+    let w = c .before .before .before .put-role-name in
+    sym (length-take-le (w .result) (w .last .0) (name-within (c .before .before .before)))
 
-put-cells-requires : tie.Need-put-cells-requires
-put-cells-requires c κs =
-    let s = c .before .before .before .before .before .before .before in
-    ((s .pre .0 .1, s .pre .0 .2), room-behind (behind-first (c .before .before .before)))
-
-add-end : tie.Need-add-end
-add-end c = omega (arith, place-within (behind-second (c .before .before)))
-
-slice-write-out : tie.Need-slice-write-out
-slice-write-out c = byte-within (behind-second (c .before .before))
-
-add-result : tie.Need-add-result
-add-result c =
-    omega (arith, byte-within (behind-second (c .before .before)), place-within (behind-second (c .before .before)))
-
-same-length : tie.Need-same-length
-same-length c = byte-same-length (behind-second (c .before .before))
+put-named-line-requires : tie.Need-put-named-line-requires
+put-named-line-requires c κs =
+    let named = c .before .before .before in
+    ((start named .pre .0 .1, start named .pre .0 .2), fits-as (sym (line-said named)) (start named .pre .1))
 
 returns : tie.Need-returns
 returns c =
-    let earlier = c .before .before .before .before .before .before in
-    written-as (sym (parts (start earlier))) (then-byte (behind-second (c .before .before)))
+    let put = c .before .before in
+    written-as (line-said (put .before .before .before .before)) (put .put-named-line .ensures)
 
 pub put-role-line-spec : {M : Type 1} → statement M
 put-role-line-spec =
-    tie.close (tie.spec put-role-name-requires sub-put-cells part-put-cells-start (λ c. search needs)
-    put-cells-requires add-end slice-write-out add-result same-length returns)
+    tie.close (tie.spec (λ c. search needs) put-role-name-requires array-share-prefix-name
+    slice-aggregate-put-named-line put-named-line-requires (λ c. search needs) returns)

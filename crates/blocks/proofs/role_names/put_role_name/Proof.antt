@@ -8,10 +8,6 @@ use Rattle.text.specs.Written.{fits-as, written-as}
 use Rattle.blocks.proofs.role_names.put_role_name.Statement.{statement}
 use Rattle.blocks.proofs.role_names.put_role_name.Tie as tie
 
-add-put-counted : tie.Need-add-put-counted
-unfolding row-bits row-words
-add-put-counted c = omega arith
-
 put-counted-requires : tie.Need-put-counted-requires
 put-counted-requires c κs =
     let s = c .before .before .before .before in
@@ -24,5 +20,6 @@ returns c =
     (c .before .before .put-counted .ensures)
 
 pub put-role-name-spec : {M : Type 1} → statement M
+unfolding row-bits row-words
 put-role-name-spec =
-    tie.close (tie.spec (λ c. search needs) add-put-counted put-counted-requires (λ c. search needs) returns)
+    tie.close (tie.spec (λ c. search needs) (λ c. omega arith) put-counted-requires (λ c. search needs) returns)

@@ -1,4 +1,4 @@
--- `witness_block::put_witness`: the lines are written where the line of names ended.
+-- `witness_block::put_witness`: the rows are written where the line of names ended.
 use borrow.Author.Needs.{needs}
 use Prim.Native.Nat.{_≤_}
 use native.Mathlib.Omega.{arith}
@@ -6,59 +6,48 @@ use mathlib.Core.List.{_++_}
 use mathlib.Core.Path.{_≡_, sym}
 use lib.ListN.{length}
 use Rattle.spec.specs.Text.{ascii, Bytes, text-of}
-use Rattle.spec.specs.Sheet.{sheet-of}
+use Rattle.spec.specs.Sheet.{sheet-of, user-count}
 use Rattle.spec.specs.Book.{witness-block}
 use Rattle.lists.specs.Listed.{listed}
-use Rattle.rules.specs.AcceptedFacts.{accepted-lawful}
 use Rattle.cells.specs.CellSets.{cell-grants}
+use Rattle.blocks.specs.Laws.Laid.{users-lawful}
 use Rattle.blocks.specs.WitnessText.{witness-parts, witness-row}
-use Rattle.text.specs.Written.{
-  WrittenSoFar,
-  end-within,
-  fits-as,
-  front-fits,
-  room-behind,
-  then-same-length,
-  then-written,
-  within-buffer,
-  written-as,
-}
+use Rattle.text.specs.Written.{WrittenSoFar, end-within, fits-as, front-fits, room-behind, then-same-length}
+use Rattle.text.specs.Written.{then-written, within-buffer, written-as}
 use Rattle.blocks.proofs.witness_block.put_witness.Statement.{statement}
 use Rattle.blocks.proofs.witness_block.put_witness.Tie as tie
 
-abbrev heading : tie.Start → Bytes
-heading s = ascii "user,permission\n"
+abbrev heading : Bytes
+heading = ascii "user,permission\n"
 
-abbrev lines : tie.Start → Bytes
-lines s =
-    listed (s .args .layout .users) (witness-row (sheet-of (s .args .s .now)) (s .args .witness .now)
-    (s .args .layout .permissions))
+abbrev rows : tie.Start → Bytes
+rows s =
+    let sheet = sheet-of (s .args .s .now) in
+    listed (user-count sheet) (witness-row sheet (s .args .witness .now))
 
 parts : (s : tie.Start)
     → text-of (witness-block (sheet-of (s .args .s .now)) (cell-grants (sheet-of (s .args .s .now))
-    (s .args .witness .now))) ≡ heading s ++ lines s
+    (s .args .witness .now)))
+    ≡ heading ++ rows s
 parts s =
-    witness-parts (sheet-of (s .args .s .now)) (s .args .witness .now) (s .pre .0 .0 .user-total)
-    (s .pre .0 .0 .permission-total)
-    (accepted-lawful (s .args .s .now) (s .pre .0 .0 .accepts)) (s .pre .0 .2)
+    witness-parts (sheet-of (s .args .s .now)) (s .args .witness .now) (users-lawful (s .pre .0 .0)) (s .pre .0 .3)
 
-fits : (s : tie.Start) → length (heading s ++ lines s) ≤ length (s .args .out .now)
+fits : (s : tie.Start) → length (heading ++ rows s) ≤ length (s .args .out .now)
 fits s = fits-as (parts s) (s .pre .1)
 
 abbrev start : tie.After-put-bytes → tie.Start
 start c =
-    let earlier = c .before .before .before .before .before .before in
+    let earlier = c .before .before .before .before .before .before .before .before in
     earlier
 
 behind-heading : (c : tie.After-put-bytes)
-    → WrittenSoFar (heading (start c)) (lines (start c)) (start c .args .out .now) (c .put-bytes .last .0)
-    (c .put-bytes .result)
+    → WrittenSoFar heading (rows (start c)) (start c .args .out .now) (c .put-bytes .last .0) (c .put-bytes .result)
 behind-heading c = record { written = c .put-bytes .ensures; fits = fits (start c) }
 
 put-bytes-requires : tie.Need-put-bytes-requires
 put-bytes-requires c κs =
-    let s = c .before .before .before .before .before in
-    front-fits (heading s) (lines s) (fits s)
+    let s = c .before .before .before .before .before .before .before in
+    front-fits heading (rows s) (fits s)
 
 sub-put-witness-rows : tie.Need-sub-put-witness-rows
 sub-put-witness-rows c = within-buffer (behind-heading (c .before .before))
@@ -68,18 +57,19 @@ part-put-witness-rows-start c = within-buffer (behind-heading (c .before .before
 
 put-witness-rows-requires : tie.Need-put-witness-rows-requires
 put-witness-rows-requires c κs =
-    let s = c .before .before .before .before .before .before .before .before .before in
-    ((s .pre .0 .0, s .pre .0 .1), room-behind (behind-heading (c .before .before .before)))
+    let a = c .before .before .before in
+    let pre = start a .pre .0 in
+    ((pre .0, pre .1, pre .2), room-behind (behind-heading a))
 
 add-result : tie.Need-add-result
 add-result c =
-    let earlier = c .before .before .before .before .before .before in
-    omega (arith, end-within (behind-heading earlier) (c .before .before .put-witness-rows .ensures))
+    let a = c .before .before .before .before .before .before in
+    omega (arith, end-within (behind-heading a) (c .before .before .put-witness-rows .ensures))
 
 same-length : tie.Need-same-length
 same-length c =
-    let earlier = c .before .before .before .before .before .before in
-    then-same-length (behind-heading earlier) (c .before .before .put-witness-rows .ensures)
+    let a = c .before .before .before .before .before .before in
+    then-same-length (behind-heading a) (c .before .before .put-witness-rows .ensures)
 
 returns : tie.Need-returns
 returns c =

@@ -4,7 +4,7 @@ use Prim.Native.Nat.{_+_, _≤_, ℕ}
 use native.Mathlib.Omega.{arith}
 use mathlib.Core.List.{_++_}
 use mathlib.Core.Path.{_≡_, sym}
-use lib.ListN.{length}
+use lib.ListN.{length, length-take}
 use Rattle.spec.specs.Limits.{user-limit}
 use Rattle.spec.specs.Text.{Bytes, text-of}
 use Rattle.spec.specs.Sheet.{sheet-of}
@@ -13,22 +13,13 @@ use Rattle.cells.specs.Rows.{row-bits, row-words}
 use Rattle.cells.specs.CellSets.{cell-grants}
 use Rattle.book.specs.BookRows.{book-parts, rows-book}
 use Rattle.blocks.specs.CountsText.{counts-text}
-use Rattle.blocks.specs.Laws.Laid.{few-users}
-use Rattle.text.specs.LineLaws.{line-end}
+use Rattle.names.specs.Laws.LaidOut.{users-at, permissions-at}
+use Rattle.blocks.specs.Laws.Laid.{few-users, permissions-fit}
+use Rattle.book.specs.Laws.Placed.{users-placed, permissions-placed}
+use Rattle.text.specs.Line.{line-end}
 use Rattle.blocks.specs.RowsSaid.{shown-roles, shown-users}
-use Rattle.text.specs.Written.{
-  WrittenSoFar,
-  end-within,
-  fits-as,
-  front-fits,
-  place-within,
-  room-behind,
-  then-same-length,
-  then-written,
-  with-rest,
-  within-buffer,
-  written-as,
-}
+use Rattle.text.specs.Written.{WrittenSoFar, end-within, fits-as, front-fits, place-within, room-behind}
+use Rattle.text.specs.Written.{then-same-length, then-written, with-rest, within-buffer, written-as}
 use Rattle.book.proofs.book.write_book.Statement.{statement}
 use Rattle.book.proofs.book.write_book.Tie as tie
 
@@ -78,7 +69,9 @@ first-room s = front-fits (first s ++ line-end) (second s) (front-fits (up-to-se
 -- writer starts
 
 abbrev first-entry : tie.After-put-counts → tie.Start
-first-entry c = c .before .before .before .before
+first-entry c =
+    let earlier = c .before .before .before .before .before .before in
+    earlier
 
 behind-first : (c : tie.After-put-counts)
     → let s = first-entry c in
@@ -107,7 +100,9 @@ at-second c =
     }
 
 abbrev before-roles : tie.After-put-roles → tie.After-put-empty-line
-before-roles c = c .before .before .before .before .before
+before-roles c =
+    let earlier = c .before .before .before .before .before .before in
+    earlier
 
 abbrev second-entry : tie.After-put-roles → tie.Start
 second-entry c = first-entry (behind-counts (before-roles c))
@@ -148,7 +143,9 @@ at-third c =
     }
 
 abbrev before-users : tie.After-put-users → tie.After-put-empty-line2
-before-users c = c .before .before .before .before .before
+before-users c =
+    let earlier = c .before .before .before .before .before .before in
+    earlier
 
 abbrev third-entry : tie.After-put-users → tie.Start
 third-entry c = second-entry (behind-roles (before-users c))
@@ -191,7 +188,7 @@ at-fourth c =
 
 put-counts-requires : tie.Need-put-counts-requires
 put-counts-requires c κs =
-    let s = c .before .before .before in
+    let s = c .before .before .before .before .before in
     front-fits (first s) line-end (first-room s)
 
 sub-put-empty-line : tie.Need-sub-put-empty-line
@@ -212,12 +209,26 @@ sub-put-roles c = within-buffer (at-second (c .before .before))
 part-put-roles-start : tie.Need-part-put-roles-start
 part-put-roles-start c = within-buffer (at-second (c .before .before))
 
+array-share-prefix-permission-places : tie.Need-array-share-prefix-permission-places
+unfolding row-bits row-words
+array-share-prefix-permission-places c =
+    let laid = first-entry (behind-counts (c .before .before .before)) .pre .0 .0 in
+    omega (arith, permissions-fit laid, permissions-placed laid)
+
+slice-aggregate-put-roles : tie.Need-slice-aggregate-put-roles
+unfolding row-bits row-words
+slice-aggregate-put-roles c =
+    let laid = first-entry (behind-counts (c .before .before .before .before)) .pre .0 .0 in
+    simp length-take (omega (arith, permissions-fit laid, permissions-placed laid))
+
 put-roles-requires : tie.Need-put-roles-requires
 unfolding row-bits row-words
 put-roles-requires c κs =
-    let between = c .before .before .before .before .before .before .before .before in
-    let s = between .before .before .before .before in
-    ((s .pre .0 .0, s .pre .0 .1, omega arith), room-behind (at-second (c .before .before .before .before)))
+    let a = c .before .before .before .before .before in
+    let s = first-entry (behind-counts a) in (
+      (permissions-at (s .args .s .now) (s .args .layout) (s .pre .0 .0), s .pre .0 .1, omega arith),
+      room-behind (at-second a),
+    )
 
 add-second : tie.Need-add-second
 add-second c = omega (arith, place-within (behind-second (c .before .before)))
@@ -240,14 +251,31 @@ sub-put-users c = within-buffer (at-third (c .before .before))
 part-put-users-start : tie.Need-part-put-users-start
 part-put-users-start c = within-buffer (at-third (c .before .before))
 
+array-share-prefix-user-places : tie.Need-array-share-prefix-user-places
+unfolding user-limit
+array-share-prefix-user-places c =
+    let laid = second-entry (behind-roles (c .before .before .before)) .pre .0 .0 in
+    omega (arith, few-users laid, users-placed laid)
+
+slice-aggregate-put-users : tie.Need-slice-aggregate-put-users
+unfolding user-limit
+slice-aggregate-put-users c =
+    let laid = second-entry (behind-roles (c .before .before .before .before)) .pre .0 .0 in
+    simp length-take (omega (arith, few-users laid, users-placed laid))
+
 put-users-requires : tie.Need-put-users-requires
 unfolding row-words user-limit
 put-users-requires c κs =
-    let earlier = c .before .before .before .before in
-    let between = earlier .before .before .before .before .before .before .before .before in
-    let still-earlier = between .before .before .before .before .before .before .before .before .before in
-    let s = still-earlier in
-    ((s .pre .0 .0, s .pre .0 .1, omega (arith, few-users (s .pre .0 .0))), room-behind (at-third earlier))
+    let a = c .before .before .before .before .before in
+    let s = second-entry (behind-roles a) in
+    let laid = s .pre .0 .0 in (
+      (
+        users-at (s .args .s .now) (s .args .layout) laid,
+        s .pre .0 .1,
+        omega (arith, few-users laid, laid .user-total),
+      ),
+      room-behind (at-third a),
+    )
 
 add-third : tie.Need-add-third
 add-third c = omega (arith, place-within (behind-third (c .before .before)))
@@ -262,7 +290,9 @@ put-empty-line-requires-3 : tie.Need-put-empty-line-requires-3
 put-empty-line-requires-3 c κs = room-behind (behind-third (c .before .before .before))
 
 add-from-3 : tie.Need-add-from-3
-add-from-3 c = omega (arith, place-within (at-fourth (c .before .before)))
+add-from-3 c =
+    let a = c .before .before in
+    omega (arith, fourth-entry a .good .0 .0, place-within (at-fourth a))
 
 sub-put-witness : tie.Need-sub-put-witness
 sub-put-witness c = within-buffer (at-fourth (c .before .before))
@@ -270,39 +300,75 @@ sub-put-witness c = within-buffer (at-fourth (c .before .before))
 part-put-witness-start : tie.Need-part-put-witness-start
 part-put-witness-start c = within-buffer (at-fourth (c .before .before))
 
+array-share-prefix-user-places-2 : tie.Need-array-share-prefix-user-places-2
+unfolding user-limit
+array-share-prefix-user-places-2 c =
+    let laid = fourth-entry (c .before .before .before) .pre .0 .0 in
+    omega (arith, few-users laid, users-placed laid)
+
+slice-aggregate-put-witness : tie.Need-slice-aggregate-put-witness
+unfolding user-limit
+slice-aggregate-put-witness c =
+    let laid = fourth-entry (c .before .before .before .before) .pre .0 .0 in
+    simp length-take (omega (arith, few-users laid, users-placed laid))
+
+array-share-prefix-permission-places-2 : tie.Need-array-share-prefix-permission-places-2
+unfolding row-bits row-words
+array-share-prefix-permission-places-2 c =
+    let laid = fourth-entry (c .before .before .before .before) .pre .0 .0 in
+    omega (arith, permissions-fit laid, permissions-placed laid)
+
+slice-aggregate-put-witness-2 : tie.Need-slice-aggregate-put-witness-2
+unfolding row-bits row-words
+slice-aggregate-put-witness-2 c =
+    let laid = fourth-entry (c .before .before .before .before .before) .pre .0 .0 in
+    simp length-take (omega (arith, permissions-fit laid, permissions-placed laid))
+
 put-witness-requires : tie.Need-put-witness-requires
 unfolding row-words user-limit
 put-witness-requires c κs =
-    let earlier = c .before .before .before .before in
-    let between = earlier .before .before .before .before .before .before .before .before in
-    let further-between = between .before .before .before .before .before .before .before .before in
-    let further-further-between = further-between .before .before .before .before .before .before .before .before in
-    let still-earlier = further-further-between .before .before in
-    let s = still-earlier in
-    ((s .pre .0 .0, omega (arith, few-users (s .pre .0 .0)), s .pre .0 .2), room-behind (at-fourth earlier))
+    let a = c .before .before .before .before .before .before in
+    let s = fourth-entry a in
+    let laid = s .pre .0 .0 in (
+      (
+        users-at (s .args .s .now) (s .args .layout) laid,
+        permissions-at (s .args .s .now) (s .args .layout) laid,
+        omega (arith, few-users laid, laid .user-total),
+        s .pre .0 .2,
+      ),
+      room-behind (at-fourth a),
+    )
+
+abbrev before-witness : tie.After-put-witness → tie.After-put-empty-line3
+before-witness c =
+    let earlier = c .before .before .before .before .before .before .before in
+    earlier
 
 add-result : tie.Need-add-result
 add-result c =
-    let earlier = c .before .before .before .before .before .before .before in
-    let a = earlier in
-    omega (arith, fourth-entry a .good .0 .0, end-within (at-fourth a) (c .before .before .put-witness .ensures))
+    let put = c .before .before in
+    let a = before-witness put in
+    omega (arith, fourth-entry a .good .0 .0, end-within (at-fourth a) (put .put-witness .ensures))
 
 same-length : tie.Need-same-length
 same-length c =
-    let earlier = c .before .before .before .before .before .before .before in
-    then-same-length (at-fourth earlier) (c .before .before .put-witness .ensures)
+    let put = c .before .before in
+    then-same-length (at-fourth (before-witness put)) (put .put-witness .ensures)
 
 returns : tie.Need-returns
 returns c =
-    let earlier = c .before .before .before .before .before .before .before in
-    let a = earlier in
-    written-as (sym (parts (fourth-entry a))) (then-written (at-fourth a) (c .before .before .put-witness .ensures))
+    let put = c .before .before in
+    let a = before-witness put in
+    written-as (sym (parts (fourth-entry a))) (then-written (at-fourth a) (put .put-witness .ensures))
 
 pub write-book-spec : {M : Type 1} → statement M
 write-book-spec =
     tie.close (tie.spec put-counts-requires sub-put-empty-line part-put-empty-line-start (λ c. search needs)
-    put-empty-line-requires add-from sub-put-roles part-put-roles-start (λ c. search needs) put-roles-requires
-    add-second sub-put-empty-line-2 part-put-empty-line-start-2 (λ c. search needs) put-empty-line-requires-2
-    add-from-2 sub-put-users part-put-users-start (λ c. search needs) put-users-requires add-third
-    sub-put-empty-line-3 part-put-empty-line-start-3 (λ c. search needs) put-empty-line-requires-3 add-from-3
-    sub-put-witness part-put-witness-start (λ c. search needs) put-witness-requires add-result same-length returns)
+    put-empty-line-requires add-from sub-put-roles part-put-roles-start (λ c. search needs)
+    array-share-prefix-permission-places slice-aggregate-put-roles put-roles-requires add-second sub-put-empty-line-2
+    part-put-empty-line-start-2 (λ c. search needs) put-empty-line-requires-2 add-from-2 sub-put-users
+    part-put-users-start (λ c. search needs) array-share-prefix-user-places slice-aggregate-put-users
+    put-users-requires add-third sub-put-empty-line-3 part-put-empty-line-start-3 (λ c. search needs)
+    put-empty-line-requires-3 add-from-3 sub-put-witness part-put-witness-start (λ c. search needs)
+    array-share-prefix-user-places-2 slice-aggregate-put-witness array-share-prefix-permission-places-2
+    slice-aggregate-put-witness-2 put-witness-requires add-result same-length returns)

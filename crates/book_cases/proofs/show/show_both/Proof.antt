@@ -5,11 +5,11 @@ use lib.ListN.{length-take}
 use Rattle.book_cases.proofs.show.show_both.Statement.{statement}
 use Rattle.book_cases.proofs.show.show_both.Tie as tie
 
-slice-aggregate-show-damaged-book : tie.Need-slice-aggregate-show-damaged-book
-slice-aggregate-show-damaged-book c = simp length-take (omega arith)
+slice-aggregate-show-damaged : tie.Need-slice-aggregate-show-damaged
+slice-aggregate-show-damaged c = simp length-take (omega arith)
 
 pub show-both-spec : {M : Type 1} → statement M
 show-both-spec =
-    tie.close (tie.spec (λ c. search needs) (λ c. search needs) (λ c κs. search needs) (λ c. search needs)
-    slice-aggregate-show-damaged-book (λ c κs. search needs) (λ c κs. search needs) (λ c. search needs)
+    tie.close (tie.spec (λ c. search needs) (λ c κs. search needs) (λ c. search needs)
+    slice-aggregate-show-damaged (λ c κs. search needs) (λ c κs. search needs) (λ c. search needs)
     (λ c. search needs))

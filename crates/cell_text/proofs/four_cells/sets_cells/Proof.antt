@@ -3,7 +3,7 @@ use borrow.Author.Needs.{needs}
 use Prim.Native.Nat.{_^_, _≤_}
 use native.Mathlib.Omega.{arith}
 use Rattle.bits.specs.Bit.{bit}
-use Rattle.cell_text.specs.FourRead.{one-if-small}
+use Rattle.cell_text.specs.FourCells.{one-if-small}
 use Rattle.cell_text.proofs.four_cells.sets_cells.Statement.{statement}
 use Rattle.cell_text.proofs.four_cells.sets_cells.Tie as tie
 

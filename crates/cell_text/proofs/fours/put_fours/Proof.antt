@@ -6,14 +6,8 @@ use native.Mathlib.Omega.{arith}
 use mathlib.Core.Path.{_≡_, ap, sym, _∙_}
 use Rattle.bits.specs.Bit.{bit}
 use Rattle.cell_text.specs.FourCells.{eight-bytes, four-at, fours-said, four-shifted}
-use Rattle.cell_text.specs.Laws.ListedWritten.{
-  Listing,
-  listing-ends,
-  listing-starts,
-  part-ready,
-  part-within,
-  part-written,
-}
+use Rattle.cell_text.specs.Laws.Parts.{Listing, listing-ends, listing-starts, part-ready, part-within}
+use Rattle.cell_text.specs.Laws.Parts.{part-written}
 use Rattle.text.specs.Written.{Written, fits-as, rest-from, room-behind, within-buffer, written-as}
 use Rattle.cell_text.proofs.fours.put_fours.Statement.{statement}
 use Rattle.cell_text.proofs.fours.put_fours.Tie as tie

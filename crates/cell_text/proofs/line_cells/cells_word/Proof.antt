@@ -48,9 +48,6 @@ loop-holds c =
     let read = c .before .before in
     (omega arith, omega arith, read .fours-word .ensures .good (not-false _ (c .if2 .left)))
 
-is-cell-requires : tie.Need-is-cell-requires Inv-loop μ-loop
-is-cell-requires c κs = tt
-
 returns-3 : tie.Need-returns-3 Inv-loop μ-loop
 returns-3 c =
     let between = c .before .before .before .before .before .before .before .before in
@@ -92,5 +89,5 @@ pub cells-word-spec : {M : Type 1} → statement M
 cells-word-spec =
     tie.close (tie.spec Inv-loop μ-loop (λ c. omega arith) (λ c. omega arith) returns fours-word-requires returns-2
     (λ c. omega arith) loop-holds (λ c. omega arith) (λ c. omega arith) (λ c. omega arith) (λ c. omega arith)
-    (λ c. omega arith) is-cell-requires returns-3 (λ c κs. omega arith) (λ c. omega arith) (λ c. omega arith)
-    loop-again returns-4)
+    (λ c. omega arith) (λ c κs. tt) returns-3 (λ c κs. omega arith) (λ c. omega arith) (λ c. omega arith) loop-again
+    returns-4)

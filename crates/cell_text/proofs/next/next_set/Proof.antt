@@ -8,37 +8,22 @@ use Rattle.cell_text.proofs.next.next_set.Tie as tie
 returns : tie.Need-returns
 returns c = next-at-end _ _ _ (c .if1 .taken)
 
-mul-next-position : tie.Need-mul-next-position
-unfolding row-words row-bits
-mul-next-position c = omega arith
-
-mul-next-position-2 : tie.Need-mul-next-position-2
-unfolding row-words row-bits
-mul-next-position-2 c = omega arith
-
-shared-slice-read-next-position : tie.Need-shared-slice-read-next-position
-unfolding row-words row-bits
-shared-slice-read-next-position c = omega arith
-
-next-position-requires : tie.Need-next-position-requires
-unfolding row-words row-bits
-next-position-requires c κs = omega arith
-
 returns-2 : tie.Need-returns-2
 unfolding row-words
 returns-2 c =
     let s = c .before .before .before .before .before in
     next-within (s .args .words .now) (s .args .row) (s .args .from) (s .args .count) _ (s .pre .1)
-    (c .before .next-position .ensures) (c .if2 .taken)
+    (c .before .lowest-from .ensures) (c .if2 .taken)
 
 returns-3 : tie.Need-returns-3
 unfolding row-words
 returns-3 c =
     let s = c .before .before .before .before .before in
     next-past (s .args .words .now) (s .args .row) (s .args .from) (s .args .count) _ (s .pre .1)
-    (c .before .next-position .ensures) (s .pre .0) (c .if2 .left)
+    (c .before .lowest-from .ensures) (s .pre .0) (c .if2 .left)
 
 pub next-set-spec : {M : Type 1} → statement M
+unfolding row-words row-bits
 next-set-spec =
-    tie.close (tie.spec returns mul-next-position mul-next-position-2 shared-slice-read-next-position
-    next-position-requires returns-2 returns-3)
+    tie.close (tie.spec returns (λ c. omega arith) (λ c. omega arith) (λ c. omega arith) (λ c κs. omega arith)
+    returns-2 returns-3)

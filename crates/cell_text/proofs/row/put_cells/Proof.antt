@@ -12,7 +12,7 @@ use Rattle.lists.specs.Listed.{listed, listed-same, listed-even}
 use Rattle.cells.specs.Rows.{cell, row-bits, row-words}
 use Rattle.cell_text.specs.CellsText.{cell-field}
 use Rattle.cell_text.specs.Laws.CellsWritten.{cell-field-length}
-use Rattle.cell_text.specs.Laws.ListedWritten.{Listing, listing-ends, part-ready, part-within, part-written}
+use Rattle.cell_text.specs.Laws.Parts.{Listing, listing-ends, part-ready, part-within, part-written}
 use Rattle.cell_text.specs.Laws.NextSet.{cell-in-word, row-word}
 use Rattle.text.specs.Written.{Written, fits-as, rest-from, room-behind, within-buffer, written-as, written-length}
 use Rattle.cell_text.proofs.row.put_cells.Statement.{statement}
@@ -97,18 +97,6 @@ written : (c : tie.After-put-cell Inv-loop μ-loop)
     (c .put-cell .last .0) (c .put-cell .result)
 written c = written-as (ap cell-field (set-is (c .before .before))) (c .put-cell .ensures)
 
-mul-word : tie.Need-mul-word Inv-loop μ-loop
-unfolding row-words row-bits
-mul-word c = omega arith
-
-mul-word-2 : tie.Need-mul-word-2 Inv-loop μ-loop
-unfolding row-words row-bits
-mul-word-2 c = omega arith
-
-shared-slice-read-word : tie.Need-shared-slice-read-word Inv-loop μ-loop
-unfolding row-words row-bits
-shared-slice-read-word c = omega arith
-
 put-fours-requires : tie.Need-put-fours-requires Inv-loop μ-loop
 unfolding row-words row-bits
 put-fours-requires c κs =
@@ -120,10 +108,6 @@ put-fours-requires c κs =
       fits-as (sym (same-cells words row n (omega (arith, s .pre .0 .0)))) (front-room words row n (s .args .count)
           (omega arith) (s .pre .1)),
     )
-
-mul-i : tie.Need-mul-i Inv-loop μ-loop
-unfolding row-words row-bits
-mul-i c = omega arith
 
 loop-holds : tie.Need-loop-holds Inv-loop μ-loop
 loop-holds c before l = l
@@ -162,7 +146,8 @@ returns : tie.Need-returns Inv-loop μ-loop
 returns c = listing-ends (standing (c .before)) (c .loop-test .left)
 
 pub put-cells-spec : {M : Type 1} → statement M
+unfolding row-words row-bits
 put-cells-spec =
-    tie.close (tie.spec Inv-loop μ-loop mul-word mul-word-2 shared-slice-read-word put-fours-requires mul-i loop-holds
-    has-requires sub-put-cell part-put-cell-start (λ c. search needs) put-cell-requires add-at (λ c. omega arith)
-    (λ c. omega arith) loop-again same-length returns)
+    tie.close (tie.spec Inv-loop μ-loop (λ c. omega arith) (λ c. omega arith) (λ c. omega arith) put-fours-requires
+    (λ c. omega arith) loop-holds has-requires sub-put-cell part-put-cell-start (λ c. search needs) put-cell-requires
+    add-at (λ c. omega arith) (λ c. omega arith) loop-again same-length returns)

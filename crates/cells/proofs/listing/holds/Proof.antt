@@ -7,10 +7,6 @@ use Rattle.cells.specs.Laws.KernelFit.{unheld-past}
 use Rattle.cells.proofs.listing.holds.Statement.{statement}
 use Rattle.cells.proofs.listing.holds.Tie as tie
 
-add-i : tie.Need-add-i
-unfolding row-words
-add-i c = omega arith
-
 returns : tie.Need-returns
 unfolding row-words
 returns c = c .has .ensures
@@ -22,6 +18,7 @@ returns-2 c =
     sym (unheld-past (a .rows .now) (a .u .0) (a .p .0) (c .if1 .left))
 
 pub holds-spec : {M : Type 1} → statement M
+unfolding row-words
 holds-spec =
-    tie.close (tie.spec (λ c. search needs) add-i (λ c. search needs) (λ c. search needs) (λ c κs. search needs)
-    returns returns-2)
+    tie.close (tie.spec (λ c. search needs) (λ c. omega arith) (λ c. search needs) (λ c. search needs)
+    (λ c κs. search needs) returns returns-2)

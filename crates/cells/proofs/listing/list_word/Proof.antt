@@ -24,10 +24,6 @@ abbrev μ-loop : tie.MeasureT-loop
 loop-holds : tie.Need-loop-holds Inv-loop μ-loop
 loop-holds c left e listed = word-starts left _ _ _ _ (c .fits .word .fits) e listed
 
-mul-cells : tie.Need-mul-cells Inv-loop μ-loop
-unfolding user-limit row-words
-mul-cells c = omega arith
-
 add-cells : tie.Need-add-cells Inv-loop μ-loop
 unfolding user-limit row-words
 add-cells c = omega (arith, c .lowest .ensures .within)
@@ -69,6 +65,7 @@ returns-2 : tie.Need-returns-2 Inv-loop μ-loop
 returns-2 c left e listed = word-listed (c .before .loop .inv left e listed) (c .loop-test .left)
 
 pub list-word-spec : {M : Type 1} → statement M
+unfolding user-limit row-words
 list-word-spec =
-    tie.close (tie.spec Inv-loop μ-loop loop-holds mul-cells (λ c κs. omega arith) add-cells cast-cells mul-cells-2
-    element-write-cells add-size (λ c κs. omega arith) loop-less loop-again returns returns-2)
+    tie.close (tie.spec Inv-loop μ-loop loop-holds (λ c. omega arith) (λ c κs. omega arith) add-cells cast-cells
+    mul-cells-2 element-write-cells add-size (λ c κs. omega arith) loop-less loop-again returns returns-2)

@@ -19,30 +19,6 @@ loop-holds : tie.Need-loop-holds Inv-loop μ-loop
 unfolding grant-limit
 loop-holds c = (omega arith, none-listed _ grant-limit refl)
 
-mul-loop : tie.Need-mul-loop Inv-loop μ-loop
-unfolding user-limit
-mul-loop c = omega arith
-
-mul-list-word : tie.Need-mul-list-word Inv-loop μ-loop
-unfolding user-limit row-words
-mul-list-word c = omega arith
-
-element-copy-out-list-word : tie.Need-element-copy-out-list-word Inv-loop μ-loop
-unfolding user-limit row-words
-element-copy-out-list-word c = omega arith
-
-list-word-requires : tie.Need-list-word-requires Inv-loop μ-loop
-unfolding user-limit row-words
-list-word-requires c κs = omega arith
-
-add-i : tie.Need-add-i Inv-loop μ-loop
-unfolding user-limit row-words
-add-i c = omega arith
-
-loop-less : tie.Need-loop-less Inv-loop μ-loop
-unfolding row-words
-loop-less c = omega arith
-
 loop-again : tie.Need-loop-again Inv-loop μ-loop
 unfolding row-words
 loop-again c = (omega arith, c .list-word .ensures _ refl (c .before .before .before .before .loop .inv .1))
@@ -55,6 +31,7 @@ returns c =
     all-listed (c .before .before .pre .1) (rw e at (at .inv .1))
 
 pub listed-spec : {M : Type 1} → statement M
+unfolding user-limit row-words
 listed-spec =
-    tie.close (tie.spec Inv-loop μ-loop loop-holds mul-loop mul-list-word element-copy-out-list-word
-    list-word-requires add-i loop-less loop-again returns)
+    tie.close (tie.spec Inv-loop μ-loop loop-holds (λ c. omega arith) (λ c. omega arith) (λ c. omega arith)
+    (λ c κs. omega arith) (λ c. omega arith) (λ c. omega arith) loop-again returns)

@@ -5,40 +5,21 @@ use native.Mathlib.Omega.{arith}
 use mathlib.Core.Path.{_≡_}
 use Rattle.spec.specs.Limits.{user-limit}
 use Rattle.bits.specs.Bit.{word-bits}
+use Rattle.bits.specs.Counting.{Skipped}
 use Rattle.cells.specs.CellPlaces.{marked}
-use Rattle.cells.specs.KernelWalk.{Skipped, passed-word, found-in-word}
+use Rattle.cells.specs.KernelWalk.{passed-word, found-in-word}
 use Rattle.cells.specs.Rows.{row-words, row-bits}
 use Rattle.cells.proofs.listing.next_cell.Statement.{statement}
 use Rattle.cells.proofs.listing.next_cell.Tie as tie
 
 abbrev Inv-loop : tie.InvT-loop
-Inv-loop words users from n₀ n = (from ≤ n) × (n ≤ users * row-bits) × Skipped (marked words) from n
+Inv-loop words users n₀ n = (n₀ ≤ n) × (n ≤ users * row-bits) × Skipped (marked words) n₀ n
 
 abbrev μ-loop : tie.MeasureT-loop
-μ-loop words users from n₀ n = users * row-bits - n
+μ-loop words users n₀ n = users * row-bits - n
 
 loop-holds : tie.Need-loop-holds Inv-loop μ-loop
 loop-holds c = (omega arith, omega arith, λ i k l. absurd (omega arith))
-
-mul-loop : tie.Need-mul-loop Inv-loop μ-loop
-unfolding user-limit
-mul-loop c = omega arith
-
-mul-next-position : tie.Need-mul-next-position Inv-loop μ-loop
-unfolding user-limit
-mul-next-position c = omega arith
-
-element-copy-out-next-position : tie.Need-element-copy-out-next-position Inv-loop μ-loop
-unfolding user-limit
-element-copy-out-next-position c = omega arith
-
-mul-result : tie.Need-mul-result Inv-loop μ-loop
-unfolding user-limit
-mul-result c = omega arith
-
-add-result : tie.Need-add-result Inv-loop μ-loop
-unfolding user-limit
-add-result c = omega arith
 
 returns : tie.Need-returns Inv-loop μ-loop
 unfolding row-bits row-words
@@ -47,17 +28,9 @@ returns c =
     let start = at-loop .before in
     let a = start .args in
     let at = at-loop .loop in
-    found-in-word (a .words .now) (a .from) (at .n) (c .before .next-position .result)
-    (c .before .next-position .ensures) (a .users * row-bits)
+    found-in-word (a .words .now) (a .from .0) (at .n) (c .before .lowest-from .result)
+    (c .before .lowest-from .ensures) (a .users * row-bits)
     (at .inv .0) (omega arith) (c .if1 .taken) (at .inv .2)
-
-mul-n : tie.Need-mul-n Inv-loop μ-loop
-unfolding user-limit
-mul-n c = omega arith
-
-loop-less : tie.Need-loop-less Inv-loop μ-loop
-unfolding row-bits row-words
-loop-less c = omega arith
 
 loop-again : tie.Need-loop-again Inv-loop μ-loop
 unfolding row-bits row-words
@@ -66,12 +39,12 @@ loop-again c =
     let start = at-loop .before in
     let a = start .args in
     let at = at-loop .loop in
-    let next = c .before .next-position .ensures in
-    let end : at .n / word-bits * word-bits + c .before .next-position .result ≡ (at .n / word-bits + 1) * word-bits =
+    let next = c .before .lowest-from .ensures in
+    let end : at .n / word-bits * word-bits + c .before .lowest-from .result ≡ (at .n / word-bits + 1) * word-bits =
     omega (arith, next .not-past) in (
       omega arith,
       omega arith,
-      rw end at (passed-word (a .words .now) (a .from) (at .n) (c .before .next-position .result) next (at .inv .2)),
+      rw end at (passed-word (a .words .now) (a .from .0) (at .n) (c .before .lowest-from .result) next (at .inv .2)),
     )
 
 returns-2 : tie.Need-returns-2 Inv-loop μ-loop
@@ -81,6 +54,8 @@ returns-2 c =
     record { not-before = at .inv .0; not-past = at .inv .1; skipped = at .inv .2; passes = λ l. absurd (omega arith) }
 
 pub next-cell-spec : {M : Type 1} → statement M
+unfolding user-limit row-bits row-words
 next-cell-spec =
-    tie.close (tie.spec Inv-loop μ-loop loop-holds mul-loop mul-next-position element-copy-out-next-position
-    (λ c κs. omega arith) mul-result add-result returns (λ c. omega arith) mul-n loop-less loop-again returns-2)
+    tie.close (tie.spec Inv-loop μ-loop loop-holds (λ c. omega arith) (λ c. omega arith) (λ c. omega arith)
+    (λ c κs. omega arith) (λ c. omega arith) (λ c. omega arith) returns (λ c. omega arith) (λ c. omega arith)
+    (λ c. omega arith) loop-again returns-2)

@@ -7,8 +7,9 @@ use Rattle.spec.specs.Limits.{role-limit}
 use Rattle.spec.specs.Sheet.{Sheet, sheet-of}
 use Rattle.cells.specs.Rows.{row-words}
 use Rattle.form.specs.CountSteps.{CountsAt}
+use Rattle.form.specs.RowSteps.{zeros-blank}
 use Rattle.checker.specs.BookRead.{FrontRead, no-counts-written, no-roles-written}
-use Rattle.checker.specs.Laws.CheckSteps.{zeros-blank, refused-for-form}
+use Rattle.checker.specs.Laws.CheckSteps.{refused-for-form}
 use Rattle.checker.proofs.checking.check_book.Statement.{statement}
 use Rattle.checker.proofs.checking.check_book.Tie as tie
 
@@ -51,8 +52,8 @@ returns-2 c =
     let read = c .before .before .before .before in
     let one = read .before .before in
     refused-for-form (call one .pre .0 .0 .accepts)
-    (no-roles-written (sheet (call one)) (first one) (rw (c .before .enum-told2 .given .1) at
-    (read .read-roles .ensures))) (c .refused2 .ensures)
+    (no-roles-written (sheet (call one)) (first one) ((rw (c .before .enum-told2 .given .1) at
+    (read .read-roles .ensures)) .0)) (c .refused2 .ensures)
 
 front : (c : tie.After-known-told2)
     → let at-read-roles = c .before .before .before .before in

@@ -8,18 +8,12 @@ use borrow.Author.Needs.{needs}
 use lib.ListN.{length, length-replicate}
 use Rattle.spec.specs.Limits.{user-limit, role-limit}
 use Rattle.spec.specs.Sheet.{Sheet, sheet-of}
-use Rattle.cells.specs.Rows.{row-words, cell}
-use Rattle.form.specs.Steps.{Reads}
-use Rattle.form.specs.Pieces.{users-part}
+use Rattle.cells.specs.Rows.{row-words}
+use Rattle.form.specs.RowSteps.{zeros-blank}
+use Rattle.form.specs.UserSteps.{UsersPart}
 use Rattle.form.specs.WitnessSteps.{WitnessPart}
 use Rattle.checker.specs.BookRead.{no-users-written, no-witness-written, something-said}
-use Rattle.checker.specs.Laws.CheckSteps.{
-  zeros-blank,
-  rows-within,
-  users-within,
-  refused-for-form,
-  judged-as-read,
-}
+use Rattle.checker.specs.Laws.CheckSteps.{rows-within, users-within, refused-for-form, judged-as-read}
 use Rattle.checker.proofs.checking.check_from_users.Statement.{statement}
 use Rattle.checker.proofs.checking.check_from_users.Tie as tie
 
@@ -57,25 +51,25 @@ returns c =
     let read = c .before .before .before .before in
     let start = call (read .before .before) in
     refused-for-form (start .pre .0 .0 .accepts)
-    (no-users-written (sheet start) (start .pre .1 .1) (rw (c .before .enum-told .given .1) at
-    (read .read-users .ensures))) (c .refused .ensures)
+    (no-users-written (sheet start) (start .pre .1 .1) ((rw (c .before .enum-told .given .1) at
+    (read .read-users .ensures)) .0)) (c .refused .ensures)
 
 users : (c : tie.After-known-told)
-    → Reads (call (rows c) .args .book .now) (call (rows c) .args .at) (users-part (sheet (call (rows c)))
-    (call (rows c) .args .roles) (cell (has c)))
-    (c .before .last .given .0 .0)
+    → UsersPart (sheet (call (rows c))) (call (rows c) .args .book .now) (call (rows c) .args .front .next)
+    (call (rows c) .args .front .roles) (has c) (c .before .last .given .0 .0)
 users c = rw (c .before .last .given .1) at (c .before .before .before .before .read-users .ensures)
 
 read-witness-requires : tie.Need-read-witness-requires
-read-witness-requires c κs = (users c .within, call (rows c) .pre .0 .0)
+read-witness-requires c κs = (users c .reads .within, call (rows c) .pre .0 .0)
 
 returns-2 : tie.Need-returns-2
 returns-2 c =
     let read = c .before .before .before in
     let start = call (rows (read .before)) in
     refused-for-form (start .pre .0 .0 .accepts)
-    (no-witness-written (sheet start) (start .pre .1 .1) (has (read .before)) (users (read .before))
-    (rw (not-true (read .read-witness .result .«of_form») (c .before .if1 .taken)) at (read .read-witness .ensures)))
+    (no-witness-written (sheet start) (start .pre .1 .1) (has (read .before)) (users (read .before) .reads)
+    ((rw (not-true (read .read-witness .result .«of_form») (c .before .if1 .taken)) at
+    (read .read-witness .ensures)) .0))
     (c .refused2 .ensures)
 
 witness : (c : tie.Else1)
@@ -93,13 +87,13 @@ judge-book-requires c κs =
     let pre = call (rows read) .pre in (
       (pre .0 .0 .accepts, pre .0 .1, pre .0 .0 .user-total),
       (
-        something-said (sheet (call (rows read))) (pre .1 .1) (has read) (users read) (witness (c .before .before))
-            (pre .1 .0 .0),
+        something-said (sheet (call (rows read))) (pre .1 .1) (has read) (users read .reads)
+            (witness (c .before .before)) (pre .1 .0 .0),
         (
           pre .0 .2,
           users-within (pre .0 .0) (length (has read))
               (read .before .before .before .before .read-users .kept .1 .1 .1 .1 .0 ∙ size (rows read)),
-          rows-within (call (rows read) .args .roles) role-limit _ (pre .1 .1 .roles-at .few) (pre .1 .0 .1),
+          rows-within (call (rows read) .args .front .roles) role-limit _ (pre .1 .1 .roles-at .few) (pre .1 .0 .1),
         ),
       ),
     )
@@ -108,7 +102,7 @@ returns-3 : tie.Need-returns-3
 returns-3 c =
     let read = c .before .before .before .before .before .before in
     let pre = call (rows read) .pre in
-    judged-as-read (pre .0 .0 .accepts) (has read) (pre .1 .0 .0) (pre .1 .1) (users read)
+    judged-as-read (pre .0 .0 .accepts) (has read) (pre .1 .0 .0) (pre .1 .1) (users read .reads)
     (witness (c .before .before .before)) (c .judge-book .ensures)
 
 pub check-from-users-spec : {M : Type 1} → statement M

@@ -12,26 +12,14 @@ use Rattle.spec.specs.Refusal.{counts-agree, product-agrees, witness-agrees}
 use Rattle.cells.specs.Rows.{row-words, row-bits}
 use Rattle.rules.specs.AcceptedFacts.{Lawful, accepted-lawful}
 use Rattle.form.specs.Laws.RoleLimit.{roles-fit-a-row, permissions-fit-a-row}
-use Rattle.checker.specs.BookSays.{
-  Says,
-  counts-as-said,
-  product-as-said,
-  lines-as-said,
-  witness-as-said,
-  confirmed-as,
-  judged-13,
-  judged-14,
-  judged-15,
-  judged-right,
-}
+use Rattle.checker.specs.BookSays.{Says, counts-as-said, product-as-said, lines-as-said, witness-as-said}
+use Rattle.checker.specs.BookSays.{confirmed-as, judged-13, judged-14, judged-15, judged-right}
 use Rattle.checker.proofs.judgement.judge_book.Statement.{statement}
 use Rattle.checker.proofs.judgement.judge_book.Tie as tie
 
 -- the call, from where the counts agree, from where the rows have been judged and from where the witness has been
 abbrev agreed : tie.Else1 → tie.Start
-agreed c =
-    let earlier = c .before .before .before .before .before .before in
-    earlier
+agreed c = c .before .before .before .before .before .before .before
 
 abbrev counted : tie.After-rows-agree → tie.Else1
 counted c = c .before
@@ -55,7 +43,7 @@ room c = rw (c .pre .0 .2) at (c .pre .1 .1 .0)
 -- what the book says, as far as it has been judged
 abbrev Said-here : (c : tie.Start) → Said → Type 0
 Said-here c says =
-    Says (sheet c) (c .args .counts) (c .args .roles) (c .args .has .now) (c .args .gives .now) (c .args .witness)
+    Says (sheet c) (c .args .front .counts) (c .args .front .roles) (c .args .has .now) (c .args .gives .now) (c .args .witness)
     says
 
 counts : (c : tie.Else1) (says : Said) → Said-here (agreed c) says → So (counts-agree says)
@@ -78,7 +66,7 @@ lines c says s =
 
 returns : tie.Need-returns
 returns c =
-    let earlier = c .before .before .before .before .before .before .before in
+    let earlier = c .before .before .before .before .before .before .before .before in
     record {
       judged = λ says s.
           c .refused .ensures

@@ -7,7 +7,7 @@ use Rattle.checker.proofs.product.given_word.Statement.{statement}
 use Rattle.checker.proofs.product.given_word.Tie as tie
 
 abbrev Inv-loop : tie.InvT-loop
-Inv-loop has gives roles u k word₀ j₀ word j = (j ≤ row-words) × GivenBelow has gives roles u k j word
+Inv-loop has gives roles u k word₀ j₀ word j = (j ≤ row-words) × GivenBelow has gives roles (u .0) k j word
 
 abbrev μ-loop : tie.MeasureT-loop
 μ-loop has gives roles u k word₀ j₀ word j = row-words - j
@@ -15,7 +15,7 @@ abbrev μ-loop : tie.MeasureT-loop
 loop-holds : tie.Need-loop-holds Inv-loop μ-loop
 loop-holds c =
     let a = c .before .before .args in
-    (omega arith, given-start (a .has .now) (a .gives .now) (a .roles) (a .u) (a .k))
+    (omega arith, given-start (a .has .now) (a .gives .now) (a .roles) (a .u .0) (a .k))
 
 roles-word-requires : tie.Need-roles-word-requires Inv-loop μ-loop
 unfolding row-words
@@ -25,10 +25,6 @@ with-given-requires : tie.Need-with-given-requires Inv-loop μ-loop
 with-given-requires c κs =
     let start = c .before .before .before .before .before in
     (start .pre .1, roles-have-rows (c .roles-word .ensures) (start .pre .3))
-
-loop-less : tie.Need-loop-less Inv-loop μ-loop
-unfolding row-words
-loop-less c = omega arith
 
 loop-again : tie.Need-loop-again Inv-loop μ-loop
 unfolding row-words
@@ -44,6 +40,7 @@ returns c =
     given-end (c .before .loop .inv .1) (omega (arith, c .before .loop .inv .0, c .loop-test .left)) (start .pre .0)
 
 pub given-word-spec : {M : Type 1} → statement M
+unfolding row-words
 given-word-spec =
     tie.close (tie.spec Inv-loop μ-loop loop-holds roles-word-requires (λ c. omega arith) with-given-requires
-    (λ c. omega arith) loop-less loop-again returns)
+    (λ c. omega arith) (λ c. omega arith) loop-again returns)

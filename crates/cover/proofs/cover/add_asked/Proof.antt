@@ -4,13 +4,14 @@ use Prim.Native.Nat.{_<_}
 use native.Mathlib.Omega.{arith}
 use mathlib.Core.Path.{sym}
 use Rattle.cells.specs.Rows.{row-words, row-bits}
-use Rattle.cells.specs.CellLaws.{word-of, word-below, cell-set}
+use Rattle.cells.specs.CellAdded.{word-of}
+use Rattle.cells.specs.Laws.CellAdded.{word-below, cell-set}
 use Rattle.cover.specs.CoverMembers.{class-words}
 use Rattle.cover.proofs.cover.add_asked.Statement.{statement}
 use Rattle.cover.proofs.cover.add_asked.Tie as tie
 
-below : (c : tie.Start) → word-of (c .args .c) (c .args .p) < class-words
-below c = word-below row-bits (c .args .c) (c .args .p) (c .pre .0 .0) (c .pre .0 .1)
+below : (c : tie.Start) → word-of (c .args .c) (c .args .permission .0) < class-words
+below c = word-below row-bits (c .args .c) (c .args .permission .0) (c .pre .0 .0) (c .pre .0 .1)
 
 add-i : tie.Need-add-i
 unfolding row-bits row-words
@@ -37,7 +38,8 @@ unfolding row-words
 returns c =
     let start = c .before .before in
     let within = rw (sym (start .pre .1)) at (below start) in
-    cell-set (start .args .asked .now) (start .args .c) (start .args .p) (c .with .result) (start .pre .0 .1) within
+    cell-set (start .args .asked .now) (start .args .c) (start .args .permission .0) (c .with .result)
+    (start .pre .0 .1) within
     (c .with .ensures)
 
 pub add-asked-spec : {M : Type 1} → statement M

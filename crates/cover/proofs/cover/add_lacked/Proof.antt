@@ -19,49 +19,6 @@ abbrev μ-loop : tie.MeasureT-loop
 loop-holds : tie.Need-loop-holds Inv-loop μ-loop
 loop-holds c = (omega arith, no-lacks-added _ _ _ _)
 
-mul-word-at : tie.Need-mul-word-at Inv-loop μ-loop
-unfolding row-bits row-words
-mul-word-at c = omega arith
-
-add-word-at : tie.Need-add-word-at Inv-loop μ-loop
-unfolding row-bits row-words
-add-word-at c = omega arith
-
-word-at-requires : tie.Need-word-at-requires Inv-loop μ-loop
-word-at-requires c κs = tt
-
-mul-i : tie.Need-mul-i Inv-loop μ-loop
-unfolding row-bits row-words
-mul-i c = omega arith
-
-add-i : tie.Need-add-i Inv-loop μ-loop
-unfolding row-bits row-words
-add-i c = omega arith
-
-mul-lacked : tie.Need-mul-lacked Inv-loop μ-loop
-unfolding row-bits row-words
-mul-lacked c = omega arith
-
-element-copy-out-lacked : tie.Need-element-copy-out-lacked Inv-loop μ-loop
-unfolding row-bits row-words
-element-copy-out-lacked c = omega arith
-
-mul-lacked-2 : tie.Need-mul-lacked-2 Inv-loop μ-loop
-unfolding row-bits row-words
-mul-lacked-2 c = omega arith
-
-element-write-lacked : tie.Need-element-write-lacked Inv-loop μ-loop
-unfolding row-bits row-words
-element-write-lacked c = omega arith
-
-add-j : tie.Need-add-j Inv-loop μ-loop
-unfolding row-words
-add-j c = omega arith
-
-loop-less : tie.Need-loop-less Inv-loop μ-loop
-unfolding row-words
-loop-less c = omega arith
-
 loop-again : tie.Need-loop-again Inv-loop μ-loop
 unfolding row-bits row-words
 loop-again c =
@@ -74,8 +31,8 @@ loop-again c =
       at .inv .1 .size,
       start .pre .1,
     ) in
-    let fits : getD (start .args .rows .now) (start .args .u * row-words + at .j) 0 < 2 ^ word-bits =
-    omega (arith, at-shared-slice-known .shared-slice-known .given (start .args .u * row-words + at .j)) in
+    let fits : getD (start .args .rows .now) (start .args .user .0 * row-words + at .j) 0 < 2 ^ word-bits =
+    omega (arith, at-shared-slice-known .shared-slice-known .given (start .args .user .0 * row-words + at .j)) in
     (omega arith, rw held (lacks-word-added (at .inv .1) (omega arith) room fits))
 
 returns : tie.Need-returns Inv-loop μ-loop
@@ -85,6 +42,8 @@ returns c =
     rw end at (c .before .loop .inv .1)
 
 pub add-lacked-spec : {M : Type 1} → statement M
+unfolding row-bits row-words
 add-lacked-spec =
-    tie.close (tie.spec Inv-loop μ-loop loop-holds mul-word-at add-word-at word-at-requires mul-i add-i mul-lacked
-    element-copy-out-lacked mul-lacked-2 element-write-lacked add-j loop-less loop-again returns)
+    tie.close (tie.spec Inv-loop μ-loop loop-holds (λ c. omega arith) (λ c. omega arith) (λ c κs. tt)
+    (λ c. omega arith) (λ c. omega arith) (λ c. omega arith) (λ c. omega arith) (λ c. omega arith) (λ c. omega arith)
+    (λ c. omega arith) (λ c. omega arith) loop-again returns)

@@ -7,8 +7,8 @@ use Rattle.cover.proofs.cover.allowed_next.Tie as tie
 
 returns : tie.Need-returns
 returns c so-far =
-    let a = c .before .before .args in
-    let same : a .u ≡ a .v = omega arith in
+    let a = c .before .before .before .before .args in
+    let same : a .latest .0 ≡ a .next .0 = omega arith in
     rw same at so-far
 
 returns-2 : tie.Need-returns-2

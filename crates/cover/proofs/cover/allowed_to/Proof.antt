@@ -9,31 +9,19 @@ use Rattle.cover.proofs.cover.allowed_to.Statement.{statement}
 use Rattle.cover.proofs.cover.allowed_to.Tie as tie
 
 abbrev Inv-loop : tie.InvT-loop
-Inv-loop rows asked u most allowed₀ c₀ allowed c =
-    (c ≤ most) × (length allowed ≡ row-words) × AllowedSoFar rows asked u c allowed
+Inv-loop rows asked user most allowed₀ c₀ allowed c =
+    (c ≤ most) × (length allowed ≡ row-words) × AllowedSoFar rows asked (user .0) c allowed
 
 abbrev μ-loop : tie.MeasureT-loop
-μ-loop rows asked u most allowed₀ c₀ allowed c = most - c
+μ-loop rows asked user most allowed₀ c₀ allowed c = most - c
 
 loop-holds : tie.Need-loop-holds Inv-loop μ-loop
 unfolding row-words
 loop-holds c = (omega arith, refl, none-allowed _ _ _ row-words refl)
 
-holds-asked-requires : tie.Need-holds-asked-requires Inv-loop μ-loop
-unfolding row-bits row-words
-holds-asked-requires c κs = omega arith
-
 put-if-requires : tie.Need-put-if-requires Inv-loop μ-loop
 unfolding row-bits row-words
 put-if-requires c κs = (omega arith, c .before .before .before .loop .inv .1)
-
-add-c : tie.Need-add-c Inv-loop μ-loop
-unfolding row-bits row-words
-add-c c = omega arith
-
-loop-less : tie.Need-loop-less Inv-loop μ-loop
-unfolding row-bits row-words
-loop-less c = omega arith
 
 loop-again : tie.Need-loop-again Inv-loop μ-loop
 unfolding row-bits row-words
@@ -54,6 +42,7 @@ returns c =
     rw e at (allowed-all (c .before .loop .inv .2) (omega arith))
 
 pub allowed-to-spec : {M : Type 1} → statement M
+unfolding row-bits row-words
 allowed-to-spec =
-    tie.close (tie.spec Inv-loop μ-loop loop-holds holds-asked-requires put-if-requires add-c loop-less loop-again
-    returns)
+    tie.close (tie.spec Inv-loop μ-loop loop-holds (λ c κs. omega arith) put-if-requires (λ c. omega arith)
+    (λ c. omega arith) loop-again returns)

@@ -1,12 +1,12 @@
--- `cover::cover::free_in_word`: the positions of rest are those of the word still to be tried. The lowest is tried
--- first, so the first that passes is the lowest.
+-- `cover::cover::free_in_word`: a walk over the positions of the word, those passed known to fail.
 use Prim.Native.Nat.{ℕ, _+_, _*_}
 use native.Mathlib.Omega.{arith}
 use mathlib.Core.Bool.{Bool, not}
 use mathlib.Core.List.{List}
 use Rattle.bits.specs.Bit.{word-bits}
+use Rattle.bits.specs.Laws.Walk.{Walk}
 use Rattle.cells.specs.Rows.{row-words, row-bits, cell}
-use Rattle.cover.specs.CoverFree.{Left, all-left, lowest-left, one-tried, none-left}
+use Rattle.cover.specs.CoverFree.{Fails, none-tried, lowest-passes, one-tried, all-tried}
 use Rattle.cover.proofs.cover.free_in_word.Statement.{statement}
 use Rattle.cover.proofs.cover.free_in_word.Tie as tie
 
@@ -15,17 +15,13 @@ abbrev unlacked : List ℕ → ℕ → ℕ → ℕ → Bool
 unlacked lacked p j x = not (cell lacked (j * word-bits + x) p)
 
 abbrev Inv-loop : tie.InvT-loop
-Inv-loop lacked word j p rest₀ rest = Left word (unlacked lacked p j) rest
+Inv-loop lacked word j permission rest₀ rest = Walk word (Fails word (unlacked lacked (permission .0) j)) rest
 
 abbrev μ-loop : tie.MeasureT-loop
-μ-loop lacked word j p rest₀ rest = rest
+μ-loop lacked word j permission rest₀ rest = rest
 
 loop-holds : tie.Need-loop-holds Inv-loop μ-loop
-loop-holds c = all-left _ _
-
-mul-is-lacked : tie.Need-mul-is-lacked Inv-loop μ-loop
-unfolding row-words
-mul-is-lacked c = omega arith
+loop-holds c = none-tried _ _
 
 add-is-lacked : tie.Need-add-is-lacked Inv-loop μ-loop
 unfolding row-words
@@ -38,7 +34,7 @@ is-lacked-requires c κs = omega (arith, c .lowest .ensures .within)
 returns : tie.Need-returns Inv-loop μ-loop
 returns c =
     let at-loop = c .before .before .before .before in
-    lowest-left _ _ (at-loop .loop .inv) (c .before .before .lowest .ensures) (rw (c .before .is-lacked .ensures) at
+    lowest-passes _ _ (at-loop .loop .inv) (c .before .before .lowest .ensures) (rw (c .before .is-lacked .ensures) at
     (c .if1 .taken))
 
 loop-less : tie.Need-loop-less Inv-loop μ-loop
@@ -50,9 +46,10 @@ loop-again c =
     (rw (c .before .before .is-lacked .ensures) at (c .before .if1 .left)) (c .without-lowest .ensures)
 
 returns-2 : tie.Need-returns-2 Inv-loop μ-loop
-returns-2 c = none-left _ _ (rw (c .loop-test .left) at (c .before .loop .inv))
+returns-2 c = all-tried _ _ (rw (c .loop-test .left) at (c .before .loop .inv))
 
 pub free-in-word-spec : {M : Type 1} → statement M
+unfolding row-words
 free-in-word-spec =
-    tie.close (tie.spec Inv-loop μ-loop loop-holds (λ c κs. omega arith) mul-is-lacked add-is-lacked
+    tie.close (tie.spec Inv-loop μ-loop loop-holds (λ c κs. omega arith) (λ c. omega arith) add-is-lacked
     is-lacked-requires returns (λ c κs. omega arith) loop-less loop-again returns-2)

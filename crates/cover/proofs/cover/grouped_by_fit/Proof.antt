@@ -19,12 +19,14 @@ use Rattle.cover.proofs.cover.grouped_by_fit.Statement.{statement}
 use Rattle.cover.proofs.cover.grouped_by_fit.Tie as tie
 
 abbrev Inv-loop : tie.InvT-loop
-Inv-loop rows cells most asked₀ lacked₀ classes₀ allowed₀ u₀ count₀ d₀ asked lacked classes allowed u count d =
+Inv-loop rows cells most asked₀ lacked₀ classes₀ allowed₀ latest₀ count₀ d₀ asked lacked classes allowed latest count
+    d =
     (d ≤ length cells) × (length classes ≡ grant-limit) × (length asked ≡ class-words) × (length lacked ≡ class-words)
-    × (HeldCells rows cells → FitSoFar rows cells classes d count asked lacked u allowed most) × BlankFrom d classes
+    × (HeldCells rows cells → FitSoFar rows cells classes d count asked lacked (latest .0) allowed most)
+    × BlankFrom d classes
 
 abbrev μ-loop : tie.MeasureT-loop
-μ-loop rows cells most asked₀ lacked₀ classes₀ allowed₀ u₀ count₀ d₀ asked lacked classes allowed u count d =
+μ-loop rows cells most asked₀ lacked₀ classes₀ allowed₀ latest₀ count₀ d₀ asked lacked classes allowed latest count d =
     length cells - d
 
 loop-holds : tie.Need-loop-holds Inv-loop μ-loop
@@ -38,8 +40,9 @@ loop-holds c = (
   zeros-blank 0 grant-limit,
 )
 
-user-of-requires : tie.Need-user-of-requires Inv-loop μ-loop
-user-of-requires c κs = tt
+-- a cell of 16 bits is a number
+cast-at : tie.Need-cast-at Inv-loop μ-loop
+cast-at c = omega (arith, c .shared-slice-known3 .given (c .before .before .loop .d))
 
 -- the user of a cell of 16 bits has its room
 user-below : (c : tie.After-user-of Inv-loop μ-loop) → c .user-of .result .0 < user-room
@@ -49,13 +52,10 @@ user-below c =
     rw (c .user-of .ensures)
     (user-has-room (getD (still-start .args .cells .now) d 0) (omega (arith, c .before .shared-slice-known3 .given d)))
 
-permission-of-requires : tie.Need-permission-of-requires Inv-loop μ-loop
-permission-of-requires c κs = tt
-
 allowed-next-requires : tie.Need-allowed-next-requires Inv-loop μ-loop
 allowed-next-requires c κs =
-    let still-start = c .before .before .before .before .before .before .before .before .before in
-    (user-below (c .before .before .before), still-start .pre .1)
+    let still-start = c .before .before .before .before .before .before .before .before in
+    (user-below (c .before .before), still-start .pre .1)
 
 class-for-requires : tie.Need-class-for-requires Inv-loop μ-loop
 class-for-requires c κs = rw (c .before .before .before .before .permission-of .ensures) (mod-lt _ row-bits-pos)
@@ -63,7 +63,7 @@ class-for-requires c κs = rw (c .before .before .before .before .permission-of 
 -- from the class found back to the turn of the loop, and to the start
 abbrev turn : tie.After-class-for Inv-loop μ-loop → tie.In-loop Inv-loop μ-loop
 turn c =
-    let earlier = c .before .before .before .before .before .before .before .before .before in
+    let earlier = c .before .before .before .before .before .before .before .before in
     earlier
 
 abbrev start : tie.After-class-for Inv-loop μ-loop → tie.Start Inv-loop μ-loop
@@ -86,7 +86,7 @@ fitted : (c : tie.After-class-for Inv-loop μ-loop) →
     (user-at-cell (a .cells .now) (l .d))
     (c .before .before .before .allowed-next .result) (a .most)
 fitted c held =
-    let at-user-of = c .before .before .before .before .before .before .before in
+    let at-user-of = c .before .before .before .before .before .before in
     let user = at-user-of .user-of .ensures in
     next-user (rw user at (c .before .before .before .allowed-next .ensures)) (turn c .before .loop .inv .4 held)
 
@@ -135,36 +135,17 @@ add-lacked-requires c κs =
     let found-class = earlier in (
       (
         small (c .before .before .before),
-        user-below (found-class .before .before .before .before .before .before .before),
+        user-below (found-class .before .before .before .before .before .before),
       ),
       turn found-class .before .loop .inv .3,
     )
-
-cast-classes : tie.Need-cast-classes Inv-loop μ-loop
-unfolding row-bits row-words
-cast-classes c = omega arith
-
-mul-classes : tie.Need-mul-classes Inv-loop μ-loop
-unfolding grant-limit
-mul-classes c = omega arith
-
-array-write-classes : tie.Need-array-write-classes Inv-loop μ-loop
-unfolding grant-limit
-array-write-classes c = omega arith
-
-cast-counted : tie.Need-cast-counted Inv-loop μ-loop
-unfolding row-bits row-words
-cast-counted c = omega arith
-
-counted-requires : tie.Need-counted-requires Inv-loop μ-loop
-counted-requires c κs = tt
 
 loop-again : tie.Need-loop-again Inv-loop μ-loop
 loop-again c =
     let found-class = c .before .before .before .before .before .before in
     let l = turn found-class .before .loop in
     let room = inside (turn found-class) in
-    let user = found-class .before .before .before .before .before .before .before .user-of .ensures in
+    let user = found-class .before .before .before .before .before .before .user-of .ensures in
     let permission = found-class .before .before .before .before .before .permission-of .ensures in (
       omega arith,
       length-set (l .classes) (l .d) _ ∙ l .inv .1,
@@ -184,8 +165,9 @@ returns-2 c =
     (λ held. inl (rw e at (c .before .loop .inv .4 held .placed)), rw e at (c .before .loop .inv .5))
 
 pub grouped-by-fit-spec : {M : Type 1} → statement M
+unfolding row-bits row-words grant-limit
 grouped-by-fit-spec =
-    tie.close (tie.spec Inv-loop μ-loop loop-holds (λ c. omega arith) (λ c. omega arith) user-of-requires
-    (λ c. omega arith) (λ c. omega arith) permission-of-requires allowed-next-requires class-for-requires add-used
-    returns add-asked-requires add-lacked-requires cast-classes mul-classes array-write-classes cast-counted
-    counted-requires (λ c. omega arith) (λ c. omega arith) loop-again returns-2)
+    tie.close (tie.spec Inv-loop μ-loop loop-holds (λ c. omega arith) (λ c. omega arith) cast-at (λ c κs. tt)
+    (λ c κs. tt) allowed-next-requires class-for-requires add-used returns add-asked-requires add-lacked-requires
+    (λ c. omega arith) (λ c. omega arith) (λ c. omega arith) (λ c κs. tt) (λ c. omega arith) (λ c. omega arith)
+    loop-again returns-2)

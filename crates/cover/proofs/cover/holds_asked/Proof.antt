@@ -14,56 +14,26 @@ use Rattle.cover.proofs.cover.holds_asked.Statement.{statement}
 use Rattle.cover.proofs.cover.holds_asked.Tie as tie
 
 abbrev Inv-loop : tie.InvT-loop
-Inv-loop rows asked u c j₀ j = (j ≤ row-words) × So (every-below (j * word-bits) (held-at rows asked u c))
+Inv-loop rows asked c u j₀ j = (j ≤ row-words) × So (every-below (j * word-bits) (held-at rows asked u c))
 
 abbrev μ-loop : tie.MeasureT-loop
-μ-loop rows asked u c j₀ j = row-words - j
+μ-loop rows asked c u j₀ j = row-words - j
 
 loop-holds : tie.Need-loop-holds Inv-loop μ-loop
 unfolding every-below
 loop-holds c = (omega arith, refl)
 
-mul-word-at : tie.Need-mul-word-at Inv-loop μ-loop
-unfolding row-bits row-words
-mul-word-at c = omega arith
-
-add-word-at : tie.Need-add-word-at Inv-loop μ-loop
-unfolding row-bits row-words
-add-word-at c = omega arith
-
-word-at-requires : tie.Need-word-at-requires Inv-loop μ-loop
-word-at-requires c κs = tt
-
-mul-within : tie.Need-mul-within Inv-loop μ-loop
-unfolding row-bits row-words
-mul-within c = omega arith
-
-add-within : tie.Need-add-within Inv-loop μ-loop
-unfolding row-bits row-words
-add-within c = omega arith
-
-mul-within-2 : tie.Need-mul-within-2 Inv-loop μ-loop
-unfolding row-bits row-words
-mul-within-2 c = omega arith
-
-element-copy-out-within : tie.Need-element-copy-out-within Inv-loop μ-loop
-unfolding row-bits row-words
-element-copy-out-within c = omega arith
-
-within-requires : tie.Need-within-requires Inv-loop μ-loop
-within-requires c κs = tt
-
 -- the test of the word is the test of its permissions
 word-test : (c : tie.After-within Inv-loop μ-loop) →
     let a = c .before .before .before .before .before .before .args in
-    c .within .result ≡ every-in-word (held-at (a .rows .now) (a .asked .now) (a .u) (a .c))
+    c .within .result ≡ every-in-word (held-at (a .rows .now) (a .asked .now) (a .user .0) (a .c))
     (c .before .before .before .before .loop .j)
 unfolding row-words
 word-test c =
     let start = c .before .before .before .before .before .before in
     let a = start .args in
     rw (c .before .before .word-at .ensures) at (c .within .ensures)
-    ∙ held-word (a .rows .now) (a .asked .now) (a .u) (a .c) (c .before .before .before .before .loop .j)
+    ∙ held-word (a .rows .now) (a .asked .now) (a .user .0) (a .c) (c .before .before .before .before .loop .j)
 
 returns : tie.Need-returns Inv-loop μ-loop
 unfolding row-words row-bits
@@ -71,16 +41,8 @@ returns c =
     let at-loop = c .before .before .before .before .before in
     let start = at-loop .before .before in
     let a = start .args in
-    sym (every-word-fails (held-at (a .rows .now) (a .asked .now) (a .u) (a .c)) (at-loop .loop .j)
+    sym (every-word-fails (held-at (a .rows .now) (a .asked .now) (a .user .0) (a .c)) (at-loop .loop .j)
     row-words (omega arith) (sym (word-test (c .before)) ∙ not-true (c .before .within .result) (c .if1 .taken)))
-
-add-j : tie.Need-add-j Inv-loop μ-loop
-unfolding row-words
-add-j c = omega arith
-
-loop-less : tie.Need-loop-less Inv-loop μ-loop
-unfolding row-words
-loop-less c = omega arith
 
 loop-again : tie.Need-loop-again Inv-loop μ-loop
 unfolding row-words
@@ -89,7 +51,7 @@ loop-again c =
     let a = start .args in
     let at = c .before .before .before .before .before .loop in (
       omega arith,
-      every-next-word (held-at (a .rows .now) (a .asked .now) (a .u) (a .c)) (at .j) (at .inv .1)
+      every-next-word (held-at (a .rows .now) (a .asked .now) (a .user .0) (a .c)) (at .j) (at .inv .1)
           (sym (word-test (c .before)) ∙ not-false (c .before .within .result) (c .if1 .left)),
     )
 
@@ -100,6 +62,8 @@ returns-2 c =
     sym (rw end at (c .before .loop .inv .1))
 
 pub holds-asked-spec : {M : Type 1} → statement M
+unfolding row-bits row-words
 holds-asked-spec =
-    tie.close (tie.spec Inv-loop μ-loop loop-holds mul-word-at add-word-at word-at-requires mul-within add-within
-    mul-within-2 element-copy-out-within within-requires returns add-j loop-less loop-again returns-2)
+    tie.close (tie.spec Inv-loop μ-loop loop-holds (λ c. omega arith) (λ c. omega arith) (λ c κs. tt)
+    (λ c. omega arith) (λ c. omega arith) (λ c. omega arith) (λ c. omega arith) (λ c κs. tt) returns
+    (λ c. omega arith) (λ c. omega arith) loop-again returns-2)

@@ -5,18 +5,10 @@ use native.Mathlib.Omega.{arith}
 use lib.ListN.{length}
 use Rattle.bits.specs.Bit.{word-bits}
 use Rattle.cells.specs.Rows.{row-words, row-bits}
-use Rattle.cells.specs.CellLaws.{cell-kept}
+use Rattle.cells.specs.Laws.CellAdded.{cell-kept}
 use Rattle.cover.specs.CoverAllowed.{class-put}
 use Rattle.cover.proofs.cover.put_if.Statement.{statement}
 use Rattle.cover.proofs.cover.put_if.Tie as tie
-
-element-copy-out-with : tie.Need-element-copy-out-with
-unfolding row-bits row-words
-element-copy-out-with c = omega arith
-
-element-write-allowed : tie.Need-element-write-allowed
-unfolding row-bits row-words
-element-write-allowed c = omega arith
 
 returns : tie.Need-returns
 unfolding row-bits row-words
@@ -30,6 +22,7 @@ returns-2 : tie.Need-returns-2
 returns-2 c = rw (c .if1 .left) (cell-kept _ 0 _)
 
 pub put-if-spec : {M : Type 1} → statement M
+unfolding row-bits row-words
 put-if-spec =
-    tie.close (tie.spec (λ c. search needs) element-copy-out-with (λ c κs. search needs) (λ c. search needs)
-    element-write-allowed returns returns-2)
+    tie.close (tie.spec (λ c. search needs) (λ c. omega arith) (λ c κs. search needs) (λ c. search needs)
+    (λ c. omega arith) returns returns-2)

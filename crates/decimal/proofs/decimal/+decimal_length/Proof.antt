@@ -5,7 +5,7 @@ use native.Mathlib.Omega.{arith}
 use mathlib.Core.Path.{sym}
 use borrow.Fn.Kinds.{In}
 use borrow.Fn.PlainCycle.{Measures, is, falls, and}
-use Rattle.decimal.specs.DigitLaws.{one-digit}
+use Rattle.decimal.specs.Laws.Digit.{one-digit}
 use Rattle.decimal.specs.Laws.DigitsMeasured.{one-digit-more}
 use Rattle.decimal.proofs.decimal.decimal_length.Reads as decimal-length
 use Rattle.decimal.proofs.decimal.decimal_length.Kinds as decimal-length-kinds

@@ -6,7 +6,7 @@ use native.Mathlib.Omega.{arith}
 use lib.ListN.{length}
 use borrow.Fn.Kinds.{In}
 use borrow.Fn.PlainCycle.{Measures, is, falls, and}
-use Rattle.decimal.specs.DigitLaws.{one-digit, digit-more}
+use Rattle.decimal.specs.Laws.Digit.{one-digit, digit-more}
 use Rattle.decimal.specs.Laws.DigitsWritten.{first-digit-written, last-digit-written}
 use Rattle.decimal.proofs.decimal.put_decimal.Reads as put-decimal
 use Rattle.decimal.proofs.decimal.put_decimal.Kinds as put-decimal-kinds

@@ -6,15 +6,8 @@ use mathlib.Core.List.{_++_}
 use lib.ListN.{length}
 use Rattle.spec.specs.Text.{Bytes}
 use Rattle.spec.specs.Decimal.{decimal}
-use Rattle.text.specs.Written.{
-  WrittenSoFar,
-  end-within,
-  front-fits,
-  room-behind,
-  then-same-length,
-  then-written,
-  within-buffer,
-}
+use Rattle.text.specs.Written.{WrittenSoFar, end-within, front-fits, room-behind, then-same-length, then-written}
+use Rattle.text.specs.Written.{within-buffer}
 use Rattle.decimal.proofs.decimal.put_counted.Statement.{statement}
 use Rattle.decimal.proofs.decimal.put_counted.Tie as tie
 

@@ -1,7 +1,7 @@
 -- `digits::count_of`: the first digit tells `0`, a leading zero and any other count apart.
 use borrow.Author.Needs.{needs}
 use mathlib.Core.Path.{sym, _∙_}
-use Rattle.decimal.specs.Capped.{no-digits, count-zero, leading-zero, no-leading-zero}
+use Rattle.decimal.specs.Capped.{count-cap, no-digits, count-zero, leading-zero, no-leading-zero}
 use Rattle.decimal.proofs.digits.count_of.Statement.{statement}
 use Rattle.decimal.proofs.digits.count_of.Tie as tie
 
@@ -9,6 +9,7 @@ returns : tie.Need-returns
 returns c = sym (no-digits (c .before .before .args .field .now) (c .if1 .taken))
 
 returns-2 : tie.Need-returns-2
+unfolding count-cap
 returns-2 c =
     let start = c .before .before .before .before .before in
     c .digits-of .ensures ∙ sym (no-leading-zero (start .args .field .now) (c .before .before .before .if1 .left)

@@ -7,16 +7,17 @@ use mathlib.Core.List.{[]}
 use lib.ListN.{length, getD, drop, drop-of-length-le}
 use Rattle.spec.specs.Decimal.{is-digit}
 use Rattle.text.specs.Laws.Byte.{between-intro, between-low, between-high}
-use Rattle.decimal.specs.Capped.{count-cap, digits-read, digits-next-at, digits-off-at}
+use Rattle.decimal.specs.Capped.{digits-read, digits-next-at, digits-off-at}
 use Rattle.decimal.specs.declared.digits.CountRead.the-variants.{Count}
 use Rattle.decimal.proofs.digits.digits_of.Statement.{statement}
 use Rattle.decimal.proofs.digits.digits_of.Tie as tie
 
 abbrev Inv-loop : tie.InvT-loop
-Inv-loop field n₀ i₀ n i = (i ≤ length field) × (n ≤ count-cap) × (digits-read n (drop i field) ≡ digits-read 0 field)
+Inv-loop field cap n₀ i₀ n i =
+    (i ≤ length field) × (n ≤ cap) × (digits-read cap n (drop i field) ≡ digits-read cap 0 field)
 
 abbrev μ-loop : tie.MeasureT-loop
-μ-loop field n₀ i₀ n i = length field - i
+μ-loop field cap n₀ i₀ n i = length field - i
 
 loop-holds : tie.Need-loop-holds Inv-loop μ-loop
 loop-holds c = (omega arith, omega arith, refl)
@@ -29,7 +30,7 @@ returns c =
     let i = at-loop .loop .i in
     sym
     (sym (at-loop .loop .inv .2)
-    ∙ digits-off-at (at-loop .loop .n) s i (c .before .before .loop-test .taken)
+    ∙ digits-off-at (start .args .cap) (at-loop .loop .n) s i (c .before .before .loop-test .taken)
     (λ t. omega (arith, between-low 48 57 (getD s i 0) t, c .if1 .taken)))
 
 returns-2 : tie.Need-returns-2 Inv-loop μ-loop
@@ -40,11 +41,13 @@ returns-2 c =
     let i = at-loop .loop .i in
     sym
     (sym (at-loop .loop .inv .2)
-    ∙ digits-off-at (at-loop .loop .n) s i (c .before .before .before .loop-test .taken)
+    ∙ digits-off-at (start .args .cap) (at-loop .loop .n) s i (c .before .before .before .loop-test .taken)
     (λ t. omega (arith, between-high 48 57 (getD s i 0) t, c .if2 .taken)))
 
 with-digit-requires : tie.Need-with-digit-requires Inv-loop μ-loop
-with-digit-requires c κs = (c .before .before .before .before .loop .inv .1, c .before .if1 .left)
+with-digit-requires c κs =
+    let at-loop = c .before .before .before .before in
+    (at-loop .loop .inv .1, at-loop .before .before .pre, c .before .if1 .left)
 
 loop-again : tie.Need-loop-again Inv-loop μ-loop
 loop-again c =
@@ -58,7 +61,8 @@ loop-again c =
       omega (arith, at-loop-test .loop-test .taken),
       omega (arith, c .with-digit .ensures),
       rw (c .with-digit .ensures)
-          (sym (digits-next-at (at-loop .loop .n) s i (at-loop-test .loop-test .taken) digit) ∙ at-loop .loop .inv .2),
+          (sym (digits-next-at (start .args .cap) (at-loop .loop .n) s i (at-loop-test .loop-test .taken) digit)
+          ∙ at-loop .loop .inv .2),
     )
 
 returns-3 : tie.Need-returns-3 Inv-loop μ-loop
@@ -66,7 +70,8 @@ returns-3 c =
     let s = c .before .before .before .args .field .now in
     let n = c .before .loop .n in
     let whole : length s ≤ c .before .loop .i = c .loop-test .left in
-    let said : Count n ≡ digits-read n [] = ap Count (let h = c .before .loop .inv .1 in omega arith) in
+    let said : Count n ≡ digits-read (c .before .before .before .args .cap) n [] = ap Count
+    (let h = c .before .loop .inv .1 in omega arith) in
     said ∙ rw (drop-of-length-le s whole) at (c .before .loop .inv .2)
 
 pub digits-of-spec : {M : Type 1} → statement M

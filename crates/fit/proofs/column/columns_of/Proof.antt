@@ -22,21 +22,9 @@ loop-holds : tie.Need-loop-holds Inv-loop μ-loop
 unfolding user-limit row-words row-bits
 loop-holds c = (omega arith, refl, none-put-in _ (row-bits * column-words))
 
-mul-put-in-columns : tie.Need-mul-put-in-columns Inv-loop μ-loop
-unfolding user-limit row-words
-mul-put-in-columns c = omega arith
-
-element-copy-out-put-in-columns : tie.Need-element-copy-out-put-in-columns Inv-loop μ-loop
-unfolding user-limit row-words
-element-copy-out-put-in-columns c = omega arith
-
 put-in-columns-requires : tie.Need-put-in-columns-requires Inv-loop μ-loop
 unfolding user-limit row-words
 put-in-columns-requires c κs = (omega arith, c .before .before .before .loop .inv .1)
-
-loop-less : tie.Need-loop-less Inv-loop μ-loop
-unfolding user-limit row-words
-loop-less c = omega arith
 
 loop-again : tie.Need-loop-again Inv-loop μ-loop
 unfolding user-limit row-words row-bits
@@ -55,6 +43,7 @@ returns c =
     columns-made _ (at .columns) (at .inv .1) (rw end at (at .inv .2))
 
 pub columns-of-spec : {M : Type 1} → statement M
+unfolding user-limit row-words
 columns-of-spec =
-    tie.close (tie.spec Inv-loop μ-loop loop-holds mul-put-in-columns element-copy-out-put-in-columns
-    put-in-columns-requires (λ c. omega arith) loop-less loop-again returns)
+    tie.close (tie.spec Inv-loop μ-loop loop-holds (λ c. omega arith) (λ c. omega arith) put-in-columns-requires
+    (λ c. omega arith) (λ c. omega arith) loop-again returns)

@@ -37,9 +37,6 @@ fitting-requires : tie.Need-fitting-requires Inv-loop μ-loop
 unfolding user-limit row-words
 fitting-requires c κs = omega (arith, c .before .lowest .ensures .within)
 
-count-requires : tie.Need-count-requires Inv-loop μ-loop
-count-requires c κs = tt
-
 add-n : tie.Need-add-n Inv-loop μ-loop
 unfolding user-limit row-words
 add-n c =
@@ -90,5 +87,5 @@ returns-2 c =
 pub partners-among-spec : {M : Type 1} → statement M
 partners-among-spec =
     tie.close (tie.spec Inv-loop μ-loop (λ c. omega arith) (λ c κs. omega arith) add-i mul-count
-    element-copy-out-count fitting-requires count-requires add-n (λ c κs. omega arith) loop-less loop-again returns
+    element-copy-out-count fitting-requires (λ c κs. tt) add-n (λ c κs. omega arith) loop-less loop-again returns
     returns-2)

@@ -11,7 +11,15 @@ use Rattle.cells.specs.Rows.{row-words, row-bits}
 use Rattle.cells.specs.CellPlaces.{CountedBelow}
 use Rattle.cells.specs.Laws.CellPlace.{row-bits-pos}
 use Rattle.fit.specs.Columns.{column-words, held-in}
-use Rattle.fit.specs.Laws.Column.{near-sum-le, column-sum, column-next-word, counted-on, column-counts-all}
+use Rattle.fit.specs.Laws.Column.{
+  near-sum-le,
+  column-sum,
+  column-next-word,
+  column-counts-all,
+  counted-on,
+  cut-at,
+  not-cut,
+}
 use Rattle.fit.proofs.column.partners_in_column.Statement.{statement}
 use Rattle.fit.proofs.column.partners_in_column.Tie as tie
 
@@ -58,13 +66,24 @@ loop-again c =
 
 returns : tie.Need-returns Inv-loop μ-loop
 unfolding user-limit row-words
-returns c users sheet few shown part =
-    let a = c .before .before .before .args in
-    let at = c .before .loop in
+returns c =
+    let a = c .before .before .before .before .args in
+    let at = c .before .before .loop in
     let end : at .j ≡ column-words = omega arith in
-    rw (column-counts-all shown part (a .it .0) (omega arith)) at (rw end at (at .inv .1))
+    rw (← column-counts-all (a .rows .now) (a .left .now) (a .it .0))
+    (cut-at (rw end at (at .inv .1)) (c .if1 .taken))
+
+returns-2 : tie.Need-returns-2 Inv-loop μ-loop
+unfolding user-limit row-words
+returns-2 c =
+    let a = c .before .before .before .before .args in
+    let at = c .before .before .loop in
+    let end : at .j ≡ column-words = omega arith in
+    rw (← column-counts-all (a .rows .now) (a .left .now) (a .it .0))
+    (not-cut (rw end at (at .inv .1)) (c .if1 .left))
 
 pub partners-in-column-spec : {M : Type 1} → statement M
 partners-in-column-spec =
     tie.close (tie.spec Inv-loop μ-loop loop-holds (λ c. omega arith) (λ c. omega arith) (λ c. omega arith)
-    (λ c. omega arith) (λ c. omega arith) partners-among-requires (λ c. omega arith) loop-less loop-again returns)
+    (λ c. omega arith) (λ c. omega arith) partners-among-requires (λ c. omega arith) loop-less loop-again returns
+    returns-2)

@@ -1,23 +1,20 @@
 -- `fit::column::union_of`: the columns of the permissions at the positions of w are still to be joined. The lowest is
 -- next, and its position is dropped.
-use Prim.Native.Nat.{ℕ}
 use native.Mathlib.Omega.{arith}
-use mathlib.Core.List.{List}
 use Rattle.spec.specs.Limits.{user-limit}
 use Rattle.cells.specs.Rows.{row-words}
-use Rattle.fit.specs.Columns.{Columns}
-use Rattle.fit.specs.ColumnUnion.{Reaching, reach-starts, reach-goes-on, reach-ends}
+use Rattle.fit.specs.Laws.ColumnUnion.{Joining, union-starts, union-goes-on, union-ends}
 use Rattle.fit.proofs.column.union_of.Statement.{statement}
 use Rattle.fit.proofs.column.union_of.Tie as tie
 
 abbrev Inv-loop : tie.InvT-loop
-Inv-loop columns word j some₀ w₀ some w = (rows : List ℕ) → Columns rows columns → Reaching rows word j w some
+Inv-loop columns word j some₀ w₀ some w = Joining columns word j some w
 
 abbrev μ-loop : tie.MeasureT-loop
 μ-loop columns word j some₀ w₀ some w = w
 
 loop-holds : tie.Need-loop-holds Inv-loop μ-loop
-loop-holds c rows made = reach-starts _ _ _
+loop-holds c = union-starts (c .args .columns .now) (c .args .word) (c .args .j)
 
 mul-some : tie.Need-mul-some Inv-loop μ-loop
 unfolding user-limit row-words
@@ -40,16 +37,17 @@ loop-less c = c .without-lowest .ensures .less
 
 loop-again : tie.Need-loop-again Inv-loop μ-loop
 unfolding user-limit row-words
-loop-again c rows made =
+loop-again c =
     let at-loop = c .before .before .before .before in
-    let start = at-loop .before in
-    let at = at-loop .loop in
-    reach-goes-on rows (start .args .columns .now) made _ (start .args .j) (at .some) (start .pre)
-    (c .before .before .lowest .ensures) (c .without-lowest .ensures)
-    (at .inv rows made)
+    let a = at-loop .before .args in
+    union-goes-on (a .columns .now) (a .word) (a .j) (at-loop .loop .some) (c .before .before .lowest .ensures)
+    (c .without-lowest .ensures) (at-loop .loop .inv)
 
 returns : tie.Need-returns Inv-loop μ-loop
-returns c rows made = reach-ends _ _ _ _ (rw (c .loop-test .left) at (c .before .loop .inv rows made))
+returns c =
+    let a = c .before .before .args in
+    union-ends (a .columns .now) (a .word) (a .j) (c .before .loop .some)
+    (rw (c .loop-test .left) at (c .before .loop .inv))
 
 pub union-of-spec : {M : Type 1} → statement M
 union-of-spec =

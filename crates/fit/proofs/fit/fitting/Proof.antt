@@ -14,18 +14,6 @@ use Rattle.cells.specs.Laws.CellPlace.{fit-by-word}
 use Rattle.fit.proofs.fit.fitting.Statement.{statement}
 use Rattle.fit.proofs.fit.fitting.Tie as tie
 
-mul-other-2 : tie.Need-mul-other-2
-unfolding user-limit row-words
-mul-other-2 c = omega arith
-
-element-copy-out-other : tie.Need-element-copy-out-other
-unfolding user-limit row-words
-element-copy-out-other c = omega arith
-
-element-copy-out-result : tie.Need-element-copy-out-result
-unfolding user-limit row-words
-element-copy-out-result c = omega arith
-
 returns : tie.Need-returns
 unfolding row-bits row-words
 returns c =
@@ -50,7 +38,8 @@ returns-2 c =
     }
 
 pub fitting-spec : {M : Type 1} → statement M
+unfolding user-limit row-words
 fitting-spec =
-    tie.close (tie.spec (λ c. search needs) (λ c. search needs) mul-other-2 element-copy-out-other
-    (λ c κs. search needs) (λ c. search needs) (λ c. search needs) (λ c. search needs) element-copy-out-result returns
+    tie.close (tie.spec (λ c. search needs) (λ c. search needs) (λ c. omega arith) (λ c. omega arith)
+    (λ c κs. search needs) (λ c. search needs) (λ c. search needs) (λ c. search needs) (λ c. omega arith) returns
     returns-2)

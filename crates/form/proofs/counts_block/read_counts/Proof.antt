@@ -4,16 +4,8 @@ use Rattle.spec.specs.Text.{ascii}
 use Rattle.roles.specs.StandingCases.{standing-case}
 use Rattle.form.specs.Steps.{Reads}
 use Rattle.form.specs.Laws.Step.{misses-first}
-use Rattle.form.specs.CountSteps.{
-  CountAt,
-  standing-text,
-  after-heading,
-  no-roles,
-  no-bound,
-  no-state,
-  no-empty-line,
-  counts-reads,
-}
+use Rattle.form.specs.CountSteps.{CountAt, standing-text, after-heading, no-roles, no-bound, no-state}
+use Rattle.form.specs.CountSteps.{no-empty-line, counts-reads}
 use Rattle.form.proofs.counts_block.read_counts.Statement.{statement}
 use Rattle.form.proofs.counts_block.read_counts.Tie as tie
 

@@ -1,4 +1,4 @@
--- `names::expect_role_name`: what is written at the front of the buffer is the role's name.
+-- `expected::expect_role_name`: what is written at the front of the buffer is the role's name.
 use native.Mathlib.Omega.{arith}
 use mathlib.Core.Path.{_≡_, sym}
 use borrow.Author.Needs.{needs}

@@ -1,4 +1,4 @@
--- `names::expect_roles`: the names of the roles below r stand there.
+-- `expected::expect_roles`: the names of the roles below r stand there.
 use Prim.Native.Nat.{ℕ, _-_, _≤_}
 use native.Mathlib.Omega.{arith}
 use mathlib.Core.Path.{_≡_}
@@ -6,7 +6,7 @@ use mathlib.Core.List.{[], _∷_}
 use borrow.Author.Needs.{needs}
 use Rattle.spec.specs.Text.{Bytes, comma}
 use Rattle.spec.specs.Book.{role-name}
-use Rattle.text.specs.LineLaws.{behind-comma}
+use Rattle.text.specs.Line.{behind-comma}
 use Rattle.form.specs.Steps.{Reads}
 use Rattle.form.specs.Laws.Step.{reads-nothing, reads-then, reads-more, misses-first, misses-second, misses-known}
 use Rattle.form.specs.Pieces.{role-fields}

@@ -1,23 +1,28 @@
--- `roles_block::read_roles`: the line of names, then the lines of the roles.
+-- `roles_block::read_roles`: the line of names, then the lines of the roles; where they do not stand, all rows are
+-- cleared.
 use native.Mathlib.Omega.{arith}
 use borrow.Author.Needs.{needs}
+use lib.ListN.{length}
 use Rattle.spec.specs.Sheet.{sheet-of}
 use Rattle.rules.specs.AcceptedFacts.{accepted-lawful}
 use Rattle.form.specs.Steps.{Reads}
 use Rattle.form.specs.Pieces.{roles-heading}
 use Rattle.form.specs.Laws.RoleLimit.{permissions-fit-a-row}
-use Rattle.form.specs.RoleSteps.{no-roles-heading, heading-then-roles}
+use Rattle.form.specs.RowSteps.{zeros-blank}
+use Rattle.form.specs.RoleSteps.{no-roles-heading, heading-then-roles, no-role-lines}
 use Rattle.form.proofs.roles_block.read_roles.Statement.{statement}
 use Rattle.form.proofs.roles_block.read_roles.Tie as tie
 
 roles-heading-requires : tie.Need-roles-heading-requires
-roles-heading-requires c κs = (c .before .before .before .pre .0 .0, c .before .before .before .pre .0 .1)
+roles-heading-requires c κs = (c .before .before .before .pre .0 .0, c .before .before .before .pre .0 .1 .accepts)
 
 returns : tie.Need-returns
 returns c =
-    let start = c .before .before .before .before .before .before in
-    no-roles-heading (sheet-of (start .args .sheet .now)) (rw (c .enum-told .given .1) at
-    (c .before .before .roles-heading .ensures))
+    let start = c .before .before .before .before .before .before in (
+      no-roles-heading (sheet-of (start .args .sheet .now)) (rw (c .enum-told .given .1) at
+          (c .before .before .roles-heading .ensures)),
+      start .pre .1 .1,
+    )
 
 heading : (c : tie.After-known-told)
     → let start = c .before .before .before .before .before .before .before in
@@ -39,18 +44,29 @@ role-lines-requires c κs =
       start .pre .1 .1,
     )
 
-same-length : tie.Need-same-length
-same-length c = c .before .before .role-lines .kept .1 .1 .0
-
 returns-2 : tie.Need-returns-2
 returns-2 c =
-    let earlier = c .before .before .before .before in
-    let start = earlier .before .before .before .before .before .before .before in
-    heading-then-roles (sheet-of (start .args .sheet .now)) (c .before .before .role-lines .last .1 .1 .0)
-    (heading earlier) (c .before .before .role-lines .result)
-    (rw (start .pre .0 .1 .permission-total) at (c .before .before .role-lines .ensures))
+    let off = c .before .before .before .before in
+    let at-role-lines = off .before .before .before .before in
+    let read = at-role-lines .before .before in
+    let start = read .before .before .before .before .before .before .before in (
+      no-role-lines (sheet-of (start .args .sheet .now)) (heading read) (rw (
+        off .enum-told2 .given .1,
+        start .pre .0 .1 .permission-total,
+      ) at (at-role-lines .role-lines .ensures)),
+      rw (c .before .before .clear-rows .ensures) (zeros-blank (length (at-role-lines .role-lines .last .1 .1 .0))),
+    )
+
+returns-3 : tie.Need-returns-3
+returns-3 c =
+    let at-role-lines = c .before .before .before .before .before in
+    let read = at-role-lines .before .before in
+    let start = read .before .before .before .before .before .before .before in
+    heading-then-roles (sheet-of (start .args .sheet .now)) (heading read)
+    (rw (c .before .count .given .1, start .pre .0 .1 .permission-total) at (at-role-lines .role-lines .ensures))
 
 pub read-roles-spec : {M : Type 1} → statement M
 read-roles-spec =
     tie.close (tie.spec roles-heading-requires (λ c. search needs) (λ c. search needs) returns role-lines-requires
-    same-length returns-2)
+    (λ c. search needs) (λ c. search needs) (λ c κs. search needs) (λ c. search needs) returns-2 (λ c. search needs)
+    returns-3)

@@ -1,4 +1,4 @@
--- `cells::read_cells`: the cells of the words below k have been read, and each takes two bytes.
+-- `row_cells::read_cells`: the cells of the words below k have been read, and each takes two bytes.
 use Prim.Native.Nat.{_+_, _-_, _*_, _≤_, _<_}
 use native.Mathlib.Omega.{arith}
 use mathlib.Core.Path.{_≡_, refl, _∙_}

@@ -2,7 +2,7 @@
 use mathlib.Core.List.{_++_}
 use borrow.Author.Needs.{needs}
 use Rattle.spec.specs.Text.{ascii}
-use Rattle.text.specs.LineLaws.{line-end}
+use Rattle.text.specs.Line.{line-end}
 use Rattle.form.specs.Steps.{Reads}
 use Rattle.form.specs.Laws.Step.{reads-then, expects-then, misses-first, misses-second}
 use Rattle.form.specs.Pieces.{role-fields}

@@ -9,27 +9,22 @@ use Rattle.spec.specs.Sheet.{sheet-of}
 use Rattle.rules.specs.AcceptedFacts.{Lawful, accepted-lawful}
 use Rattle.form.specs.Ended.{Ended}
 use Rattle.form.specs.Laws.NameFound.{user-found, user-unknown, permission-found, permission-unknown}
-use Rattle.form.specs.WitnessLineSteps.{
-  no-comma-in-line,
-  no-user,
-  no-line-feed-in-line,
-  no-permission,
-  witness-at,
-}
+use Rattle.form.specs.WitnessLineSteps.{no-comma-in-line, no-user, no-line-feed-in-line, no-permission}
+use Rattle.form.specs.WitnessLineSteps.{witness-at}
 use Rattle.form.proofs.witness_block.witness_line.Statement.{statement}
 use Rattle.form.proofs.witness_block.witness_line.Tie as tie
 
 lawful : (c : tie.Start) → Lawful (sheet-of (c .args .sheet .now))
-lawful c = accepted-lawful (c .args .sheet .now) (c .pre .1 .0 .0 .accepts)
+lawful c = accepted-lawful (c .args .sheet .now) (c .pre .1 .accepts)
 
 returns : tie.Need-returns
 returns c =
-    let start = c .before .before .before .before .before in
+    let start = c .before .before .before .before .before .before .before in
     no-comma-in-line (sheet-of (start .args .sheet .now)) (lawful start) (rw (c .enum-told .given .1) at
     (c .before .before .part-end .ensures))
 
 first : (c : tie.After-known-told)
-    → let start = c .before .before .before .before .before .before in
+    → let start = c .before .before .before .before .before .before .before .before in
     Ended (start .args .book .now) (start .args .at) comma (c .before .comma .given .0 .0)
 first c = rw (c .before .comma .given .1) at (c .before .before .before .part-end .ensures)
 
@@ -45,7 +40,7 @@ part-user-name-end c = omega (arith, first c .within)
 returns-2 : tie.Need-returns-2
 returns-2 c =
     let earlier = c .before .before .before .before in
-    let start = earlier .before .before .before .before .before .before in
+    let start = earlier .before .before .before .before .before .before .before .before in
     no-user (sheet-of (start .args .sheet .now)) (lawful start) (first earlier)
     (user-unknown (sheet-of (start .args .sheet .now) .users) _ (sym (c .enum-told2 .given .1)
     ∙ c .before .before .find-user-in .ensures))
@@ -59,14 +54,14 @@ part-end-requires-2 c κs = omega (arith, first (c .before .before .before .befo
 returns-3 : tie.Need-returns-3
 returns-3 c =
     let earlier = c .before .before .before .before .before .before .before .before in
-    let start = earlier .before .before .before .before .before .before in
+    let start = earlier .before .before .before .before .before .before .before .before in
     no-line-feed-in-line (sheet-of (start .args .sheet .now)) (lawful start) (first earlier)
     (rw (c .enum-told3 .given .1) at (c .before .before .part-end2 .ensures))
 
 second : (c : tie.After-known-told3)
     → let between = c .before .before .before .before .before .before .before .before in
     let at-comma = between .before .before in
-    let start = at-comma .before .before .before .before .before in
+    let start = at-comma .before .before .before .before .before .before .before in
     Ended (start .args .book .now) (at-comma .comma .given .0 .0 + 1) line-feed (c .before .end .given .0 .0)
 second c = rw (c .before .end .given .1) at (c .before .before .before .part-end2 .ensures)
 
@@ -83,16 +78,16 @@ returns-4 : tie.Need-returns-4
 returns-4 c =
     let earlier = c .before .before .before .before in
     let still-earlier = earlier .before .before .before .before .before .before .before .before .before in
-    let start = still-earlier .before .before .before .before .before .before in
+    let start = still-earlier .before .before .before .before .before .before .before .before in
     no-permission (sheet-of (start .args .sheet .now)) (lawful start) (first still-earlier) (second earlier)
     (permission-unknown (sheet-of (start .args .sheet .now) .permissions) _ (sym (c .enum-told4 .given .1)
     ∙ c .before .before .find-permission-in .ensures))
 
-add-t20 : tie.Need-add-t20
-add-t20 c =
+add-next : tie.Need-add-next
+add-next c =
     let earlier = c .before .before .before .before .before in
     let between = earlier .before .before .before .before .before .before .before .before in
-    let at-good = between .before .before .before .before .before .before .before in
+    let at-good = between .before .before .before .before .before .before .before .before .before in
     omega (arith, second earlier .within, at-good .good .0 .1)
 
 returns-5 : tie.Need-returns-5
@@ -101,7 +96,7 @@ returns-5 c =
     let at-user = earlier .before .before .before .before .before in
     let at-find-user-in = at-user .before .before in
     let still-earlier = at-find-user-in .before .before in
-    let start = still-earlier .before .before .before .before .before .before in
+    let start = still-earlier .before .before .before .before .before .before .before .before in
     witness-at (sheet-of (start .args .sheet .now)) (lawful start) (first still-earlier) (second earlier) _
     (user-found (sheet-of (start .args .sheet .now) .users) _ (at-user .user .given .0 .0 .0)
     (sym (at-user .user .given .1) ∙ at-find-user-in .find-user-in .ensures))
@@ -114,4 +109,4 @@ witness-line-spec =
     part-user-name-start part-user-name-end (λ c κs. search needs) (λ c. search needs) (λ c. search needs) returns-2
     add-start part-end-requires-2 (λ c. search needs) (λ c. search needs) returns-3 sub-permission-name
     part-permission-name-start part-permission-name-end (λ c κs. search needs) (λ c. search needs) (λ c. search needs)
-    returns-4 add-t20 returns-5)
+    returns-4 add-next returns-5)

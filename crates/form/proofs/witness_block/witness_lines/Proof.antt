@@ -8,42 +8,27 @@ use lib.ListN.{length}
 use Rattle.spec.specs.Limits.{role-limit}
 use Rattle.spec.specs.Sheet.{sheet-of}
 use Rattle.rules.specs.AcceptedFacts.{accepted-lawful}
-use Rattle.names.specs.Laws.LaidOut.{users-at, permissions-at}
 use Rattle.form.specs.Laws.Step.{reads-place}
 use Rattle.form.specs.WitnessList.{named-grant}
 use Rattle.form.specs.WitnessLineSteps.{WitnessAt}
-use Rattle.form.specs.WitnessSteps.{
-  LinesRead,
-  lines-start,
-  lines-bound,
-  line-read,
-  lines-end,
-  lines-off,
-  line-some,
-}
+use Rattle.form.specs.WitnessSteps.{LinesRead, lines-start, lines-bound, line-read, lines-end, lines-off}
+use Rattle.form.specs.WitnessSteps.{line-some}
 use Rattle.form.proofs.witness_block.witness_lines.Statement.{statement}
 use Rattle.form.proofs.witness_block.witness_lines.Tie as tie
 
 abbrev Inv-loop : tie.InvT-loop
-Inv-loop book at sheet users user-places permissions permission-places none first₀ lines₀ next₀ last₀ first lines next
-    last =
+Inv-loop book at sheet users permissions none first₀ lines₀ next₀ last₀ first lines next last =
     LinesRead (sheet-of sheet) book at (record { lines = lines; first = first }) next
 
 abbrev μ-loop : tie.MeasureT-loop
-μ-loop book at sheet users user-places permissions permission-places none first₀ lines₀ next₀ last₀ first lines next last =
-    length book - next
+μ-loop book at sheet users permissions none first₀ lines₀ next₀ last₀ first lines next last = length book - next
 
 -- the turn, and the call, from where a line has been read
 abbrev turn : tie.After-known-told Inv-loop μ-loop → tie.In-loop Inv-loop μ-loop
-turn c =
-    let between = c .before .before .before .before .before .before .before .before in
-    let earlier = between .before .before in
-    earlier
+turn c = c .before .before .before .before
 
 abbrev call : tie.In-loop Inv-loop μ-loop → tie.Start Inv-loop μ-loop
-call c =
-    let earlier = c .before .before .before .before .before .before .before .before in
-    earlier
+call c = c .before .before .before .before .before .before .before .before
 
 loop-holds : tie.Need-loop-holds Inv-loop μ-loop
 loop-holds c =
@@ -52,24 +37,17 @@ loop-holds c =
     (start .args .at) (start .pre .0))
 
 witness-line-requires : tie.Need-witness-line-requires Inv-loop μ-loop
-witness-line-requires c κs =
-    let here = c .before .before .before .before .before .before in
-    let start = call here in
-    let laid = start .pre .1 in (
-      here .before .loop .inv .reads .within,
-      (
-        (users-at (start .args .sheet .now) (start .args .layout) laid, laid .user-total),
-        (permissions-at (start .args .sheet .now) (start .args .layout) laid, laid .permission-total),
-      ),
-    )
+witness-line-requires c κs = (c .before .loop .inv .reads .within, call c .pre .1, call c .pre .2)
 
 returns : tie.Need-returns Inv-loop μ-loop
 returns c =
-    let here = c .before .before .before .before .before .before .before .before .before in
-    let start = call here in
-    lines-off (sheet-of (start .args .sheet .now)) (accepted-lawful (start .args .sheet .now)
-    (start .pre .1 .accepts)) (here .before .loop .inv)
-    (here .loop-test .taken) (rw (c .enum-told .given .1) at (c .before .before .witness-line .ensures))
+    let here = c .before .before .before in
+    let start = call here in (
+      lines-off (sheet-of (start .args .sheet .now)) (accepted-lawful (start .args .sheet .now)
+          (start .pre .1 .accepts)) (here .before .loop .inv)
+          (here .loop-test .taken) (rw (c .enum-told .given .1) at (c .before .before .witness-line .ensures)),
+      here .before .before .before .none .ensures,
+    )
 
 line : (c : tie.After-known-told Inv-loop μ-loop)
     → WitnessAt (sheet-of (call (turn c) .args .sheet .now)) (call (turn c) .args .book .now)

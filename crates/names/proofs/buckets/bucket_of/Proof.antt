@@ -20,9 +20,6 @@ abbrev μ-loop : tie.MeasureT-loop
 loop-holds : tie.Need-loop-holds Inv-loop μ-loop
 loop-holds c = (omega arith, refl)
 
-wide-requires : tie.Need-wide-requires Inv-loop μ-loop
-wide-requires c κs = tt
-
 add-h : tie.Need-add-h Inv-loop μ-loop
 add-h c = omega (arith, c .wide .ensures .1)
 
@@ -45,5 +42,5 @@ returns c =
 
 pub bucket-of-spec : {M : Type 1} → statement M
 bucket-of-spec =
-    tie.close (tie.spec Inv-loop μ-loop loop-holds (λ c. search needs) (λ c. omega arith) wide-requires add-h
+    tie.close (tie.spec Inv-loop μ-loop loop-holds (λ c. search needs) (λ c. omega arith) (λ c κs. tt) add-h
     (λ c. omega arith) (λ c. omega arith) loop-again returns)

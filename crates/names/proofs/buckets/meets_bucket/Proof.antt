@@ -11,18 +11,16 @@ use Rattle.bits.specs.Truth.{or-fails}
 use Rattle.bits.specs.Laws.Below.{some-below-intro}
 use Rattle.bits.specs.Laws.Step.{some-below-step}
 use Rattle.bits.specs.Bit.{word-bits}
-use Rattle.names.specs.NamesAt.{places-of}
 use Rattle.names.specs.Buckets.{bucket-words, meets-word, meets-bucket}
-use Rattle.names.specs.declared.places.Places.{Places}
 use Rattle.names.proofs.buckets.meets_bucket.Statement.{statement}
 use Rattle.names.proofs.buckets.meets_bucket.Tie as tie
 
 abbrev Inv-loop : tie.InvT-loop
-Inv-loop s from to table bucket words name k₀ k =
-    (k ≤ words) × (meets-bucket s (places-of from to) table bucket k name ≡ false)
+Inv-loop s places table bucket words name k₀ k =
+    (k ≤ words) × (meets-bucket s places table bucket k name ≡ false)
 
 abbrev μ-loop : tie.MeasureT-loop
-μ-loop s from to table bucket words name k₀ k = words - k
+μ-loop s places table bucket words name k₀ k = words - k
 
 loop-holds : tie.Need-loop-holds Inv-loop μ-loop
 unfolding some-below
@@ -30,31 +28,31 @@ loop-holds c = (omega arith, refl)
 
 meets-word-requires : tie.Need-meets-word-requires Inv-loop μ-loop
 meets-word-requires c κs p l s =
-    let start = c .before .before .before .before .before in
+    let start = c .before .before .before .before .before .before in
     start .pre .0 .part (start .args .bucket) (c .before .before .loop .k) p (omega arith) l s
 
 -- whether the word k has a name that is met
-abbrev met : Bytes → Places → List ℕ → ℕ → Bytes → ℕ → Bool
+abbrev met : Bytes → List ℕ → List ℕ → ℕ → Bytes → ℕ → Bool
 met text places table bucket name k =
     meets-word text places (getD table (bucket * bucket-words + k) 0) (k * word-bits) name
 
 returns : tie.Need-returns Inv-loop μ-loop
 returns c =
     let at-loop = c .before .before .before .before in
-    let start = at-loop .before .before .before in
+    let start = at-loop .before .before .before .before in
     let a = start .args in
     let k = at-loop .loop .k in
-    sym (some-below-intro (a .words) (met (a .s .now) (places-of (a .from .now) (a .to .now)) (a .table .now)
+    sym (some-below-intro (a .words) (met (a .s .now) (a .places .now) (a .table .now)
     (a .bucket) (a .name .now)) {i = k}
     (c .before .before .before .loop-test .taken) (sym (c .before .meets-word .ensures) ∙ c .if1 .taken))
 
 loop-again : tie.Need-loop-again Inv-loop μ-loop
 loop-again c =
     let at-loop = c .before .before .before .before in
-    let start = at-loop .before .before .before in
+    let start = at-loop .before .before .before .before in
     let a = start .args in
     let k = at-loop .loop .k in
-    let test : ℕ → Bool = met (a .s .now) (places-of (a .from .now) (a .to .now)) (a .table .now) (a .bucket)
+    let test : ℕ → Bool = met (a .s .now) (a .places .now) (a .table .now) (a .bucket)
     (a .name .now) in (
       omega arith,
       some-below-step k test
@@ -64,7 +62,7 @@ loop-again c =
 
 returns-2 : tie.Need-returns-2 Inv-loop μ-loop
 returns-2 c =
-    let all : c .before .loop .k ≡ c .before .before .before .before .args .words = omega arith in
+    let all : c .before .loop .k ≡ c .before .before .before .before .before .args .words = omega arith in
     sym (rw all at (c .before .loop .inv .1))
 
 pub meets-bucket-spec : {M : Type 1} → statement M

@@ -3,29 +3,30 @@ use Prim.Native.Nat.{_+_}
 use native.Mathlib.Omega.{arith}
 use mathlib.Core.Path.{sym, _∙_}
 use Rattle.spec.specs.Limits.{user-limit}
-use Rattle.names.specs.NamesAt.{PartThere, places-of}
+use Rattle.names.specs.NamesAt.{PartThere}
 use Rattle.names.specs.Laws.Meet.{Walked, none-walked, lowest-met, lowest-walked, all-walked}
 use Rattle.names.proofs.buckets.meets_word.Statement.{statement}
 use Rattle.names.proofs.buckets.meets_word.Tie as tie
 
 abbrev Inv-loop : tie.InvT-loop
-Inv-loop s from to word first name w₀ w = Walked s (places-of from to) word first name w
+Inv-loop s places word first name w₀ w = Walked s places word first name w
 
 abbrev μ-loop : tie.MeasureT-loop
-μ-loop s from to word first name w₀ w = w
+μ-loop s places word first name w₀ w = w
 
 loop-holds : tie.Need-loop-holds Inv-loop μ-loop
 loop-holds c =
-    let a = c .before .before .args in none-walked (a .s .now) (places-of (a .from .now) (a .to .now)) (a .word)
+    let a = c .before .before .before .args in none-walked (a .s .now) (a .places .now) (a .word)
     (a .first) (a .name .now)
 
 -- the name at the lowest position stands in the text
 there : (c : tie.After-lowest Inv-loop μ-loop)
-    → let a = c .before .before .before .before .before .args in
-    PartThere (a .s .now) (a .from .now) (a .to .now) (a .first + c .lowest .result)
+    → let a = c .before .before .before .before .before .before .args in
+    PartThere (a .s .now) (a .places .now) (a .first + c .lowest .result)
 there c =
+    let still-start = c .before .before .before .before .before .before in
     let lowest = c .lowest .ensures in
-    c .before .before .before .before .before .pre (c .lowest .result) (lowest .within)
+    still-start .pre (c .lowest .result) (lowest .within)
     (c .before .before .loop .inv .part (c .lowest .result) (lowest .holds))
 
 add-i : tie.Need-add-i Inv-loop μ-loop
@@ -35,15 +36,12 @@ add-i c = omega (arith, there c .0)
 part-at-requires : tie.Need-part-at-requires Inv-loop μ-loop
 part-at-requires c κs = there c
 
-same-name-requires : tie.Need-same-name-requires Inv-loop μ-loop
-same-name-requires c κs = tt
-
 returns : tie.Need-returns Inv-loop μ-loop
 returns c =
     let at-loop = c .before .before .before .before .before in
-    let start = at-loop .before .before .before in
+    let start = at-loop .before .before .before .before in
     let a = start .args in
-    sym (lowest-met (a .s .now) (places-of (a .from .now) (a .to .now)) (a .word) (a .first) (a .name .now)
+    sym (lowest-met (a .s .now) (a .places .now) (a .word) (a .first) (a .name .now)
     (at-loop .loop .w) (at-loop .loop .inv)
     (c .before .before .before .lowest .ensures)
     (rw (c .before .before .part-at .ensures) at (sym (c .before .same-name .ensures) ∙ c .if1 .taken)))
@@ -55,9 +53,9 @@ loop-again : tie.Need-loop-again Inv-loop μ-loop
 loop-again c =
     let at-lowest = c .before .before .before .before in
     let at-loop = at-lowest .before .before in
-    let start = at-loop .before .before .before in
+    let start = at-loop .before .before .before .before in
     let a = start .args in
-    lowest-walked (a .s .now) (places-of (a .from .now) (a .to .now)) (a .word) (a .first) (a .name .now)
+    lowest-walked (a .s .now) (a .places .now) (a .word) (a .first) (a .name .now)
     (at-loop .loop .w) (at-loop .loop .inv)
     (at-lowest .lowest .ensures)
     (rw (c .before .before .before .part-at .ensures) at (sym (c .before .before .same-name .ensures)
@@ -66,11 +64,11 @@ loop-again c =
 
 returns-2 : tie.Need-returns-2 Inv-loop μ-loop
 returns-2 c =
-    let a = c .before .before .before .before .args in
-    sym (all-walked (a .s .now) (places-of (a .from .now) (a .to .now)) (a .word) (a .first) (a .name .now)
+    let a = c .before .before .before .before .before .args in
+    sym (all-walked (a .s .now) (a .places .now) (a .word) (a .first) (a .name .now)
     (rw (c .loop-test .left) at (c .before .loop .inv)))
 
 pub meets-word-spec : {M : Type 1} → statement M
 meets-word-spec =
-    tie.close (tie.spec Inv-loop μ-loop loop-holds (λ c κs. omega arith) add-i part-at-requires same-name-requires
-    returns (λ c κs. omega arith) loop-less loop-again returns-2)
+    tie.close (tie.spec Inv-loop μ-loop loop-holds (λ c κs. omega arith) add-i part-at-requires (λ c κs. tt) returns
+    (λ c κs. omega arith) loop-less loop-again returns-2)

@@ -4,42 +4,38 @@ use Prim.Native.Nat.{_-_, _/_, _≤_, _<_}
 use native.Mathlib.Omega.{arith}
 use native.Mathlib.Numerals.{add-one}
 use mathlib.Core.Path.{_≡_, sym, _∙_}
+use lib.ListN.{length}
 use Rattle.spec.specs.Limits.{user-limit}
 use Rattle.bits.specs.Bit.{word-bits}
-use Rattle.names.specs.NamesAt.{places-of}
 use Rattle.names.specs.Laws.NamesAt.{inside-part}
 use Rattle.names.specs.Buckets.{bucket-count, bucket-words}
 use Rattle.names.specs.Laws.Bucket.{bucket-below, noted-standing}
-use Rattle.names.specs.RepeatsLaws.{names-apart}
+use Rattle.names.specs.Laws.Repeats.{names-apart}
 use Rattle.names.specs.Laws.Meet.{Searched, none-searched, met-repeats, unmet-searched}
-use Rattle.names.specs.declared.places.Places.{Places}
 use Rattle.names.proofs.buckets.repeated_by_buckets.Statement.{statement}
 use Rattle.names.proofs.buckets.repeated_by_buckets.Tie as tie
 
 abbrev Inv-loop : tie.InvT-loop
-Inv-loop s from to count table₀ i₀ table i = (i ≤ count) × Searched table s (places-of from to) i
+Inv-loop s places table₀ i₀ table i = (i ≤ length places) × Searched table s places i
 
 abbrev μ-loop : tie.MeasureT-loop
-μ-loop s from to count table₀ i₀ table i = count - i
-
-abbrev places : tie.Start Inv-loop μ-loop → Places
-places start = places-of (start .args .from .now) (start .args .to .now)
+μ-loop s places table₀ i₀ table i = length places - i
 
 loop-holds : tie.Need-loop-holds Inv-loop μ-loop
-loop-holds c = let start = c .before in (omega arith, none-searched (start .args .s .now) (places start))
+loop-holds c =
+    let start = c .before .before in
+    (omega arith, none-searched (start .args .s .now) (start .args .places .now))
 
 part-at-requires : tie.Need-part-at-requires Inv-loop μ-loop
-part-at-requires c κs = inside-part (c .before .before .before .pre) (c .before .loop .i) (c .loop-test .taken)
-
-bucket-of-requires : tie.Need-bucket-of-requires Inv-loop μ-loop
-bucket-of-requires c κs = tt
+part-at-requires c κs = inside-part (c .before .before .before .before .pre) (c .before .loop .i) (c .loop-test .taken)
 
 -- the name's bucket and its word there are within the table
 small : (c : tie.After-bucket-of Inv-loop μ-loop) → (c .bucket-of .result < bucket-count)
     × (c .before .before .before .loop .i / word-bits < bucket-words)
 unfolding user-limit
 small c =
-    let start = c .before .before .before .before .before in (
+    let earlier = c .before .before .before .before .before .before in
+    let start = earlier in (
       rw (c .bucket-of .ensures) (bucket-below (c .before .part-at .result .now)),
       omega (arith, start .pre .few, c .before .before .loop-test .taken),
     )
@@ -47,7 +43,7 @@ small c =
 meets-bucket-requires : tie.Need-meets-bucket-requires Inv-loop μ-loop
 meets-bucket-requires c κs =
     let at-loop = c .before .before .before .before in
-    let still-start = at-loop .before .before in
+    let still-start = at-loop .before .before .before in
     let loop = at-loop .loop in (
       noted-standing (loop .inv .1 .noted) (still-start .pre) (loop .inv .0),
       small (c .before) .0,
@@ -59,9 +55,9 @@ returns c =
     let at-part-at = c .before .before .before .before in
     let at-loop-test = at-part-at .before in
     let at-loop = at-loop-test .before in
-    let start = at-loop .before .before in
+    let start = at-loop .before .before .before in
     let loop = at-loop .loop in
-    sym (met-repeats (loop .table) (start .args .s .now) (places start) (start .args .count) (loop .i) (start .pre)
+    sym (met-repeats (loop .table) (start .args .s .now) (start .args .places .now) (loop .i) (start .pre)
     (at-loop-test .loop-test .taken) (loop .inv .1) (at-part-at .part-at .result .now)
     (at-part-at .part-at .ensures) (c .before .before .before .bucket-of .result)
     (sym (c .before .meets-bucket .ensures) ∙ c .if1 .taken))
@@ -90,11 +86,11 @@ loop-again c =
     let at-part-at = at-bucket-of .before in
     let at-loop-test = at-part-at .before in
     let at-loop = at-loop-test .before in
-    let start = at-loop .before .before in
+    let start = at-loop .before .before .before in
     let loop = at-loop .loop in (
       omega arith,
       rw add-one
-          (unmet-searched (loop .table) (start .args .s .now) (places start) (start .args .count) (loop .i) (start .pre)
+          (unmet-searched (loop .table) (start .args .s .now) (start .args .places .now) (loop .i) (start .pre)
           (at-loop-test .loop-test .taken) (loop .inv .1)
           (at-part-at .part-at .result .now) (at-part-at .part-at .ensures)
           (at-bucket-of .bucket-of .result) (at-bucket-of .bucket-of .ensures)
@@ -103,13 +99,14 @@ loop-again c =
 
 returns-2 : tie.Need-returns-2 Inv-loop μ-loop
 returns-2 c =
-    let start = c .before .before .before in
+    let start = c .before .before .before .before in
     let loop = c .before .loop in
-    let all : loop .i ≡ start .args .count = omega arith in
-    sym (names-apart (start .args .s .now) (places start) (start .args .count) (rw all at (loop .inv .1 .apart)))
+    let all : loop .i ≡ length (start .args .places .now) = omega arith in
+    sym (names-apart (start .args .s .now) (start .args .places .now) (length (start .args .places .now))
+    (rw all at (loop .inv .1 .apart)))
 
 pub repeated-by-buckets-spec : {M : Type 1} → statement M
 repeated-by-buckets-spec =
-    tie.close (tie.spec Inv-loop μ-loop loop-holds part-at-requires bucket-of-requires (λ c. omega arith)
+    tie.close (tie.spec Inv-loop μ-loop loop-holds part-at-requires (λ c κs. tt) (λ c. omega arith)
     meets-bucket-requires returns mul-at add-at mul-with array-read-with (λ c κs. omega arith) mul-table
     array-write-table (λ c. omega arith) (λ c. omega arith) loop-again returns-2)

@@ -6,42 +6,42 @@ use native.Mathlib.Omega.{arith}
 use native.Mathlib.Numerals.{add-one}
 use mathlib.Core.Path.{_≡_, sym, _∙_}
 use borrow.Author.Tests.{ltb-true}
-use Rattle.names.specs.NamesAt.{places-of}
+use lib.ListN.{length}
+use Rattle.names.specs.NamesAt.{Apart}
 use Rattle.names.specs.Laws.NamesAt.{inside-part}
-use Rattle.names.specs.RepeatsLaws.{Apart, names-apart}
+use Rattle.names.specs.Laws.Repeats.{names-apart}
 use Rattle.names.specs.Laws.Meet.{met-few, unmet-few}
-use Rattle.names.specs.declared.places.Places.{Places}
 use Rattle.names.proofs.buckets.repeated_few.Statement.{statement}
 use Rattle.names.proofs.buckets.repeated_few.Tie as tie
 
 abbrev Inv-loop : tie.InvT-loop
-Inv-loop s from to count i₀ i = (i ≤ count) × Apart s (places-of from to) i
+Inv-loop s places i₀ i = (i ≤ length places) × Apart s places i
 
 abbrev μ-loop : tie.MeasureT-loop
-μ-loop s from to count i₀ i = count - i
-
-abbrev places : tie.Start Inv-loop μ-loop → Places
-places start = places-of (start .args .from .now) (start .args .to .now)
+μ-loop s places i₀ i = length places - i
 
 loop-holds : tie.Need-loop-holds Inv-loop μ-loop
 loop-holds c = (omega arith, λ i j h k. absurd (not-suc-le-zero k))
 
 part-at-requires : tie.Need-part-at-requires Inv-loop μ-loop
-part-at-requires c κs = inside-part (c .before .before .before .pre .0) (c .before .loop .i) (c .loop-test .taken)
+part-at-requires c κs =
+    let still-start = c .before .before .before .before in
+    inside-part (still-start .pre .0) (c .before .loop .i) (c .loop-test .taken)
 
 meets-word-requires : tie.Need-meets-word-requires Inv-loop μ-loop
 meets-word-requires c κs p l s =
+    let still-start = c .before .before .before .before .before .before in
     let before = ltb-true p (c .before .before .before .loop .i) (sym (c .full .ensures p) ∙ s) in
     let turn = c .before .before .loop-test .taken in
-    inside-part (c .before .before .before .before .before .pre .0) (0 + p) (omega arith)
+    inside-part (still-start .pre .0) (0 + p) (omega arith)
 
 returns : tie.Need-returns Inv-loop μ-loop
 returns c =
     let at-loop-test = c .before .before .before .before in
     let at-loop = at-loop-test .before in
-    let start = at-loop .before .before in
+    let start = at-loop .before .before .before in
     let loop = at-loop .loop in
-    sym (met-few (start .args .s .now) (places start) (start .args .count) (loop .i) (c .before .before .full .result)
+    sym (met-few (start .args .s .now) (start .args .places .now) (loop .i) (c .before .before .full .result)
     (at-loop-test .loop-test .taken)
     (c .before .before .full .ensures) (c .before .before .before .part-at .result .now)
     (c .before .before .before .part-at .ensures)
@@ -51,10 +51,10 @@ loop-again : tie.Need-loop-again Inv-loop μ-loop
 loop-again c =
     let at-loop-test = c .before .before .before .before in
     let at-loop = at-loop-test .before in
-    let start = at-loop .before .before in
+    let start = at-loop .before .before .before in
     let loop = at-loop .loop in (
       omega arith,
-      rw add-one (unmet-few (start .args .s .now) (places start) (start .args .count) (loop .i)
+      rw add-one (unmet-few (start .args .s .now) (start .args .places .now) (loop .i)
           (c .before .before .full .result) (at-loop-test .loop-test .taken)
           (c .before .before .full .ensures) (c .before .before .before .part-at .result .now)
           (c .before .before .before .part-at .ensures) (omega arith) (loop .inv .1)
@@ -63,10 +63,11 @@ loop-again c =
 
 returns-2 : tie.Need-returns-2 Inv-loop μ-loop
 returns-2 c =
-    let start = c .before .before .before in
+    let start = c .before .before .before .before in
     let loop = c .before .loop in
-    let all : loop .i ≡ start .args .count = omega arith in
-    sym (names-apart (start .args .s .now) (places start) (start .args .count) (rw all at (loop .inv .1)))
+    let all : loop .i ≡ length (start .args .places .now) = omega arith in
+    sym (names-apart (start .args .s .now) (start .args .places .now) (length (start .args .places .now))
+    (rw all at (loop .inv .1)))
 
 pub repeated-few-spec : {M : Type 1} → statement M
 repeated-few-spec =

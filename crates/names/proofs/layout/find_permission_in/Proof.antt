@@ -3,35 +3,34 @@
 use borrow.Author.Needs.{needs}
 use mathlib.Core.Path.{sym, _∙_}
 use Rattle.spec.specs.Sheet.{sheet-of}
-use Rattle.names.specs.NamesAt.{places-of, name-number}
-use Rattle.names.specs.Laws.NamesThere.{NamesThere, permissions-there}
-use Rattle.names.specs.Laws.Found.{permission-at, permission-nowhere}
+use Rattle.names.specs.NamesAt.{name-number}
+use Rattle.names.specs.LaidOut.{permission-numbered}
+use Rattle.names.specs.declared.layout.FoundPermission.the-variants.{Nothing}
+use Rattle.names.specs.Laws.NamesThere.{permissions-there}
+use Rattle.names.specs.Laws.Found.{found-number, found-none}
 use Rattle.names.proofs.layout.find_permission_in.Statement.{statement}
 use Rattle.names.proofs.layout.find_permission_in.Tie as tie
 
-there : (c : tie.Start)
-    → NamesThere (c .args .s .now) (places-of (c .args .from .now) (c .args .to .now)) (c .args .permissions)
-    (sheet-of (c .args .s .now) .permissions)
-there c = permissions-there (c .pre .0) (c .args .permissions) (c .pre .1)
-
 find-from-requires : tie.Need-find-from-requires
-find-from-requires c κs = let names = there (c .before .before) in (names .inside, names .apart)
+find-from-requires c κs =
+    let names = permissions-there (c .before .before .before .pre) in
+    (names .inside, names .apart)
 
 returns : tie.Need-returns
 returns c =
     let found = c .before .before .before in
-    let start = found .before .before .before in
-    let told = rw (there start .same) at (found .find-from .ensures) in
-    permission-at (name-number (sheet-of (start .args .s .now) .permissions) (start .args .name .now))
-    (c .before .i .given .0 .0) (sym (c .before .i .given .1) ∙ told)
+    let start = found .before .before .before .before in
+    found-number permission-numbered Nothing (name-number (sheet-of (start .args .s .now) .permissions)
+    (start .args .name .now)) (c .before .i .given .0 .0)
+    (sym (c .before .i .given .1) ∙ rw (permissions-there (start .pre) .same) at (found .find-from .ensures))
 
 returns-2 : tie.Need-returns-2
 returns-2 c =
     let found = c .before .before in
-    let start = found .before .before .before in
-    let told = rw (there start .same) at (found .find-from .ensures) in
-    permission-nowhere (name-number (sheet-of (start .args .s .now) .permissions) (start .args .name .now))
-    (sym (c .enum-told .given .1) ∙ told)
+    let start = found .before .before .before .before in
+    found-none permission-numbered Nothing (name-number (sheet-of (start .args .s .now) .permissions)
+    (start .args .name .now)) (sym (c .enum-told .given .1) ∙ rw (permissions-there (start .pre) .same) at
+    (found .find-from .ensures))
 
 pub find-permission-in-spec : {M : Type 1} → statement M
 find-permission-in-spec =

@@ -7,17 +7,8 @@ use lib.ListN.{length, set}
 use Rattle.spec.specs.Text.{Bytes, comma}
 use Rattle.spec.specs.Decimal.{decimal}
 use Rattle.spec.specs.Program.{number-line}
-use Rattle.text.specs.Written.{
-  WrittenSoFar,
-  front-fits,
-  byte-within,
-  then-byte,
-  within-buffer,
-  room-behind,
-  end-within,
-  then-same-length,
-  then-written,
-}
+use Rattle.text.specs.Written.{WrittenSoFar, front-fits, byte-within, then-byte, within-buffer, room-behind}
+use Rattle.text.specs.Written.{end-within, then-same-length, then-written}
 use Rattle.porvuund.proofs.lines.put_pair_line.Statement.{statement}
 use Rattle.porvuund.proofs.lines.put_pair_line.Tie as tie
 

@@ -7,7 +7,8 @@ use lib.ListN.{length}
 use Rattle.spec.specs.Limits.{book-limit}
 use Rattle.spec.specs.Program.{program-buffer, budget-of}
 use Rattle.text.specs.Written.{written-as}
-use Rattle.porvuund.specs.OneShot.{Books, book-said}
+use Rattle.session.specs.Said.{write-said}
+use Rattle.porvuund.specs.OneShot.{Books}
 use Rattle.porvuund.specs.Laws.Output.{output-written, output-refused}
 use Rattle.porvuund.specs.Lines.{number-line-length}
 use Rattle.porvuund.proofs.output.book_output.Statement.{statement}
@@ -23,7 +24,7 @@ start c = c .before .before .before .before .before
 books : (c : tie.After-porvuund-book)
     → let s = start c in
     Books (s .args .sheet .now) (budget-of (s .args .word .now ∷ [])) (s .args .out .now)
-    (book-said (c .porvuund-book .result)) (c .porvuund-book .last .1 .1 .0)
+    (write-said (c .porvuund-book .result)) (c .porvuund-book .last .1 .1 .0)
 books c = rw (c .before .before .budget-of .ensures) at (c .porvuund-book .ensures)
 
 returns : tie.Need-returns

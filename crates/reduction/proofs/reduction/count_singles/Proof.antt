@@ -18,30 +18,6 @@ abbrev μ-loop : tie.MeasureT-loop
 loop-holds : tie.Need-loop-holds Inv-loop μ-loop
 loop-holds c = (omega arith, omega arith, refl)
 
-mul-if1 : tie.Need-mul-if1 Inv-loop μ-loop
-unfolding grant-limit
-mul-if1 c = omega arith
-
-element-copy-out-if1 : tie.Need-element-copy-out-if1 Inv-loop μ-loop
-unfolding grant-limit
-element-copy-out-if1 c = omega arith
-
-mul-if1-2 : tie.Need-mul-if1-2 Inv-loop μ-loop
-unfolding grant-limit
-mul-if1-2 c = omega arith
-
-element-copy-out-if1-2 : tie.Need-element-copy-out-if1-2 Inv-loop μ-loop
-unfolding grant-limit
-element-copy-out-if1-2 c = omega arith
-
-add-singles : tie.Need-add-singles Inv-loop μ-loop
-unfolding grant-limit
-add-singles c = omega arith
-
-add-i : tie.Need-add-i Inv-loop μ-loop
-unfolding grant-limit
-add-i c = omega arith
-
 loop-again : tie.Need-loop-again Inv-loop μ-loop
 loop-again c =
     let a = c .before .before .before .before .before .args in
@@ -66,6 +42,7 @@ returns c =
     rw end at (at .inv .2)
 
 pub count-singles-spec : {M : Type 1} → statement M
+unfolding grant-limit
 count-singles-spec =
-    tie.close (tie.spec Inv-loop μ-loop loop-holds mul-if1 element-copy-out-if1 mul-if1-2 element-copy-out-if1-2
-    add-singles add-i (λ c. omega arith) loop-again returns)
+    tie.close (tie.spec Inv-loop μ-loop loop-holds (λ c. omega arith) (λ c. omega arith) (λ c. omega arith)
+    (λ c. omega arith) (λ c. omega arith) (λ c. omega arith) (λ c. omega arith) loop-again returns)

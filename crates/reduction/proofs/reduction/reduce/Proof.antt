@@ -6,21 +6,15 @@ use Rattle.reduction.specs.ReductionResult.{shows-ready, settled-reduced
 use Rattle.reduction.proofs.reduction.reduce.Statement.{statement}
 use Rattle.reduction.proofs.reduction.reduce.Tie as tie
 
-columns-of-requires : tie.Need-columns-of-requires
-columns-of-requires c κs = tt
-
 sweeps-requires : tie.Need-sweeps-requires
 unfolding grant-limit
 sweeps-requires c κs =
-    let still-start = c .before .before .before .before .before .before in (
-      shows-ready (still-start .pre),
-      c .before .before .before .before .columns-of .ensures,
-      refl,
-    )
+    let start = c .before .before .before .before in
+    (shows-ready (start .pre .0), start .pre .1, refl)
 
 returns : tie.Need-returns
 returns c = settled-reduced (c .before .before .before .sweeps .ensures) (c .count-singles .ensures)
 
 pub reduce-spec : {M : Type 1} → statement M
 reduce-spec =
-    tie.close (tie.spec columns-of-requires sweeps-requires (λ c κs. search needs) returns)
+    tie.close (tie.spec sweeps-requires (λ c κs. search needs) returns)

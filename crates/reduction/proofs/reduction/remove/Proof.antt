@@ -11,42 +11,6 @@ use Rattle.verdict.specs.Laws.ReductionRemove.{bit-cleared}
 use Rattle.reduction.proofs.reduction.remove.Statement.{statement}
 use Rattle.reduction.proofs.reduction.remove.Tie as tie
 
-element-copy-out-without : tie.Need-element-copy-out-without
-unfolding user-limit row-words
-element-copy-out-without c = omega arith
-
-element-write-left : tie.Need-element-write-left
-unfolding user-limit row-words
-element-write-left c = omega arith
-
-cast-removed : tie.Need-cast-removed
-unfolding user-limit row-words
-cast-removed c = omega arith
-
-mul-removed : tie.Need-mul-removed
-unfolding grant-limit
-mul-removed c = omega arith
-
-element-write-removed : tie.Need-element-write-removed
-unfolding grant-limit
-element-write-removed c = omega arith
-
-cast-partner : tie.Need-cast-partner
-unfolding user-limit row-words
-cast-partner c = omega arith
-
-mul-partner : tie.Need-mul-partner
-unfolding grant-limit
-mul-partner c = omega arith
-
-element-write-partner : tie.Need-element-write-partner
-unfolding grant-limit
-element-write-partner c = omega arith
-
-add-result : tie.Need-add-result
-unfolding grant-limit
-add-result c = omega arith
-
 returns : tie.Need-returns
 unfolding user-limit row-words
 returns c =
@@ -67,7 +31,8 @@ returns c =
     }
 
 pub remove-spec : {M : Type 1} → statement M
+unfolding user-limit row-words grant-limit
 remove-spec =
-    tie.close (tie.spec (λ c. search needs) element-copy-out-without (λ c κs. search needs) (λ c. search needs)
-    element-write-left cast-removed mul-removed element-write-removed cast-partner mul-partner element-write-partner
-    add-result returns)
+    tie.close (tie.spec (λ c. search needs) (λ c. omega arith) (λ c κs. search needs) (λ c. search needs)
+    (λ c. omega arith) (λ c. omega arith) (λ c. omega arith) (λ c. omega arith) (λ c. omega arith) (λ c. omega arith)
+    (λ c. omega arith) (λ c. omega arith) returns)

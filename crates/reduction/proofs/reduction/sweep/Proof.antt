@@ -23,7 +23,7 @@ loop-holds c = (omega arith, swept-none (c .pre .0))
 
 mul-loop : tie.Need-mul-loop Inv-loop μ-loop
 unfolding user-limit
-mul-loop c = omega (arith, c .before .pre .0 .few-users)
+mul-loop c = omega (arith, c .before .pre .0 .shows .few-users)
 
 sweep-word-requires : tie.Need-sweep-word-requires Inv-loop μ-loop
 unfolding row-words
@@ -35,11 +35,7 @@ add-i : tie.Need-add-i Inv-loop μ-loop
 unfolding user-limit
 add-i c =
     let start = c .before .before .before .before .before .before in
-    omega (arith, start .pre .0 .few-users)
-
-loop-less : tie.Need-loop-less Inv-loop μ-loop
-unfolding row-words
-loop-less c = omega arith
+    omega (arith, start .pre .0 .shows .few-users)
 
 loop-again : tie.Need-loop-again Inv-loop μ-loop
 unfolding row-words
@@ -56,5 +52,7 @@ returns c =
     rw end at (at .inv .1)
 
 pub sweep-spec : {M : Type 1} → statement M
+unfolding row-words
 sweep-spec =
-    tie.close (tie.spec Inv-loop μ-loop loop-holds mul-loop sweep-word-requires add-i loop-less loop-again returns)
+    tie.close (tie.spec Inv-loop μ-loop loop-holds mul-loop sweep-word-requires add-i (λ c. omega arith) loop-again
+    returns)

@@ -13,16 +13,10 @@ Inv-loop s at width body₀ from₀ body from = BodyReading s at width body from
 abbrev μ-loop : tie.MeasureT-loop
 μ-loop s at width body₀ from₀ body from = suc (length s) - from
 
-none-requires : tie.Need-none-requires Inv-loop μ-loop
-none-requires c κs = tt
-
 loop-holds : tie.Need-loop-holds Inv-loop μ-loop
 loop-holds c =
     let start = c .before .before in
     rw (c .none .ensures) (body-starts (start .args .s .now) (start .args .at) (start .args .width) (start .pre))
-
-name-length-requires : tie.Need-name-length-requires Inv-loop μ-loop
-name-length-requires c κs = tt
 
 loop-again : tie.Need-loop-again Inv-loop μ-loop
 loop-again c =
@@ -42,6 +36,5 @@ returns c =
 
 pub read-body-spec : {M : Type 1} → statement M
 read-body-spec =
-    tie.close (tie.spec Inv-loop μ-loop none-requires loop-holds (λ c κs. omega arith) (λ c. omega arith)
-    (λ c. omega arith) (λ c. omega arith) name-length-requires (λ c κs. omega arith) (λ c. omega arith) loop-again
-    returns)
+    tie.close (tie.spec Inv-loop μ-loop (λ c κs. tt) loop-holds (λ c κs. omega arith) (λ c. omega arith)
+    (λ c. omega arith) (λ c. omega arith) (λ c κs. tt) (λ c κs. omega arith) (λ c. omega arith) loop-again returns)

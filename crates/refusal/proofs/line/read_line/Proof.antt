@@ -8,7 +8,7 @@ use borrow.Author.Tests.{not-false}
 use lib.ListN.{length}
 use Rattle.spec.specs.Text.{Bytes}
 use Rattle.bits.specs.Truth.{not-fails}
-use Rattle.refusal.specs.FieldLaws.{FieldStep, field-step}
+use Rattle.refusal.specs.Laws.Fields.{FieldStep, field-step}
 use Rattle.refusal.specs.Laws.ReadLine.{Reading, first-field-part, reading-starts, reading-goes-on, reading-ends}
 use Rattle.refusal.proofs.line.read_line.Statement.{statement}
 use Rattle.refusal.proofs.line.read_line.Tie as tie
@@ -22,20 +22,11 @@ abbrev μ-loop : tie.MeasureT-loop
 abbrev text : tie.At-loop Inv-loop μ-loop → Bytes
 text c = c .before .before .before .before .before .args .s .now
 
-field-requires : tie.Need-field-requires Inv-loop μ-loop
-field-requires c κs = tt
-
-none-requires : tie.Need-none-requires Inv-loop μ-loop
-none-requires c κs = tt
-
 loop-holds : tie.Need-loop-holds Inv-loop μ-loop
 loop-holds c =
     let start = c .before .before .before .before in
     rw (c .before .before .field .ensures, c .before .none .ensures) (reading-starts (start .args .s .now)
     (start .args .at) (start .pre))
-
-field-requires-2 : tie.Need-field-requires-2 Inv-loop μ-loop
-field-requires-2 c κs = tt
 
 -- in a turn the line goes on
 reading : (c : tie.In-loop Inv-loop μ-loop)
@@ -87,5 +78,5 @@ returns c =
 
 pub read-line-spec : {M : Type 1} → statement M
 read-line-spec =
-    tie.close (tie.spec Inv-loop μ-loop field-requires none-requires loop-holds field-requires-2 sub-with
-    part-with-start part-with-end (λ c κs. omega arith) loop-less loop-again returns)
+    tie.close (tie.spec Inv-loop μ-loop (λ c κs. tt) (λ c κs. tt) loop-holds (λ c κs. tt) sub-with part-with-start
+    part-with-end (λ c κs. omega arith) loop-less loop-again returns)

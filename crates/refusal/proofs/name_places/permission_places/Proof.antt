@@ -1,22 +1,19 @@
--- `places::permission_places`: the loop notes a field a turn (`FieldsNoted`). While a field is left there is room,
+-- `name_places::permission_places`: the loop notes a field a turn (`FieldsNoted`). While a field is left there is room,
 -- since there are at most as many fields as room.
 use Prim.Native.Nat.{suc, _-_, _<_}
 use native.Mathlib.Omega.{arith}
 use native.Mathlib.Numerals.{add-one}
 use mathlib.Core.Bool.{false}
 use borrow.Author.Tests.{not-false}
-use lib.ListN.{length}
+use mathlib.Core.Path.{refl}
+use lib.ListN.{length, replicate}
 use Rattle.spec.specs.Limits.{user-limit}
 use Rattle.spec.specs.Text.{Bytes}
 use Rattle.bits.specs.Truth.{not-fails}
-use Rattle.refusal.specs.FieldLaws.{FieldStep}
+use Rattle.refusal.specs.Laws.Fields.{FieldStep}
 use Rattle.refusal.specs.Laws.FieldsLeft.{field-next, field-below}
-use Rattle.refusal.specs.Laws.PermissionPlaces.{
-  FieldsNoted,
-  noting-fields-starts,
-  noting-fields-goes-on,
-  noting-fields-ends,
-}
+use Rattle.refusal.specs.Laws.PermissionPlaces.{FieldsNoted, noting-fields-starts, noting-fields-goes-on}
+use Rattle.refusal.specs.Laws.PermissionPlaces.{noting-fields-ends}
 use Rattle.refusal.proofs.name_places.permission_places.Statement.{statement}
 use Rattle.refusal.proofs.name_places.permission_places.Tie as tie
 
@@ -26,23 +23,16 @@ Inv-loop s places₀ n₀ last₀ next₀ places n last next = FieldsNoted user-
 abbrev μ-loop : tie.MeasureT-loop
 μ-loop s places₀ n₀ last₀ next₀ places n last next = suc (length s) - next .at
 
-field-requires : tie.Need-field-requires Inv-loop μ-loop
-field-requires c κs = tt
-
-none-requires : tie.Need-none-requires Inv-loop μ-loop
-none-requires c κs = tt
-
 loop-holds : tie.Need-loop-holds Inv-loop μ-loop
+unfolding user-limit
 loop-holds c =
-    let start = c .before .before .before .before in
-    rw (c .before .before .field .ensures)
-    (noting-fields-starts user-limit (start .args .s .now) (c .before .none .result) (c .before .none .ensures))
-
-field-requires-2 : tie.Need-field-requires-2 Inv-loop μ-loop
-field-requires-2 c κs = tt
+    let start = c .before .before .before in
+    rw (c .before .field .ensures)
+    (noting-fields-starts user-limit (start .args .s .now) (replicate user-limit 0) refl
+    (start .pre .1))
 
 abbrev text : tie.At-loop Inv-loop μ-loop → Bytes
-text c = c .before .before .before .before .before .args .s .now
+text c = c .before .before .before .before .args .s .now
 
 -- in a turn the line goes on
 noting : (c : tie.In-loop Inv-loop μ-loop)
@@ -52,11 +42,11 @@ noting c = rw (not-fails (c .before .loop .last) (c .loop-test .taken)) at (c .b
 
 room : (c : tie.In-loop Inv-loop μ-loop) → c .before .loop .n < user-limit
 room c =
-    let start = c .before .before .before .before .before .before in
+    let start = c .before .before .before .before .before in
     let loop = c .before .loop in
     omega (
       arith,
-      start .pre,
+      start .pre .0,
       field-below (text (c .before)) 0 (loop .n) (loop .next .at) (noting c .left),
     )
 
@@ -68,36 +58,22 @@ read c =
     rw (c .field2 .ensures) (field-next (text (c .before .before)) 0 (loop .n) (loop .next .at)
     (noting (c .before) .left))
 
-mul-places : tie.Need-mul-places Inv-loop μ-loop
-unfolding user-limit
-mul-places c = omega (arith, room (c .before))
-
-element-write-places : tie.Need-element-write-places Inv-loop μ-loop
-unfolding user-limit
-element-write-places c = room (c .before)
-
-mul-places-2 : tie.Need-mul-places-2 Inv-loop μ-loop
-unfolding user-limit
-mul-places-2 c = omega (arith, room (c .before))
-
-element-write-places-2 : tie.Need-element-write-places-2 Inv-loop μ-loop
-unfolding user-limit
-element-write-places-2 c = room (c .before)
-
-add-n : tie.Need-add-n Inv-loop μ-loop
-unfolding user-limit
-add-n c = omega (arith, room (c .before))
+place-of-requires : tie.Need-place-of-requires Inv-loop μ-loop
+place-of-requires c κs =
+    let still-start = c .before .before .before .before .before .before in
+    let small = still-start .pre .1 in
+    (omega (arith, small, read c), omega (arith, small, read c))
 
 loop-less : tie.Need-loop-less Inv-loop μ-loop
-loop-less c = omega (arith, read (c .before))
+loop-less c = omega (arith, read (c .before .before))
 
 loop-again : tie.Need-loop-again Inv-loop μ-loop
 loop-again c =
-    let turn = c .before .before in
+    let turn = c .before .before .before in
     let loop = turn .before .loop in
-    rw (add-one, c .before .field2 .ensures)
+    rw (add-one, c .before .place-of .ensures, c .before .before .field2 .ensures)
     (noting-fields-goes-on user-limit (text (turn .before)) (loop .places) (loop .n) (loop .next .at) (noting turn)
-    (turn .before .before .before .before .before .before .pre))
+    (turn .before .before .before .before .before .pre .0))
 
 returns : tie.Need-returns Inv-loop μ-loop
 returns c =
@@ -106,6 +82,10 @@ returns c =
     (rw (not-false (loop .last) (c .loop-test .left)) at (loop .inv))
 
 pub permission-places-spec : {M : Type 1} → statement M
+unfolding user-limit
 permission-places-spec =
-    tie.close (tie.spec Inv-loop μ-loop field-requires none-requires loop-holds field-requires-2 mul-places
-    element-write-places mul-places-2 element-write-places-2 add-n loop-less loop-again returns)
+    tie.close (tie.spec Inv-loop μ-loop (λ c κs. tt) loop-holds (λ c κs. tt) place-of-requires (λ c. omega (
+      arith,
+      room (c .before .before),
+    )) (λ c. room (c .before .before)) (λ c. omega (arith, room (c .before .before)))
+    loop-less loop-again returns)

@@ -19,7 +19,7 @@ returns-3 c =
     rw (
       some-bytes-bad (c .before .before .before .before .before .args .s .now) (c .before .before .before .if1 .left),
       eq-eqb _ _ (c .before .if2 .left),
-      c .all-allowed .ensures,
+      c .all-of .ensures,
     )
 
 pub has-bad-bytes-spec : {M : Type 1} → statement M

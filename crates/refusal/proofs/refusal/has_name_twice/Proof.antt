@@ -1,16 +1,17 @@
 -- `refusal::has_name_twice`: the users' names stand at the places noted for them, and so do the permissions'.
-use borrow.Author.Needs.{needs}
 use Prim.Native.Nat.{_≤_}
 use native.Mathlib.Omega.{arith}
-use mathlib.Core.Path.{_≡_, refl, sym, ap, _∙_}
+use mathlib.Core.Path.{_≡_, sym, ap, _∙_}
 use mathlib.Core.List.{List, map, tail}
-use lib.ListN.{length, drop, length-map}
-use Rattle.spec.specs.Limits.{permission-limit, user-limit}
-use Rattle.spec.specs.Text.{Bytes, lines-of}
+use lib.ListN.{length, take, drop, length-map, length-take}
+use Rattle.spec.specs.Limits.{sheet-limit, permission-limit, user-limit}
+use Rattle.spec.specs.Vocabulary.{repeats}
+use Rattle.spec.specs.Text.{Bytes, lines-of, same-name}
 use Rattle.spec.specs.Sheet.{first-field}
-use Rattle.refusal.specs.FieldLaws.{line-fields}
-use Rattle.names.specs.NamesAt.{names-at}
+use Rattle.names.specs.Places.{NamesPlaced}
+use Rattle.names.specs.Laws.Places.{first-placed}
 use Rattle.names.specs.Laws.NamesAt.{placed-names, placed-inside}
+use Rattle.refusal.specs.FirstLine.{line-fields}
 use Rattle.refusal.proofs.refusal.has_name_twice.Statement.{statement}
 use Rattle.refusal.proofs.refusal.has_name_twice.Tie as tie
 
@@ -20,68 +21,117 @@ users c = map first-field (lines-of (drop (c .args .head .next) (c .args .s .now
 abbrev permissions : (c : tie.Start) → List Bytes
 permissions c = tail (line-fields (c .args .s .now))
 
-repeated-requires : tie.Need-repeated-requires
-repeated-requires c κs =
-    let start = c .before .before in
-    rw (start .pre .1 .0)
-    (placed-inside (length (lines-of (drop (start .args .head .next) (start .args .s .now)))) (start .args .s .now)
-    (c .user-places .result)
-    (users start) (c .user-places .ensures .names) (omega (arith, start .pre .1 .0, start .pre .1 .1 .0)))
+-- as many as are said
+user-total : (c : tie.Start) → c .args .users ≡ length (users c)
+user-total c = c .pre .1 .0 ∙ sym (length-map (lines-of (drop (c .args .head .next) (c .args .s .now))) first-field)
 
--- the users' names at the places noted
-users-there : (c : tie.After-user-places)
-    → names-at (c .before .before .args .s .now) (c .user-places .result) (c .before .before .args .users) ≡ users
-    (c .before .before)
-users-there c =
+permission-total : (c : tie.Start) → c .args .head .cells .count ≡ length (permissions c)
+permission-total c = ap (λ cells. cells .count) (c .pre .0 .cells)
+
+-- and few
+few : (c : tie.Start) → (length (users c) ≤ user-limit) × (length (permissions c) ≤ user-limit)
+unfolding permission-limit user-limit
+few c = (
+  omega (arith, user-total c, c .pre .1 .1 .0),
+  omega (arith, permission-total c, c .pre .1 .1 .1),
+)
+
+-- their places are noted, one for each
+users-placed : (c : tie.After-user-places)
+    → let start = c .before .before in
+    NamesPlaced (start .args .s .now) (take (start .args .users) (c .user-places .result)) (users start)
+unfolding user-limit
+users-placed c =
     let start = c .before .before in
-    let lines = lines-of (drop (start .args .head .next) (start .args .s .now)) in
-    rw (start .pre .1 .0)
-    (placed-names (length lines) (start .args .s .now) (c .user-places .result) (users start)
-    (c .user-places .ensures .names)
-    (sym (length-map lines first-field)))
+    first-placed (start .args .users) (start .args .s .now) (c .user-places .result) (users start)
+    (rw (start .pre .1 .0) (c .user-places .ensures .names)) (user-total start)
+    (omega (arith, user-total start, few start .0))
+
+permissions-placed : (c : tie.After-permission-places)
+    → let start = c .before .before .before .before .before .before in
+    NamesPlaced (start .args .s .now) (take (start .args .head .cells .count) (c .permission-places .result))
+    (permissions start)
+unfolding user-limit
+permissions-placed c =
+    let start = c .before .before .before .before .before .before in
+    first-placed (start .args .head .cells .count) (start .args .s .now) (c .permission-places .result)
+    (permissions start) (rw (permission-total start) (c .permission-places .ensures)) (permission-total start)
+    (omega (arith, permission-total start, few start .1))
+
+user-places-requires : tie.Need-user-places-requires
+unfolding sheet-limit
+user-places-requires c κs =
+    let start = c .before in (
+      start .pre .0 .within,
+      omega (arith, start .pre .1 .0, start .pre .1 .1 .0),
+      omega (arith, start .pre .1 .1 .2),
+    )
+
+array-share-prefix-user-places : tie.Need-array-share-prefix-user-places
+unfolding user-limit
+array-share-prefix-user-places c = omega (arith, c .before .before .pre .1 .1 .0)
+
+slice-aggregate-repeated-in : tie.Need-slice-aggregate-repeated-in
+unfolding user-limit
+slice-aggregate-repeated-in c = simp length-take (omega (arith, c .before .before .before .pre .1 .1 .0))
+
+repeated-in-requires : tie.Need-repeated-in-requires
+repeated-in-requires c κs =
+    let start = c .before .before .before in
+    placed-inside (start .args .s .now) (take (start .args .users) (c .before .user-places .result)) (users start)
+    (users-placed (c .before)) (few start .0)
+
+-- whether a user's name stands twice
+users-judged : (c : tie.After-repeated-in)
+    → let start = c .before .before .before .before in
+    c .repeated-in .result ≡ repeats same-name (users start)
+users-judged c =
+    let start = c .before .before .before .before in
+    c .repeated-in .ensures
+    ∙ ap (repeats same-name) (placed-names (start .args .s .now)
+    (take (start .args .users) (c .before .before .user-places .result)) (users start)
+    (users-placed (c .before .before)))
 
 returns : tie.Need-returns
-returns c = rw (← users-there (c .before .before), sym (c .before .repeated .ensures) ∙ c .if1 .taken)
-
--- the count of the first line is that of the permissions, of which there are few
-count : (c : tie.Start) → c .args .head .cells .count ≡ length (permissions c)
-count c = ap (λ cells. cells .count) (c .pre .0 .cells)
-
-few : (c : tie.Start) → length (permissions c) ≤ user-limit
-unfolding permission-limit user-limit
-few c = omega (arith, count c, c .pre .1 .1 .1)
+returns c = rw (sym (users-judged (c .before)) ∙ c .if1 .taken)
 
 permission-places-requires : tie.Need-permission-places-requires
-permission-places-requires c κs = few (c .before .before .before .before)
+unfolding sheet-limit
+permission-places-requires c κs =
+    let start = c .before .before .before .before .before in (few start .1, omega (arith, start .pre .1 .1 .2))
 
-repeated-requires-2 : tie.Need-repeated-requires-2
-repeated-requires-2 c κs =
-    let start = c .before .before .before .before .before in
-    rw (count start)
-    (placed-inside (length (permissions start)) (start .args .s .now) (c .permission-places .result) (permissions start)
-    (c .permission-places .ensures) (few start))
+array-share-prefix-permission-places : tie.Need-array-share-prefix-permission-places
+unfolding permission-limit
+array-share-prefix-permission-places c =
+    let earlier = c .before .before .before .before .before .before in
+    let start = earlier in
+    omega (arith, start .pre .1 .1 .1)
 
--- the permissions' names at the places noted
-permissions-there : (c : tie.After-permission-places)
-    → names-at (c .before .before .before .before .before .args .s .now) (c .permission-places .result)
-    (c .before .before .before .before .before .args .head .cells .count)
-    ≡ permissions (c .before .before .before .before .before)
-permissions-there c =
-    let start = c .before .before .before .before .before in
-    rw (count start)
-    (placed-names (length (permissions start)) (start .args .s .now) (c .permission-places .result) (permissions start)
-    (c .permission-places .ensures) refl)
+slice-aggregate-repeated-in-2 : tie.Need-slice-aggregate-repeated-in-2
+unfolding permission-limit
+slice-aggregate-repeated-in-2 c =
+    let start = c .before .before .before .before .before .before .before in
+    simp length-take (omega (arith, start .pre .1 .1 .1))
+
+repeated-in-requires-2 : tie.Need-repeated-in-requires-2
+repeated-in-requires-2 c κs =
+    let start = c .before .before .before .before .before .before .before in
+    placed-inside (start .args .s .now)
+    (take (start .args .head .cells .count) (c .before .permission-places .result)) (permissions start)
+    (permissions-placed (c .before)) (few start .1)
 
 returns-2 : tie.Need-returns-2
 returns-2 c =
-    rw (
-      ← users-there (c .before .before .before .before),
-      sym (c .before .before .before .repeated .ensures) ∙ c .before .before .if1 .left,
-      ← permissions-there (c .before),
-    )
-    (c .repeated2 .ensures)
+    let noted = c .before .before in
+    let start = noted .before .before .before .before .before .before in
+    rw (sym (users-judged (noted .before .before)) ∙ noted .before .if1 .left)
+    (c .repeated-in2 .ensures
+    ∙ ap (repeats same-name) (placed-names (start .args .s .now)
+    (take (start .args .head .cells .count) (noted .permission-places .result)) (permissions start)
+    (permissions-placed noted)))
 
 pub has-name-twice-spec : {M : Type 1} → statement M
 has-name-twice-spec =
-    tie.close (tie.spec (λ c κs. search needs) repeated-requires returns permission-places-requires
-    repeated-requires-2 returns-2)
+    tie.close (tie.spec user-places-requires array-share-prefix-user-places slice-aggregate-repeated-in
+    repeated-in-requires returns permission-places-requires array-share-prefix-permission-places
+    slice-aggregate-repeated-in-2 repeated-in-requires-2 returns-2)

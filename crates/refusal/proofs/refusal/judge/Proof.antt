@@ -6,42 +6,18 @@ use mathlib.Core.Path.{_≡_, sym, ap, _∙_}
 use mathlib.Core.Bool.{Bool, not}
 use borrow.Author.Tests.{lt-ltb, le-ltb, not-false}
 use lib.Dec.{ltb}
-use Rattle.spec.specs.Limits.{permission-limit, user-limit, grant-limit}
+use native.Mathlib.Omega.{arith}
+use Rattle.spec.specs.Limits.{sheet-limit, permission-limit, user-limit, grant-limit}
 use Rattle.spec.specs.Text.{ascii, same-bytes, Bytes, between, lines-of}
 use Rattle.spec.specs.Sheet.{sheet-of}
-use Rattle.spec.specs.Refusal.{
-  too-long,
-  bad-first-line,
-  bad-line-count,
-  bad-name,
-  uneven-line,
-  bad-cell,
-  name-twice,
-  too-many-grants,
-  refusal,
-}
+use Rattle.spec.specs.Refusal.{too-long, bad-first-line, bad-line-count, bad-name, uneven-line, bad-cell, name-twice}
+use Rattle.spec.specs.Refusal.{too-many-grants, refusal}
 use Rattle.bits.specs.Truth.{and-right}
 use Rattle.names.specs.Places.{part}
-use Rattle.refusal.specs.Laws.Judge.{
-  within-high,
-  causes-from-2,
-  causes-from-3,
-  causes-from-4,
-  causes-from-5,
-  causes-from-6,
-  causes-from-7,
-  causes-from-8,
-  causes-from-9,
-  refusal-in-turn,
-  HeadRead,
-  cause-3,
-  cause-4,
-  cause-5,
-  cause-6,
-  cause-7,
-  cause-8,
-  cause-9,
-}
+use Rattle.refusal.specs.Laws.Judge.{within-high, causes-from-2, causes-from-3, causes-from-4, causes-from-5}
+use Rattle.refusal.specs.Laws.Judge.{causes-from-6, causes-from-7, causes-from-8, causes-from-9}
+use Rattle.refusal.specs.Laws.Judge.{refusal-in-turn, HeadRead, cause-3, cause-4, cause-5, cause-6, cause-7}
+use Rattle.refusal.specs.Laws.Judge.{cause-8, cause-9}
 use Rattle.refusal.proofs.refusal.judge.Statement.{statement}
 use Rattle.refusal.proofs.refusal.judge.Tie as tie
 
@@ -189,13 +165,18 @@ few-permissions c =
     (and-right user (between 1 permission-limit (read .cells .count)) good)
 
 has-name-twice-requires : tie.Need-has-name-twice-requires
+unfolding sheet-limit
 has-name-twice-requires c κs =
     let earlier = c .before .before .before .before .before .before in
     let read = body c in (
       head read .read-line .ensures,
       (
         ap (λ said. said .users) (read .read-body .ensures),
-        (few-users earlier, few-permissions (read .before)),
+        (
+          few-users earlier,
+          few-permissions (read .before),
+          omega (arith, head read .before .before .before .if1 .left),
+        ),
       ),
     )
 

@@ -10,19 +10,9 @@ use Rattle.spec.specs.Roles.{classes-of}
 use Rattle.cells.specs.Rows.{row-words}
 use Rattle.cells.specs.CellPlaces.{cell-limit}
 use Rattle.roles.specs.Laws.CellClass.{no-classes}
-use Rattle.roles.specs.Laws.RolesInput.{
-  kernel-below,
-  removed-below,
-  partner-below,
-  all-roomy,
-  all-listed,
-  all-below,
-  all-users-below,
-  classes-below,
-  roles-few,
-  all-class-at,
-  roles-belong,
-}
+use Rattle.roles.specs.Laws.RolesInput.{kernel-below, removed-below, partner-below, all-roomy, all-listed}
+use Rattle.roles.specs.Laws.RolesInput.{all-below, all-users-below, classes-below, roles-few, all-class-at}
+use Rattle.roles.specs.Laws.RolesInput.{roles-belong}
 use Rattle.roles.proofs.matrices.roles_of.Statement.{statement}
 use Rattle.roles.proofs.matrices.roles_of.Tie as tie
 
@@ -30,24 +20,30 @@ room : (c : tie.After-listed) → length (c .listed .result .cells) ≡ grant-li
 unfolding grant-limit
 room c = search needs
 
+-- where it began
+abbrev start : tie.After-listed → tie.Start
+start c = c .before .before .before .before .before
+
 listed-requires : tie.Need-listed-requires
-listed-requires c κs = let b = c .pre .belongs in (b .few-users, all-roomy b)
+listed-requires c κs =
+    let b = c .before .before .before .before .pre .belongs in
+    (b .few-users, all-roomy b)
 
 all-classes-requires : tie.Need-all-classes-requires
 unfolding user-limit row-words
 all-classes-requires c κs =
-    let b = c .before .before .pre .belongs in (
-      (b .few-cells, kernel-below b, no-classes cell-limit refl),
+    let b = start (c .before) .pre .belongs in (
+      (b .each-placed, kernel-below b, no-classes cell-limit refl),
       (
         (b .placement-held .in-use ∙ ap used (sym (b .placement-held .so-far)), b .few-classes),
-        (b .few-removals, removed-below b, partner-below b),
+        (b .few-removals, b .each-partner, removed-below b, partner-below b),
       ),
     )
 
 roles-of-classes-requires : tie.Need-roles-of-classes-requires
 roles-of-classes-requires c κs =
     let at-listed = c .before .before .before .before .before in
-    let b = at-listed .before .pre .belongs in
+    let b = start at-listed .pre .belongs in
     let all = at-listed .listed .result in
     let whole = all-listed (all .cells) (all .size) (b .shown) (room at-listed) (at-listed .listed .ensures) in
     let at = c .before .before .before .all-classes .ensures in (
@@ -64,11 +60,11 @@ returns : tie.Need-returns
 returns c =
     let at-all-classes = c .before .before .before .before in
     let at-listed = at-all-classes .before .before in
-    let users = at-listed .before .args .users in
+    let users = start at-listed .args .users in
     let all = at-listed .listed .result in
     let listed = at-listed .listed .ensures in
     let at = at-all-classes .all-classes .ensures in
-    let given = at-listed .before .pre .belongs in (
+    let given = start at-listed .pre .belongs in (
       λ sheet placement b.
           let whole = all-listed (all .cells) (all .size) (b .shown) (room at-listed) listed in
           rw (roles-belong b (all .cells) (all .size) whole at) at

@@ -1,26 +1,21 @@
 -- `roles::number_roles`: after i turns the first i grants have the roles that a grouping by class gives them, and the
 -- table has the roles of their classes. Each turn gives the next grant the role of its class.
 use Prim.Native.Nat.{_≤_, _<_, _-_}
+use native.Mathlib.Nat.{le-of-lt}
 use native.Mathlib.Omega.{arith}
 use mathlib.Core.Path.{_≡_, refl, _∙_}
 use lib.ListN.{getD}
 use Rattle.spec.specs.Limits.{grant-limit, user-limit}
 use Rattle.cells.specs.Rows.{row-words}
 use Rattle.cells.specs.CellPlaces.{cell-limit}
-use Rattle.roles.specs.RoleNumbers.{class-limit, class-key}
-use Rattle.roles.specs.Laws.RoleNumber.{
-  Numbering,
-  nothing-numbered,
-  numbering-count-le,
-  role-from-is-next,
-  numbering-step,
-}
+use Rattle.roles.specs.RoleNumbers.{class-limit, no-role, class-key}
+use Rattle.cover.specs.CoverKeys.{Keyed, none-keyed, keyed-count-le, class-from-is-next, one-keyed}
 use Rattle.roles.proofs.numbering.number_roles.Statement.{statement}
 use Rattle.roles.proofs.numbering.number_roles.Tie as tie
 
 abbrev Inv-loop : tie.InvT-loop
 Inv-loop cells n class table₀ roles₀ count₀ i₀ table roles count i =
-    (i ≤ n) × Numbering (class-key class cells) i table roles count
+    (i ≤ n) × Keyed (class-key class cells) i class-limit no-role table roles count
 
 abbrev μ-loop : tie.MeasureT-loop
 μ-loop cells n class table₀ roles₀ count₀ i₀ table roles count i = n - i
@@ -36,23 +31,14 @@ key-below : (c : tie.In-loop Inv-loop μ-loop)
 key-below c = c .before .before .pre .2 .below (c .before .loop .i) (c .loop-test .taken)
 
 few-roles : (c : tie.In-loop Inv-loop μ-loop) → c .before .loop .count < grant-limit
-few-roles c = omega (arith, numbering-count-le (c .before .loop .inv .1))
+few-roles c = omega (arith, keyed-count-le (c .before .loop .inv .1))
 
 loop-holds : tie.Need-loop-holds Inv-loop μ-loop
 unfolding grant-limit
 loop-holds c = (
   omega arith,
-  nothing-numbered (class-key (c .args .class .now) (c .args .cells .now)) grant-limit class-limit
-      refl refl,
+  none-keyed (class-key (c .args .class .now) (c .args .cells .now)) grant-limit class-limit no-role refl,
 )
-
-mul-cell : tie.Need-mul-cell Inv-loop μ-loop
-unfolding grant-limit
-mul-cell c = omega arith
-
-element-copy-out-cell : tie.Need-element-copy-out-cell Inv-loop μ-loop
-unfolding grant-limit
-element-copy-out-cell c = omega arith
 
 cast-cell : tie.Need-cast-cell Inv-loop μ-loop
 unfolding user-limit row-words
@@ -82,43 +68,26 @@ array-write-table : tie.Need-array-write-table Inv-loop μ-loop
 unfolding grant-limit
 array-write-table c = omega (arith, key-below (c .before .before .before .before))
 
-mul-roles : tie.Need-mul-roles Inv-loop μ-loop
-unfolding grant-limit
-mul-roles c = omega arith
-
-array-write-roles : tie.Need-array-write-roles Inv-loop μ-loop
-unfolding grant-limit
-array-write-roles c = omega arith
-
-counted-requires : tie.Need-counted-requires Inv-loop μ-loop
-counted-requires c κs = tt
-
-add-i : tie.Need-add-i Inv-loop μ-loop
-unfolding grant-limit
-add-i c = omega arith
-
-loop-less : tie.Need-loop-less Inv-loop μ-loop
-unfolding grant-limit
-loop-less c = omega arith
-
 loop-again : tie.Need-loop-again Inv-loop μ-loop
 loop-again c =
     let in-loop = c .before .before .before .before .before in
-    let numbering = in-loop .before .loop .inv .1 in
+    let keyed = in-loop .before .loop .inv .1 in
+    let few = le-of-lt (few-roles in-loop) in
     let room : in-loop .before .loop .i < grant-limit = omega arith in
-    let next = c .before .role-for .ensures ∙ role-from-is-next numbering room (key-below in-loop) in (
+    let next = c .before .role-for .ensures ∙ class-from-is-next keyed room (key-below in-loop) few in (
       omega arith,
-      rw (c .counted .ensures) (numbering-step numbering room (key-below in-loop)
+      rw (c .counted .ensures) (one-keyed keyed room (key-below in-loop) few
           (c .before .role-for .result) next),
     )
 
 returns : tie.Need-returns Inv-loop μ-loop
 returns c =
     let e : c .before .loop .i ≡ c .before .before .args .n = omega arith in
-    rw e at (c .before .loop .inv .1 .numbers)
+    rw e at (c .before .loop .inv .1 .placed)
 
 pub number-roles-spec : {M : Type 1} → statement M
+unfolding grant-limit
 number-roles-spec =
-    tie.close (tie.spec Inv-loop μ-loop loop-holds mul-cell element-copy-out-cell cast-cell mul-c element-copy-out-c
-    cast-c role-for-requires mul-table array-write-table mul-roles array-write-roles counted-requires add-i loop-less
-    loop-again returns)
+    tie.close (tie.spec Inv-loop μ-loop loop-holds (λ c. omega arith) (λ c. omega arith) cast-cell mul-c
+    element-copy-out-c cast-c role-for-requires mul-table array-write-table (λ c. omega arith) (λ c. omega arith)
+    (λ c κs. tt) (λ c. omega arith) (λ c. omega arith) loop-again returns)

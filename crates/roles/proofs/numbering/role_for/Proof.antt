@@ -7,18 +7,6 @@ use Rattle.roles.specs.RoleNumbers.{no-role}
 use Rattle.roles.proofs.numbering.role_for.Statement.{statement}
 use Rattle.roles.proofs.numbering.role_for.Tie as tie
 
-mul-r : tie.Need-mul-r
-unfolding grant-limit
-mul-r c = omega arith
-
-element-copy-out-r : tie.Need-element-copy-out-r
-unfolding grant-limit
-element-copy-out-r c = omega arith
-
-cast-result : tie.Need-cast-result
-unfolding grant-limit
-cast-result c = omega arith
-
 returns : tie.Need-returns
 unfolding grant-limit
 returns c =
@@ -32,5 +20,6 @@ returns-2 c =
     rw (ne-eqb (getD (a .table .now) (a .class) 0) no-role (c .if1 .left))
 
 pub role-for-spec : {M : Type 1} → statement M
+unfolding grant-limit
 role-for-spec =
-    tie.close (tie.spec mul-r element-copy-out-r cast-result returns returns-2)
+    tie.close (tie.spec (λ c. omega arith) (λ c. omega arith) (λ c. omega arith) returns returns-2)

@@ -8,18 +8,9 @@ use Rattle.spec.specs.Limits.{grant-limit, user-limit}
 use Rattle.cells.specs.Rows.{row-words, row-bits}
 use Rattle.cells.specs.CellPlaces.{cell-words, cell-limit}
 use Rattle.roles.specs.CellClasses.{paired-in}
-use Rattle.roles.specs.RoleMatrices.{
-  role-words,
-  CellsShow,
-  has-role,
-  gives-permission,
-  user-word-below,
-  permission-of-cell-below,
-  role-word-below,
-  no-cells,
-  has-role-next,
-  gives-permission-next,
-}
+use Rattle.roles.specs.RoleMatrices.{role-words, CellsShow, has-role, gives-permission, user-word-below}
+use Rattle.roles.specs.RoleMatrices.{permission-of-cell-below, role-word-below, no-cells, has-role-next}
+use Rattle.roles.specs.RoleMatrices.{gives-permission-next}
 use Rattle.roles.proofs.rows.role_rows.Statement.{statement}
 use Rattle.roles.proofs.rows.role_rows.Tie as tie
 
@@ -48,13 +39,9 @@ loop-holds c = (
   (length-replicate {A = ℕ} role-words 0, no-cells role-words),
 )
 
-mul-cell : tie.Need-mul-cell Inv-loop μ-loop
-unfolding grant-limit
-mul-cell c = omega arith
-
-element-copy-out-cell : tie.Need-element-copy-out-cell Inv-loop μ-loop
-unfolding grant-limit
-element-copy-out-cell c = omega arith
+cast-at : tie.Need-cast-at Inv-loop μ-loop
+unfolding user-limit row-words
+cast-at c = omega (arith, cell-below (c .before))
 
 role-of-requires : tie.Need-role-of-requires Inv-loop μ-loop
 role-of-requires c κs = omega (arith, c .before .loop-test .taken, c .before .before .before .pre .0)
@@ -62,9 +49,6 @@ role-of-requires c κs = omega (arith, c .before .loop-test .taken, c .before .b
 slice-aggregate-give-role : tie.Need-slice-aggregate-give-role Inv-loop μ-loop
 unfolding user-limit row-bits row-words
 slice-aggregate-give-role c = sym (c .before .before .before .before .loop .inv .1 .0)
-
-user-of-requires : tie.Need-user-of-requires Inv-loop μ-loop
-user-of-requires c κs = tt
 
 give-role-requires : tie.Need-give-role-requires Inv-loop μ-loop
 give-role-requires c κs =
@@ -80,9 +64,6 @@ slice-aggregate-give-permission c =
     let at-loop = c .before .before .before .before .before .before .before .before in
     sym (at-loop .loop .inv .2 .0)
 
-permission-of-requires : tie.Need-permission-of-requires Inv-loop μ-loop
-permission-of-requires c κs = tt
-
 give-permission-requires : tie.Need-give-permission-requires Inv-loop μ-loop
 give-permission-requires c κs =
     let numbered = c .before .before .before .before .before .before in
@@ -91,14 +72,6 @@ give-permission-requires c κs =
     let role = getD (in-loop .before .before .args .roles .now) (in-loop .before .loop .i) 0 in
     rw (c .permission-of .ensures, numbered .role-of .ensures, in-loop .before .loop .inv .2 .0)
     (permission-of-cell-below it, role-word-below it role (role-below in-loop))
-
-add-i : tie.Need-add-i Inv-loop μ-loop
-unfolding grant-limit
-add-i c = omega arith
-
-loop-less : tie.Need-loop-less Inv-loop μ-loop
-unfolding grant-limit
-loop-less c = omega arith
 
 loop-again : tie.Need-loop-again Inv-loop μ-loop
 loop-again c =
@@ -123,7 +96,8 @@ returns c =
     (rw e at (c .before .loop .inv .1 .1), rw e at (c .before .loop .inv .2 .1))
 
 pub role-rows-spec : {M : Type 1} → statement M
+unfolding grant-limit
 role-rows-spec =
-    tie.close (tie.spec Inv-loop μ-loop loop-holds mul-cell element-copy-out-cell role-of-requires
-    slice-aggregate-give-role user-of-requires give-role-requires slice-aggregate-give-permission
-    permission-of-requires give-permission-requires add-i loop-less loop-again returns)
+    tie.close (tie.spec Inv-loop μ-loop loop-holds (λ c. omega arith) (λ c. omega arith) cast-at role-of-requires
+    slice-aggregate-give-role (λ c κs. tt) give-role-requires slice-aggregate-give-permission (λ c κs. tt)
+    give-permission-requires (λ c. omega arith) (λ c. omega arith) loop-again returns)

@@ -6,21 +6,22 @@ use mathlib.Core.Path.{_≡_, sym, _∙_}
 use mathlib.Core.Bool.{false}
 use native.Mathlib.Omega.{arith}
 use borrow.Author.Needs.{needs}
-use Rattle.search.specs.ChoiceLaws.{open-to, all-fit, within-row, none-open, opens-at, passes-at, opens-nowhere}
+use Rattle.search.specs.OpenTo.{open-to, all-fit}
+use Rattle.search.specs.Laws.Choice.{within-row, none-open, opens-at, passes-at, opens-nowhere}
 use Rattle.search.proofs.choice.class_for.Statement.{statement}
 use Rattle.search.proofs.choice.class_for.Tie as tie
 
 abbrev Inv-loop : tie.InvT-loop
-Inv-loop members fit d next end fitting c₀ c = (next ≤ c) × ((q : ℕ) → q < c → open-to fit members d next q ≡ false)
+Inv-loop members fit next end d fitting c₀ c = (next ≤ c) × ((q : ℕ) → q < c → open-to fit members d next q ≡ false)
 
 abbrev μ-loop : tie.MeasureT-loop
-μ-loop members fit d next end fitting c₀ c = end - c
+μ-loop members fit next end d fitting c₀ c = end - c
 
 returns : tie.Need-returns Inv-loop μ-loop
 returns c =
     let a = c .before .args in
-    opens-nowhere (a .fit .now) (a .members .now) (a .d) (a .next) (a .end) (λ q l. none-open (a .fit .now)
-    (a .members .now) (a .d) (a .next) l)
+    opens-nowhere (a .fit .now) (a .members .now) (a .grant .0) (a .next) (a .end) (λ q l. none-open (a .fit .now)
+    (a .members .now) (a .grant .0) (a .next) l)
     (c .if1 .taken)
 
 row-requires : tie.Need-row-requires Inv-loop μ-loop
@@ -29,19 +30,19 @@ row-requires c κs = c .before .pre .1 (omega arith)
 loop-holds : tie.Need-loop-holds Inv-loop μ-loop
 loop-holds c =
     let a = c .before .before .args in
-    (omega arith, λ q l. none-open (a .fit .now) (a .members .now) (a .d) (a .next) l)
+    (omega arith, λ q l. none-open (a .fit .now) (a .members .now) (a .grant .0) (a .next) l)
 
 -- the test tells whether all members of the class fit the grant
 told : (c : tie.After-within Inv-loop μ-loop)
     → let start = c .before .before .before .before .before .before in
-    c .within .result ≡ (let a = start .args in all-fit (a .fit .now) (a .members .now) (a .d)
+    c .within .result ≡ (let a = start .args in all-fit (a .fit .now) (a .members .now) (a .grant .0)
     (c .before .before .before .loop .c))
 told c =
     let start = c .before .before .before .before .before .before in
     let a = start .args in
     c .within .ensures
     ∙ rw (c .before .row2 .ensures, c .before .before .before .before .row .ensures)
-    (within-row (a .fit .now) (a .members .now) (a .d) (c .before .before .before .loop .c))
+    (within-row (a .fit .now) (a .members .now) (a .grant .0) (c .before .before .before .loop .c))
 
 returns-2 : tie.Need-returns-2 Inv-loop μ-loop
 returns-2 c =
@@ -49,7 +50,7 @@ returns-2 c =
     let start = at-loop .before .before .before in
     let a = start .args in
     let loop = at-loop .loop in
-    opens-at (a .fit .now) (a .members .now) (a .d) (a .next) (a .end) (loop .inv .1) (loop .inv .0)
+    opens-at (a .fit .now) (a .members .now) (a .grant .0) (a .next) (a .end) (loop .inv .1) (loop .inv .0)
     (c .before .before .before .loop-test .taken)
     (sym (told (c .before)) ∙ c .if2 .taken)
 
@@ -60,7 +61,7 @@ loop-again c =
     let a = start .args in
     let loop = at-loop .loop in (
       omega (arith, loop .inv .0),
-      passes-at (a .fit .now) (a .members .now) (a .d) (a .next) (a .end) (loop .inv .1) (sym (told (c .before))
+      passes-at (a .fit .now) (a .members .now) (a .grant .0) (a .next) (a .end) (loop .inv .1) (sym (told (c .before))
           ∙ c .if2 .left),
     )
 
@@ -68,7 +69,7 @@ returns-3 : tie.Need-returns-3 Inv-loop μ-loop
 returns-3 c =
     let start = c .before .before .before .before in
     let a = start .args in
-    opens-nowhere (a .fit .now) (a .members .now) (a .d) (a .next) (a .end) (c .before .loop .inv .1)
+    opens-nowhere (a .fit .now) (a .members .now) (a .grant .0) (a .next) (a .end) (c .before .loop .inv .1)
     (c .loop-test .left)
 
 pub class-for-spec : {M : Type 1} → statement M

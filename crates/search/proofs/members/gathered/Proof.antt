@@ -20,22 +20,22 @@ loop-holds : tie.Need-loop-holds Inv-loop μ-loop
 loop-holds c = (omega arith, gathered-none (c .args .classes .now))
 
 -- the class of the grant to put in
-class-within : (c : tie.After-put-in-arg Inv-loop μ-loop)
+class-within : (c : tie.After-set-arg Inv-loop μ-loop)
     → getD (c .before .before .before .before .args .classes .now) (c .before .before .before .loop .i) 0 < mark-limit
 class-within c = c .before .before .before .before .pre .1 (c .before .before .before .loop .i) (omega arith)
 
-cast-put-in : tie.Need-cast-put-in Inv-loop μ-loop
-cast-put-in c = omega (arith, class-within c)
+cast-set : tie.Need-cast-set Inv-loop μ-loop
+cast-set c = omega (arith, class-within c)
 
-put-in-requires : tie.Need-put-in-requires Inv-loop μ-loop
-put-in-requires c κs = (c .before .before .before .loop .inv .1 .sized, (class-within c, omega arith))
+set-requires : tie.Need-set-requires Inv-loop μ-loop
+set-requires c κs = (c .before .before .before .loop .inv .1 .sized, (class-within c, omega arith))
 
 loop-again : tie.Need-loop-again Inv-loop μ-loop
 loop-again c =
     let at-loop = c .before .before .before .before in
     let i = at-loop .loop .i in (
       omega arith,
-      rw (add-one i) (gathered-more (at-loop .loop .inv .1) (c .put-in .ensures) (λ q l. refl) refl),
+      rw (add-one i) (gathered-more (at-loop .loop .inv .1) (c .set .ensures) (λ q l. refl) refl),
     )
 
 returns : tie.Need-returns Inv-loop μ-loop
@@ -45,5 +45,5 @@ returns c =
 
 pub gathered-spec : {M : Type 1} → statement M
 gathered-spec =
-    tie.close (tie.spec Inv-loop μ-loop loop-holds (λ c. omega arith) cast-put-in put-in-requires (λ c. omega arith)
+    tie.close (tie.spec Inv-loop μ-loop loop-holds (λ c. omega arith) cast-set set-requires (λ c. omega arith)
     (λ c. omega arith) loop-again returns)

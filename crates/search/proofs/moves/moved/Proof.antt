@@ -36,8 +36,8 @@ cast-classes c = omega (arith, class-small c)
 element-write-classes : tie.Need-element-write-classes
 element-write-classes c = room c
 
-put-in-requires : tie.Need-put-in-requires
-put-in-requires c κs =
+set-requires : tie.Need-set-requires
+set-requires c κs =
     let still-start = c .before .before .before .before .before in
     (still-start .pre .gathered .sized, (class-small (c .before), room (c .before)))
 
@@ -50,26 +50,28 @@ placed-requires c κs =
 
 returns : tie.Need-returns
 returns c =
-    let at-put-in = c .before .before .before .before in
-    let then = at-put-in .before .before in
+    let at-placed = c .before .before .before .before in
+    let at-set = at-placed .before in
+    let then = at-set .before .before in
     let start = then .before .before .before .before in
     let a = start .args in
-    put-last (a .fit .now) (a .size) (a .singles) (a .witness) (start .pre)
+    put-last (a .fit .now) (a .sizes) (start .pre)
     (then .before .before .before .class-end .ensures) (then .before .class-for .ensures)
-    (then .if1 .taken) (c .before .before .before .placed .result) (c .before .before .before .placed .ensures)
-    (at-put-in .put-in .last .0) (at-put-in .put-in .ensures)
+    (then .if1 .taken) (at-placed .placed .result) (at-placed .placed .ensures)
+    (at-set .set .last .0) (at-set .set .ensures)
     (sym (add-one (a .at .depth)) ∙ c .before .before .if2 .taken) (c .before .reaches .result)
     (c .before .reaches .ensures)
 
 returns-2 : tie.Need-returns-2
 returns-2 c =
-    let then = c .before .before .before .before in
+    let then = c .before .before .before .before .before in
     let start = then .before .before .before .before in
     let a = start .args in
-    put (a .fit .now) (a .size) (a .singles) (a .witness) (start .pre)
+    put (a .fit .now) (a .sizes) (start .pre)
     (then .before .before .before .class-end .ensures) (then .before .class-for .ensures)
-    (then .if1 .taken) (c .before .placed .result) (c .before .placed .ensures) (c .before .before .put-in .last .0)
-    (c .before .before .put-in .ensures)
+    (then .if1 .taken) (c .before .before .placed .result) (c .before .before .placed .ensures)
+    (c .before .before .before .set .last .0)
+    (c .before .before .before .set .ensures)
     (λ e. c .if2 .left (add-one (a .at .depth) ∙ e))
 
 returns-3 : tie.Need-returns-3
@@ -77,7 +79,7 @@ returns-3 c =
     let at-class-end = c .before .before .before .before in
     let start = at-class-end .before in
     let a = start .args in
-    closed (a .fit .now) (a .size) (a .singles) (a .witness) (start .pre) (at-class-end .class-end .ensures)
+    closed (a .fit .now) (a .sizes) (start .pre) (at-class-end .class-end .ensures)
     (c .before .before .class-for .ensures)
     (c .before .if1 .left) (c .if3 .taken)
 
@@ -95,8 +97,8 @@ element-copy-out-last c = omega (arith, depth-le-limit (c .before .before .befor
 cast-last : tie.Need-cast-last
 cast-last c = omega (arith, last-small (c .before))
 
-take-out-requires : tie.Need-take-out-requires
-take-out-requires c κs =
+set-requires-2 : tie.Need-set-requires-2
+set-requires-2 c κs =
     let still-start = c .before .before .before .before .before .before .before in
     let s = still-start .pre in
     (s .gathered .sized, (last-small (c .before .before), omega (arith, depth-le-limit (s .stands))))
@@ -124,13 +126,13 @@ returns-4 c =
     let else = c .before .before .before .before in
     let start = else .before .before .before .before .before in
     let a = start .args in
-    took-back (a .fit .now) (a .size) (a .singles) (a .witness) (start .pre)
+    took-back (a .fit .now) (a .sizes) (start .pre)
     (else .before .before .before .before .class-end .ensures) (else .before .before .class-for .ensures)
-    (else .before .if1 .left) (omega arith) (c .taken-back .result) (c .before .take-out .last .0)
-    (c .taken-back .ensures) (c .before .take-out .ensures)
+    (else .before .if1 .left) (omega arith) (c .taken-back .result) (c .before .set2 .last .0)
+    (c .taken-back .ensures) (c .before .set2 .ensures)
 
 pub moved-spec : {M : Type 1} → statement M
 moved-spec =
-    tie.close (tie.spec (λ c κs. search needs) class-for-requires cast-classes element-write-classes put-in-requires
+    tie.close (tie.spec (λ c κs. search needs) class-for-requires cast-classes element-write-classes set-requires
     placed-requires (λ c. search needs) (λ c κs. search needs) returns returns-2 returns-3 (λ c. search needs)
-    element-copy-out-last cast-last (λ c. search needs) take-out-requires taken-back-requires returns-4)
+    element-copy-out-last cast-last (λ c. search needs) set-requires-2 taken-back-requires returns-4)

@@ -9,14 +9,17 @@ use Rattle.search.proofs.moves.reaches.Statement.{statement}
 use Rattle.search.proofs.moves.reaches.Tie as tie
 
 returns : tie.Need-returns
-returns c = let a = c .before .args in sym (ne-eqb (a .count + a .singles) (a .witness) (λ e. omega arith))
+returns c =
+    let a = c .before .before .args in
+    sym (ne-eqb (a .count + a .sizes .singles) (a .sizes .witness) (λ e. omega arith))
 
 returns-2 : tie.Need-returns-2
 returns-2 c =
-    let a = c .before .args in
-    same-truth (eqb (a .witness - a .count) (a .singles)) (eqb (a .count + a .singles) (a .witness))
-    (λ e. eq-eqb (a .count + a .singles) (a .witness) (omega (arith, eqb-true (a .witness - a .count) (a .singles) e)))
-    (λ e. eq-eqb (a .witness - a .count) (a .singles) (omega (arith, eqb-true (a .count + a .singles) (a .witness) e)))
+    let a = c .before .before .before .before .args in
+    let s = a .sizes in
+    same-truth (eqb (s .witness - a .count) (s .singles)) (eqb (a .count + s .singles) (s .witness))
+    (λ e. eq-eqb (a .count + s .singles) (s .witness) (omega (arith, eqb-true (s .witness - a .count) (s .singles) e)))
+    (λ e. eq-eqb (s .witness - a .count) (s .singles) (omega (arith, eqb-true (a .count + s .singles) (s .witness) e)))
 
 pub reaches-spec : {M : Type 1} → statement M
 reaches-spec =

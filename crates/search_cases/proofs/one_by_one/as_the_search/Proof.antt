@@ -6,7 +6,7 @@ use mathlib.Core.Path.{sym, _∙_}
 use Rattle.spec.specs.Limits.{search-limit}
 use Rattle.search.specs.Laws.Runs.{search-within}
 use Rattle.search.specs.View.{kernel-given, view}
-use Rattle.search_cases.specs.Crown.{grants, singles, witness}
+use Rattle.search_cases.specs.Crown.{grants, sizes}
 use Rattle.search_cases.proofs.one_by_one.as_the_search.Statement.{statement}
 use Rattle.search_cases.proofs.one_by_one.as_the_search.Tie as tie
 
@@ -22,7 +22,7 @@ returns c =
     let stepped = c .before in
     let searched = stepped .before in
     let a = searched .before .args in
-    let kernel = kernel-given (a .fit .now) grants singles witness in
+    let kernel = kernel-given (a .fit .now) sizes in
     c .same .ensures .when
     (searched .search .ensures .0 ∙ search-within kernel (a .budget) (view (a .from) grants) few
     ∙ sym (stepped .steps-from .ensures))

@@ -7,17 +7,8 @@ use Prim.Native.Nat.{_≤_}
 use Rattle.spec.specs.Limits.{search-limit}
 use Rattle.bits.specs.Truth.{not-both}
 use Rattle.search_cases.specs.Crown.{grants}
-use Rattle.search_cases.specs.Same.{
-  told-apart,
-  truth-differs,
-  truth-same,
-  same-steps,
-  same-depth,
-  same-next,
-  same-finished,
-  same-placed,
-  best-tells,
-}
+use Rattle.search_cases.specs.Same.{told-apart, truth-differs, truth-same, same-steps, same-depth, same-next}
+use Rattle.search_cases.specs.Same.{same-finished, same-placed, best-tells}
 use Rattle.search_cases.proofs.one_by_one.same.Statement.{statement}
 use Rattle.search_cases.proofs.one_by_one.same.Tie as tie
 

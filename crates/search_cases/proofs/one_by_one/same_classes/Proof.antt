@@ -5,13 +5,13 @@ use native.Mathlib.Omega.{arith}
 use mathlib.Core.Path.{_≡_, refl}
 use Rattle.spec.specs.Limits.{search-limit}
 use Rattle.bits.specs.Truth.{not-both}
-use Rattle.search.specs.View.{placed-of}
+use Rattle.lists.specs.LatestFirst.{latest-first}
 use Rattle.search_cases.specs.Same.{same-class}
 use Rattle.search_cases.proofs.one_by_one.same_classes.Statement.{statement}
 use Rattle.search_cases.proofs.one_by_one.same_classes.Tie as tie
 
 abbrev Inv-loop : tie.InvT-loop
-Inv-loop a b count i₀ i = (i ≤ count) × (count ≤ 128) × (placed-of a i ≡ placed-of b i)
+Inv-loop a b count i₀ i = (i ≤ count) × (count ≤ 128) × (latest-first a i ≡ latest-first b i)
 
 abbrev μ-loop : tie.MeasureT-loop
 μ-loop a b count i₀ i = count - i

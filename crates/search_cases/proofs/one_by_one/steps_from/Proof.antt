@@ -6,13 +6,13 @@ use Prim.Native.Nat.{_-_}
 use native.Mathlib.Omega.{arith}
 use Rattle.search.specs.View.{kernel-given, view}
 use Rattle.search.specs.Laws.Running.{Running, running-none, running-more, running-spent, running-finished}
-use Rattle.search_cases.specs.Crown.{grants, singles, witness}
+use Rattle.search_cases.specs.Crown.{grants, sizes}
 use Rattle.search_cases.proofs.one_by_one.steps_from.Statement.{statement}
 use Rattle.search_cases.proofs.one_by_one.steps_from.Tie as tie
 
 abbrev Inv-loop : tie.InvT-loop
 Inv-loop fit budget position₀ steps₀ position steps =
-    Running (kernel-given fit grants singles witness) budget (view position₀ grants) position steps
+    Running (kernel-given fit sizes) budget (view position₀ grants) position steps
 
 abbrev μ-loop : tie.MeasureT-loop
 μ-loop fit budget position₀ steps₀ position steps = budget - steps
@@ -20,7 +20,7 @@ abbrev μ-loop : tie.MeasureT-loop
 loop-holds : tie.Need-loop-holds Inv-loop μ-loop
 loop-holds c =
     let a = c .args in
-    running-none (kernel-given (a .fit .now) grants singles witness) (a .budget) (a .from) (c .pre)
+    running-none (kernel-given (a .fit .now) sizes) (a .budget) (a .from) (c .pre)
 
 step-requires : tie.Need-step-requires Inv-loop μ-loop
 step-requires c κs = c .before .before .before .loop .inv .stands
@@ -31,7 +31,7 @@ loop-again c =
     let start = at-loop .before in
     let loop = at-loop .loop in
     let a = start .args in
-    running-more (kernel-given (a .fit .now) grants singles witness) (a .budget) (view (a .from) grants) (loop .inv)
+    running-more (kernel-given (a .fit .now) sizes) (a .budget) (view (a .from) grants) (loop .inv)
     (c .step .result)
     (c .before .before .before .loop-test .taken) (not-true (loop .position .cursor .finished)
     (c .before .if1 .taken)) (c .step .ensures .0) (c .step .ensures .1)
@@ -40,14 +40,14 @@ returns : tie.Need-returns Inv-loop μ-loop
 returns c =
     let loop = c .before .before .before .loop in
     let a = c .before .before .before .before .args in
-    running-finished (kernel-given (a .fit .now) grants singles witness) (a .budget) (view (a .from) grants) (loop .inv)
+    running-finished (kernel-given (a .fit .now) sizes) (a .budget) (view (a .from) grants) (loop .inv)
     (not-false (loop .position .cursor .finished) (c .if1 .left))
 
 returns-2 : tie.Need-returns-2 Inv-loop μ-loop
 returns-2 c =
     let loop = c .before .loop in
     let a = c .before .before .args in
-    running-spent (kernel-given (a .fit .now) grants singles witness) (a .budget) (view (a .from) grants) (loop .inv)
+    running-spent (kernel-given (a .fit .now) sizes) (a .budget) (view (a .from) grants) (loop .inv)
     (c .loop-test .left)
 
 pub steps-from-spec : {M : Type 1} → statement M

@@ -1,11 +1,11 @@
--- `session::Session::anew`: the sheet is accepted, so it is short enough to be kept whole and its first cover has
--- classes of one byte where it can be searched; the session is then one made anew from it.
+-- `session::Session::anew`: the sheet is accepted, so it is short enough to be kept whole; the session is then one made
+-- anew from it.
 use native.Mathlib.Omega.{arith}
 use mathlib.Core.Path.{_≡_, refl}
 use borrow.Author.Needs.{needs}
 use lib.ListN.{length}
 use Rattle.spec.specs.Limits.{sheet-limit}
-use Rattle.session.specs.Laws.Anew.{first-class-below, held-of, Anew, view-anew, holds-anew}
+use Rattle.session.specs.Laws.Anew.{held-of, Anew, view-anew, holds-anew}
 use Rattle.session.specs.Laws.Loading.{unrefused-short}
 use Rattle.session.specs.Prepared.{PreparedFor}
 use Rattle.session.proofs.Session.anew.Statement.{statement}
@@ -29,9 +29,6 @@ found c =
     let read = c .before .before .before .pre in
     c .prepare .ensures (c .before .before .before .args .s .now) (read .1) (read .2)
 
-narrowed-requires : tie.Need-narrowed-requires
-narrowed-requires c κs = λ searched i l. omega (arith, first-class-below (found (c .before .before)) i l)
-
 returns : tie.Need-returns
 returns c =
     let at-prepared = c .before .before .before .before in
@@ -43,12 +40,12 @@ returns c =
       whole = omega (arith, room at-copied, unrefused-short text (at-copied .before .before .pre .0));
       kept = at-copied .copied .ensures;
       found = found at-prepared;
-      first = c .before .narrowed .result;
-      same = c .before .narrowed .ensures;
+      first = c .before .first-classes .result;
+      same = λ l. c .before .first-classes .ensures _ l;
       starts = c .start .ensures;
     } in
     (view-anew made, holds-anew made)
 
 pub anew-spec : {M : Type 1} → statement M
 anew-spec =
-    tie.close (tie.spec copied-requires prepare-requires narrowed-requires (λ c κs. search needs) returns)
+    tie.close (tie.spec copied-requires prepare-requires (λ c κs. search needs) (λ c κs. search needs) returns)

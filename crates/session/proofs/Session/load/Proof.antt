@@ -10,7 +10,7 @@ use Rattle.spec.specs.Roles.{start-of}
 use Rattle.spec.specs.Calls.{LoadAnswer, load-counts}
 use Rattle.session.specs.Said.{load-said}
 use Rattle.session.specs.CodeSession.{text-in}
-use Rattle.session.specs.Laws.Loading.{refused-loads, accepted-loads, text-loaded}
+use Rattle.session.specs.Laws.Loading.{refused-loads, accepted-loads, text-loaded, counts-found}
 use Rattle.session.proofs.Session.load.Statement.{statement}
 use Rattle.session.proofs.Session.load.Tie as tie
 
@@ -36,7 +36,7 @@ said c =
     let at-anew = c .before .before in
     let session = at-anew .anew .result in
     let text = at-anew .before .before .before .before .before .before .args .s .now in
-    c .counts .ensures (text-in session) (at-anew .anew .ensures .1 .prepared)
+    c .counts .ensures ∙ counts-found (text-in session) (session .prepared) (at-anew .anew .ensures .1 .prepared)
     ∙ ap (λ (t : Bytes). load-counts (sheet-of t)) (text-loaded session text (start-of (sheet-of text))
     (at-anew .anew .ensures .0))
 

@@ -6,13 +6,10 @@ use Rattle.spec.specs.Limits.{permission-limit}
 use Rattle.session.proofs.counts.counts_at.Statement.{statement}
 use Rattle.session.proofs.counts.counts_at.Tie as tie
 
-add-roles : tie.Need-add-roles
-unfolding permission-limit
-add-roles c = omega arith
-
 returns : tie.Need-returns
 returns c = record { roles = refl; bound = c .bound-of .ensures; standing = c .before .standing-of .ensures }
 
 pub counts-at-spec : {M : Type 1} → statement M
+unfolding permission-limit
 counts-at-spec =
-    tie.close (tie.spec add-roles (λ c κs. search needs) (λ c κs. search needs) returns)
+    tie.close (tie.spec (λ c. omega arith) (λ c κs. search needs) (λ c κs. search needs) returns)

@@ -20,10 +20,6 @@ loop-holds : tie.Need-loop-holds Inv-loop μ-loop
 unfolding sheet-limit
 loop-holds c = (omega arith, refl, refl)
 
-array-write-text : tie.Need-array-write-text Inv-loop μ-loop
-unfolding sheet-limit
-array-write-text c = omega arith
-
 loop-again : tie.Need-loop-again Inv-loop μ-loop
 loop-again c =
     let a = c .before .before in
@@ -43,6 +39,7 @@ returns c =
     rw (e, take-length s) at (a .loop .inv .2)
 
 pub copied-spec : {M : Type 1} → statement M
+unfolding sheet-limit
 copied-spec =
-    tie.close (tie.spec Inv-loop μ-loop loop-holds (λ c. omega arith) array-write-text (λ c. omega arith)
+    tie.close (tie.spec Inv-loop μ-loop loop-holds (λ c. omega arith) (λ c. omega arith) (λ c. omega arith)
     (λ c. omega arith) loop-again returns)

@@ -14,10 +14,10 @@ returns c = rw (lt-ltb (length (c .before .before .args .s .now)) 4 (omega arith
 returns-2 : tie.Need-returns-2
 unfolding says-user
 returns-2 c =
-    let start = c .before .before .before .before .before in
-    rw (le-ltb (length (start .args .s .now)) 4 (omega arith)) (c .same-bytes .ensures)
+    let start = c .before .before .before .before in
+    rw (le-ltb (length (start .args .s .now)) 4 (omega arith)) (c .is-user .ensures)
 
 pub starts-with-user-spec : {M : Type 1} → statement M
 starts-with-user-spec =
-    tie.close (tie.spec returns (λ c. search needs) (λ c. search needs) (λ c. search needs) (λ c. search needs)
-    (λ c κs. search needs) returns-2)
+    tie.close (tie.spec returns (λ c. search needs) (λ c. search needs) (λ c. search needs) (λ c κs. search needs)
+    returns-2)

@@ -5,7 +5,7 @@ use Rattle.sheet.proofs.spelled.is_name.Statement.{statement}
 use Rattle.sheet.proofs.spelled.is_name.Tie as tie
 
 returns : tie.Need-returns
-returns c = rw (sym (c .before .before .name-length .ensures) ∙ c .before .if1 .taken) (c .has-name-bytes .ensures)
+returns c = rw (sym (c .before .before .name-length .ensures) ∙ c .before .if1 .taken) (c .all-of .ensures)
 
 returns-2 : tie.Need-returns-2
 returns-2 c = rw (sym (c .before .name-length .ensures) ∙ c .if1 .left)

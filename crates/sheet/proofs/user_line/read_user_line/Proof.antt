@@ -1,101 +1,94 @@
 -- `user_line::read_user_line`: where all three tests pass, the name, the cells and the line feed stand one behind the
--- other.
+-- other; and where such a line stands there, they pass.
 use native.Mathlib.Omega.{arith}
-use native.Mathlib.Numerals.{add-one}
-use mathlib.Core.Path.{refl, sym, _∙_}
+use mathlib.Core.Path.{_≡_, sym, _∙_}
+use mathlib.Core.Bool.{Bool}
+use Prim.Native.Nat.{ℕ, _+_}
 use borrow.Author.Tests.{not-true, not-false}
 use borrow.Author.Needs.{needs}
+use lib.ListN.{length}
+use Rattle.spec.specs.Text.{Bytes}
 use Rattle.bits.specs.Truth.{not-both}
 use Rattle.cell_text.specs.CellsWord.{CellsIn}
-use Rattle.sheet.specs.Spelled.{NameAt, name-read}
-use Rattle.sheet.specs.UserLine.{no-line, line-stands}
-use Rattle.sheet.specs.Laws.UserLineFound.{line-name-found, line-cells-stand, line-feed-found, behind-line}
+use Rattle.sheet.specs.Spelled.{name-read}
+use Rattle.sheet.specs.UserLine.{Spells}
+use Rattle.sheet.specs.Laws.Spelled.{read-or-not, name-stands}
+use Rattle.sheet.specs.Laws.UserLineFound.{line-name-found, line-cells-stand, line-feed-found, line-stands}
+use Rattle.sheet.specs.declared.spelled.NameRead.the-variants.{Name}
 use Rattle.sheet.proofs.user_line.read_user_line.Statement.{statement}
 use Rattle.sheet.proofs.user_line.read_user_line.Tie as tie
 
--- past the first test a name stands there
-name : (c : tie.Else1)
-    → let still-start = c .before .before .before .before in
-    NameAt (still-start .args .s .now) (still-start .args .at) (c .before .before .read-name .result .to)
-name c =
-    let still-start = c .before .before .before .before in
-    name-read (still-start .args .s .now) (still-start .args .at) (c .before .before .read-name .result)
-    (still-start .pre .0) (c .before .before .read-name .ensures) (not-false _ (c .if1 .left))
+abbrev start : tie.After-known-told → tie.Start
+start c = c .before .before .before .before .before
+
+abbrev end : tie.After-known-told → ℕ
+end c = c .before .to .given .0 .0
+
+-- past the first test a name is read
+named : (c : tie.After-known-told) → Name (end c) ≡ name-read (start c .args .s .now) (start c .args .at)
+named c = sym (c .before .to .given .1) ∙ c .before .before .before .read-name .ensures
+
+-- which ends where that of any such line does
+ends : (c : tie.After-known-told) (name : Bytes) (ones : ℕ → Bool) (rest : Bytes)
+    → Spells (start c .args .s .now) (start c .args .at) (start c .args .width) name ones rest
+    → end c ≡ start c .args .at + length name
+ends c name ones rest line =
+    let found = line-name-found (start c .args .s .now) (start c .args .at) (start c .args .width) name ones rest
+    line in
+    let read = named c in
+    cc
 
 -- past the second the cells stand behind it
-cells : (c : tie.Else2)
-    → let at-read-name = c .before .before .before .before .before in
-    let still-start = at-read-name .before .before in
-    CellsIn (still-start .args .s .now) (at-read-name .read-name .result .to) (still-start .args .width)
+cells : (c : tie.Else1)
+    → let told = c .before .before .before in
+    CellsIn (start told .args .s .now) (end told) (start told .args .width)
     (c .before .before .cells-word .result .word)
-cells c = c .before .before .cells-word .ensures .good (not-false _ (c .if2 .left))
+cells c = c .before .before .cells-word .ensures .good (not-false _ (c .if1 .left))
 
 returns : tie.Need-returns
-returns c =
-    let start = c .before .before .before .before .before in
-    no-line (start .args .s .now) (start .args .at) (start .args .width) (c .none .result) (c .none .ensures)
-    (λ name ones rest line.
-    not-both (line-name-found (start .args .s .now) (start .args .at) (start .args .width) name ones rest line
-    (c .before .before .before .read-name .result) (c .before .before .before .read-name .ensures) .0)
-    (not-true _ (c .before .if1 .taken)))
+returns c name ones rest line =
+    let args = c .before .before .before .before .args in
+    read-or-not (name-read (args .s .now) (args .at)) (args .at + length name)
+    (sym (c .enum-told .given .1) ∙ c .before .before .read-name .ensures)
+    (line-name-found (args .s .now) (args .at) (args .width) name ones rest line)
 
 cells-word-requires : tie.Need-cells-word-requires
-cells-word-requires c κs = (name c .within, c .before .before .before .before .pre .1)
+cells-word-requires c κs =
+    let args = start c .args in
+    (name-stands (args .s .now) (args .at) (end c) (start c .pre .0) (named c) .within, start c .pre .1)
 
 returns-2 : tie.Need-returns-2
-returns-2 c =
-    let at-read-name = c .before .before .before .before .before .before in
-    let start = at-read-name .before .before in
-    no-line (start .args .s .now) (start .args .at) (start .args .width) (c .none2 .result) (c .none2 .ensures)
-    (λ name ones rest line.
-    let ends = line-name-found (start .args .s .now) (start .args .at) (start .args .width) name ones rest line
-    (at-read-name .read-name .result) (at-read-name .read-name .ensures) .1 in
-    c .before .before .before .cells-word .ensures .off (not-true _ (c .before .if2 .taken)) ones
-    (rw ends (line-cells-stand (start .args .s .now) (start .args .at) (start .args .width) name ones rest line)))
+returns-2 c name ones rest line =
+    let told = c .before .before .before in
+    let args = start told .args in
+    c .before .before .cells-word .ensures .off (not-true _ (c .if1 .taken)) ones
+    (rw (ends told name ones rest line)
+    (line-cells-stand (args .s .now) (args .at) (args .width) name ones rest line))
 
 add-end : tie.Need-add-end
-add-end c = omega (arith, cells (c .before) .stand .within)
+add-end c = omega (arith, cells c .stand .within)
 
 returns-3 : tie.Need-returns-3
-returns-3 c =
-    let at-read-name = c .before .before .before .before .before .before .before .before .before in
-    let start = at-read-name .before .before in
-    no-line (start .args .s .now) (start .args .at) (start .args .width) (c .none3 .result) (c .none3 .ensures)
-    (λ name ones rest line.
-    let ends = line-name-found (start .args .s .now) (start .args .at) (start .args .width) name ones rest line
-    (at-read-name .read-name .result) (at-read-name .read-name .ensures) .1 in
-    not-both (rw ends (line-feed-found (start .args .s .now) (start .args .at) (start .args .width) name ones rest
-    line))
-    (sym (c .before .before .stands-at .ensures) ∙ not-true _ (c .before .if3 .taken)))
+returns-3 c name ones rest line =
+    let told = c .before .before .before .before .before in
+    let args = start told .args in
+    not-both
+    (rw (ends told name ones rest line)
+    (line-feed-found (args .s .now) (args .at) (args .width) name ones rest line))
+    (sym (c .before .stands-at .ensures) ∙ not-true _ (c .if2 .taken))
 
-add-t8 : tie.Need-add-t8
-add-t8 c = omega (arith, cells (c .before .before .before) .stand .within)
+add-t9 : tie.Need-add-t9
+add-t9 c = omega (arith, cells (c .before .before) .stand .within)
 
 returns-4 : tie.Need-returns-4
 returns-4 c =
-    let at-cells-word = c .before .before .before .before .before in
-    let earlier = at-cells-word .before in
-    let at-read-name = earlier .before .before in
-    let start = at-read-name .before .before in
-    let stands = sym (c .before .stands-at .ensures) ∙ not-false _ (c .if3 .left) in
-    record {
-      good = λ p.
-          rw add-one
-          (line-stands (start .args .s .now) (start .args .at) (start .args .width)
-          (at-read-name .read-name .result .to)
-          (at-cells-word .cells-word .result .word) (name earlier) (cells (c .before .before .before)) stands);
-      found = λ name ones rest line.
-          (let ends = line-name-found (start .args .s .now) (start .args .at) (start .args .width) name ones rest line
-          (at-read-name .read-name .result)
-          (at-read-name .read-name .ensures) .1 in (
-            refl,
-            rw ends (behind-line (start .args .s .now) (start .args .at) (start .args .width) name ones rest
-                line),
-          ));
-    }
+    let told = c .before .before .before .before .before in
+    let args = start told .args in
+    line-stands (args .s .now) (args .at) (args .width) (end told)
+    (c .before .before .before .before .cells-word .result .word) (start told .pre .0) (named told)
+    (cells (c .before .before)) (sym (c .before .stands-at .ensures) ∙ not-false _ (c .if2 .left))
 
 pub read-user-line-spec : {M : Type 1} → statement M
 read-user-line-spec =
-    tie.close (tie.spec (λ c κs. search needs) (λ c κs. search needs) returns cells-word-requires
-    (λ c κs. search needs) returns-2 (λ c. search needs) add-end (λ c κs. search needs) (λ c κs. search needs)
-    returns-3 add-t8 returns-4)
+    tie.close (tie.spec (λ c κs. search needs) (λ c. search needs) (λ c. search needs) returns cells-word-requires
+    returns-2 (λ c. search needs) add-end (λ c κs. search needs) returns-3 add-t9 returns-4)

@@ -12,19 +12,7 @@ Inv-loop out₀ users permissions grants at₀ left₀ u₀ out at left u = (len
 abbrev μ-loop : tie.MeasureT-loop
 μ-loop out₀ users permissions grants at₀ left₀ u₀ out at left u = users - u
 
-put-head-requires : tie.Need-put-head-requires Inv-loop μ-loop
-put-head-requires c κs = tt
-
-least-requires : tie.Need-least-requires Inv-loop μ-loop
-least-requires c κs = tt
-
-put-user-requires : tie.Need-put-user-requires Inv-loop μ-loop
-put-user-requires c κs = tt
-
-returns : tie.Need-returns Inv-loop μ-loop
-returns c = tt
-
 pub build-spec : {M : Type 1} → statement M
 build-spec =
-    tie.close (tie.spec Inv-loop μ-loop put-head-requires (λ c. omega arith) least-requires put-user-requires
-    (λ c. omega arith) (λ c. omega arith) (λ c. omega arith) (λ c. omega arith) (λ c. omega arith) returns)
+    tie.close (tie.spec Inv-loop μ-loop (λ c κs. tt) (λ c. omega arith) (λ c κs. tt) (λ c κs. tt) (λ c. omega arith)
+    (λ c. omega arith) (λ c. omega arith) (λ c. omega arith) (λ c. omega arith) (λ c. tt))

@@ -12,13 +12,7 @@ Inv-loop out₀ at word to₀ i₀ i-end out to i = (length out ≡ length out�
 abbrev μ-loop : tie.MeasureT-loop
 μ-loop out₀ at word to₀ i₀ i-end out to i = length word - i
 
-put-requires : tie.Need-put-requires Inv-loop μ-loop
-put-requires c κs = tt
-
-returns : tie.Need-returns Inv-loop μ-loop
-returns c = tt
-
 pub put-word-spec : {M : Type 1} → statement M
 put-word-spec =
-    tie.close (tie.spec Inv-loop μ-loop (λ c. omega arith) (λ c. omega arith) put-requires (λ c. omega arith)
-    (λ c. omega arith) (λ c. omega arith) (λ c. omega arith) returns)
+    tie.close (tie.spec Inv-loop μ-loop (λ c. omega arith) (λ c. omega arith) (λ c κs. tt) (λ c. omega arith)
+    (λ c. omega arith) (λ c. omega arith) (λ c. omega arith) (λ c. tt))

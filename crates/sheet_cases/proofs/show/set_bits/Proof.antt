@@ -12,9 +12,6 @@ Inv-loop words total₀ i₀ total i = (i ≤ 256) × (total ≤ word-bits * i)
 abbrev μ-loop : tie.MeasureT-loop
 μ-loop words total₀ i₀ total i = 256 - i
 
-count-requires : tie.Need-count-requires Inv-loop μ-loop
-count-requires c κs = tt
-
 -- a word has at most as many bits as positions
 few : (c : tie.After-count Inv-loop μ-loop) → c .count .result ≤ word-bits
 few c = rw (c .count .ensures) (count-below-le word-bits (bit _))
@@ -25,10 +22,7 @@ add-total c = omega (arith, few c)
 loop-again : tie.Need-loop-again Inv-loop μ-loop
 loop-again c = omega (arith, few c)
 
-returns : tie.Need-returns Inv-loop μ-loop
-returns c = tt
-
 pub set-bits-spec : {M : Type 1} → statement M
 set-bits-spec =
-    tie.close (tie.spec Inv-loop μ-loop (λ c. omega arith) (λ c. omega arith) (λ c. omega arith) count-requires
-    add-total (λ c. omega arith) (λ c. omega arith) loop-again returns)
+    tie.close (tie.spec Inv-loop μ-loop (λ c. omega arith) (λ c. omega arith) (λ c. omega arith) (λ c κs. tt)
+    add-total (λ c. omega arith) (λ c. omega arith) loop-again (λ c. tt))

@@ -21,13 +21,9 @@ loop-holds : tie.Need-loop-holds Inv-loop μ-loop
 unfolding row-bits row-words
 loop-holds c = (omega arith, refl, record { column = λ p l m. absurd (omega arith) })
 
-holders-requires : tie.Need-holders-requires Inv-loop μ-loop
+line-word-requires : tie.Need-line-word-requires Inv-loop μ-loop
 unfolding row-bits row-words
-holders-requires c κs = (omega arith, omega arith)
-
-loop-less : tie.Need-loop-less Inv-loop μ-loop
-unfolding row-bits row-words
-loop-less c = omega arith
+line-word-requires c κs = (omega arith, omega arith)
 
 loop-again : tie.Need-loop-again Inv-loop μ-loop
 unfolding row-bits row-words
@@ -51,6 +47,7 @@ returns c =
     rw e at (at .inv .2)
 
 pub columns-spec : {M : Type 1} → statement M
+unfolding row-bits row-words
 columns-spec =
-    tie.close (tie.spec Inv-loop μ-loop loop-holds (λ c κs. omega arith) holders-requires (λ c. omega arith)
-    (λ c. omega arith) (λ c. omega arith) loop-less loop-again returns)
+    tie.close (tie.spec Inv-loop μ-loop loop-holds (λ c κs. omega arith) line-word-requires (λ c. omega arith)
+    (λ c. omega arith) (λ c. omega arith) (λ c. omega arith) loop-again returns)

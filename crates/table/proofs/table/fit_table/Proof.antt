@@ -21,12 +21,9 @@ array-share-prefix-cells c = rw (sized (c .before .before)) (c .before .before .
 slice-aggregate-table-of : tie.Need-slice-aggregate-table-of
 slice-aggregate-table-of c = sym (counted (c .before .before .before))
 
-table-of-requires : tie.Need-table-of-requires
-table-of-requires c κs = tt
-
 returns : tie.Need-returns
 returns c users sheet shown e = rw e at (c .table-of .ensures users sheet shown)
 
 pub fit-table-spec : {M : Type 1} → statement M
 fit-table-spec =
-    tie.close (tie.spec array-share-prefix-cells slice-aggregate-table-of table-of-requires returns)
+    tie.close (tie.spec array-share-prefix-cells slice-aggregate-table-of (λ c κs. tt) returns)

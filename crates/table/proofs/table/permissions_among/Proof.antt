@@ -20,6 +20,9 @@ abbrev μ-loop : tie.MeasureT-loop
 loop-holds : tie.Need-loop-holds Inv-loop μ-loop
 loop-holds c = (omega arith, λ j l. absurd (omega arith))
 
+cast-at : tie.Need-cast-at Inv-loop μ-loop
+cast-at c = omega (arith, c .shared-slice-known2 .given (c .before .before .loop .i))
+
 with-requires : tie.Need-with-requires Inv-loop μ-loop
 unfolding row-bits row-words
 with-requires c κs = omega (arith, c .permission-of .ensures)
@@ -41,5 +44,5 @@ returns c =
 
 pub permissions-among-spec : {M : Type 1} → statement M
 permissions-among-spec =
-    tie.close (tie.spec Inv-loop μ-loop loop-holds (λ c. omega arith) (λ c. omega arith) (λ c κs. search needs)
-    with-requires (λ c. omega arith) (λ c. omega arith) loop-again returns)
+    tie.close (tie.spec Inv-loop μ-loop loop-holds (λ c. omega arith) (λ c. omega arith) cast-at
+    (λ c κs. search needs) with-requires (λ c. omega arith) (λ c. omega arith) loop-again returns)

@@ -15,7 +15,7 @@ use Rattle.table.proofs.table.table_of.Tie as tie
 
 abbrev Inv-loop : tie.InvT-loop
 Inv-loop rows cells count some low high last₀ words₀ i₀ last words i =
-    (i ≤ count) × (length words ≡ table-limit * table-row) × HeldBy rows cells (last .user) last
+    (i ≤ count) × (length words ≡ table-limit * table-row) × HeldBy rows cells (last .user .0) last
     × Filled rows cells i words
 
 abbrev μ-loop : tie.MeasureT-loop
@@ -32,14 +32,6 @@ column : (c : tie.After-permission-of Inv-loop μ-loop) → c .permission-of .re
 unfolding row-bits row-words
 column c = omega (arith, c .permission-of .ensures)
 
-columns-requires : tie.Need-columns-requires Inv-loop μ-loop
-unfolding table-row
-columns-requires c κs = omega arith
-
-columns-requires-2 : tie.Need-columns-requires-2 Inv-loop μ-loop
-unfolding table-row
-columns-requires-2 c κs = omega arith
-
 loop-holds : tie.Need-loop-holds Inv-loop μ-loop
 unfolding table-row
 loop-holds c = (
@@ -50,9 +42,12 @@ loop-holds c = (
       _ _,
 )
 
-mul-it : tie.Need-mul-it Inv-loop μ-loop
+mul-at : tie.Need-mul-at Inv-loop μ-loop
 unfolding table-row
-mul-it c = omega (arith, within c)
+mul-at c = omega (arith, within c)
+
+cast-at : tie.Need-cast-at Inv-loop μ-loop
+cast-at c = omega (arith, c .shared-slice-known3 .given (c .before .before .loop .i))
 
 mul-words : tie.Need-mul-words Inv-loop μ-loop
 unfolding row-bits row-words
@@ -134,9 +129,10 @@ returns c users sheet shown =
     table-of _ _ (at .loop .words) (all-filled (at .loop .inv .3) (λ l. end ∙ limited .ensures .2 (omega arith))) shown
 
 pub table-of-spec : {M : Type 1} → statement M
+unfolding table-row
 table-of-spec =
-    tie.close (tie.spec Inv-loop μ-loop (λ c κs. search needs) (λ c κs. search needs) columns-requires
-    columns-requires-2 (λ c κs. search needs) loop-holds mul-it (λ c. omega arith) (λ c κs. search needs)
+    tie.close (tie.spec Inv-loop μ-loop (λ c κs. search needs) (λ c κs. search needs) (λ c κs. omega arith)
+    (λ c κs. omega arith) (λ c κs. search needs) loop-holds mul-at (λ c. omega arith) cast-at (λ c κs. search needs)
     (λ c κs. search needs) mul-words array-read-words mul-words-2 mul-words-3 array-write-words mul-words-4
     array-read-words-2 mul-words-5 add-words mul-words-6 array-write-words-2 add-i (λ c. omega arith) loop-again
     returns)

@@ -39,19 +39,8 @@ use denote.Triple.Call.{calls-at}
 use denote.Triple.Entry.{Vals, onEntry}
 use denote.Triple.Spec.{Meets, tripleOf}
 use denote.Triple.Table.{entered, cited}
-use denote.Triple.Walked.{
-  says,
-  Stays,
-  stay-none,
-  stay-none-slice,
-  walkOf,
-  goes-none,
-  goes-none-slice,
-  Walks,
-  ends-at,
-  walked,
-  walk-meets,
-}
+use denote.Triple.Walked.{says, Stays, stay-none, stay-none-slice, walkOf, goes-none, goes-none-slice, Walks, ends-at}
+use denote.Triple.Walked.{walked, walk-meets}
 use denote.Triple.Clauses.{Clauses, ensured, lasts}
 use denote.Exit.{yes}
 use Rattle.text.specs.Fields.{field-read}

@@ -19,9 +19,6 @@ abbrev μ-loop : tie.MeasureT-loop
 loop-holds : tie.Need-loop-holds Inv-loop μ-loop
 loop-holds c = refl
 
-is-separator-requires : tie.Need-is-separator-requires Inv-loop μ-loop
-is-separator-requires c κs = tt
-
 returns : tie.Need-returns Inv-loop μ-loop
 returns c =
     let at-loop = c .before .before .before .before in
@@ -50,5 +47,5 @@ returns-2 c =
 
 pub field-end-spec : {M : Type 1} → statement M
 field-end-spec =
-    tie.close (tie.spec Inv-loop μ-loop loop-holds (λ c. omega arith) is-separator-requires returns (λ c. omega arith)
+    tie.close (tie.spec Inv-loop μ-loop loop-holds (λ c. omega arith) (λ c κs. tt) returns (λ c. omega arith)
     (λ c. omega arith) loop-again returns-2)

@@ -4,15 +4,8 @@ use native.Mathlib.Omega.{arith}
 use mathlib.Core.List.{[], _∷_}
 use lib.ListN.{set}
 use Rattle.spec.specs.Text.{comma}
-use Rattle.text.specs.Written.{
-  WrittenSoFar,
-  byte-written,
-  nothing-written,
-  room-behind,
-  then-same-length,
-  then-written,
-  within-buffer,
-}
+use Rattle.text.specs.Written.{WrittenSoFar, byte-written, nothing-written, room-behind, then-same-length}
+use Rattle.text.specs.Written.{then-written, within-buffer}
 use Rattle.text.proofs.put.put_field.Statement.{statement}
 use Rattle.text.proofs.put.put_field.Tie as tie
 

@@ -2,10 +2,12 @@
 -- first position found is that of the first.
 use Prim.Native.Nat.{_*_, _-_, _≤_}
 use native.Mathlib.Omega.{arith}
+use borrow.Author.Needs.{needs}
 use Rattle.spec.specs.Limits.{user-limit}
 use Rattle.bits.specs.Bit.{word-bits}
 use Rattle.cells.specs.Rows.{row-words, row-bits}
 use Rattle.fit.specs.Columns.{column-words}
+use Rattle.verdict.specs.Laws.Misfit.{SuspectsWord, suspects-word}
 use Rattle.verdict.specs.Laws.MisfitWalk.{NoMisfitBefore, first-misfit, no-misfit-then, no-misfit-first}
 use Rattle.verdict.proofs.domination.misfit.Statement.{statement}
 use Rattle.verdict.proofs.domination.misfit.Tie as tie
@@ -20,25 +22,11 @@ abbrev μ-loop : tie.MeasureT-loop
 loop-holds : tie.Need-loop-holds Inv-loop μ-loop
 loop-holds c = (omega arith, λ n l. absurd (omega arith))
 
-mul-loop : tie.Need-mul-loop Inv-loop μ-loop
-unfolding user-limit row-words
-mul-loop c = omega arith
-
-mul-loop-2 : tie.Need-mul-loop-2 Inv-loop μ-loop
-unfolding user-limit row-words
-mul-loop-2 c = omega arith
-
-suspects-requires : tie.Need-suspects-requires Inv-loop μ-loop
-unfolding user-limit row-words row-bits
-suspects-requires c κs = omega arith
-
-mul-misfit-among : tie.Need-mul-misfit-among Inv-loop μ-loop
-unfolding user-limit row-words
-mul-misfit-among c = omega arith
-
 misfit-among-requires : tie.Need-misfit-among-requires Inv-loop μ-loop
 unfolding user-limit row-words row-bits
-misfit-among-requires c κs = omega arith
+misfit-among-requires c κs =
+    let at-loop = c .before .before in
+    omega (arith, at-loop .before .user-of .ensures)
 
 mul-result : tie.Need-mul-result Inv-loop μ-loop
 unfolding user-limit row-words
@@ -48,6 +36,17 @@ add-result : tie.Need-add-result Inv-loop μ-loop
 unfolding user-limit row-words
 add-result c = omega arith
 
+-- what the suspects are, as the rows say
+suspected : (c : tie.After-suspects Inv-loop μ-loop) →
+    let s = c .before .before .before .before in SuspectsWord (s .args .rows .now) (s .args .left .now)
+    (s .args .users) (s .args .it .0) (s .args .other .0) (c .before .before .loop .j) (c .suspects .result)
+unfolding user-limit row-words row-bits
+suspected c =
+    let s = c .before .before .before .before in
+    suspects-word (s .args .rows .now) (s .args .columns .now) (s .args .left .now) (s .pre .3) (s .args .users)
+    (s .args .it .0) (s .args .other .0) (c .before .before .loop .j) (c .suspects .result) (s .pre .0) (omega arith)
+    (c .suspects .ensures)
+
 returns : tie.Need-returns Inv-loop μ-loop
 unfolding user-limit row-words row-bits
 returns c =
@@ -56,16 +55,8 @@ returns c =
     let at = at-loop .loop in
     first-misfit (s .args .rows .now) (s .args .left .now) (s .args .users) (s .args .it .0) (s .args .other .0)
     (at .j) (c .before .before .suspects .result) (c .before .misfit-among .result)
-    (omega arith) (c .before .before .suspects .ensures (s .args .rows .now) (s .args .left .now) (s .pre .3))
-    (c .before .misfit-among .ensures) (at .inv .1) (omega arith)
-
-add-j : tie.Need-add-j Inv-loop μ-loop
-unfolding user-limit row-words
-add-j c = omega arith
-
-loop-less : tie.Need-loop-less Inv-loop μ-loop
-unfolding user-limit row-words
-loop-less c = omega arith
+    (omega arith) (suspected (c .before .before))
+    (rw (at-loop .before .user-of .ensures) at (c .before .misfit-among .ensures)) (at .inv .1) (omega arith)
 
 loop-again : tie.Need-loop-again Inv-loop μ-loop
 unfolding user-limit row-words row-bits
@@ -76,13 +67,9 @@ loop-again c =
       omega arith,
       no-misfit-then (s .args .rows .now) (s .args .left .now) (s .args .users) (s .args .it .0) (s .args .other .0)
           (at .j) (c .before .before .suspects .result) (c .before .misfit-among .result)
-          (omega arith) (c .before .before .suspects .ensures (s .args .rows .now) (s .args .left .now) (s .pre .3))
-          (c .before .misfit-among .ensures) (at .inv .1) (omega arith),
+          (omega arith) (suspected (c .before .before))
+          (rw (at-loop .before .user-of .ensures) at (c .before .misfit-among .ensures)) (at .inv .1) (omega arith),
     )
-
-mul-result-2 : tie.Need-mul-result-2 Inv-loop μ-loop
-unfolding user-limit row-words
-mul-result-2 c = omega arith
 
 returns-2 : tie.Need-returns-2 Inv-loop μ-loop
 unfolding user-limit row-words
@@ -92,6 +79,8 @@ returns-2 c =
     no-misfit-first (a .rows .now) (a .left .now) (a .users) (a .it .0) (a .other .0) (at .j) (omega arith) (at .inv .1)
 
 pub misfit-spec : {M : Type 1} → statement M
+unfolding user-limit row-words row-bits
 misfit-spec =
-    tie.close (tie.spec Inv-loop μ-loop loop-holds mul-loop mul-loop-2 suspects-requires mul-misfit-among
-    misfit-among-requires mul-result add-result returns add-j loop-less loop-again mul-result-2 returns-2)
+    tie.close (tie.spec Inv-loop μ-loop (λ c κs. search needs) loop-holds (λ c. omega arith) (λ c. omega arith)
+    (λ c κs. omega arith) (λ c. omega arith) misfit-among-requires (λ c. omega arith) (λ c. omega arith) returns
+    (λ c. omega arith) (λ c. omega arith) loop-again (λ c. omega arith) returns-2)

@@ -12,7 +12,7 @@ use Rattle.bits.specs.Bit.{bit, word-bits}
 use Rattle.bits.specs.Truth.{and-intro, not-passes}
 use Rattle.cells.specs.Rows.{row-words}
 use Rattle.verdict.specs.Misfits.{row-fits}
-use Rattle.verdict.specs.Laws.PositionWalk.{Walk, walk-begun, walk-before, walk-next, walk-ended}
+use Rattle.bits.specs.Laws.Walk.{Walk, walk-begun, walk-before, walk-next, walk-ended}
 use Rattle.verdict.proofs.domination.misfit_among.Statement.{statement}
 use Rattle.verdict.proofs.domination.misfit_among.Tie as tie
 
@@ -21,7 +21,7 @@ abbrev misfit : List ℕ → List ℕ → ℕ → ℕ → ℕ → ℕ → ℕ �
 misfit rows left it v from some q = bit some q && not (row-fits rows left it v (from + q))
 
 abbrev Inv-loop : tie.InvT-loop
-Inv-loop rows left it v from some w₀ w = Walk some (λ q. misfit rows left (it .0) v from some q ≡ false) w
+Inv-loop rows left it v from some w₀ w = Walk some (λ q. misfit rows left (it .0) (v .0) from some q ≡ false) w
 
 abbrev μ-loop : tie.MeasureT-loop
 μ-loop rows left it v from some w₀ w = w
@@ -45,14 +45,15 @@ returns c =
     let low = c .before .before .lowest in
     let at = at-loop .loop in
     record {
-      within = omega (arith, low .ensures .within);
+      not-before = omega arith;
+      not-past = omega (arith, low .ensures .within);
       passes = λ l.
-          and-intro (bit (a .some) (low .result)) (not (row-fits (a .rows .now) (a .left .now) (a .it .0) (a .v)
+          and-intro (bit (a .some) (low .result)) (not (row-fits (a .rows .now) (a .left .now) (a .it .0) (a .v .0)
           (a .from + low .result)))
           (at .inv .kept (low .result) (low .ensures .holds))
-          (not-passes (row-fits (a .rows .now) (a .left .now) (a .it .0) (a .v) (a .from + low .result))
+          (not-passes (row-fits (a .rows .now) (a .left .now) (a .it .0) (a .v .0) (a .from + low .result))
           (sym (c .before .row-fits .ensures) ∙ not-true (c .before .row-fits .result) (c .if1 .taken)));
-      earlier = walk-before (at .inv) (low .ensures);
+      skipped = λ q from. walk-before (at .inv) (low .ensures) q;
     }
 
 loop-less : tie.Need-loop-less Inv-loop μ-loop
@@ -74,10 +75,10 @@ returns-2 c =
     let at = c .before .loop in
     let none : at .w ≡ 0 = c .loop-test .left in
     record {
-      within = le-refl word-bits;
+      not-before = omega arith;
+      not-past = le-refl word-bits;
       passes = λ l. absurd (omega arith);
-      earlier = walk-ended
-          (rw none at (at .inv));
+      skipped = λ q from. walk-ended (rw none at (at .inv)) q;
     }
 
 pub misfit-among-spec : {M : Type 1} → statement M

@@ -8,7 +8,7 @@ use lib.ListN.{length}
 use Rattle.spec.specs.Limits.{user-limit}
 use Rattle.cells.specs.Rows.{row-words}
 use Rattle.fit.specs.Columns.{column-words}
-use Rattle.fit.specs.WitnessWords.{no-cells}
+use Rattle.cells.specs.Laws.MadeCells.{no-cells}
 use Rattle.verdict.specs.Insides.{may-tie}
 use Rattle.verdict.specs.Laws.Inside.{PassedBelow, passed-put-in, passed-left-out, may-tie-by-word}
 use Rattle.verdict.proofs.inside.insides.Statement.{statement}
@@ -25,50 +25,17 @@ loop-holds : tie.Need-loop-holds Inv-loop μ-loop
 unfolding user-limit row-words
 loop-holds c = (omega arith, refl, λ m. no-cells column-words m ∙ sym (rw (le-ltb m 0 (omega arith))))
 
-mul-loop : tie.Need-mul-loop Inv-loop μ-loop
+slice-aggregate-mark : tie.Need-slice-aggregate-mark Inv-loop μ-loop
 unfolding user-limit row-words
-mul-loop c = omega arith
+slice-aggregate-mark c =
+    let at-loop = c .before .before .before .before .before .before in
+    sym (at-loop .loop .inv .1)
 
-mul-is-inside : tie.Need-mul-is-inside Inv-loop μ-loop
+mark-requires : tie.Need-mark-requires Inv-loop μ-loop
 unfolding user-limit row-words
-mul-is-inside c = omega arith
-
-element-copy-out-is-inside : tie.Need-element-copy-out-is-inside Inv-loop μ-loop
-unfolding user-limit row-words
-element-copy-out-is-inside c = omega arith
-
-mul-is-inside-2 : tie.Need-mul-is-inside-2 Inv-loop μ-loop
-unfolding user-limit row-words
-mul-is-inside-2 c = omega arith
-
-add-is-inside : tie.Need-add-is-inside Inv-loop μ-loop
-unfolding user-limit row-words
-add-is-inside c = omega arith
-
-mul-is-inside-3 : tie.Need-mul-is-inside-3 Inv-loop μ-loop
-unfolding user-limit row-words
-mul-is-inside-3 c = omega arith
-
-element-copy-out-is-inside-2 : tie.Need-element-copy-out-is-inside-2 Inv-loop μ-loop
-unfolding user-limit row-words
-element-copy-out-is-inside-2 c = omega arith
-
-is-inside-requires : tie.Need-is-inside-requires Inv-loop μ-loop
-is-inside-requires c κs = tt
-
-put-word-requires : tie.Need-put-word-requires Inv-loop μ-loop
-unfolding user-limit row-words
-put-word-requires c κs =
+mark-requires c κs =
     let at-loop = c .before .before .before .before .before .before in
     omega (arith, at-loop .loop .inv .1)
-
-add-k : tie.Need-add-k Inv-loop μ-loop
-unfolding user-limit row-words
-add-k c = omega arith
-
-loop-less : tie.Need-loop-less Inv-loop μ-loop
-unfolding user-limit row-words
-loop-less c = omega arith
 
 loop-again : tie.Need-loop-again Inv-loop μ-loop
 unfolding user-limit row-words
@@ -82,10 +49,10 @@ loop-again c =
     ⊎-elim
     (λ w. (
       omega arith,
-      rw (w .3) (w .2 .ensures .0),
+      rw (w .4) (w .2 .ensures .size ∙ at .inv .1),
       passed-put-in (may-tie (a .rows .now) (a .left .now)
           (a .i / row-words)) (at .k) (at .words) (at .inv .2) (c .if1 .words) (sym told ∙ w .0 .taken)
-          (λ m. rw (w .3) (w .2 .ensures .1 m)),
+          (λ m. rw (w .4) (w .2 .ensures .shows m)),
     ))
     (λ w. (
       omega arith,
@@ -103,7 +70,8 @@ returns c =
     rw end at (at .inv .2)
 
 pub insides-spec : {M : Type 1} → statement M
+unfolding user-limit row-words
 insides-spec =
-    tie.close (tie.spec Inv-loop μ-loop loop-holds mul-loop mul-is-inside element-copy-out-is-inside mul-is-inside-2
-    add-is-inside mul-is-inside-3 element-copy-out-is-inside-2 is-inside-requires put-word-requires add-k loop-less
-    loop-again returns)
+    tie.close (tie.spec Inv-loop μ-loop loop-holds (λ c. omega arith) (λ c. omega arith) (λ c. omega arith)
+    (λ c. omega arith) (λ c. omega arith) (λ c. omega arith) (λ c. omega arith) (λ c κs. tt) slice-aggregate-mark
+    mark-requires (λ c. omega arith) (λ c. omega arith) loop-again returns)

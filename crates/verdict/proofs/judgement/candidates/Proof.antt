@@ -7,22 +7,10 @@ use borrow.Author.Tests.{not-true}
 use Rattle.spec.specs.Limits.{user-limit}
 use Rattle.cells.specs.Rows.{row-words, row-bits}
 use Rattle.verdict.specs.Laws.NearWord.{unless-in-own-row}
-use Rattle.verdict.specs.NearTieLaws.{all-untried, all-tried}
+use Rattle.verdict.specs.Laws.NearTie.{all-untried, all-tried}
 use Rattle.verdict.specs.Laws.Candidate.{all-but-itself}
 use Rattle.verdict.proofs.judgement.candidates.Statement.{statement}
 use Rattle.verdict.proofs.judgement.candidates.Tie as tie
-
-mul-w : tie.Need-mul-w
-unfolding user-limit row-words
-mul-w c = omega arith
-
-element-copy-out-w : tie.Need-element-copy-out-w
-unfolding user-limit row-words
-element-copy-out-w c = omega arith
-
-element-copy-out-within : tie.Need-element-copy-out-within
-unfolding user-limit row-words
-element-copy-out-within c = omega arith
 
 returns : tie.Need-returns
 unfolding row-bits row-words
@@ -47,6 +35,7 @@ returns-3 c = λ users inside.
     all-untried (a .rows .now) (a .left .now) users (a .it .0) (a .i) (c .if2 .left)
 
 pub candidates-spec : {M : Type 1} → statement M
+unfolding user-limit row-words
 candidates-spec =
-    tie.close (tie.spec mul-w element-copy-out-w (λ c. search needs) (λ c. search needs) (λ c. search needs)
-    element-copy-out-within (λ c κs. search needs) returns (λ c κs. search needs) returns-2 returns-3)
+    tie.close (tie.spec (λ c. omega arith) (λ c. omega arith) (λ c. search needs) (λ c. search needs)
+    (λ c. search needs) (λ c. omega arith) (λ c κs. search needs) returns (λ c κs. search needs) returns-2 returns-3)

@@ -2,7 +2,7 @@
 -- dominates decides.
 use borrow.Author.Needs.{needs}
 use native.Mathlib.Nat.{lt-of-lt-of-le}
-use mathlib.Core.Path.{_≡_, refl, sym, _∙_}
+use mathlib.Core.Path.{_≡_, refl, sym, ap, _∙_}
 use borrow.Author.Tests.{eqb-true, eqb-false}
 use lib.Dec.{eqb}
 use lib.ListN.{length}
@@ -11,6 +11,7 @@ use Rattle.spec.specs.Sheet.{Sheet}
 use Rattle.spec.specs.Fit.{fits}
 use Rattle.cells.specs.CellSets.{cell-grants}
 use Rattle.cells.specs.CellPlaces.{grant-of, Shown}
+use Rattle.fit.specs.Laws.FitWord.{near-count-all}
 use Rattle.verdict.specs.Laws.ReductionVisit.{cells-within}
 use Rattle.verdict.specs.ReductionVerdict.{LowestIn}
 use Rattle.verdict.specs.Laws.ReductionVerdict.{single-found, tie-found, no-tie-found, tie-is-other}
@@ -20,7 +21,7 @@ use Rattle.verdict.proofs.judgement.judge.Tie as tie
 is-single-requires : tie.Need-is-single-requires
 is-single-requires c κs =
     let given = c .pre .0 in
-    (lt-of-lt-of-le (given .within) (cells-within (given .few-users)), given .set, c .pre .1)
+    (lt-of-lt-of-le (given .within) (cells-within (given .shows .few-users)), given .set, given .part, c .pre .1)
 
 -- what the test says of the grants that fit
 fitting-count : (c : tie.After-is-single) (sheet : Sheet) → Shown (c .before .args .rows .now)
@@ -29,7 +30,9 @@ fitting-count : (c : tie.After-is-single) (sheet : Sheet) → Shown (c .before .
     (cell-grants sheet (c .before .args .left .now)))) 1
 fitting-count c sheet shown =
     let given = c .before .pre .0 in
-    c .is-single .ensures (c .before .args .users) sheet (given .few-users) (given .within) shown (given .part)
+    c .is-single .ensures
+    ∙ ap (λ n. eqb n 1)
+    (near-count-all shown (given .part) (c .before .args .it .0) (cells-within (given .shows .few-users)))
 
 returns : tie.Need-returns
 returns c =
@@ -44,8 +47,8 @@ returns c =
 tie-requires : tie.Need-tie-requires
 tie-requires c κs =
     let s = c .before .before in (
-      s .pre .0 .few-users,
-      lt-of-lt-of-le (s .pre .0 .within) (cells-within (s .pre .0 .few-users)),
+      s .pre .0 .shows .few-users,
+      lt-of-lt-of-le (s .pre .0 .within) (cells-within (s .pre .0 .shows .few-users)),
       s .pre .0 .part,
       s .pre .1,
       s .pre .2,

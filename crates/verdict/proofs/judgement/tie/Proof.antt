@@ -11,7 +11,7 @@ use Rattle.fit.specs.Columns.{column-words}
 use Rattle.verdict.specs.NearCells.{tie-at}
 use Rattle.verdict.specs.Misfits.{words-before}
 use Rattle.verdict.specs.ReductionVerdict.{NoneIn}
-use Rattle.verdict.specs.NearTieLaws.{none-then-none, none-then-lowest, lowest-of-all}
+use Rattle.verdict.specs.Laws.NearTie.{none-then-none, none-then-lowest, lowest-of-all}
 use Rattle.verdict.proofs.judgement.tie.Statement.{statement}
 use Rattle.verdict.proofs.judgement.tie.Tie as tie
 
@@ -25,31 +25,11 @@ abbrev μ-loop : tie.MeasureT-loop
 loop-holds : tie.Need-loop-holds Inv-loop μ-loop
 loop-holds c = (omega arith, record { fails = λ m from to. absurd (omega arith) })
 
-mul-loop : tie.Need-mul-loop Inv-loop μ-loop
-unfolding user-limit row-words
-mul-loop c = omega arith
-
-mul-loop-2 : tie.Need-mul-loop-2 Inv-loop μ-loop
-unfolding user-limit row-words
-mul-loop-2 c = omega arith
-
-tie-among-requires : tie.Need-tie-among-requires Inv-loop μ-loop
-unfolding row-words
-tie-among-requires c κs = search needs
-
 returns : tie.Need-returns Inv-loop μ-loop
 returns c =
     lowest-of-all (omega arith)
     (none-then-lowest (omega arith) (c .before .before .before .before .before .loop .inv .1)
     (rw (c .before .found .given .1) at (c .before .before .before .tie-among .ensures)))
-
-add-j : tie.Need-add-j Inv-loop μ-loop
-unfolding user-limit row-words
-add-j c = omega arith
-
-loop-less : tie.Need-loop-less Inv-loop μ-loop
-unfolding user-limit row-words
-loop-less c = omega arith
 
 loop-again : tie.Need-loop-again Inv-loop μ-loop
 unfolding user-limit row-words
@@ -69,6 +49,7 @@ returns-2 c =
     rw end at (at .inv .1)
 
 pub tie-spec : {M : Type 1} → statement M
+unfolding user-limit row-words
 tie-spec =
-    tie.close (tie.spec Inv-loop μ-loop loop-holds mul-loop mul-loop-2 tie-among-requires (λ c. search needs) returns
-    (λ c. search needs) add-j loop-less loop-again returns-2)
+    tie.close (tie.spec Inv-loop μ-loop loop-holds (λ c. omega arith) (λ c. omega arith) (λ c κs. search needs)
+    (λ c. search needs) returns (λ c. search needs) (λ c. omega arith) (λ c. omega arith) loop-again returns-2)

@@ -2,13 +2,14 @@
 -- is the lowest tie; a misfit fails it and all others that its user holds.
 use borrow.Author.Needs.{needs}
 use native.Mathlib.Omega.{arith}
-use Prim.Native.Nat.{_+_, _*_, _<_}
+use Prim.Native.Nat.{_+_, _*_, _<_, zero-le}
 use mathlib.Core.Path.{_≡_}
 use mathlib.Core.Bool.{So}
 use Rattle.spec.specs.Limits.{user-limit}
 use Rattle.bits.specs.Bit.{word-bits}
 use Rattle.cells.specs.Rows.{row-words}
-use Rattle.verdict.specs.NearTieLaws.{Untried, lowest-untried, none-untried}
+use Rattle.verdict.specs.NearCells.{Untried}
+use Rattle.verdict.specs.Laws.NearTie.{lowest-untried, none-untried}
 use Rattle.verdict.specs.Misfits.{misfit-at}
 use Rattle.verdict.specs.Laws.Misfit.{unless-misfit}
 use Rattle.verdict.specs.Laws.Candidate.{misfit-tried, fewer-untried}
@@ -21,16 +22,8 @@ Inv-loop rows columns left users it i w₀ w = Untried rows left users (it .0) i
 abbrev μ-loop : tie.MeasureT-loop
 μ-loop rows columns left users it i w₀ w = w
 
-candidates-requires : tie.Need-candidates-requires Inv-loop μ-loop
-unfolding user-limit row-words
-candidates-requires c κs = search needs
-
 loop-holds : tie.Need-loop-holds Inv-loop μ-loop
 loop-holds c = c .candidates .ensures (c .before .args .users) (c .before .pre .2)
-
-mul-other : tie.Need-mul-other Inv-loop μ-loop
-unfolding user-limit row-words
-mul-other c = omega arith
 
 add-other : tie.Need-add-other Inv-loop μ-loop
 unfolding user-limit row-words
@@ -43,10 +36,6 @@ misfit-requires c κs =
     let s = earlier in
     (s .pre .0, s .pre .1, omega (arith, c .lowest .ensures .within), s .pre .4)
 
-mul-if1 : tie.Need-mul-if1 Inv-loop μ-loop
-unfolding user-limit row-words
-mul-if1 c = omega arith
-
 returns : tie.Need-returns Inv-loop μ-loop
 unfolding user-limit row-words
 returns c =
@@ -57,26 +46,23 @@ returns c =
     let all : c .before .misfit .result ≡ a .users * row-words = omega arith in
     lowest-untried (a .rows .now) (a .left .now) (a .users) (a .it .0) (a .i) (at-loop .loop .inv) (low .ensures)
     (unless-misfit (a .rows .now) (a .left .now) (a .it .0) (a .i * word-bits + low .result) (a .users)
-    (rw all at (c .before .misfit .ensures .earlier)))
+    (λ n. rw all at (c .before .misfit .ensures .skipped n zero-le)))
 
 mul-apart : tie.Need-mul-apart Inv-loop μ-loop
 unfolding user-limit row-words
-mul-apart c = omega (arith, c .before .misfit .ensures .within)
+mul-apart c = omega (arith, c .before .misfit .ensures .not-past)
 
 add-apart : tie.Need-add-apart Inv-loop μ-loop
 unfolding user-limit row-words
-add-apart c = omega (arith, c .before .misfit .ensures .within)
+add-apart c = omega (arith, c .before .misfit .ensures .not-past)
 
 mul-apart-2 : tie.Need-mul-apart-2 Inv-loop μ-loop
 unfolding user-limit row-words
-mul-apart-2 c = omega (arith, c .before .misfit .ensures .within)
+mul-apart-2 c = omega (arith, c .before .misfit .ensures .not-past)
 
 element-copy-out-apart : tie.Need-element-copy-out-apart Inv-loop μ-loop
 unfolding user-limit row-words
-element-copy-out-apart c = omega (arith, c .before .misfit .ensures .within)
-
-apart-requires : tie.Need-apart-requires Inv-loop μ-loop
-apart-requires c κs = tt
+element-copy-out-apart c = omega (arith, c .before .misfit .ensures .not-past)
 
 -- the word that was found is one of the users', and a misfit
 found : (c : tie.Else1 Inv-loop μ-loop) →
@@ -90,7 +76,7 @@ found c =
     let within : c .before .misfit .result < start .args .users * row-words = omega (
       arith,
       c .if1 .left,
-      c .before .misfit .ensures .within,
+      c .before .misfit .ensures .not-past,
     ) in
     (within, c .before .misfit .ensures .passes within)
 
@@ -126,7 +112,8 @@ returns-2 c =
     (rw (c .loop-test .left) at (c .before .loop .inv))
 
 pub tie-in-spec : {M : Type 1} → statement M
+unfolding user-limit row-words
 tie-in-spec =
-    tie.close (tie.spec Inv-loop μ-loop candidates-requires loop-holds mul-other (λ c κs. omega arith) add-other
-    misfit-requires mul-if1 returns mul-apart add-apart mul-apart-2 element-copy-out-apart apart-requires loop-less
-    loop-again returns-2)
+    tie.close (tie.spec Inv-loop μ-loop (λ c κs. search needs) loop-holds (λ c. omega arith) (λ c κs. omega arith)
+    add-other misfit-requires (λ c. omega arith) returns mul-apart add-apart mul-apart-2 element-copy-out-apart
+    (λ c κs. tt) loop-less loop-again returns-2)

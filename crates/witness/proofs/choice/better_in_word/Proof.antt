@@ -20,18 +20,6 @@ Inv-loop left counts i from it₀ w₀ it w =
 abbrev μ-loop : tie.MeasureT-loop
 μ-loop left counts i from it₀ w₀ it w = w
 
-mul-from : tie.Need-mul-from Inv-loop μ-loop
-unfolding user-limit row-words
-mul-from c = omega arith
-
-mul-w : tie.Need-mul-w Inv-loop μ-loop
-unfolding user-limit row-words
-mul-w c = omega arith
-
-element-copy-out-w : tie.Need-element-copy-out-w Inv-loop μ-loop
-unfolding user-limit row-words
-element-copy-out-w c = omega arith
-
 loop-holds : tie.Need-loop-holds Inv-loop μ-loop
 loop-holds c rows users few inside counted walked = word-starts _ _ _ _ _ walked
 
@@ -63,6 +51,8 @@ returns c rows users few inside counted walked =
     word-ends _ _ _ _ _ (rw (c .loop-test .left) at (c .before .loop .inv rows users few inside counted walked))
 
 pub better-in-word-spec : {M : Type 1} → statement M
+unfolding user-limit row-words
 better-in-word-spec =
-    tie.close (tie.spec Inv-loop μ-loop mul-from mul-w element-copy-out-w loop-holds (λ c κs. omega arith) add-n
-    mul-better element-copy-out-better (λ c κs. search needs) (λ c κs. omega arith) loop-less loop-again returns)
+    tie.close (tie.spec Inv-loop μ-loop (λ c. omega arith) (λ c. omega arith) (λ c. omega arith) loop-holds
+    (λ c κs. omega arith) add-n mul-better element-copy-out-better (λ c κs. search needs) (λ c κs. omega arith)
+    loop-less loop-again returns)

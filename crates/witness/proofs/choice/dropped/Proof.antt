@@ -9,7 +9,7 @@ use Rattle.spec.specs.Limits.{user-limit}
 use Rattle.cells.specs.Rows.{row-words}
 use Rattle.cells.specs.CellPlaces.{cell-words}
 use Rattle.witness.specs.WitnessCells.{left-over, left-over-word}
-use Rattle.fit.specs.WitnessWords.{MadeWords, none-made, one-made, all-made}
+use Rattle.cells.specs.Laws.MadeCells.{MadeWords, none-made, one-made, all-made}
 use Rattle.witness.proofs.choice.dropped.Statement.{statement}
 use Rattle.witness.proofs.choice.dropped.Tie as tie
 
@@ -24,33 +24,6 @@ loop-holds : tie.Need-loop-holds Inv-loop μ-loop
 unfolding user-limit row-words
 loop-holds c = (omega arith, refl, none-made _ cell-words)
 
-mul-less : tie.Need-mul-less Inv-loop μ-loop
-unfolding user-limit
-mul-less c = omega arith
-
-element-copy-out-less : tie.Need-element-copy-out-less Inv-loop μ-loop
-unfolding user-limit
-element-copy-out-less c = omega arith
-
-fitting-requires : tie.Need-fitting-requires Inv-loop μ-loop
-unfolding user-limit
-fitting-requires c κs = search needs
-
-less-requires : tie.Need-less-requires Inv-loop μ-loop
-less-requires c κs = tt
-
-mul-words : tie.Need-mul-words Inv-loop μ-loop
-unfolding user-limit
-mul-words c = omega arith
-
-array-write-words : tie.Need-array-write-words Inv-loop μ-loop
-unfolding user-limit
-array-write-words c = omega arith
-
-loop-less : tie.Need-loop-less Inv-loop μ-loop
-unfolding row-words
-loop-less c = omega arith
-
 loop-again : tie.Need-loop-again Inv-loop μ-loop
 unfolding row-words
 loop-again c =
@@ -62,7 +35,7 @@ loop-again c =
       simp length-set (at .inv .1),
       one-made _ (at .i) (at .words) _ (at .inv .2) (omega arith)
           (left-over-word (a .rows .now) (a .left .now) (a .it .0) (at .i) _ _ (c .before .fitting .ensures)
-          (c .less .ensures)),
+          (c .apart .ensures .1)),
     )
 
 returns : tie.Need-returns Inv-loop μ-loop
@@ -74,6 +47,8 @@ returns c =
     rw end at (all-made _ (at .i) (at .words) (at .inv .2))
 
 pub dropped-spec : {M : Type 1} → statement M
+unfolding user-limit row-words
 dropped-spec =
-    tie.close (tie.spec Inv-loop μ-loop loop-holds (λ c. omega arith) mul-less element-copy-out-less fitting-requires
-    less-requires mul-words array-write-words (λ c. omega arith) loop-less loop-again returns)
+    tie.close (tie.spec Inv-loop μ-loop loop-holds (λ c. omega arith) (λ c. omega arith) (λ c. omega arith)
+    (λ c κs. search needs) (λ c κs. tt) (λ c. omega arith) (λ c. omega arith) (λ c. omega arith) (λ c. omega arith)
+    loop-again returns)

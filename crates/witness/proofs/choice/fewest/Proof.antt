@@ -21,22 +21,6 @@ abbrev μ-loop : tie.MeasureT-loop
 loop-holds : tie.Need-loop-holds Inv-loop μ-loop
 loop-holds c = (omega arith, λ rows counted. walk-starts _ _ _)
 
-mul-loop : tie.Need-mul-loop Inv-loop μ-loop
-unfolding user-limit row-words
-mul-loop c = omega arith
-
-better-in-word-requires : tie.Need-better-in-word-requires Inv-loop μ-loop
-unfolding user-limit row-words
-better-in-word-requires c κs = omega arith
-
-add-i : tie.Need-add-i Inv-loop μ-loop
-unfolding user-limit row-words
-add-i c = omega arith
-
-loop-less : tie.Need-loop-less Inv-loop μ-loop
-unfolding row-words
-loop-less c = omega arith
-
 loop-again : tie.Need-loop-again Inv-loop μ-loop
 unfolding row-words
 loop-again c =
@@ -54,6 +38,7 @@ returns c rows counted =
     walk-ends _ _ _ (at .best) (at .i * word-bits) (at .inv .1 rows counted) (omega (arith, at .inv .0))
 
 pub fewest-spec : {M : Type 1} → statement M
+unfolding user-limit row-words
 fewest-spec =
-    tie.close (tie.spec Inv-loop μ-loop loop-holds mul-loop better-in-word-requires add-i loop-less loop-again
-    returns)
+    tie.close (tie.spec Inv-loop μ-loop loop-holds (λ c. omega arith) (λ c κs. omega arith) (λ c. omega arith)
+    (λ c. omega arith) loop-again returns)

@@ -4,7 +4,7 @@ use native.Mathlib.Omega.{arith}
 use mathlib.Core.Path.{_≡_}
 use Rattle.spec.specs.Limits.{user-limit}
 use Rattle.cells.specs.Rows.{row-words}
-use Rattle.witness.specs.Counts.{Growing, growth-starts, growth-fits, growth-goes-on}
+use Rattle.witness.specs.Laws.Counts.{Growing, growth-starts, growth-fits, growth-goes-on}
 use Rattle.witness.proofs.counts.first_counts.Statement.{statement}
 use Rattle.witness.proofs.counts.first_counts.Tie as tie
 
@@ -18,21 +18,9 @@ loop-holds : tie.Need-loop-holds Inv-loop μ-loop
 unfolding user-limit row-words
 loop-holds c = (omega arith, growth-starts _ _ _)
 
-mul-loop : tie.Need-mul-loop Inv-loop μ-loop
+change-all-requires : tie.Need-change-all-requires Inv-loop μ-loop
 unfolding user-limit row-words
-mul-loop c = omega arith
-
-mul-add : tie.Need-mul-add Inv-loop μ-loop
-unfolding user-limit row-words
-mul-add c = omega arith
-
-element-copy-out-add : tie.Need-element-copy-out-add Inv-loop μ-loop
-unfolding user-limit row-words
-element-copy-out-add c = omega arith
-
-add-requires : tie.Need-add-requires Inv-loop μ-loop
-unfolding user-limit row-words
-add-requires c κs =
+change-all-requires c κs =
     let start = c .before .before .before .before in
     let at = c .before .before .before .loop in (
       omega arith,
@@ -41,14 +29,6 @@ add-requires c κs =
       growth-fits (start .args .rows .now) (start .args .left .now) (start .args .users) (at .i) (at .counts)
           (at .inv .1) (omega arith),
     )
-
-add-i : tie.Need-add-i Inv-loop μ-loop
-unfolding user-limit row-words
-add-i c = omega arith
-
-loop-less : tie.Need-loop-less Inv-loop μ-loop
-unfolding row-words
-loop-less c = omega arith
 
 loop-again : tie.Need-loop-again Inv-loop μ-loop
 unfolding row-words
@@ -59,7 +39,7 @@ loop-again c =
     let at = at-loop .loop in (
       omega arith,
       growth-goes-on (a .rows .now) (a .left .now) (a .users) (at .i) (at .counts) (at .inv .1) _
-          (c .add .ensures),
+          (c .change-all .ensures),
     )
 
 returns : tie.Need-returns Inv-loop μ-loop
@@ -71,6 +51,7 @@ returns c =
     record { sized = whole .sized; exact = whole .so-far }
 
 pub first-counts-spec : {M : Type 1} → statement M
+unfolding user-limit row-words
 first-counts-spec =
-    tie.close (tie.spec Inv-loop μ-loop loop-holds mul-loop mul-add element-copy-out-add add-requires add-i loop-less
-    loop-again returns)
+    tie.close (tie.spec Inv-loop μ-loop loop-holds (λ c. omega arith) (λ c. omega arith) (λ c. omega arith)
+    change-all-requires (λ c. omega arith) (λ c. omega arith) loop-again returns)

@@ -4,7 +4,7 @@ use native.Mathlib.Omega.{arith}
 use mathlib.Core.Path.{_≡_}
 use Rattle.spec.specs.Limits.{user-limit}
 use Rattle.cells.specs.Rows.{row-words}
-use Rattle.witness.specs.Counts.{Recounting, recount-starts, recount-enough, recount-goes-on, recount-ends}
+use Rattle.witness.specs.Laws.Counts.{Recounting, recount-starts, recount-enough, recount-goes-on, recount-ends}
 use Rattle.witness.proofs.counts.recount.Statement.{statement}
 use Rattle.witness.proofs.counts.recount.Tie as tie
 
@@ -18,32 +18,9 @@ abbrev μ-loop : tie.MeasureT-loop
 loop-holds : tie.Need-loop-holds Inv-loop μ-loop
 loop-holds c = (omega arith, recount-starts _ _ _ _ (c .pre .3) _ (c .pre .2))
 
-mul-loop : tie.Need-mul-loop Inv-loop μ-loop
+change-all-requires : tie.Need-change-all-requires Inv-loop μ-loop
 unfolding user-limit row-words
-mul-loop c = omega arith
-
-mul-less : tie.Need-mul-less Inv-loop μ-loop
-unfolding user-limit row-words
-mul-less c = omega arith
-
-element-copy-out-less : tie.Need-element-copy-out-less Inv-loop μ-loop
-unfolding user-limit row-words
-element-copy-out-less c = omega arith
-
-mul-less-2 : tie.Need-mul-less-2 Inv-loop μ-loop
-unfolding user-limit row-words
-mul-less-2 c = omega arith
-
-element-copy-out-less-2 : tie.Need-element-copy-out-less-2 Inv-loop μ-loop
-unfolding user-limit row-words
-element-copy-out-less-2 c = omega arith
-
-less-requires : tie.Need-less-requires Inv-loop μ-loop
-less-requires c κs = tt
-
-take-requires : tie.Need-take-requires Inv-loop μ-loop
-unfolding user-limit row-words
-take-requires c κs =
+change-all-requires c κs =
     let at-loop = c .before .before .before .before .before in
     let start = at-loop .before in
     let a = start .args in
@@ -51,17 +28,10 @@ take-requires c κs =
       omega arith,
       start .pre .1,
       at .inv .1 .sized,
-      recount-enough (a .rows .now) (a .left .now) (a .rest .now) (a .users) (start .pre .3) (at .i) (c .less .result)
-          (at .counts) (at .inv .1) (omega arith) (c .less .ensures),
+      recount-enough (a .rows .now) (a .left .now) (a .rest .now) (a .users) (start .pre .3) (at .i)
+          (c .before .apart .result)
+          (at .counts) (at .inv .1) (omega arith) (c .before .apart .ensures .1),
     )
-
-add-i : tie.Need-add-i Inv-loop μ-loop
-unfolding user-limit row-words
-add-i c = omega arith
-
-loop-less : tie.Need-loop-less Inv-loop μ-loop
-unfolding row-words
-loop-less c = omega arith
 
 loop-again : tie.Need-loop-again Inv-loop μ-loop
 unfolding row-words
@@ -72,8 +42,8 @@ loop-again c =
     let at = at-loop .loop in (
       omega arith,
       recount-goes-on (a .rows .now) (a .left .now) (a .rest .now) (a .users) (start .pre .3) (at .i)
-          (c .before .less .result) (at .counts) (at .inv .1) (omega arith)
-          (c .before .less .ensures) _ (c .take .ensures),
+          (c .before .before .apart .result) (at .counts) (at .inv .1) (omega arith)
+          (c .before .before .apart .ensures .1) _ (c .change-all .ensures),
     )
 
 returns : tie.Need-returns Inv-loop μ-loop
@@ -85,6 +55,8 @@ returns c =
     recount-ends _ _ _ _ (start .pre .3) _ (rw end at (at .inv .1))
 
 pub recount-spec : {M : Type 1} → statement M
+unfolding user-limit row-words
 recount-spec =
-    tie.close (tie.spec Inv-loop μ-loop loop-holds mul-loop mul-less element-copy-out-less mul-less-2
-    element-copy-out-less-2 less-requires take-requires add-i loop-less loop-again returns)
+    tie.close (tie.spec Inv-loop μ-loop loop-holds (λ c. omega arith) (λ c. omega arith) (λ c. omega arith)
+    (λ c. omega arith) (λ c. omega arith) (λ c κs. tt) change-all-requires (λ c. omega arith) (λ c. omega arith)
+    loop-again returns)

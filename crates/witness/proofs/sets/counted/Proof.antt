@@ -19,28 +19,12 @@ Inv-loop words users n₀ i₀ n i = (i ≤ users * row-words) × (n ≡ count-b
 abbrev μ-loop : tie.MeasureT-loop
 μ-loop words users n₀ i₀ n i = users * row-words - i
 
-loop-holds : tie.Need-loop-holds Inv-loop μ-loop
-unfolding count-below
-loop-holds c = search needs
-
-mul-count : tie.Need-mul-count Inv-loop μ-loop
-unfolding user-limit
-mul-count c = omega arith
-
-element-copy-out-count : tie.Need-element-copy-out-count Inv-loop μ-loop
-unfolding user-limit
-element-copy-out-count c = omega arith
-
 add-n : tie.Need-add-n Inv-loop μ-loop
 unfolding user-limit
 add-n c =
     let at = c .before .before .before .loop in
     let few : c .count .result ≤ word-bits = rw (c .count .ensures) (count-below-le word-bits _) in
     omega (arith, count-below-le (at .i * word-bits) (marked (c .before .before .before .before .args .words .now)))
-
-loop-less : tie.Need-loop-less Inv-loop μ-loop
-unfolding row-words
-loop-less c = omega arith
 
 loop-again : tie.Need-loop-again Inv-loop μ-loop
 unfolding row-words
@@ -60,6 +44,7 @@ returns c =
     rw end at (at .inv .1)
 
 pub counted-spec : {M : Type 1} → statement M
+unfolding count-below user-limit row-words
 counted-spec =
-    tie.close (tie.spec Inv-loop μ-loop loop-holds (λ c. omega arith) mul-count element-copy-out-count
-    (λ c κs. search needs) add-n (λ c. omega arith) loop-less loop-again returns)
+    tie.close (tie.spec Inv-loop μ-loop (λ c. search needs) (λ c. omega arith) (λ c. omega arith) (λ c. omega arith)
+    (λ c κs. search needs) add-n (λ c. omega arith) (λ c. omega arith) loop-again returns)

@@ -1,4 +1,4 @@
--- `Places::none`: both arrays are as long as they are written.
+-- `Places::none`: the array is as long as it is written.
 use mathlib.Core.Path.{refl}
 use Rattle.spec.specs.Limits.{user-limit}
 use Rattle.names.proofs.places.Places.none.Statement.{statement}
@@ -6,7 +6,7 @@ use Rattle.names.proofs.places.Places.none.Tie as tie
 
 returns : tie.Need-returns
 unfolding user-limit
-returns c = record { from-room = refl; to-room = refl }
+returns c = refl
 
 pub none-spec : {M : Type 1} → statement M
 none-spec =

@@ -17,13 +17,13 @@ use Rattle.search.proofs.machine.Position.run.Statement.{statement}
 use Rattle.search.proofs.machine.Position.run.Tie as tie
 
 abbrev Inv-loop : tie.InvT-loop
-Inv-loop fit size singles witness budget at₀ classes₀ best₀ members₀ steps₀ at classes best members steps =
-    Running (kernel-given fit size singles witness) budget (view (at-position at₀ classes₀ best₀) size)
+Inv-loop fit sizes budget at₀ classes₀ best₀ members₀ steps₀ at classes best members steps =
+    Running (kernel-given fit sizes) budget (view (at-position at₀ classes₀ best₀) (sizes .kernel))
     (at-position at classes best) steps
-    × Ready size at classes best members
+    × Ready (sizes .kernel) at classes best members
 
 abbrev μ-loop : tie.MeasureT-loop
-μ-loop fit size singles witness budget at₀ classes₀ best₀ members₀ steps₀ at classes best members steps = budget - steps
+μ-loop fit sizes budget at₀ classes₀ best₀ members₀ steps₀ at classes best members steps = budget - steps
 
 gathered-requires : tie.Need-gathered-requires Inv-loop μ-loop
 gathered-requires c κs = let s = c .before .before .before .before .pre in (depth-le-limit s, class-below-limit s)
@@ -36,7 +36,7 @@ loop-holds : tie.Need-loop-holds Inv-loop μ-loop
 loop-holds c =
     let start = c .before .before .before .before .before in
     let a = start .args in (
-      running-none (kernel-given (a .fit .now) (a .size) (a .singles) (a .witness)) (a .budget) (a .self) (start .pre),
+      running-none (kernel-given (a .fit .now) (a .sizes)) (a .budget) (a .self) (start .pre),
       record { stands = start .pre; classes-sized = whole-array start; gathered = c .gathered .ensures },
     )
 
@@ -54,8 +54,8 @@ loop-again c =
     let a = still-start .args in
     let loop = at-loop .loop in
     let moved = c .advanced .ensures in (
-      running-more (kernel-given (a .fit .now) (a .size) (a .singles) (a .witness)) (a .budget)
-          (view (a .self) (a .size)) (loop .inv .0)
+      running-more (kernel-given (a .fit .now) (a .sizes)) (a .budget)
+          (view (a .self) (a .sizes .kernel)) (loop .inv .0)
           (at-position (c .advanced .result) (c .advanced .last .1 .0) (c .advanced .last .1 .1 .0))
           (at-loop-test .loop-test .taken)
           (not-true (loop .at .finished) (at-if1 .if1 .taken)) (moved .stepped) (moved .ready .stands),
@@ -66,8 +66,8 @@ returns : tie.Need-returns Inv-loop μ-loop
 returns c =
     let still-start = c .before .before .before .before .before .before .before .before in
     let a = still-start .args in
-    let kernel = kernel-given (a .fit .now) (a .size) (a .singles) (a .witness) in
-    let from = view (a .self) (a .size) in
+    let kernel = kernel-given (a .fit .now) (a .sizes) in
+    let from = view (a .self) (a .sizes .kernel) in
     let loop = c .before .before .loop in
     rw (c .of .ensures) (
       ⊎-elim (λ other. running-finished kernel (a .budget) from (loop .inv .0) (not-false (loop .at .finished)

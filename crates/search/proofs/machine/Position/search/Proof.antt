@@ -8,30 +8,32 @@ use Rattle.search.specs.View.{kernel-given, view}
 use Rattle.search.proofs.machine.Position.search.Statement.{statement}
 use Rattle.search.proofs.machine.Position.search.Tie as tie
 
-above : (c : tie.Then1) → search-limit < c .before .args .size
+above : (c : tie.Then1) → search-limit < c .before .before .args .sizes .kernel
 unfolding search-limit
 above c = c .if1 .taken
 
-within : (c : tie.Else1) → c .before .args .size ≤ search-limit
+within : (c : tie.Else1) → c .before .before .args .sizes .kernel ≤ search-limit
 unfolding search-limit
 within c = c .if1 .left
 
 returns : tie.Need-returns
 returns c =
-    let a = c .before .args in
-    let kernel = kernel-given (a .fit .now) (a .size) (a .singles) (a .witness) in
-    (sym (search-above kernel (a .budget) (view (a .self) (a .size)) (above c)), (λ l. c .before .pre l, λ l. refl))
+    let a = c .before .before .args in
+    let kernel = kernel-given (a .fit .now) (a .sizes) in (
+      sym (search-above kernel (a .budget) (view (a .self) (a .sizes .kernel)) (above c)),
+      (λ l. c .before .before .pre l, λ l. refl),
+    )
 
 run-requires : tie.Need-run-requires
-run-requires c κs = c .before .pre (within c)
+run-requires c κs = c .before .before .pre (within c)
 
 returns-2 : tie.Need-returns-2
 returns-2 c =
-    let a = c .before .before .args in
-    let kernel = kernel-given (a .fit .now) (a .size) (a .singles) (a .witness) in
+    let a = c .before .before .before .args in
+    let kernel = kernel-given (a .fit .now) (a .sizes) in
     let l = within (c .before) in (
-      rw (search-within kernel (a .budget) (view (a .self) (a .size)) l) (c .run .ensures .0),
-      (λ k. c .run .ensures .1, λ (k : search-limit < a .size). absurd (omega arith)),
+      rw (search-within kernel (a .budget) (view (a .self) (a .sizes .kernel)) l) (c .run .ensures .0),
+      (λ k. c .run .ensures .1, λ (k : search-limit < a .sizes .kernel). absurd (omega arith)),
     )
 
 pub search-spec : {M : Type 1} → statement M

@@ -1,0 +1,151 @@
+// How long a book is, before anything of it is written: one sum of the bytes of its counts, its names, its cells and
+// its headings, whatever the cells are, and of its witness.
+use blocks::Counts;
+use cell_text::next_set;
+use decimal::decimal_length;
+use names::Layout;
+use names::from_of;
+use names::permission_name_in;
+use names::to_of;
+use names::user_name_in;
+use numbers::CELL_WORDS;
+use numbers::PermissionNo;
+use numbers::UserNo;
+use roles::Standing;
+ghost use mathlib.Core.Path.{_≡_};
+ghost use mathlib.Core.List.{List};
+ghost use Prim.Native.Nat.{ℕ, _*_, _≤_, _<_};
+ghost use lib.ListN.{length};
+ghost use Rattle.spec.specs.Sheet.{sheet-of, user-count};
+ghost use Rattle.lists.specs.Listed.{listed};
+ghost use Rattle.cells.specs.Rows.{row-words, row-bits};
+ghost use Rattle.names.specs.LaidOut.{LaidOut, UsersAt, PermissionsAt};
+ghost use Rattle.roles.specs.StandingCases.{standing-case};
+ghost use Rattle.decimal.specs.Measured.{Measured, piece-most, line-most, block-most};
+ghost use Rattle.blocks.specs.CountsText.{standing-text, counts-text};
+ghost use Rattle.blocks.specs.RowsSaid.{GrantCells};
+ghost use Rattle.blocks.specs.WitnessText.{witness-row};
+ghost use Rattle.book.specs.BookRows.{rows-book};
+ghost use Rattle.book.specs.NameBytes.{PlacesShort, bytes-at, role-name-bytes};
+
+// The first words of the three headings with their line feeds, and the three empty lines.
+const HEADINGS: usize = 29;
+
+// How long the state is as the last field of a line.
+fn standing_length(standing: Standing) -> usize
+    ensures { λ r. ⌜ Measured (standing-text (standing-case standing)) piece-most r ⌝ }
+{
+    match standing {
+        Standing::Witnessed => b",witnessed\n".len(),
+        Standing::Searched => b",searched\n".len(),
+        Standing::Open => b",open\n".len(),
+    }
+}
+
+// How long block 1 is.
+fn counts_length(counts: Counts) -> usize
+    ensures { λ r. ⌜ Measured (counts-text counts) line-most r ⌝ }
+{
+    let roles = b"roles,bound,state\n".len() + decimal_length(counts.roles);
+    let bound = b",".len() + decimal_length(counts.bound);
+    let standing = counts.standing;
+    roles + bound + standing_length(standing)
+}
+
+// How many bytes the names at these places have.
+fn bytes_at(places: &[u64]) -> usize
+    requires { ⌜ PlacesShort (now places) ⌝ }
+    ensures { λ r. ⌜ r ≡ bytes-at (now (places .entry)) ⌝ }
+{
+    let mut total = 0;
+    let mut i = 0;
+    while i < places.len() {
+        let place = places[i];
+        total += to_of(place) - from_of(place);
+        i += 1;
+    }
+    total
+}
+
+// How many bytes the names of so many roles have: two up to `R9`, and three from there on.
+fn role_names_length(roles: usize) -> usize
+    requires { ⌜ roles ≤ row-bits ⌝ }
+    ensures { λ r. ⌜ r ≡ role-name-bytes roles ⌝ }
+{
+    if roles < 10 { 2 * roles } else { 3 * roles - 9 }
+}
+
+// How long the witness lines of a user are.
+fn witness_row_length<'a, 'b>(
+    s: &'a [u8],
+    users: &'b [u64],
+    permissions: &'b [u64],
+    witness: &'a [u64],
+    user: UserNo,
+) -> usize
+    requires { ⌜ UsersAt (now s) (now users) × PermissionsAt (now s) (now permissions)
+        × (user .0 < user-count (sheet-of (now s)))
+        × (user-count (sheet-of (now s)) * row-words ≤ length (now witness)) ⌝ }
+    ensures { λ r. ⌜ Measured (witness-row (sheet-of (now (s .entry))) (now (witness .entry)) (user .0)) line-most r ⌝ }
+{
+    let name = user_name_in(s, users, user);
+    let count = permissions.len();
+    let mut total = 0;
+    let mut i = next_set(witness, user.0, 0, count);
+    while i < count {
+        let held = permission_name_in(s, permissions, PermissionNo(i));
+        total += name.len() + held.len() + 2;
+        i = next_set(witness, user.0, i + 1, count);
+    }
+    total
+}
+
+// How long the witness lines of all users are.
+fn witness_length<'a, 'b>(
+    s: &'a [u8],
+    users: &'b [u64],
+    permissions: &'b [u64],
+    witness: &'a [u64],
+) -> usize
+    requires { ⌜ UsersAt (now s) (now users) × PermissionsAt (now s) (now permissions)
+        × (user-count (sheet-of (now s)) * row-words ≤ length (now witness)) ⌝ }
+    ensures { λ r. ⌜ Measured (listed (user-count (sheet-of (now (s .entry))))
+        (witness-row (sheet-of (now (s .entry))) (now (witness .entry)))) block-most r ⌝ }
+{
+    let mut total = 0;
+    let mut i = 0;
+    while i < users.len() {
+        total += witness_row_length(s, users, permissions, witness, UserNo(i));
+        i += 1;
+    }
+    total
+}
+
+// How long the book is. A cell takes two bytes and ends with its line; a name of a heading stands behind a comma.
+pub fn book_length<'a>(
+    s: &'a [u8],
+    layout: Layout,
+    witness: &'a [u64; CELL_WORDS],
+    counts: Counts,
+) -> usize
+    requires { ⌜ LaidOut (now s) layout × (counts .roles ≤ row-bits) × GrantCells (now witness) (sheet-of (now s)) ⌝ }
+    ensures { λ r. ⌜ ((has gives : List ℕ) → r ≡ length (rows-book (now (s .entry)) has gives (now (witness .entry))
+        counts)) ⌝ }
+{
+    let roles = counts.roles;
+    let users = layout.users;
+    let permissions = layout.permissions;
+    let user_places = layout.user_places.at;
+    let permission_places = layout.permission_places.at;
+    let sheet_names = bytes_at(&user_places[..users]) + bytes_at(&permission_places[..permissions]);
+    let names = sheet_names + 2 * role_names_length(roles);
+    let lines = roles * (2 * permissions + 1) + users * (2 * roles + 1);
+    let headings = HEADINGS + permissions + roles;
+    let shown = witness_length(
+        s,
+        &user_places[..users],
+        &permission_places[..permissions],
+        witness,
+    );
+    counts_length(counts) + headings + names + lines + shown
+}

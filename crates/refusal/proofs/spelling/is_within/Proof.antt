@@ -1,0 +1,14 @@
+-- `spelling::is_within`: a number below the low end is not within, and any other is where it is at most the high end.
+use borrow.Author.Tests.{lt-leb, le-leb}
+use Rattle.refusal.proofs.spelling.is_within.Statement.{statement}
+use Rattle.refusal.proofs.spelling.is_within.Tie as tie
+
+returns : tie.Need-returns
+returns c = rw (lt-leb _ _ (c .if1 .taken))
+
+returns-2 : tie.Need-returns-2
+returns-2 c = rw (le-leb _ _ (c .if1 .left))
+
+pub is-within-spec : {M : Type 1} → statement M
+is-within-spec =
+    tie.close (tie.spec returns returns-2)

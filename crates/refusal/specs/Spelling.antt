@@ -1,0 +1,11 @@
+-- The kinds of bytes that a sheet is asked for. Assumes nothing.
+use Prim.Native.Nat.{ℕ}
+use mathlib.Core.Bool.{Bool}
+use Rattle.spec.specs.Text.{allowed-byte, name-byte}
+use Rattle.refusal.specs.declared.spelling.Kind.{Kind}
+use Rattle.refusal.specs.declared.spelling.Kind.the-variants as kind
+
+-- a byte is of a kind
+abbrev pub byte-of : Kind → ℕ → Bool
+byte-of kind.Sheet = allowed-byte
+byte-of kind.Name = name-byte

@@ -1,0 +1,108 @@
+-- The search for the lowest tie in a word, and from word to word. The positions not yet tried are those of a word w:
+-- they are cells of left, and every other cell of the word is known to fail. So the lowest position of w, where it
+-- passes, is the lowest cell of all.
+use Prim.Native.Nat.{ℕ, _+_, _-_, _*_, _/_, _≤_, _<_}
+use native.Mathlib.Nat.{add-sub-of-le}
+use native.Mathlib.Omega.{arith}
+use mathlib.Core.Path.{_≡_, _∙_}
+use mathlib.Core.Logic.{⊎-elim}
+use mathlib.Core.Bool.{Bool, false, So, not}
+use mathlib.Core.List.{List}
+use borrow.Author.Tests.{ne-eqb}
+use lib.Dec.{eqb}
+use lib.ListN.{getD}
+use Rattle.bits.specs.Bit.{bit, word-bits}
+use Rattle.bits.specs.Laws.Bit.{bit-of-zero}
+use Rattle.bits.specs.Truth.{not-both, and-intro}
+use Rattle.bits.specs.Counting.{Lowest}
+use Rattle.bits.specs.Laws.Below.{below-or-from}
+use Rattle.cells.specs.CellPlaces.{marked}
+use Rattle.fit.specs.Laws.FitWord.{marked-in-word}
+use Rattle.verdict.specs.NearCells.{dominates-in, tie-test, tie-at, Untried}
+use Rattle.verdict.specs.ReductionVerdict.{LowestIn, NoneIn}
+
+-- what holds of each position of a word holds of its cells
+pub each-cell : (P : ℕ → Type 0) (i m : ℕ) → ((q : ℕ) → q < word-bits → P (i * word-bits + q)) → i * word-bits ≤ m
+    → m < (i + 1) * word-bits → P m
+each-cell P i m h from to = rw (add-sub-of-le from) at (h (m - i * word-bits) (omega arith))
+
+-- none of a word's positions passes
+pub none-in-word : (i : ℕ) (passes : ℕ → Bool) → ((q : ℕ) → q < word-bits → passes (i * word-bits + q) ≡ false)
+    → NoneIn passes (i * word-bits) ((i + 1) * word-bits)
+none-in-word i passes h = record { fails = λ m from to. each-cell (λ n. passes n ≡ false) i m h from to }
+
+module _ (rows left : List ℕ) (users it i : ℕ) where
+  -- all cells of left in another word than the judged one's
+  pub all-untried : (i ≡ it / word-bits → ⊥) → Untried rows left users it i (getD left i 0)
+  all-untried apart =
+      record {
+        set = λ q l p. marked-in-word left i q l ∙ p;
+        other = λ q l p. rw (ne-eqb (i * word-bits + q) it (λ e. apart (omega (arith, e, l))));
+        tried = λ q l e. rw (marked-in-word left i q l ∙ e);
+      }
+
+  -- where none is tied, none need be tried
+  pub all-tried : ((q : ℕ) → q < word-bits → tie-at rows left users it (i * word-bits + q) ≡ false)
+      → Untried rows left users it i 0
+  all-tried fails =
+      record {
+        set = λ q l p. absurd (not-both p (bit-of-zero q));
+        other = λ q l p. absurd (not-both p (bit-of-zero q));
+        tried = λ q l e. fails q l;
+      }
+
+  pub lowest-untried : {w q : ℕ} → Untried rows left users it i w → Lowest word-bits (bit w) q
+      → So (dominates-in rows left users it (i * word-bits + q))
+      → LowestIn (tie-at rows left users it) (i * word-bits) ((i + 1) * word-bits) (i * word-bits + q)
+  lowest-untried {w} {q} u low p =
+      record {
+        begun = omega arith;
+        within = omega (arith, low .within);
+        holds = and-intro (marked left (i * word-bits + q)) (tie-test rows left users it (i * word-bits + q))
+            (u .set q (low .within) (low .holds))
+            (and-intro (not (eqb (i * word-bits + q) it)) (dominates-in rows left users it (i * word-bits + q))
+            (u .other q (low .within) (low .holds)) p);
+        first = λ m from before. each-cell (λ n. n < i * word-bits + q → tie-at rows left users it n ≡ false) i m
+            (λ r k less. u .tried r k (low .first r (omega arith))) from (omega (arith, low .within)) before;
+      }
+
+  pub none-untried : Untried rows left users it i 0 → NoneIn (tie-at rows left users it) (i * word-bits)
+      ((i + 1) * word-bits)
+  none-untried u = none-in-word i (tie-at rows left users it) (λ q l. u .tried q l (bit-of-zero q))
+
+-- ---- from word to word
+
+-- what no word has, none of their cells has
+pub none-in-words : {test : ℕ → Bool} (from to : ℕ) → ((i : ℕ) → from ≤ i → i < to → NoneIn test (i * word-bits)
+    ((i + 1) * word-bits))
+    → NoneIn test (from * word-bits) (to * word-bits)
+none-in-words from to each =
+    record {
+      fails = λ m begun within. each (m / word-bits) (omega arith) (omega arith) .fails m (omega arith)
+          (omega arith);
+    }
+
+pub none-then-none : {test : ℕ → Bool} {from middle to : ℕ} → NoneIn test from middle → NoneIn test middle to
+    → NoneIn test from to
+none-then-none {middle} earlier later =
+    record {
+      fails = λ m begun within. ⊎-elim (λ l. earlier .fails m begun l) (λ l. later .fails m l within)
+          (below-or-from m middle);
+    }
+
+pub none-then-lowest : {test : ℕ → Bool} {from middle to n : ℕ} → from ≤ middle → NoneIn test from middle
+    → LowestIn test middle to n
+    → LowestIn test from to n
+none-then-lowest {middle} order earlier low =
+    record {
+      begun = omega (arith, low .begun);
+      within = low .within;
+      holds = low .holds;
+      first = λ m begun before. ⊎-elim (λ l. earlier .fails m begun l) (λ l. low .first m l before)
+          (below-or-from m middle);
+    }
+
+-- the lowest of a range from the first cell on, in all cells
+pub lowest-of-all : {test : ℕ → Bool} {to all n : ℕ} → to ≤ all → LowestIn test 0 to n → LowestIn test 0 all n
+lowest-of-all more low =
+    record { begun = low .begun; within = omega (arith, low .within); holds = low .holds; first = low .first }
