@@ -69,7 +69,9 @@ returns-2 c =
 
 -- where the line of names has been read, from where the lines of the users have been
 abbrev headed : tie.After-known-told2 → tie.After-known-told
-headed c = c .before .before .before .before .before .before .before .before .before .before
+headed c =
+    let at-user-lines = c .before .before .before .before .before in
+    at-user-lines .before .before .before .before .before
 
 lines : (c : tie.After-known-told2)
     → let start = call (headed c) in
