@@ -21,14 +21,6 @@ pub fn first_classes(classes: &[u8; GRANT_LIMIT]) -> [u8; KERNEL_LIMIT]
     first
 }
 
-// The first cells of an array.
-pub fn first_cells(cells: &[u16], n: usize) -> &[u16]
-    requires { ⌜ n ≤ length (now cells) ⌝ }
-    ensures { λ r. ⌜ now r ≡ take n (now (cells .entry)) ⌝ }
-{
-    &cells[..n]
-}
-
 // The best placement of a kernel: the position's, or the first one where the kernel is too great to be searched.
 pub fn best_of<'a>(first: &'a [u8], best: &'a [u8], size: usize) -> &'a [u8]
     requires { ⌜ size ≤ length (best-classes (now first) (now best) size) ⌝ }

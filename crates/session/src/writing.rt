@@ -3,7 +3,6 @@
 use crate::Session;
 use crate::answers::WriteAnswer;
 use crate::classes::best_of;
-use crate::classes::first_cells;
 use crate::counts::counts_at;
 use blocks::Counts;
 use book::Writing;
@@ -22,26 +21,6 @@ ghost use Rattle.book.specs.Writing as writing;
 ghost use Rattle.session.specs.Said.{write-said};
 ghost use Rattle.session.specs.CodeSession.{view, Sound};
 
-// Writes the book of the sheet that the first `count` bytes are, where the buffer is long enough.
-fn book_into<'a>(
-    out: &mut [u8],
-    text: &'a [u8],
-    count: usize,
-    layout: Layout,
-    has: &'a [u64; CELL_WORDS],
-    gives: &'a [u64; ROLE_WORDS],
-    witness: &'a [u64; CELL_WORDS],
-    counts: Counts,
-) -> Writing
-    requires { ⌜ (count ≤ length (now text)) × LaidOut (take count (now text)) layout × (counts .roles ≤ row-bits)
-        × GrantCells (now witness) (sheet-of (take count (now text))) ⌝ }
-    ensures { λ r. ⌜ writing.Writes (rows-book (take count (now (text .entry))) (now (has .entry))
-        (now (gives .entry)) (now (witness .entry)) counts)
-        (now (out .entry)) (writing.writing-said r) (now (out .exit)) ⌝ }
-{
-    book::write_if_room(out, &text[..count], layout, has, gives, witness, counts)
-}
-
 impl Session {
     // Writes the book at the front of the buffer, or refuses and leaves every byte of it. The session after it is the
     // one before.
@@ -54,18 +33,18 @@ impl Session {
         }
         let size = self.prepared.kernel.size;
         let removals = self.prepared.reduced.count;
-        let kernel = first_cells(&self.prepared.kernel.cells, size);
         let best = best_of(&self.prepared.first.classes, &self.position.best, size);
-        let removed = first_cells(&self.prepared.reduced.removed, removals);
-        let partner = first_cells(&self.prepared.reduced.partner, removals);
+        let kernel: &[u16] = &self.prepared.kernel.cells;
+        let removed: &[u16] = &self.prepared.reduced.removed;
+        let partner: &[u16] = &self.prepared.reduced.partner;
         let matrices = roles::roles_of(
             &self.prepared.rows,
             self.prepared.layout.users,
-            kernel,
+            &kernel[..size],
             best,
             self.position.cursor.count,
-            removed,
-            partner,
+            &removed[..removals],
+            &partner[..removals],
         );
         let counts = counts_at(
             self.position.cursor.count,
@@ -74,10 +53,10 @@ impl Session {
             self.position.cursor.finished,
         );
         let layout = self.prepared.layout;
-        let writing = book_into(
+        let text: &[u8] = &self.text;
+        let writing = book::write_if_room(
             out,
-            &self.text,
-            self.length,
+            &text[..self.length],
             layout,
             &matrices.has,
             &matrices.gives,

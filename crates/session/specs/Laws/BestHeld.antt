@@ -37,22 +37,12 @@ best-above s l = rw (lt-leb (size-in s) search-limit l)
 abbrev pub best-in : CodeSession → List ℕ
 best-in s = best-classes (s .prepared .first .classes) (s .position .best) (size-in s)
 
--- the sheet's roles are found from these parts of what the session keeps
-abbrev pub BelongsIn : CodeSession → Type 0
-BelongsIn s =
-    Belongs (s .prepared .rows) (s .prepared .layout .users) (take (size-in s) (s .prepared .kernel .cells))
-    (take (size-in s) (best-in s)) (s .position .cursor .count)
-    (take (s .prepared .reduced .count) (s .prepared .reduced .removed))
+-- the sheet's roles are found from these parts of what the session keeps, with these classes
+abbrev pub PartsBelong : CodeSession → List ℕ → Type 0
+PartsBelong s classes =
+    Belongs (s .prepared .rows) (s .prepared .layout .users) (take (size-in s) (s .prepared .kernel .cells)) classes
+    (s .position .cursor .count) (take (s .prepared .reduced .count) (s .prepared .reduced .removed))
     (take (s .prepared .reduced .count) (s .prepared .reduced .partner)) (sheet-of (text-in s)) (state-in s .best)
-
--- and so from lists that are these parts
-pub parts-belong-in : (s : CodeSession) → BelongsIn s → {cells classes removed partner : List ℕ}
-    → cells ≡ take (size-in s) (s .prepared .kernel .cells) → classes ≡ take (size-in s) (best-in s)
-    → removed ≡ take (s .prepared .reduced .count) (s .prepared .reduced .removed)
-    → partner ≡ take (s .prepared .reduced .count) (s .prepared .reduced .partner)
-    → Belongs (s .prepared .rows) (s .prepared .layout .users) cells classes (s .position .cursor .count) removed
-    partner (sheet-of (text-in s)) (state-in s .best)
-parts-belong-in s belongs k c r p = rw (k, c, r, p) belongs
 
 module _ {s : CodeSession} (h : Holds s) where
   -- it is the best placement of the sheet where the search stands
@@ -85,7 +75,7 @@ module _ {s : CodeSession} (h : Holds s) where
         within : size-in s ≤ search-limit → size-in s ≤ length (best-in s)
         within l = rw (le-ltb search-limit (size-in s) l, best) l
 
-    pub best-belongs : BelongsIn s
+    pub best-belongs : PartsBelong s (take (size-in s) (best-in s))
     best-belongs =
         let found = h .prepared in
         reduced-belongs (found .shown) (few-users (found .laid))
