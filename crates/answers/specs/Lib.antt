@@ -1,5 +1,3 @@
--- The lines that answer a script's calls.
-pub mod Adler
-pub mod Answers
-pub mod LineOf
-pub mod Laws
+-- The answers of the code as document 01 has them, and the counts that follow from roles and witness.
+pub mod Said
+pub mod CountsFrom

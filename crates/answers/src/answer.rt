@@ -1,88 +1,114 @@
-// What a script's line is answered with, and the answer as a line in a lent buffer.
-use crate::adler::adler_32;
-use crate::lines::put_digest_line;
-use crate::lines::put_line;
-use checker::Checked;
+// What the calls of a session answer: a result comes with the number 0, a refusal with document 01's number and
+// counts 0.
+use blocks::Counts;
+use book::Writing;
 use roles::Standing;
-use session::LoadAnswer;
-use session::Named;
-use session::SearchAnswer;
-use session::WriteAnswer;
 ghost use mathlib.Core.Path.{_≡_};
-ghost use Prim.Native.Nat.{_≤_};
-ghost use lib.ListN.{length};
-ghost use Rattle.session.specs.Said.{search-said, write-said};
-ghost use Rattle.text.specs.Written.{Written};
-ghost use Rattle.answers.specs.Answers.{search-line, write-line};
-ghost use Rattle.answers.specs.LineOf.{answer-most, line-of};
+ghost use mathlib.Core.Option.{some};
+ghost use Rattle.spec.specs.Calls.{load-refused, search-refused, write-refused};
+ghost use Rattle.roles.specs.StandingCases.{standing-case};
+ghost use Rattle.book.specs.Writing.{writing-said};
+ghost use Rattle.answers.specs.Said.{load-said, search-said, write-said};
 
-// The bytes of an answer, at most.
-pub const ANSWER_BUFFER: usize = 160;
-
-// The answer of a call, or that a line is no call. A writing's has the Adler-32 of the bytes that it was lent.
-pub enum Answer {
-    NoCall,
-    Loaded(LoadAnswer),
-    Searched(SearchAnswer),
-    Written(WriteAnswer, u32),
-    Checked(Checked),
+// A load's counts: users, permissions, grants, the kernel's size k and the witness's count w.
+#[repr(C)]
+pub struct LoadAnswer {
+    pub number: usize,
+    pub users: usize,
+    pub permissions: usize,
+    pub grants: usize,
+    pub kernel: usize,
+    pub witness: usize,
 }
 
-// The answer of a writing, with the bytes that it was lent as they are after it.
-pub fn written(answer: WriteAnswer, lent: &[u8]) -> Answer
-    ensures { λ r. ⌜ line-of r ≡ write-line (write-said answer) (now (lent .entry)) ⌝ }
-{
-    Answer::Written(answer, adler_32(lent))
+// The state that a search names; a refused one names none.
+pub enum Named {
+    Nothing,
+    State(Standing),
 }
 
-// The line of a search: its state is the last word.
-fn put_searched(out: &mut [u8], answer: SearchAnswer) -> usize
-    requires { ⌜ answer-most ≤ length (now out) ⌝ }
-    ensures { λ r. ⌜ Written (search-line (search-said answer)) (now (out .entry)) (now (out .exit)) r ⌝ }
-{
-    let numbers = [
-        answer.number,
-        answer.steps as usize,
-        answer.roles,
-        answer.bound,
-    ];
-    let named = answer.state;
-    match named {
-        Named::Nothing => put_line(out, b"search", &numbers, b"-"),
-        Named::State(standing) => match standing {
-            Standing::Witnessed => put_line(out, b"search", &numbers, b"witnessed"),
-            Standing::Searched => put_line(out, b"search", &numbers, b"searched"),
-            Standing::Open => put_line(out, b"search", &numbers, b"open"),
-        },
+// A search's steps, roles, bound and state.
+pub struct SearchAnswer {
+    pub number: usize,
+    pub steps: u32,
+    pub roles: usize,
+    pub bound: usize,
+    pub state: Named,
+}
+
+// A writing's byte count.
+#[repr(C)]
+pub struct WriteAnswer {
+    pub number: usize,
+    pub count: usize,
+}
+
+impl LoadAnswer {
+    // A refusal.
+    pub fn refused(number: usize) -> LoadAnswer
+        ensures { λ r. ⌜ load-said r ≡ load-refused number ⌝ }
+    {
+        LoadAnswer {
+            number,
+            users: 0,
+            permissions: 0,
+            grants: 0,
+            kernel: 0,
+            witness: 0,
+        }
     }
 }
 
-// Writes the line of an answer.
-pub fn put_answer(out: &mut [u8], answer: Answer) -> usize
-    requires { ⌜ answer-most ≤ length (now out) ⌝ }
-    ensures { λ r. ⌜ Written (line-of answer) (now (out .entry)) (now (out .exit)) r ⌝ }
-{
-    match answer {
-        Answer::NoCall => text::put_bytes(out, b"?\n"),
-        Answer::Loaded(a) => {
-            let numbers = [
-                a.number,
-                a.users,
-                a.permissions,
-                a.grants,
-                a.kernel,
-                a.witness,
-            ];
-            put_line(out, b"load", &numbers, b"")
+impl SearchAnswer {
+    // A refusal, which names no state.
+    pub fn refused(number: usize) -> SearchAnswer
+        ensures { λ r. ⌜ search-said r ≡ search-refused number ⌝ }
+    {
+        SearchAnswer {
+            number,
+            steps: 0,
+            roles: 0,
+            bound: 0,
+            state: Named::Nothing,
         }
-        Answer::Searched(a) => put_searched(out, a),
-        Answer::Written(a, sum) => {
-            let numbers = [a.number, a.count];
-            put_digest_line(out, b"write", &numbers, sum)
+    }
+
+    // The steps made, and the counts where the search then stands.
+    pub fn found(steps: u32, counts: Counts) -> SearchAnswer
+        ensures { λ r. ⌜ search-said r ≡ record {
+          number = 0;
+          steps = steps;
+          roles = counts .roles;
+          bound = counts .bound;
+          standing = some (standing-case (counts .standing));
+        } ⌝ }
+    {
+        let standing = counts.standing;
+        SearchAnswer {
+            number: 0,
+            steps,
+            roles: counts.roles,
+            bound: counts.bound,
+            state: Named::State(standing),
         }
-        Answer::Checked(a) => {
-            let numbers = [a.number, a.roles, a.witness_lines];
-            put_line(out, b"check", &numbers, b"")
+    }
+}
+
+impl WriteAnswer {
+    // A refusal.
+    pub fn refused(number: usize) -> WriteAnswer
+        ensures { λ r. ⌜ write-said r ≡ write-refused number ⌝ }
+    {
+        WriteAnswer { number, count: 0 }
+    }
+
+    // What writing a book answered: its byte count, or that the buffer is shorter than the book.
+    pub fn of(writing: Writing) -> WriteAnswer
+        ensures { λ r. ⌜ write-said r ≡ writing-said writing ⌝ }
+    {
+        match writing {
+            Writing::Bytes(count) => WriteAnswer { number: 0, count },
+            Writing::TooShort => WriteAnswer::refused(11),
         }
     }
 }

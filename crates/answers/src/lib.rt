@@ -1,10 +1,10 @@
-// The lines that answer a script's calls, each built in a lent buffer with every byte said: a first word, numbers,
-// and a last word or the digest of some bytes.
-mod adler;
+// What the calls of a session answer, as values, and the counts where a search stands, which are in a search's answer
+// and in the book.
 mod answer;
-mod lines;
+mod counts;
 
-pub use answer::ANSWER_BUFFER;
-pub use answer::Answer;
-pub use answer::put_answer;
-pub use answer::written;
+pub use answer::LoadAnswer;
+pub use answer::Named;
+pub use answer::SearchAnswer;
+pub use answer::WriteAnswer;
+pub use counts::counts_at;

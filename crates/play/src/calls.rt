@@ -3,8 +3,8 @@
 use crate::say::say;
 use crate::space::SPACE_LIMIT;
 use crate::space::patterned;
-use answers::Answer;
-use answers::written;
+use answer_lines::Answer;
+use answer_lines::written;
 use decimal::BudgetRead;
 use numbers::BOOK_LIMIT;
 use numbers::SHEET_LIMIT;

@@ -1,7 +1,7 @@
 // A line of a script, taken apart and answered.
 use crate::calls;
 use crate::say::say;
-use answers::Answer;
+use answer_lines::Answer;
 use session::Session;
 ghost use Rattle.io.specs.Counts.{Counts};
 ghost use Rattle.session.specs.CodeSession.{Sound};

@@ -1,12 +1,12 @@
 -- The demands from the library's contracts as the sources have them. A run of the exported session calls is a
--- sequence of demand 3, as a run of the session's own calls is; the calls for a whole task and what the programs
--- print are tied to the demands one by one.
+-- sequence of demand 3, as a run of the session's own calls is; the calls for a whole task are tied to the demands
+-- one by one.
 use mathlib.Core.Path.{refl}
 use denote.Ref.{now}
 use Rattle.spec.specs.Calls.{search-answer}
 use Rattle.checker.specs.Laws.CodeCall.{CodeCall, Kept}
 use Rattle.right.specs.CheckOwed.{CheckOwed, check-owed}
-use Rattle.session.specs.Said.{write-said}
+use Rattle.answers.specs.Said.{write-said}
 use Rattle.session.specs.CodeSession.{view, Sound}
 use Rattle.session.specs.Laws.CodeSequence.{Calling, Tied, Demand1Of, Demand2Of, Demand3Of, tied-demand-1}
 use Rattle.session.specs.Laws.CodeSequence.{tied-demand-2, tied-demand-3}
@@ -14,7 +14,6 @@ use Rattle.session.proofs.Contracts.{begun-by, loads-by, writes-by}
 use Rattle.porvuund.specs.SearchNumbers.{Numbers, numbers-said, numbers-searched}
 use Rattle.porvuund.specs.Laws.TaskOwed.{TaskOwed, task-owed}
 use Rattle.checker.specs.BookSays.{answer-of}
-use Rattle.porvuund.specs.Laws.Printed.{BookPrinted, book-printed, CheckPrinted, check-printed}
 use Rattle.porvuund.proofs.sessions.porvuund_fresh.Reads as fresh-reads
 use Rattle.porvuund.proofs.sessions.porvuund_load.Reads as load-reads
 use Rattle.porvuund.proofs.sessions.porvuund_search.Kinds as search-kinds
@@ -24,10 +23,6 @@ use Rattle.porvuund.proofs.calls.porvuund_book.Kinds as book-kinds
 use Rattle.porvuund.proofs.calls.porvuund_book.Reads as book-reads
 use Rattle.porvuund.proofs.calls.porvuund_check.Kinds as check-kinds
 use Rattle.porvuund.proofs.calls.porvuund_check.Reads as check-reads
-use Rattle.porvuund.proofs.output.book_output.Kinds as book-output-kinds
-use Rattle.porvuund.proofs.output.book_output.Reads as book-output-reads
-use Rattle.porvuund.proofs.output.check_output.Kinds as check-output-kinds
-use Rattle.porvuund.proofs.output.check_output.Reads as check-output-reads
 
 -- ---- the session calls
 
@@ -91,19 +86,3 @@ pub check-of-the-library : (call : CodeCall 1 check-kinds.ps check-kinds.r) → 
     → CheckOwed (now (call .args .0)) (now (call .args .1 .0)) (answer-of (call .result))
 check-of-the-library call kept =
     check-owed (now (call .args .0)) (now (call .args .1 .0)) (answer-of (call .result)) (kept tt)
-
--- ---- what the programs print
-
--- the book that the book program prints is believed
-pub book-program-printed : (call : CodeCall 2 book-output-kinds.ps book-output-kinds.r)
-    → Kept book-output-reads.Pre book-output-reads.Post call
-    → BookPrinted (now (call .args .0)) (now (call .args .1 .0)) (now (call .args .1 .1 .0))
-    (now (call .left .1 .1 .0)) (call .result)
-book-program-printed call kept = book-printed (now (call .args .0)) (now (call .args .1 .0)) (kept tt)
-
--- the line that the check program prints is that of an answer that is owed
-pub check-program-printed : (call : CodeCall 2 check-output-kinds.ps check-output-kinds.r)
-    → Kept check-output-reads.Pre check-output-reads.Post call
-    → CheckPrinted (now (call .args .0)) (now (call .args .1 .0)) (now (call .args .1 .1 .0))
-    (now (call .left .1 .1 .0)) (call .result)
-check-program-printed call kept = check-printed (now (call .args .0)) (now (call .args .1 .0)) (kept tt)

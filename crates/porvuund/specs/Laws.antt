@@ -1,5 +1,2 @@
 -- The laws behind what contracts cite.
-pub mod Output
-pub mod Front
 pub mod TaskOwed
-pub mod Printed

@@ -1,10 +1,10 @@
 // A whole task in one call over bytes, as other languages link it.
 use checker::Checked;
 use session::Session;
-use session::WriteAnswer;
+use answers::WriteAnswer;
 ghost use Rattle.spec.specs.Calls.{Checks};
 ghost use Rattle.checker.specs.BookSays.{answer-of};
-ghost use Rattle.session.specs.Said.{write-said};
+ghost use Rattle.answers.specs.Said.{write-said};
 ghost use Rattle.porvuund.specs.OneShot.{Books};
 
 // The book of a sheet, after one search within the budget, at the front of the buffer: answered as a writing is. A

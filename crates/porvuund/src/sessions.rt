@@ -3,14 +3,14 @@
 // handed in is the one after it.
 use roles::Standing;
 use session::Loaded;
-use session::Named;
+use answers::Named;
 use session::Session;
-use session::WriteAnswer;
+use answers::WriteAnswer;
 ghost use mathlib.Core.Path.{_≡_};
 ghost use mathlib.Core.Logic.{_≢_};
 ghost use Rattle.spec.specs.Session.{fresh};
 ghost use Rattle.spec.specs.Calls.{Loads, Writes};
-ghost use Rattle.session.specs.Said.{load-said, write-said, state-said};
+ghost use Rattle.answers.specs.Said.{load-said, write-said, state-said};
 ghost use Rattle.session.specs.CodeSession.{view, Sound};
 ghost use Rattle.porvuund.specs.SearchNumbers.{state-number, SearchesAs};
 

@@ -4,7 +4,7 @@
 use libc::STDIN_FILENO;
 use libc::STDOUT_FILENO;
 use numbers::SHEET_LIMIT;
-use porvuund::PROGRAM_BUFFER;
+use outputs::PROGRAM_BUFFER;
 
 // One byte more than a sheet has, by which a longer one is known.
 const INPUT_LIMIT: usize = SHEET_LIMIT + 1;
@@ -18,6 +18,6 @@ fn main() {
     let mut argument = [0u8; ARGUMENT_LIMIT];
     let word = os::arg(1, &mut argument);
     let mut out = [0u8; PROGRAM_BUFFER];
-    let count = porvuund::book_output(&input[..length], &argument[..word], &mut out);
+    let count = outputs::book_output(&input[..length], &argument[..word], &mut out);
     io::write_all(STDOUT_FILENO, &out[..count]);
 }

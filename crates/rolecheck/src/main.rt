@@ -1,5 +1,5 @@
 // The checker as a program: `rolecheck SHEETFILE BOOKFILE` prints the book's roles and witness lines with a comma
-// between, or the number of the refusal, and a line feed. What it prints is `check-output` (porvuund, CheckOutput);
+// between, or the number of the refusal, and a line feed. What it prints is `check-output` (outputs, CheckOutput);
 // what is here only reads and writes. Where a file cannot be read it prints nothing, and standard error says why.
 use files::FileRead;
 use libc::PATH_MAX;
@@ -7,7 +7,7 @@ use libc::STDERR_FILENO;
 use libc::STDOUT_FILENO;
 use numbers::BOOK_LIMIT;
 use numbers::SHEET_LIMIT;
-use porvuund::CHECK_BUFFER;
+use outputs::CHECK_BUFFER;
 ghost use Rattle.io.specs.Counts.{Counts};
 
 // One byte more than a sheet and a book have, by which longer ones are known.
@@ -36,7 +36,7 @@ fn print_answer() {
     let sheet_length = first.count;
     let book_length = second.count;
     let mut out = [0u8; CHECK_BUFFER];
-    let count = porvuund::check_output(&sheet[..sheet_length], &book[..book_length], &mut out);
+    let count = outputs::check_output(&sheet[..sheet_length], &book[..book_length], &mut out);
     io::write_all(STDOUT_FILENO, &out[..count]);
 }
 

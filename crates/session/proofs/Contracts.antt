@@ -8,7 +8,7 @@ use Rattle.spec.specs.Text.{Bytes}
 use Rattle.spec.specs.Calls.{LoadAnswer}
 use Rattle.spec.specs.Sequence.{WriteOutcome}
 use Rattle.checker.specs.Laws.CodeCall.{CodeCall, Kept}
-use Rattle.session.specs.Said.{load-said, search-said, write-said}
+use Rattle.answers.specs.Said.{load-said, search-said, write-said}
 use Rattle.session.specs.Laws.CodeSequence.{Way, Calling, Tied, Demand1Of, Demand2Of, Demand3Of, tied-demand-1}
 use Rattle.session.specs.Laws.CodeSequence.{tied-demand-2, tied-demand-3}
 use Rattle.session.proofs.Session.fresh.Kinds as fresh-kinds

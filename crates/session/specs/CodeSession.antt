@@ -15,7 +15,7 @@ use Rattle.spec.specs.Session.{Session, no-sheet, loaded}
 use Rattle.search.specs.View.{PositionStands}
 use Rattle.search.specs.View as position
 use Rattle.minimality.specs.StateBound.{Searching}
-use Rattle.session.specs.Prepared.{PreparedFor}
+use Rattle.preparing.specs.Prepared.{PreparedFor}
 use Rattle.session.specs.declared.Session.{Session as CodeSession}
 
 -- the bytes of the sheet

@@ -1,22 +1,15 @@
 -- What a session has where its search stands, and where a search within a budget comes to.
 use Prim.Native.Nat.{ℕ}
 use mathlib.Core.Path.{_≡_}
-use mathlib.Core.Bool.{Bool}
 use Rattle.spec.specs.Sheet.{sheet-of}
 use Rattle.spec.specs.Machine.{search}
-use Rattle.spec.specs.Roles.{kernel-of, role-count, standing-of, bound-of, standing, bound}
+use Rattle.spec.specs.Roles.{kernel-of, role-count, standing, bound}
 use Rattle.search.specs.declared.machine.Position.{Position}
 use Rattle.search.specs.declared.machine.Ran.{Ran}
 use Rattle.roles.specs.StandingCases.{standing-case}
 use Rattle.blocks.specs.declared.counts.Counts.{Counts}
 use Rattle.session.specs.CodeSession.{text-in, state-in, Holds}
 use Rattle.session.specs.declared.Session.{Session as CodeSession}
-
--- state and bound beside so many roles and so many witness grants
-pub record CountsFrom (n w : ℕ) (finished : Bool) (counts : Counts) : Type 0 where
-  pub roles : counts .roles ≡ n
-  pub bound : counts .bound ≡ bound-of (standing-case (counts .standing)) n w
-  pub standing : standing-case (counts .standing) ≡ standing-of n w finished
 
 -- roles, bound and state
 pub record CountsIn (s : CodeSession) (counts : Counts) : Type 0 where

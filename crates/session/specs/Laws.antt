@@ -1,9 +1,6 @@
 -- The laws behind what contracts cite.
-pub mod Preparing
 pub mod Anew
 pub mod Loading
-pub mod ClassesCopied
-pub mod TableKernel
 pub mod MovedOn
 pub mod CountsHeld
 pub mod SearchedHeld

@@ -1,9 +1,5 @@
 -- The session of the code: what it stands for and keeps, what its calls answer, and that they are the calls of the
 -- demands.
-pub mod Said
-pub mod Prepared
-pub mod NothingPrepared
 pub mod CodeSession
 pub mod Counted
-pub mod BestOf
 pub mod Laws

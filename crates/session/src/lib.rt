@@ -5,22 +5,13 @@
 // answer, the session after it and, of a writing, every byte of the lent buffer, by the records `Loads`, `Searches`
 // and `Writes` of Calls in `spec`, which the sequence of demand 3 is made of; a sheet is lent to be read only. A call
 // asks only that the session came from these calls (`Sound`), which `fresh` establishes and each call keeps.
-mod answers;
-mod classes;
-mod counts;
 mod loading;
-mod prepared;
 mod searching;
-mod sheet_text;
 mod writing;
 
-use crate::prepared::Prepared;
-pub use answers::LoadAnswer;
-pub use answers::Named;
-pub use answers::SearchAnswer;
-pub use answers::WriteAnswer;
 pub use loading::Loaded;
 use numbers::SHEET_LIMIT;
+use preparing::Prepared;
 use search::Position;
 pub use searching::Searched;
 

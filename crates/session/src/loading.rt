@@ -1,14 +1,11 @@
 // Loads: a sheet taken in, or refused.
 use crate::Session;
-use crate::answers::LoadAnswer;
-use crate::classes::first_classes;
-use crate::prepared::Prepared;
-use crate::prepared::prepare;
-use crate::sheet_text::copied;
+use answers::LoadAnswer;
 use names::Layout;
 use numbers::CELL_WORDS;
 use numbers::KERNEL_LIMIT;
 use numbers::SHEET_LIMIT;
+use preparing::Prepared;
 use search::Position;
 use search::Sizes;
 ghost use mathlib.Core.Path.{_≡_};
@@ -20,7 +17,7 @@ ghost use Rattle.spec.specs.Refusal.{refusal};
 ghost use Rattle.spec.specs.Calls.{Loads};
 ghost use Rattle.names.specs.LaidOut.{LaidOut};
 ghost use Rattle.cells.specs.RowsRead.{RowsRead};
-ghost use Rattle.session.specs.Said.{load-said};
+ghost use Rattle.answers.specs.Said.{load-said};
 ghost use Rattle.session.specs.CodeSession.{view, Holds, Sound};
 
 // The session after a load, and what the load answers.
@@ -58,9 +55,9 @@ impl Session {
         ensures { λ r. ⌜ view r ≡ loaded (now (s .entry)) (start-of (sheet-of (now (s .entry)))) ⌝ }
         ensures { λ r. ⌜ Holds r ⌝ }
     {
-        let text = copied(s);
-        let prepared = prepare(layout, rows);
-        let first = first_classes(&prepared.first.classes);
+        let text = preparing::copied(s);
+        let prepared = preparing::prepare(layout, rows);
+        let first = preparing::first_classes(&prepared.first.classes);
         let sizes = Sizes {
             kernel: prepared.kernel.size,
             singles: prepared.reduced.singles,
@@ -94,10 +91,14 @@ impl Session {
         let layout = found.layout;
         let rows = found.rows;
         let session = Session::anew(s, layout, rows);
-        let prepared = session.prepared;
-        Loaded {
-            session,
-            answer: LoadAnswer::counts(prepared),
-        }
+        let answer = LoadAnswer {
+            number: 0,
+            users: session.prepared.layout.users,
+            permissions: session.prepared.layout.permissions,
+            grants: session.prepared.layout.grants,
+            kernel: session.prepared.kernel.size,
+            witness: session.prepared.witness.count,
+        };
+        Loaded { session, answer }
     }
 }

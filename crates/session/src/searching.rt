@@ -1,13 +1,12 @@
 // Searches: the session's own position moved forward within a budget.
 use crate::Session;
-use crate::answers::SearchAnswer;
-use crate::counts::counts_of;
+use answers::SearchAnswer;
 use search::Ran;
 use search::Sizes;
 ghost use mathlib.Core.Path.{_≡_};
 ghost use mathlib.Core.Logic.{_≢_};
 ghost use Rattle.spec.specs.Calls.{Searches};
-ghost use Rattle.session.specs.Said.{search-said};
+ghost use Rattle.answers.specs.Said.{search-said};
 ghost use Rattle.session.specs.CodeSession.{view, Holds, Sound};
 ghost use Rattle.session.specs.Counted.{RanIn};
 
@@ -51,7 +50,12 @@ impl Session {
         let position = ran.position;
         let mut after = self;
         after.position = position;
-        let counts = counts_of(after);
+        let counts = answers::counts_at(
+            after.position.cursor.count,
+            after.prepared.reduced.singles,
+            after.prepared.witness.count,
+            after.position.cursor.finished,
+        );
         Searched {
             session: after,
             answer: SearchAnswer::found(ran.steps, counts),

@@ -1,24 +1,9 @@
 // Writings: the book of the sheet where the search stands, into a lent buffer. A writing changes no session, so none
 // is handed back.
 use crate::Session;
-use crate::answers::WriteAnswer;
-use crate::classes::best_of;
-use crate::counts::counts_at;
-use blocks::Counts;
-use book::Writing;
-use names::Layout;
-use numbers::CELL_WORDS;
-use numbers::ROLE_WORDS;
-ghost use Prim.Native.Nat.{_≤_};
-ghost use lib.ListN.{length, take};
-ghost use Rattle.spec.specs.Sheet.{sheet-of};
+use answers::WriteAnswer;
 ghost use Rattle.spec.specs.Calls.{Writes};
-ghost use Rattle.cells.specs.Rows.{row-bits};
-ghost use Rattle.names.specs.LaidOut.{LaidOut};
-ghost use Rattle.blocks.specs.RowsSaid.{GrantCells};
-ghost use Rattle.book.specs.BookRows.{rows-book};
-ghost use Rattle.book.specs.Writing as writing;
-ghost use Rattle.session.specs.Said.{write-said};
+ghost use Rattle.answers.specs.Said.{write-said};
 ghost use Rattle.session.specs.CodeSession.{view, Sound};
 
 impl Session {
@@ -33,7 +18,7 @@ impl Session {
         }
         let size = self.prepared.kernel.size;
         let removals = self.prepared.reduced.count;
-        let best = best_of(&self.prepared.first.classes, &self.position.best, size);
+        let best = preparing::best_of(&self.prepared.first.classes, &self.position.best, size);
         let kernel: &[u16] = &self.prepared.kernel.cells;
         let removed: &[u16] = &self.prepared.reduced.removed;
         let partner: &[u16] = &self.prepared.reduced.partner;
@@ -46,7 +31,7 @@ impl Session {
             &removed[..removals],
             &partner[..removals],
         );
-        let counts = counts_at(
+        let counts = answers::counts_at(
             self.position.cursor.count,
             self.prepared.reduced.singles,
             self.prepared.witness.count,

@@ -21,10 +21,10 @@ use Rattle.search.specs.View as position
 use Rattle.search.specs.Laws.Carried.{started-stands}
 use Rattle.search.specs.declared.machine.Position.{Position}
 use Rattle.minimality.specs.StateBound.{searching-start}
-use Rattle.session.specs.Prepared.{PreparedFor}
-use Rattle.session.specs.Laws.TableKernel.{sizes-found}
+use Rattle.preparing.specs.Prepared.{PreparedFor}
+use Rattle.preparing.specs.Laws.TableKernel.{sizes-found}
 use Rattle.session.specs.CodeSession.{text-in, size-in, state-in, view, Holds}
-use Rattle.session.specs.declared.prepared.Prepared.{Prepared}
+use Rattle.preparing.specs.declared.prepared.Prepared.{Prepared}
 use Rattle.session.specs.declared.Session.{Session as CodeSession}
 
 -- ---- the first cover

@@ -16,10 +16,10 @@ use Rattle.spec.specs.Session.{Session, no-sheet, loaded}
 use Rattle.spec.specs.Refusal.{refusal, accepted}
 use Rattle.spec.specs.Calls.{LoadAnswer, load-refused, load-counts, load-answer, after-load, Loads}
 use Rattle.rules.specs.AcceptedFacts.{accepted-short}
-use Rattle.session.specs.Prepared.{PreparedFor, counts-in}
+use Rattle.preparing.specs.Prepared.{PreparedFor, counts-in}
 use Rattle.session.specs.CodeSession.{text-in, state-in, view}
 use Rattle.session.specs.declared.Session.{Session as CodeSession}
-use Rattle.session.specs.declared.prepared.Prepared.{Prepared}
+use Rattle.preparing.specs.declared.prepared.Prepared.{Prepared}
 
 module _ (before : Session) (text : Bytes) where
   -- refused

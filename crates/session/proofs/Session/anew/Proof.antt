@@ -7,7 +7,7 @@ use lib.ListN.{length}
 use Rattle.spec.specs.Limits.{sheet-limit}
 use Rattle.session.specs.Laws.Anew.{held-of, Anew, view-anew, holds-anew}
 use Rattle.session.specs.Laws.Loading.{unrefused-short}
-use Rattle.session.specs.Prepared.{PreparedFor}
+use Rattle.preparing.specs.Prepared.{PreparedFor}
 use Rattle.session.proofs.Session.anew.Statement.{statement}
 use Rattle.session.proofs.Session.anew.Tie as tie
 

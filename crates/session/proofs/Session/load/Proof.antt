@@ -7,8 +7,8 @@ use borrow.Author.Needs.{needs}
 use Rattle.spec.specs.Text.{Bytes}
 use Rattle.spec.specs.Sheet.{sheet-of}
 use Rattle.spec.specs.Roles.{start-of}
-use Rattle.spec.specs.Calls.{LoadAnswer, load-counts}
-use Rattle.session.specs.Said.{load-said}
+use Rattle.spec.specs.Calls.{load-counts}
+use Rattle.preparing.specs.Prepared.{counts-in}
 use Rattle.session.specs.CodeSession.{text-in}
 use Rattle.session.specs.Laws.Loading.{refused-loads, accepted-loads, text-loaded, counts-found}
 use Rattle.session.proofs.Session.load.Statement.{statement}
@@ -28,31 +28,24 @@ anew-requires c κs =
     let read = at-read .read .ensures .1 .0 e in
     (sym (at-read .read .ensures .0) ∙ e, read .0, read .1)
 
--- the answer has the counts of the sheet
-said : (c : tie.After-counts)
-    → let start = c .before .before .before .before .before .before .before .before in
-    load-said (c .counts .result) ≡ load-counts (sheet-of (start .args .s .now))
-said c =
-    let at-anew = c .before .before in
-    let session = at-anew .anew .result in
-    let text = at-anew .before .before .before .before .before .before .args .s .now in
-    c .counts .ensures ∙ counts-found (text-in session) (session .prepared) (at-anew .anew .ensures .1 .prepared)
+-- what was found has the counts of the sheet
+counted : (c : tie.After-anew)
+    → let start = c .before .before .before .before .before .before in
+    counts-in (c .anew .result .prepared) ≡ load-counts (sheet-of (start .args .s .now))
+counted c =
+    let session = c .anew .result in
+    let text = c .before .before .before .before .before .before .args .s .now in
+    counts-found (text-in session) (session .prepared) (c .anew .ensures .1 .prepared)
     ∙ ap (λ (t : Bytes). load-counts (sheet-of t)) (text-loaded session text (start-of (sheet-of text))
-    (at-anew .anew .ensures .0))
+    (c .anew .ensures .0))
 
 returns-2 : tie.Need-returns-2
 returns-2 c =
-    let at-anew = c .before .before in
-    let at-read = at-anew .before .before .before .before in (
-      accepted-loads _ _ (omega (arith, at-read .read .ensures .0)) (said c) (at-anew .anew .ensures .0),
-      (
-        record { held = λ _. at-anew .anew .ensures .1 },
-        λ refused. absurd
-            (refused (ap (λ (a : LoadAnswer). a .number) (said c))),
-      ),
+    let at-read = c .before .before .before .before in (
+      accepted-loads _ _ (omega (arith, at-read .read .ensures .0)) (counted c) (c .anew .ensures .0),
+      (record { held = λ _. c .anew .ensures .1 }, λ refused. absurd (refused refl)),
     )
 
 pub load-spec : {M : Type 1} → statement M
 load-spec =
-    tie.close (tie.spec (λ c κs. search needs) (λ c κs. search needs) returns anew-requires (λ c κs. search needs)
-    returns-2)
+    tie.close (tie.spec (λ c κs. search needs) (λ c κs. search needs) returns anew-requires returns-2)

@@ -11,7 +11,7 @@ use lib.ListN.{length}
 use lib.Seq.{length-take-le}
 use Rattle.spec.specs.Limits.{search-limit}
 use Rattle.spec.specs.Sheet.{sheet-of}
-use Rattle.session.specs.Said.{write-said}
+use Rattle.answers.specs.Said.{write-said}
 use Rattle.session.specs.CodeSession.{text-in, state-in, Holds}
 use Rattle.session.specs.Counted.{CountsIn}
 use Rattle.session.specs.Laws.CountsHeld.{few-roles-held, counts-held}

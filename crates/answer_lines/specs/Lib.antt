@@ -1,0 +1,5 @@
+-- The lines that answer a script's calls.
+pub mod Adler
+pub mod Answers
+pub mod LineOf
+pub mod Laws

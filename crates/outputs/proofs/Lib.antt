@@ -1,0 +1,2 @@
+-- What is shown of the contracts of what the programs print.
+pub mod Contracts

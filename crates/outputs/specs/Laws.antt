@@ -1,0 +1,4 @@
+-- The laws behind what contracts cite.
+pub mod Output
+pub mod Front
+pub mod Printed

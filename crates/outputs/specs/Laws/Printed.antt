@@ -1,0 +1,105 @@
+-- What is owed of what the programs print. The book program prints what one task on a buffer of 65,536 bytes brings
+-- out, and no book is longer; so what it prints for an accepted sheet is believed. The check program prints the line
+-- of an answer that is owed.
+use Prim.Native.Nat.{ℕ}
+use native.Mathlib.Omega.{arith}
+use mathlib.Core.Path.{_≡_, refl, sym, ap, _∙_}
+use mathlib.Core.Bool.{false, So}
+use mathlib.Core.List.{List, [], _∷_}
+use borrow.Author.Tests.{eq-eqb}
+use lib.ListN.{length, take, drop, replicate, length-replicate}
+use lib.Seq.{take-at}
+use Rattle.spec.specs.Limits.{book-limit}
+use Rattle.spec.specs.Text.{Bytes}
+use Rattle.spec.specs.Refusal.{refusal, accepted}
+use Rattle.spec.specs.Calls.{write-answer, CheckAnswer, check}
+use Rattle.spec.specs.Program.{budget-of, program-buffer, number-line, printed, program-output}
+use Rattle.spec.specs.Sequence.{WriteOutcome, brought-out}
+use Rattle.spec.specs.Demands.{Believed}
+use Rattle.text.specs.Written.{Written}
+use Rattle.right.specs.CheckOwed.{CheckOwed, check-owed}
+use Rattle.porvuund.specs.OneShot.{searched-once, book-answer, book-buffer}
+use Rattle.porvuund.specs.Laws.TaskOwed.{TaskOwed, task-owed}
+use Rattle.outputs.specs.CheckOutput.{check-line, check-output}
+
+-- what is written at the front of a buffer is what its first bytes then are
+front-written : {bytes before after : Bytes} {count : ℕ} → Written bytes before after count → take count after ≡ bytes
+front-written {bytes} {before} {after} {count} w =
+    ap (take count) (w .buffer) ∙ take-at bytes (drop (length bytes) before) count (sym (w .counted))
+
+-- ---- the book program
+
+module _ (text : Bytes) (arguments : List Bytes) where
+  abbrev zeros : Bytes
+  zeros = replicate program-buffer 0
+
+  -- the program's task, on its own buffer
+  abbrev task : WriteOutcome
+  task = record {
+    answer = book-answer text (budget-of arguments) zeros;
+    lent = book-buffer text (budget-of arguments)
+        zeros;
+  }
+
+  own-task : TaskOwed text (budget-of arguments) zeros task
+  own-task = task-owed text (budget-of arguments) zeros task (record { answers = refl; fills = refl })
+
+  -- its buffer takes every book
+  answered : So (accepted text) → task .answer .number ≡ 0
+  unfolding program-buffer book-limit
+  answered takes = own-task .owed takes .answered text (rw takes)
+      (omega (arith, length-replicate {A = ℕ} program-buffer 0))
+
+  -- what it prints is what the task brings out
+  prints-the-book : So (accepted text) → program-output text arguments ≡ brought-out task
+  unfolding program-output printed book-answer book-buffer
+  prints-the-book takes =
+      let z : write-answer (searched-once text (budget-of arguments)) zeros .number ≡ 0 = rw takes at
+      (answered takes) in
+      rw (takes, eq-eqb _ 0 z)
+
+  -- what the book program prints for an accepted sheet is believed
+  pub program-believed : So (accepted text) → Believed text (program-output text arguments)
+  program-believed takes = rw (prints-the-book takes) (own-task .believed (answered takes))
+
+  -- and for any other it prints the number of the refusal
+  program-refused : accepted text ≡ false → program-output text arguments ≡ number-line (refusal text)
+  unfolding program-output
+  program-refused fails = rw fails
+
+-- what is owed of the book program's output for a sheet and a word, at the front of its buffer
+pub record BookPrinted (text word before after : Bytes) (count : ℕ) : Type 0 where
+  -- what is to be printed and no other byte
+  pub written : Written (program-output text (word ∷ [])) before after count
+  pub believed : So (accepted text) → Believed text (take count after)
+  pub refused : accepted text ≡ false → take count after ≡ number-line (refusal text)
+
+pub book-printed : (text word : Bytes) {before after : Bytes} {count : ℕ} → Written (program-output text (word ∷ []))
+    before after count
+    → BookPrinted text word before after count
+book-printed text word w =
+    record {
+      written = w;
+      believed = λ takes. rw (front-written w) (program-believed text (word ∷ []) takes);
+      refused = λ fails. front-written w ∙ program-refused text (word ∷ []) fails;
+    }
+
+-- ---- the check program
+
+-- what is owed of the check program's output for a sheet and a book, at the front of its buffer: the line of an
+-- answer that is owed
+pub record CheckPrinted (text book before after : Bytes) (count : ℕ) : Type 0 where
+  pub answer : CheckAnswer
+  pub owed : CheckOwed text book answer
+  pub written : Written (check-line answer) before after count
+
+pub check-printed : (text book : Bytes) {before after : Bytes} {count : ℕ} → Written (check-output text book) before
+    after count
+    → CheckPrinted text book before after count
+unfolding check-output
+check-printed text book w =
+    record {
+      answer = check text book;
+      owed = check-owed text book (check text book) (record { answers = refl });
+      written = w;
+    }

@@ -1,0 +1,4 @@
+-- What the programs print.
+pub mod Lines
+pub mod CheckOutput
+pub mod Laws

@@ -1,0 +1,4 @@
+-- The laws behind what contracts cite.
+pub mod Preparing
+pub mod ClassesCopied
+pub mod TableKernel
