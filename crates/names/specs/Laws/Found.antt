@@ -1,6 +1,6 @@
 -- What looking for a name finds, as a user or as a permission: the same number under another name. Assumes nothing.
 use Prim.Native.Nat.{ℕ}
-use mathlib.Core.Path.{_≡_, refl, _∙_}
+use mathlib.Core.Path.{_≡_, refl}
 use mathlib.Core.List.{List}
 use mathlib.Core.Option.{Option, none, some}
 use Rattle.spec.specs.Text.{Bytes}

@@ -9,9 +9,6 @@ use Rattle.names.specs.Laws.Found.{found-there}
 use Rattle.names.proofs.layout.find_permission_in.Statement.{statement}
 use Rattle.names.proofs.layout.find_permission_in.Tie as tie
 
-find-from-requires : tie.Need-find-from-requires
-find-from-requires c κs = let names = permissions-there (c .before .before .before .pre) in (names .inside, names .apart)
-
 returns : tie.Need-returns
 returns c =
     let found = c .before .before .before in
@@ -28,4 +25,5 @@ returns-2 c =
 
 pub find-permission-in-spec : {M : Type 1} → statement M
 find-permission-in-spec =
-    tie.close (tie.spec find-from-requires (λ c. search needs) (λ c. search needs) returns returns-2)
+    tie.close (tie.spec (λ c κs. let n = permissions-there (c .before .before .before .pre) in (n .inside, n .apart))
+    (λ c. search needs) (λ c. search needs) returns returns-2)
