@@ -109,9 +109,6 @@ count-is-decimal (b ∷ a) e = choose (count-cases b a e)
         (after-is-decimal (d .number) a (w .some-number) (w .digits)
         ∙ rw (decimal-of-digit (d .number) (d .small), ← (d .spelled)))
 
-pub count-of-number : (a : Bytes) (n : ℕ) → So (is-count a) → number-of a ≡ n → a ≡ decimal n
-count-of-number a n e same = sym (count-is-decimal a e) ∙ ap decimal same
-
 -- ---- the bytes of a count
 
 -- a count has a digit
