@@ -26,12 +26,6 @@ pub record Found (n : ℕ) (f : ℕ → Bool) : Type 0 where
   pub within : place < n
   pub holds : So (f place)
 
--- a number below n that fails f
-pub record Missed (n : ℕ) (f : ℕ → Bool) : Type 0 where
-  pub place : ℕ
-  pub within : place < n
-  pub fails : f place ≡ false
-
 -- i is the lowest number below n that passes f
 pub record Lowest (n : ℕ) (f : ℕ → Bool) (i : ℕ) : Type 0 where
   pub within : i < n

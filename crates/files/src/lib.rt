@@ -1,4 +1,6 @@
 // Files, read whole into a lent buffer.
+ghost use mathlib.Core.Path.{_≡_};
+ghost use mathlib.Core.Bool.{false};
 ghost use Rattle.io.specs.Counts.{Counts};
 
 // Whether a file could be read, and how many of its bytes are at the front of the buffer.
@@ -7,41 +9,34 @@ pub struct FileRead {
     pub count: usize,
 }
 
-// Reads an open file to its end, or until the buffer is full. A folder can be opened, and fails at the first read.
-fn read_open(fd: i32, buf: &mut [u8]) -> FileRead
-    ensures { λ r. ⌜ Counts (r .count) (now (buf .exit)) ⌝ }
-{
-    let got = libc::read(fd, buf);
-    if got < 0 {
-        return FileRead {
-            readable: false,
-            count: 0,
-        };
-    }
-    let first = io::count(got, buf);
-    let rest = io::read_full(fd, &mut buf[first..]);
-    FileRead {
-        readable: true,
-        count: first + rest,
-    }
-}
+// A file that cannot be read.
+const UNREADABLE: FileRead = FileRead {
+    readable: false,
+    count: 0,
+};
 
-// Reads the file of this name to its end, or until the buffer is full. Standard error says why a file cannot be read.
+// Reads the file of this name to its end, or until the buffer is full. A folder can be opened, and fails at the first
+// read. Standard error says why a file cannot be read.
 pub fn read_file(path: &[u8], buf: &mut [u8]) -> FileRead
     ensures { λ r. ⌜ Counts (r .count) (now (buf .exit)) ⌝ }
+    ensures { λ r. ⌜ (r .readable ≡ false → r .count ≡ 0) ⌝ }
 {
     let fd = os::open_read(path);
     if fd < 0 {
         os::fail(path);
-        return FileRead {
-            readable: false,
-            count: 0,
-        };
+        return UNREADABLE;
     }
-    let read = read_open(fd, buf);
-    if !read.readable {
+    let got = libc::read(fd, buf);
+    if got < 0 {
         os::fail(path);
+        libc::close(fd);
+        return UNREADABLE;
     }
+    let first = io::count(got, buf);
+    let rest = io::read_full(fd, &mut buf[first..]);
     libc::close(fd);
-    read
+    FileRead {
+        readable: true,
+        count: first + rest,
+    }
 }

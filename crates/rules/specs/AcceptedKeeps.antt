@@ -14,7 +14,7 @@ use Rattle.spec.specs.Sheet.{first-field, first-line, is-one, sheet-of}
 use Rattle.spec.specs.Rules.{Name, Names, Keeps, sheet-text}
 use Rattle.lists.specs.TestLaws.{member-at}
 use Rattle.lists.specs.TailLaws.{tail-member, length-tail}
-use Rattle.text.specs.Laws.Text.{written-as-read-to-feed, read-byte, read-lines}
+use Rattle.text.specs.Laws.Text.{written-as-read-to-feed, read-in-text, read-lines}
 use Rattle.text.specs.Laws.Byte.{allowed-name-byte}
 use Rattle.rules.specs.SheetLines.{cells, UserLine, sheet-text-lines, lines-spelled}
 use Rattle.rules.specs.NameCauses.{Sized}
@@ -36,8 +36,9 @@ module _ (text : Bytes) (u : Unrefused text) where
   field-spelled : (line : Line) → List·Memᴰ line (lines-of text) → (field : Bytes) → List·Memᴰ field line
       → (b : ℕ) → List·Memᴰ b field → So (name-byte b)
   field-spelled line m field n b k =
-      let r = read-byte text line m field n b k in
-      allowed-name-byte b (u .bytes .allowed b (r .in-text)) (r .no-comma) (r .no-line-feed)
+      let held = read-lines text line m .each field n in
+      allowed-name-byte b (u .bytes .allowed b (read-in-text text line m field n b k)) (held .no-comma b k)
+      (held .no-line-feed b k)
 
   first-line-member : List·Memᴰ (first-line (lines-of text)) (lines-of text)
   first-line-member = member-at (lines-of text) 0 []

@@ -1,7 +1,6 @@
 -- The laws behind what contracts cite.
 pub mod Stands
 pub mod CellsStanding
-pub mod LineParts
 pub mod Spelled
 pub mod UserLineFound
 pub mod UserLines

@@ -21,19 +21,9 @@ fn least(a: usize, b: usize) -> usize
     if a < b { a } else { b }
 }
 
-// As many bytes of one name as asked, the last of them a line feed.
-pub fn fill(out: &mut [u8], n: usize) {
-    for i in 0..n {
-        put(out, i, b'a');
-    }
-    if 0 < n {
-        put(out, n - 1, b'\n');
-    }
-}
-
 // The first line: `user`, then the permissions.
 fn put_head(out: &mut [u8], permissions: usize) -> usize {
-    let mut at = put_word(out, 0, b"user");
+    let mut at = put_four(out, 0, *b"user");
     for p in 0..permissions {
         at = put(out, at, b',');
         at = put_name(out, at, b'p', p);
@@ -53,10 +43,7 @@ fn put_user(out: &mut [u8], at: usize, u: usize, permissions: usize, ones: usize
 
 // A name of a letter and three digits.
 fn put_name(out: &mut [u8], at: usize, letter: u8, n: usize) -> usize {
-    let hundreds = put(out, at, letter);
-    let tens = put(out, hundreds, digit(n / 100));
-    let units = put(out, tens, digit(n / 10));
-    put(out, units, digit(n))
+    put_four(out, at, [letter, digit(n / 100), digit(n / 10), digit(n)])
 }
 
 // The last decimal digit of n.
@@ -64,13 +51,12 @@ fn digit(n: usize) -> u8 {
     (n % 10) as u8 + b'0'
 }
 
-// Some bytes. Answers the place after them.
-fn put_word(out: &mut [u8], at: usize, word: &[u8]) -> usize {
-    let mut to = at;
-    for i in 0..word.len() {
-        to = put(out, to, word[i]);
-    }
-    to
+// Four bytes. Answers the place after them.
+fn put_four(out: &mut [u8], at: usize, four: [u8; 4]) -> usize {
+    let second = put(out, at, four[0]);
+    let third = put(out, second, four[1]);
+    let fourth = put(out, third, four[2]);
+    put(out, fourth, four[3])
 }
 
 // One byte. Answers the place after it.

@@ -1,104 +1,91 @@
 // Runs the judgement of a sheet at its limits, on each number alone, on several at once and on damaged sheets. A line
 // of the output says what the sheet is, the number that was answered, and, where that is 0, the counts of the sheet
-// that was read.
+// that was read. A table of cases has, for each, what the sheet is and the sheet, both ended by a semicolon.
 mod build;
 mod show;
 
+use numbers::SHEET_LIMIT;
 use show::show;
 use show::show_built;
-use show::show_filled;
+use show::show_each;
 
 fn main() {
-    permissions_and_users();
-    grants_and_bytes();
-    names();
-    accepted();
-    refused_lines();
-    refused_names();
-    refused_fields();
-    several();
-    damaged_lines();
-    damaged_bytes();
-    damaged_fields();
-}
-
-fn permissions_and_users() {
     show_built(b"64 permissions", 2, 64, 100);
     show_built(b"65 permissions", 2, 65, 100);
     show_built(b"256 users", 256, 3, 500);
     show_built(b"257 users", 257, 3, 500);
-}
-
-fn grants_and_bytes() {
     show_built(b"2048 grants", 256, 64, 2048);
     show_built(b"2049 grants", 256, 64, 2049);
-    show_filled(b"40960 bytes of one name", 40_960);
-    show_filled(b"40961 bytes of one name", 40_961);
+    long_name();
+    accepted_or_not();
+    each_number();
+    several();
+    damaged();
 }
 
-fn names() {
-    show(b"a name of 16 bytes", b"user,a\nabcdefghijklmnop,1\n");
-    show(b"a name of 17 bytes", b"user,a\nabcdefghijklmnopq,1\n");
-    show(b"a user and a permission of one name", b"user,bo\nbo,1\n");
-    show(b"upper and lower case", b"user,a\nAnn,1\nann,1\n");
+// Sheets of one long name and a line feed.
+fn long_name() {
+    let mut longest = [b'a'; SHEET_LIMIT];
+    longest[SHEET_LIMIT - 1] = b'\n';
+    show(b"40960 bytes of one name", &longest);
+    let mut longer = [b'a'; SHEET_LIMIT + 1];
+    longer[SHEET_LIMIT] = b'\n';
+    show(b"40961 bytes of one name", &longer);
 }
 
-fn accepted() {
-    show(
-        b"the sheet of the paper",
-        b"user,rec,id,map\nann,1,1,0\nbo,0,1,1\ncy,1,1,1\n",
+fn accepted_or_not() {
+    show_each(
+        b"a name of 16 bytes;user,a\nabcdefghijklmnop,1\n;\
+        a name of 17 bytes;user,a\nabcdefghijklmnopq,1\n;\
+        a user and a permission of one name;user,bo\nbo,1\n;\
+        upper and lower case;user,a\nAnn,1\nann,1\n;\
+        the sheet of the paper;user,rec,id,map\nann,1,1,0\nbo,0,1,1\ncy,1,1,1\n;\
+        one cell that says no;user,a\nbo,0\n;",
     );
-    show(b"one cell that says no", b"user,a\nbo,0\n");
 }
 
-fn refused_lines() {
-    show(b"a byte that is not allowed", b"user,a\nb!,1\n");
-    show(b"first field not user", b"User,a\nbo,1\n");
-    show(b"no permission", b"user\nbo\n");
-    show(b"no user line", b"user,a\n");
-}
-
-fn refused_names() {
-    show(b"a user without a name", b"user,a\n,1\n");
-    show(b"a permission without a name", b"user,a,\nbo,1,1\n");
-    show(b"two users of one name", b"user,a\nbo,1\ncy,1\nbo,0\n");
-    show(b"two permissions of one name", b"user,a,b,a\nbo,1,1,1\n");
-}
-
-fn refused_fields() {
-    show(b"a field too many", b"user,a\nbo,1,1\n");
-    show(b"a field too few", b"user,a,b\nbo,1\n");
-    show(b"a cell that is 2", b"user,a\nbo,2\n");
-    show(b"a cell that is empty", b"user,a,b\nbo,1,\n");
+fn each_number() {
+    show_each(
+        b"a byte that is not allowed;user,a\nb!,1\n;\
+        first field not user;User,a\nbo,1\n;\
+        no permission;user\nbo\n;\
+        no user line;user,a\n;\
+        a user without a name;user,a\n,1\n;\
+        a permission without a name;user,a,\nbo,1,1\n;\
+        two users of one name;user,a\nbo,1\ncy,1\nbo,0\n;\
+        two permissions of one name;user,a,b,a\nbo,1,1,1\n;\
+        a field too many;user,a\nbo,1,1\n;\
+        a field too few;user,a,b\nbo,1\n;\
+        a cell that is 2;user,a\nbo,2\n;\
+        a cell that is empty;user,a,b\nbo,1,\n;",
+    );
 }
 
 fn several() {
-    show(b"2 to 5 at once", b"usr,\r,");
-    show(b"3 to 5 at once", b"usr,\n");
-    show(b"4 and 5 at once", b"user,\n");
-    show(b"5 to 8 at once", b"user,a\n,2,\n,2,\n");
-    show(b"6 to 8 at once", b"user,a\nbo,2,0\nbo,0\n");
-    show(b"7 and 8 at once", b"user,a\nbo,x\nbo,0\n");
+    show_each(
+        b"2 to 5 at once;usr,\r,;\
+        3 to 5 at once;usr,\n;\
+        4 and 5 at once;user,\n;\
+        5 to 8 at once;user,a\n,2,\n,2,\n;\
+        6 to 8 at once;user,a\nbo,2,0\nbo,0\n;\
+        7 and 8 at once;user,a\nbo,x\nbo,0\n;",
+    );
 }
 
-fn damaged_lines() {
-    show(b"no bytes", b"");
-    show(b"a lone line feed", b"\n");
-    show(b"no line feed at the end", b"user,a\nbo,1");
-    show(b"an empty line at the end", b"user,a\nbo,1\n\n");
-    show(b"an empty line in the middle", b"user,a\n\nbo,1\n");
-    show(b"an empty first line", b"\nuser,a\nbo,1\n");
-}
-
-fn damaged_bytes() {
-    show(b"carriage returns", b"user,a\r\nbo,1\r\n");
-    show(b"a blank in a name", b"user,a\nb o,1\n");
-    show(b"a blank after a comma", b"user,a\nbo, 1\n");
-    show(b"a tab for a comma", b"user\ta\nbo\t1\n");
-}
-
-fn damaged_fields() {
-    show(b"a comma at the end of each line", b"user,a,\nbo,1,\n");
-    show(b"a comma in front", b",user,a\nbo,1\n");
-    show(b"a cell with a zero in front", b"user,a\nbo,01\n");
+fn damaged() {
+    show_each(
+        b"no bytes;;\
+        a lone line feed;\n;\
+        no line feed at the end;user,a\nbo,1;\
+        an empty line at the end;user,a\nbo,1\n\n;\
+        an empty line in the middle;user,a\n\nbo,1\n;\
+        an empty first line;\nuser,a\nbo,1\n;\
+        carriage returns;user,a\r\nbo,1\r\n;\
+        a blank in a name;user,a\nb o,1\n;\
+        a blank after a comma;user,a\nbo, 1\n;\
+        a tab for a comma;user\ta\nbo\t1\n;\
+        a comma at the end of each line;user,a,\nbo,1,\n;\
+        a comma in front;,user,a\nbo,1\n;\
+        a cell with a zero in front;user,a\nbo,01\n;",
+    );
 }

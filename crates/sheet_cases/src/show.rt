@@ -1,29 +1,47 @@
 // What the judgement answers for a sheet, on standard output.
 use crate::build::build;
-use crate::build::fill;
 use libc::STDOUT_FILENO;
 use numbers::CELL_WORDS;
 use sheet::SheetRead;
+ghost use Prim.Native.Nat.{_<_, _≤_};
+ghost use lib.ListN.{length};
 
 // Judges a sheet of as many users, permissions and grants as asked.
 pub fn show_built(label: &[u8], users: usize, permissions: usize, grants: usize) {
     let mut space = io::large_buffer();
     let n = build(&mut space, users, permissions, grants);
-    show_front(label, &space, n);
-}
-
-// Judges as many bytes as asked of one long name and a line feed.
-pub fn show_filled(label: &[u8], n: usize) {
-    let mut space = io::large_buffer();
-    fill(&mut space, n);
-    show_front(label, &space, n);
-}
-
-// Judges the first n bytes of a buffer.
-fn show_front<'a>(label: &'a [u8], space: &'a [u8], n: usize) {
     if n <= space.len() {
         show(label, &space[..n]);
     }
+}
+
+// Judges each sheet of a table: what it is and the sheet, both ended by a semicolon.
+pub fn show_each(table: &[u8]) {
+    let mut at = 0;
+    while at < table.len() {
+        let sheet = next_part(table, at);
+        if sheet == table.len() {
+            return;
+        }
+        let next = next_part(table, sheet);
+        show(&table[at..sheet - 1], &table[sheet..next - 1]);
+        at = next;
+    }
+}
+
+// The place behind the next semicolon, or the end.
+fn next_part(table: &[u8], at: usize) -> usize
+    requires { ⌜ at < length (now table) ⌝ }
+    ensures { λ r. ⌜ (at < r) × (r ≤ length (now (table .entry))) ⌝ }
+{
+    let mut i = at;
+    while i < table.len() {
+        i += 1;
+        if table[i - 1] == b';' {
+            return i;
+        }
+    }
+    i
 }
 
 // Writes what a sheet is, the number that is answered for it, and its counts where it is accepted.

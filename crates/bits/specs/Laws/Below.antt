@@ -12,7 +12,7 @@ use Rattle.spec.specs.Vocabulary.{some-below, every-below}
 use Rattle.bits.specs.Truth.{passes-or-fails, not-both, fails-unless, same-truth, and-intro, and-left}
 use Rattle.bits.specs.Truth.{and-right, and-left-comm, or-left, or-right, or-cases, or-left-comm, not-passes}
 use Rattle.bits.specs.Truth.{not-fails}
-use Rattle.bits.specs.Counting.{Found, Missed}
+use Rattle.bits.specs.Counting.{Found}
 
 -- a number below suc n
 pub last-or-below : {i n : ℕ} → i < suc n → (i ≡ n) ⊎ (i < n)
@@ -69,11 +69,6 @@ some-below-add a zero f = rw (add-zero, or-false)
 some-below-add a (suc b) f =
     rw (add-suc, some-below-add a b f) (or-left-comm (f (a + b)) (some-below a f) (some-below b (λ i. f (a + i))))
 
-pub some-below-first : (n : ℕ) (f : ℕ → Bool) → some-below (suc n) f ≡ (f 0 || some-below n (λ i. f (suc i)))
-unfolding some-below
-some-below-first zero f = refl
-some-below-first (suc n) f = rw (some-below-first n f) (or-left-comm (f (suc n)) (f 0) (some-below n (λ i. f (suc i))))
-
 -- ---- every
 
 pub every-below-intro : (n : ℕ) (f : ℕ → Bool) → ((i : ℕ) → i < n → So (f i)) → So (every-below n f)
@@ -92,16 +87,6 @@ every-below-elim (suc n) f e l =
 pub missed-below-intro : (n : ℕ) (f : ℕ → Bool) {i : ℕ} → i < n → f i ≡ false → every-below n f ≡ false
 missed-below-intro n f l p = fails-unless (every-below n f) (λ e. not-both (every-below-elim n f e l) p)
 
-pub missed-below-elim : (n : ℕ) (f : ℕ → Bool) → every-below n f ≡ false → Missed n f
-unfolding every-below
-missed-below-elim zero f e = absurd (false≢true (sym e))
-missed-below-elim (suc n) f e = split (passes-or-fails (f n)) (missed-below-elim n f)
-  where
-    split : So (f n) ⊎ (f n ≡ false) → (every-below n f ≡ false → Missed n f) → Missed (suc n) f
-    split (inl p) earlier =
-        let r = earlier (rw p at e) in record { place = r .place; within = le-step (r .within); fails = r .fails }
-    split (inr p) earlier = record { place = n; within = le-refl (suc n); fails = p }
-
 pub every-below-mono : (n : ℕ) (f g : ℕ → Bool) → ((i : ℕ) → i < n → So (f i) → So (g i)) → So (every-below n f)
     → So (every-below n g)
 every-below-mono n f g h e = every-below-intro n g (λ i l. h i l (every-below-elim n f e l))
@@ -117,12 +102,6 @@ unfolding every-below
 every-below-add a zero f = rw (add-zero, and-true)
 every-below-add a (suc b) f =
     rw (add-suc, every-below-add a b f) (and-left-comm (f (a + b)) (every-below a f) (every-below b (λ i. f (a + i))))
-
-pub every-below-first : (n : ℕ) (f : ℕ → Bool) → every-below (suc n) f ≡ (f 0 && every-below n (λ i. f (suc i)))
-unfolding every-below
-every-below-first zero f = refl
-every-below-first (suc n) f =
-    rw (every-below-first n f) (and-left-comm (f (suc n)) (f 0) (every-below n (λ i. f (suc i))))
 
 -- every number passes where none fails
 pub every-below-not : (n : ℕ) (f : ℕ → Bool) → every-below n f ≡ not (some-below n (λ i. not (f i)))

@@ -40,11 +40,6 @@ unfolding count-below
 count-below-split zero f g = refl
 count-below-split (suc n) f g = omega (arith, count-below-split n f g, one-if-split (f n) (g n))
 
-pub count-below-not : (n : ℕ) (f : ℕ → Bool) → count-below n f + count-below n (λ i. not (f i)) ≡ n
-unfolding count-below
-count-below-not zero f = refl
-count-below-not (suc n) f = omega (arith, count-below-not n f, one-if-split true (f n))
-
 -- two tests that share no number
 pub count-below-or : (n : ℕ) (f g : ℕ → Bool) → ((i : ℕ) → i < n → (f i && g i) ≡ false)
     → count-below n (λ i. f i || g i) ≡ count-below n f + count-below n g

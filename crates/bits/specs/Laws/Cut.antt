@@ -2,7 +2,7 @@
 -- one; and what some number below a bound passes, one number apart from the others.
 use Prim.Native.Nat.{ℕ, _≤_, _<_}
 use mathlib.Core.Path.{_≡_, sym, _∙_}
-use mathlib.Core.Logic.{_⊎_, inl, inr, ⊎-elim}
+use mathlib.Core.Logic.{⊎-elim}
 use mathlib.Core.Bool.{Bool, false, So, not, _&&_, _||_}
 use mathlib.Core.Option.{Option, none, some, Option·getD}
 use native.Mathlib.Nat.{lt-of-lt-of-le, lt-trans}
@@ -47,31 +47,6 @@ module _ (m n : ℕ) (f g : ℕ → Bool) (less : n ≤ m) (same : (i : ℕ) →
       lowest-below-none-intro m f (λ i l. ⊎-elim (λ k. same i k ∙ h i k) (λ k. later i k l) (below-or-from i n))
       ∙ sym (lowest-below-none-intro n g h))
       (lowest-below-cases n g)
-
-  -- the number found below the greater bound, or that bound, is the one found below the lesser one if it is below it
-  pub lowest-or-within : {r : ℕ} → r ≡ Option·getD (lowest-below m f) m → r < n → r ≡ Option·getD (lowest-below n g) n
-  lowest-or-within {r} e l =
-      ⊎-elim (λ w. rw (lowest-below-intro m f (lowest-widened (w .1))) at e ∙ rw (lowest-below-intro n g (w .1)))
-      (λ h. absurd (outside h (lowest-below-cases m f))) (lowest-below-cases n g)
-    where
-      outside : ((i : ℕ) → i < n → g i ≡ false) → ((i : ℕ) × Lowest m f i) ⊎ ((i : ℕ) → i < m → f i ≡ false) → ⊥
-      outside h (inl w) =
-          let found : r ≡ w .0 = rw (lowest-below-intro m f (w .1)) at e in
-          let within : w .0 < n = omega arith in
-          not-both (w .1 .holds) (same (w .0) within ∙ h (w .0) within)
-      outside h (inr k) =
-          let end : r ≡ m = rw (lowest-below-none-intro m f k) at e in
-          omega arith
-
-  -- and otherwise none is found below the lesser one
-  pub lowest-or-end : {r : ℕ} → r ≡ Option·getD (lowest-below m f) m → n ≤ r → n ≡ Option·getD (lowest-below n g) n
-  lowest-or-end {r} e l =
-      ⊎-elim
-      (λ w.
-      let found : r ≡ w .0 = rw (lowest-below-intro m f (lowest-widened (w .1))) at e in
-      let within : w .0 < n = w .1 .within in
-      absurd (omega arith))
-      (λ h. rw (lowest-below-none-intro n g h)) (lowest-below-cases n g)
 
 -- the number found below a bound, or the bound: below it, it was found
 pub getD-found : (o : Option ℕ) (n : ℕ) {r : ℕ} → r ≡ Option·getD o n → r < n → o ≡ some r

@@ -1,13 +1,10 @@
 -- Sums over the numbers below a bound. As with a count, each law is an induction on the bound that compares what the
 -- last number adds.
-use mathlib.Core.Path.{_≡_, refl, sym}
-use mathlib.Core.Logic.{⊎-elim}
-use mathlib.Core.Bool.{Bool}
+use mathlib.Core.Path.{_≡_, refl}
 use Prim.Native.Nat.{ℕ, zero, suc, _+_, _*_, _≤_, _<_}
-use native.Mathlib.Nat.{add-zero, add-suc, suc-mul, zero-mul, le-refl, le-step, le-dest, not-suc-le-zero}
+use native.Mathlib.Nat.{add-zero, add-suc, suc-mul, zero-mul, le-refl, le-step, le-dest}
 use native.Mathlib.Omega.{arith}
-use Rattle.bits.specs.Counting.{one-if, count-below, sum-below}
-use Rattle.bits.specs.Laws.Below.{last-or-below}
+use Rattle.bits.specs.Counting.{sum-below}
 
 pub sum-below-ext : (n : ℕ) (g h : ℕ → ℕ) → ((i : ℕ) → i < n → g i ≡ h i) → sum-below n g ≡ sum-below n h
 unfolding sum-below
@@ -38,13 +35,6 @@ unfolding sum-below
 sum-below-none zero g e = refl
 sum-below-none (suc n) g e = rw (sum-below-none n g (λ i l. e i (le-step l)), e n (le-refl (suc n)))
 
--- one of the numbers adds no more than all
-pub sum-below-one : (n : ℕ) (g : ℕ → ℕ) {i : ℕ} → i < n → g i ≤ sum-below n g
-unfolding sum-below
-sum-below-one zero g l = absurd (not-suc-le-zero l)
-sum-below-one (suc n) g l =
-    ⊎-elim (λ e. rw e (omega arith)) (λ k. omega (arith, sum-below-one n g k)) (last-or-below l)
-
 pub sum-below-const : (n c : ℕ) → sum-below n (λ i. c) ≡ n * c
 unfolding sum-below
 sum-below-const zero c = rw (zero-mul c)
@@ -53,21 +43,3 @@ sum-below-const (suc n) c = rw (sum-below-const n c, suc-mul n c)
 -- what each adds at most
 pub sum-below-le : (n c : ℕ) (g : ℕ → ℕ) → ((i : ℕ) → i < n → g i ≤ c) → sum-below n g ≤ n * c
 sum-below-le n c g h = rw (sum-below-const n c) at (sum-below-mono n g (λ i. c) h)
-
-pub sum-below-plus : (n : ℕ) (g h : ℕ → ℕ) → sum-below n (λ i. g i + h i) ≡ sum-below n g + sum-below n h
-unfolding sum-below
-sum-below-plus zero g h = refl
-sum-below-plus (suc n) g h = omega (arith, sum-below-plus n g h)
-
--- a count is a sum of ones
-pub sum-below-count : (n : ℕ) (f : ℕ → Bool) → sum-below n (λ i. one-if (f i)) ≡ count-below n f
-unfolding sum-below count-below
-sum-below-count zero f = refl
-sum-below-count (suc n) f = rw (sum-below-count n f)
-
--- rows first or columns first
-pub sum-below-swap : (m n : ℕ) (g : ℕ → ℕ → ℕ) → sum-below m (λ i. sum-below n (g i)) ≡ sum-below n
-    (λ j. sum-below m (λ i. g i j))
-unfolding sum-below
-sum-below-swap zero n g = sym (sum-below-none n (λ j. 0) (λ j l. refl))
-sum-below-swap (suc m) n g = rw (sum-below-swap m n g) (sym (sum-below-plus n (λ j. sum-below m (λ i. g i j)) (g m)))

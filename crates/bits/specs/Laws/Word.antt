@@ -9,7 +9,6 @@ use native.Mathlib.Nat.{pow-suc, lt-of-le-of-lt, zero-lt-suc}
 use native.Mathlib.Omega.{arith}
 use borrow.Author.Tests.{eq-eqb, eqb-true}
 use lib.Dec.{eqb, eqb·suc-zero, eqb·suc-suc}
-use lib.Pow.{pow-pos}
 use lib.Bits.{bitAnd, and-le-l, and-le-r}
 use lib.Count.{ones, ones-step, ones-le, trailingZeros}
 use Rattle.spec.specs.Vocabulary.{some-below, every-below}
@@ -97,9 +96,6 @@ dropped-count w r p h d =
 
 pub some-bit : (k n : ℕ) → 0 < n → n < 2 ^ k → So (some-below k (bit n))
 some-bit k n p h = let low = lowest-trailing k n p h in some-below-intro k (bit n) (low .within) (low .holds)
-
-pub no-bit : (k n : ℕ) → n < 2 ^ k → ((p : ℕ) → p < k → bit n p ≡ false) → n ≡ 0
-no-bit k n h e = bit-ext k n 0 h (pow-pos k) (λ p l. e p l ∙ sym (bit-of-zero p))
 
 pub within-test : (k a b : ℕ) → a < 2 ^ k → eqb (bitAnd a b) a ≡ every-below k (λ p. implies (bit a p) (bit b p))
 within-test k a b h =

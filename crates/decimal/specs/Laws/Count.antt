@@ -15,16 +15,15 @@ use Rattle.spec.specs.Text.{Bytes}
 use Rattle.spec.specs.Decimal.{digit, decimal, is-digit, is-count, number-after, number-of}
 use Rattle.bits.specs.Truth.{and-intro, and-left, and-right}
 use Rattle.decimal.specs.Laws.Decimal.{decimal-of-digit, decimal-of-more, decimal-induction, number-of-decimal}
-use Rattle.decimal.specs.Laws.Decimal.{is-digit-intro, is-digit-elim, digits-and-one, decimal-digits}
+use Rattle.decimal.specs.Laws.Decimal.{DigitOf, is-digit-intro, is-digit-elim, digits-and-one}
+use Rattle.decimal.specs.Laws.Decimal.{decimal-digits}
 
 -- ---- a number's decimal is a count
 
 -- digits that do not begin with `0`
 pub record Leading (b : ℕ) (rest : Bytes) : Type 0 where
-  pub number : ℕ
-  pub some-number : 1 ≤ number
-  pub small : number < 10
-  pub spelled : b ≡ digit number
+  pub first : DigitOf b
+  pub some-number : 1 ≤ first .number
   pub digits : So (all is-digit rest)
 
 -- a count is `0` or does not begin with it
@@ -41,10 +40,8 @@ count-cases b rest e = choose (eqb b (code "0")) refl e
     choose false p q =
         let d = is-digit-elim b (and-left (is-digit b) (all is-digit rest) q) in
         inr (record {
-          number = d .number;
+          first = d;
           some-number = positive (d .number) (λ z. eqb-false b (code "0") p (d .spelled ∙ ap digit z));
-          small = d .small;
-          spelled = d .spelled;
           digits = and-right (is-digit b) (all is-digit rest) q;
         })
       where
@@ -55,17 +52,16 @@ count-cases b rest e = choose (eqb b (code "0")) refl e
 -- and what does not begin with it is a count
 pub leading-is-count : (b : ℕ) (rest : Bytes) → Leading b rest → So (is-count (b ∷ rest))
 leading-is-count b rest l =
-    let spelled = l .spelled in
-    let more = l .some-number in
-    rw (ne-eqb b (code "0") (λ (z : b ≡ code "0"). omega arith), l .spelled)
-    (and-intro (is-digit (digit (l .number))) (all is-digit rest) (is-digit-intro (l .number) (l .small)) (l .digits))
+    let d = l .first in
+    rw (ne-eqb b (code "0") (λ (z : b ≡ code "0"). omega (arith, d .spelled, l .some-number)), d .spelled)
+    (and-intro (is-digit (digit (d .number))) (all is-digit rest) (is-digit-intro (d .number) (d .small)) (l .digits))
 
 -- one digit is a count
 digit-is-count : (n : ℕ) → n < 10 → So (is-count (digit n ∷ []))
 digit-is-count zero h = refl
 digit-is-count (suc n) h =
     leading-is-count (digit (suc n)) []
-    (record { number = suc n; some-number = omega arith; small = h; spelled = refl; digits = refl })
+    (record { first = record { number = suc n; small = h; spelled = refl }; some-number = omega arith; digits = refl })
 
 -- a count of 1 or more stays a count with one more digit behind it
 count-and-one : (a : Bytes) (d : ℕ) → d < 10 → So (is-count a) → 1 ≤ number-of a → So (is-count (a ++ digit d ∷ []))
@@ -76,13 +72,7 @@ count-and-one (b ∷ rest) d h e l = choose (count-cases b rest e)
     choose (inl z) = absurd (omega (arith, rw (z .0, z .1) at l))
     choose (inr w) =
         leading-is-count b (rest ++ digit d ∷ [])
-        (record {
-          number = w .number;
-          some-number = w .some-number;
-          small = w .small;
-          spelled = w .spelled;
-          digits = digits-and-one rest d h (w .digits);
-        })
+        (record { first = w .first; some-number = w .some-number; digits = digits-and-one rest d h (w .digits) })
 
 pub decimal-is-count : (n : ℕ) → So (is-count (decimal n))
 decimal-is-count =
@@ -113,19 +103,11 @@ count-is-decimal (b ∷ a) e = choose (count-cases b a e)
     choose : ((b ≡ code "0") × (a ≡ [])) ⊎ Leading b a → decimal (number-of (b ∷ a)) ≡ b ∷ a
     choose (inl z) = rw (z .0, z .1) (decimal-of-digit 0 (omega arith))
     choose (inr w) =
-        let first : 10 * 0 + (b - code "0") ≡ w .number = omega (arith, w .spelled) in
+        let d = w .first in
+        let first : 10 * 0 + (b - code "0") ≡ d .number = omega (arith, d .spelled) in
         rw first
-        (after-is-decimal (w .number) a (w .some-number) (w .digits) ∙ rw (
-          decimal-of-digit (w .number) (w .small),
-          ← (w .spelled),
-        ))
-
-pub count-of-number : (a : Bytes) (n : ℕ) → So (is-count a) → number-of a ≡ n → a ≡ decimal n
-count-of-number a n e same = sym (count-is-decimal a e) ∙ ap decimal same
-
--- two counts that say one number are the same bytes
-pub count-says-once : (a b : Bytes) → So (is-count a) → So (is-count b) → number-of a ≡ number-of b → a ≡ b
-count-says-once a b e f same = count-of-number a (number-of b) e same ∙ count-is-decimal b f
+        (after-is-decimal (d .number) a (w .some-number) (w .digits)
+        ∙ rw (decimal-of-digit (d .number) (d .small), ← (d .spelled)))
 
 -- ---- the bytes of a count
 

@@ -1,8 +1,8 @@
 -- Whether a name stands twice, by the places of the names. Assumes nothing.
-use Prim.Native.Nat.{ℕ, zero, suc, _<_}
+use Prim.Native.Nat.{ℕ, zero, suc, _≤_, _<_}
 use native.Mathlib.Nat.{not-suc-le-zero, le-of-suc-le-suc}
 use native.Mathlib.Omega.{arith}
-use mathlib.Core.Path.{_≡_, refl}
+use mathlib.Core.Path.{_≡_, refl, sym}
 use mathlib.Core.Bool.{Bool, false, So}
 use mathlib.Core.List.{List, [], _∷_, List·Memᴰ}
 use lib.ListN.{length, getD}
@@ -10,7 +10,7 @@ use Rattle.spec.specs.Vocabulary.{any, repeats}
 use Rattle.spec.specs.Text.{Bytes, same-name}
 use Rattle.bits.specs.Truth.{or-left, or-right, or-fails}
 use Rattle.lists.specs.TestLaws.{any-intro, none-intro, member-at, place-of}
-use Rattle.names.specs.NamesAt.{name-there, names-at, Apart}
+use Rattle.names.specs.NamesAt.{name-there, names-at, all-names, Apart}
 use Rattle.names.specs.Laws.NamesAt.{names-total, name-of}
 
 module _ {A : Type 0} where
@@ -48,8 +48,12 @@ module _ (text : Bytes) (places : List ℕ) (count : ℕ) where
       repeats-intro same-name [] (names-at text places count) i j h (rw (names-total text places count) k)
       (rw (name-of text places count i (omega arith), name-of text places count j k) p)
 
-  pub names-apart : Apart text places count → repeats same-name (names-at text places count) ≡ false
-  names-apart apart =
-      repeats-nowhere same-name [] (names-at text places count) (λ i j h k.
-      let within : j < count = rw (names-total text places count) at k in
-      rw (name-of text places count i (omega arith), name-of text places count j within) (apart i j h within))
+-- a loop that found no two equal up to the last name
+pub names-apart : (text : Bytes) (places : List ℕ) {n : ℕ} → length places ≤ n → Apart text places n
+    → false ≡ repeats same-name (all-names text places)
+names-apart text places all apart =
+    let names = all-names text places in
+    sym (repeats-nowhere same-name [] names (λ i j h k.
+    let within : j < length places = rw (names-total text places (length places)) at k in
+    rw (name-of text places (length places) i (omega arith), name-of text places (length places) j within)
+    (apart i j h (omega arith))))

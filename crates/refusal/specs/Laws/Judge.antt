@@ -1,9 +1,9 @@
 -- The causes 3 to 9 in terms of what reading the first line and the user lines says. A text with some byte is its
 -- first line and the lines after it, and every line has a first field. Assumes nothing.
-use Prim.Native.Nat.{ℕ, suc, _≤_}
+use Prim.Native.Nat.{ℕ, suc}
 use native.Mathlib.Omega.{arith}
 use mathlib.Core.Path.{_≡_, refl, sym, ap, ap₂, _∙_}
-use mathlib.Core.Bool.{Bool, false, So, not, _&&_, _||_, false≢true}
+use mathlib.Core.Bool.{Bool, false, not, _&&_, _||_, false≢true}
 use mathlib.Core.List.{List, [], _∷_, map, tail}
 use borrow.Author.Tests.{eqb-true, eq-eqb, leb-true, le-leb}
 use lib.Dec.{eqb, leb, ltb}
@@ -15,7 +15,7 @@ use Rattle.spec.specs.Text.{same-name}
 use Rattle.spec.specs.Sheet.{first-field, sheet-of, grants}
 use Rattle.spec.specs.Refusal.{too-long, bad-bytes, bad-first-line, bad-line-count, has-name-length, bad-name}
 use Rattle.spec.specs.Refusal.{uneven-line, bad-cell, name-twice, too-many-grants, refuse-if, refusal}
-use Rattle.bits.specs.Truth.{same-truth, and-right}
+use Rattle.bits.specs.Truth.{same-truth}
 use Rattle.lists.specs.Span.{span}
 use Rattle.lists.specs.CutLaws.{parted-some}
 use Rattle.lists.specs.TailLaws.{length-tail}
@@ -74,9 +74,6 @@ within-after-first low high n = ap₂ _&&_ (least low n) (least n high)
     least a b =
         same-truth (leb (suc a) (suc b)) (leb a b) (λ p. le-leb a b (omega (arith, leb-true (suc a) (suc b) p)))
         (λ p. le-leb (suc a) (suc b) (omega (arith, leb-true a b p)))
-
-pub within-high : (low high n : ℕ) → So (between low high n) → n ≤ high
-within-high low high n p = leb-true n high (and-right (leb low n) (leb n high) p)
 
 -- lines with some field have as many fields as asked where they have one less after the first
 even-after-first : (width : ℕ) (parts : List Bytes)
@@ -137,36 +134,24 @@ module _ (text : Bytes) (head : LineRead) (r : HeadRead text head) where
   unfolding name-twice sheet-of
   cause-8 = rw text-lines
 
-module _ (text : Bytes) (head : LineRead) (r : HeadRead text head) (body : Body)
-    (others : body ≡ body-of (head .cells .count) (lines-after text head)) where
-  pub cause-4 : bad-line-count (lines-of text) ≡ not (between 1 user-limit (body .users))
-  unfolding bad-line-count
-  cause-4 = rw (text-lines text head r, others)
+-- the causes 4 to 7 and 9, by what the first line and the lines after it say
+pub record BodyTold (text : Bytes) (head : LineRead) (body : Body) : Type 0 where
+  pub line-count : bad-line-count (lines-of text) ≡ not (between 1 user-limit (body .users))
+  pub names : bad-name (sheet-of text) ≡ not (head .cells .names && body .names)
+  pub even : uneven-line (lines-of text) ≡ not (body .even)
+  pub cells : bad-cell (lines-of text) ≡ not (body .bits)
+  pub grants : too-many-grants (sheet-of text) ≡ ltb grant-limit (body .ones)
 
-  pub cause-5 : bad-name (sheet-of text) ≡ not (head .cells .names && body .names)
-  unfolding bad-name sheet-of
-  cause-5 = rw (
-    text-lines text head r,
-    r .first .cells,
-    others,
-    all-map has-name-length first-field
-        (lines-after text head),
-  )
-
-  pub cause-6 : uneven-line (lines-of text) ≡ not (body .even)
-  unfolding uneven-line
-  cause-6 =
-      rw (text-lines text head r, first-total text head r, others)
-      (ap not (even-after-first (head .cells .count) (lines (drop (head .next) text))))
-
-  pub cause-7 : bad-cell (lines-of text) ≡ not (body .bits)
-  unfolding bad-cell
-  cause-7 = rw (text-lines text head r, others)
-
-  pub grants-counted : length (grants (sheet-of text)) ≡ body .ones
-  unfolding sheet-of
-  grants-counted = rw (text-lines text head r, others) (rows-ones 0 (lines-after text head))
-
-  pub cause-9 : too-many-grants (sheet-of text) ≡ ltb grant-limit (body .ones)
-  unfolding too-many-grants
-  cause-9 = rw grants-counted
+pub body-told : (text : Bytes) (head : LineRead) (r : HeadRead text head) (body : Body)
+    → body ≡ body-of (head .cells .count) (lines-after text head) → BodyTold text head body
+unfolding bad-line-count bad-name uneven-line bad-cell too-many-grants sheet-of
+body-told text head r body others =
+    let split = text-lines text head r in
+    record {
+      line-count = rw (split, others);
+      names = rw (split, r .first .cells, others, all-map has-name-length first-field (lines-after text head));
+      even = rw (split, first-total text head r, others)
+          (ap not (even-after-first (head .cells .count) (lines (drop (head .next) text))));
+      cells = rw (split, others);
+      grants = rw (split, others, rows-ones 0 (lines-after text head));
+    }

@@ -16,15 +16,19 @@ use Rattle.spec.specs.Text.{ascii, same-bytes, Bytes, comma, line-feed}
 use Rattle.bits.specs.Truth.{and-left, and-right}
 use Rattle.bits.specs.Laws.Below.{last-or-below}
 use Rattle.lists.specs.TestLaws.{same-bytes-equal}
-use Rattle.lists.specs.Listed.{listed-suc, listed-same}
+use Rattle.lists.specs.Listed.{listed, listed-suc, listed-same}
+use Rattle.text.specs.Laws.Line.{line-parts}
 use Rattle.names.specs.Places.{place-base, place-of, from-at, to-at, to-of, part, BlankPast}
 use Rattle.names.specs.NamesAt.{name-there}
 use Rattle.names.specs.Laws.Places.{note-place, place-stays, noted-from, noted-to, blank-kept}
 use Rattle.sheet.specs.Stands.{Stands}
 use Rattle.sheet.specs.Laws.Stands.{stands-then, stands-found, stands-part}
-use Rattle.sheet.specs.Laws.LineParts.{fields-text, line-in-parts}
 use Rattle.sheet.specs.Spelled.{NameAt}
 use Rattle.sheet.specs.FirstLine.{says-user, NamesRoom, end-before, Run, FirstLineStands}
+
+-- fields by number, each behind a comma
+abbrev pub fields-text : ℕ → (ℕ → Bytes) → Bytes
+fields-text count field = listed count (λ i. comma ∷ field i)
 
 -- `user` and the first n names stand in the text up to `at`
 pub record NamesNoted (text : Bytes) (places : List ℕ) (n at : ℕ) : Type 0 where
@@ -128,7 +132,7 @@ first-line-stands text places n at read some found =
       some-name = some;
       few = read .few;
       each = read .each;
-      stands = rw (line-in-parts (ascii "user") n (name-there text places))
+      stands = rw (line-parts (ascii "user") n (name-there text places))
           (stands-then (read .stands) (stands-found text at line-feed found));
       run = read .run;
       unnoted = read .unnoted;

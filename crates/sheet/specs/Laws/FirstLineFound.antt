@@ -16,7 +16,7 @@ use Rattle.bits.specs.Truth.{not-both, and-intro, and-right}
 use Rattle.bits.specs.Laws.Below.{below-or-from}
 use Rattle.lists.specs.TestLaws.{member-at}
 use Rattle.names.specs.Places.{part}
-use Rattle.sheet.specs.Laws.LineParts.{joined-in-parts}
+use Rattle.text.specs.Laws.Line.{joined-parts}
 use Rattle.sheet.specs.Spelled.{name-read}
 use Rattle.sheet.specs.Laws.Spelled.{behind, name-found}
 use Rattle.sheet.specs.Laws.UserLineFound.{Behind, byte-found}
@@ -41,7 +41,7 @@ names-behind (name ∷ names) rest = record { byte = comma; rest = _; starts = r
 first-in-parts : (names : List Bytes) (rest : Bytes)
     → line-text (ascii "user" ∷ names) ++ rest ≡ ascii "user" ++ (behind-commas names ++ line-feed ∷ rest)
 first-in-parts names rest =
-    ap (λ (l : Bytes). (l ++ line-feed ∷ []) ++ rest) (joined-in-parts (ascii "user") names)
+    ap (λ (l : Bytes). (l ++ line-feed ∷ []) ++ rest) (joined-parts (ascii "user") names)
     ∙ append-assoc (ascii "user" ++ behind-commas names) (line-feed ∷ []) rest ∙ append-assoc (ascii "user")
     (behind-commas names) (line-feed ∷ rest)
 

@@ -17,7 +17,8 @@ use Rattle.names.specs.Places.{part}
 use Rattle.text.specs.Fields.{separator}
 use Rattle.cell_text.specs.CellsWord.{CellsStand, CellsIn}
 use Rattle.sheet.specs.Laws.CellsStanding.{cells-text, cells-length, cells-stand, stands-cells}
-use Rattle.sheet.specs.Laws.LineParts.{fields-text, line-in-parts}
+use Rattle.text.specs.Laws.Line.{line-parts}
+use Rattle.sheet.specs.Laws.FirstLine.{fields-text}
 use Rattle.sheet.specs.Spelled.{name-read}
 use Rattle.sheet.specs.UserLine.{Spells, LineStands}
 use Rattle.sheet.specs.Laws.Stands.{stands-then, stands-found, stands-part}
@@ -50,7 +51,7 @@ module _ (text : Bytes) (at width : ℕ) (name : Bytes) (ones : ℕ → Bool) (r
     (line : Spells text at width name ones rest) where
   in-parts : drop at text ≡ name ++ (cells-text width ones ++ line-feed ∷ rest)
   in-parts =
-      line .spelled ∙ ap (λ (l : Bytes). l ++ rest) (line-in-parts name width (λ i. cell-text (ones i)))
+      line .spelled ∙ ap (λ (l : Bytes). l ++ rest) (line-parts name width (λ i. cell-text (ones i)))
       ∙ append-assoc (name ++ cells-text width ones) (line-feed ∷ []) rest ∙ append-assoc name (cells-text width ones)
       (line-feed ∷ rest)
 
@@ -97,7 +98,7 @@ line-stands text at width to word h named cells p =
     record {
       user = record { name = name; narrow = cells .beyond };
       forward = omega (arith, name .forward);
-      stands = rw (add-one, line-in-parts (part at to text) width (λ i. cell-text (bit word i)))
+      stands = rw (add-one, line-parts (part at to text) width (λ i. cell-text (bit word i)))
           (stands-then
           (stands-then (stands-part text at to (omega (arith, name .forward)) (name .within))
           (stands-cells text to width (bit word) (cells .stand)))

@@ -6,10 +6,9 @@ use native.Mathlib.Omega.{arith}
 use native.Mathlib.Numerals.{add-one}
 use mathlib.Core.Path.{_≡_, refl, sym, ap, subst, _∙_}
 use mathlib.Core.Logic.{⊎-elim}
-use mathlib.Core.List.{List, [], _∷_, _++_, map, map-append, append-assoc, append-nil}
+use mathlib.Core.List.{List, [], _∷_, _++_, append-assoc, append-nil}
 use lib.ListN.{length, getD, drop, set, replicate, length-set, length-replicate}
 use lib.Seq.{getD-set-same, getD-set-other, drop-at, drop-append-le}
-use Rattle.spec.specs.Vocabulary.{concat}
 use Rattle.spec.specs.Limits.{user-limit}
 use Rattle.spec.specs.Text.{Bytes, Line, line-text, text-of}
 use Rattle.bits.specs.Counting.{count-below, sum-below}
@@ -18,7 +17,7 @@ use Rattle.bits.specs.Laws.Count.{count-below-le}
 use Rattle.bits.specs.Laws.Sum.{sum-below-ext, sum-below-le}
 use Rattle.bits.specs.Laws.Step.{sum-below-step}
 use Rattle.bits.specs.Bit.{bit, word-bits}
-use Rattle.lists.specs.JoinLaws.{concat-append}
+use Rattle.text.specs.Laws.Line.{text-append}
 use Rattle.lists.specs.ListOfLaws.{list-of-last, list-of-same, length-list-of}
 use Rattle.cells.specs.Rows.{row-words}
 use Rattle.names.specs.Places.{place-base, place-of, from-at, to-at}
@@ -32,8 +31,7 @@ use Rattle.sheet.specs.declared.user_line.UserLine.{UserLine}
 -- one line more in a text
 pub text-more : (lines : List Line) (line : Line) → text-of (lines ++ line ∷ []) ≡ text-of lines ++ line-text line
 text-more lines line =
-    ap concat (map-append line-text lines (line ∷ [])) ∙ concat-append (map line-text lines) (line-text line ∷ [])
-    ∙ ap (λ (l : Bytes). text-of lines ++ l) (append-nil (line-text line))
+    text-append lines (line ∷ []) ∙ ap (λ (l : Bytes). text-of lines ++ l) (append-nil (line-text line))
 
 -- no line yet
 pub lines-start : (text : Bytes) (start width : ℕ) (places words : List ℕ) → start ≤ length text → Room places words

@@ -13,7 +13,8 @@ use Rattle.lists.specs.ListOfLaws.{list-of-places, map-list-of}
 use Rattle.lists.specs.Listed.{listed}
 use Rattle.text.specs.Line.{behind-comma, line-end}
 
-joined-parts : (field : Bytes) (rest : List Bytes) → joined comma (field ∷ rest) ≡ field ++ concat
+-- a line before its line feed
+pub joined-parts : (field : Bytes) (rest : List Bytes) → joined comma (field ∷ rest) ≡ field ++ concat
     (map behind-comma rest)
 joined-parts field [] = sym (append-nil field)
 joined-parts field (next ∷ rest) = ap (λ (l : Bytes). field ++ comma ∷ l) (joined-parts next rest)

@@ -4,7 +4,7 @@
 use Prim.Native.Nat.{ℕ, _≤_}
 use mathlib.Core.Path.{_≡_, refl, sym, ap, _∙_}
 use mathlib.Core.Logic.{⊎-elim}
-use mathlib.Core.Bool.{false, So}
+use mathlib.Core.Bool.{So}
 use mathlib.Core.List.{List, [], _∷_, map, map-map, List·Memᴰ, Memᴰ·of-map}
 use borrow.Author.Tests.{eqb-true, eq-eqb}
 use lib.Dec.{eqb}
@@ -13,7 +13,7 @@ use Rattle.spec.specs.Vocabulary.{joined, concat}
 use Rattle.spec.specs.Text.{last-byte, Bytes, Line, comma, line-feed, lines, fields, lines-of, text-of}
 use Rattle.lists.specs.JoinLaws.{joined-element, map-fixed}
 use Rattle.lists.specs.CutLaws.{Free, Parts, closed, ending, parted-joined, joined-parted, parted-some, ended-concat}
-use Rattle.lists.specs.CutLaws.{concat-ended, parted-element, ended-element}
+use Rattle.lists.specs.CutLaws.{concat-ended, parted-element, ended-element, parted-parts, ended-parts}
 
 -- a field that a line can hold: neither comma nor line feed stands in it
 pub record Field (field : Bytes) : Type 0 where
@@ -79,40 +79,31 @@ ends-in-feed [] e = refl
 ends-in-feed (b ∷ []) e = eq-eqb line-feed b (sym e)
 ends-in-feed (b ∷ next ∷ rest) e = ends-in-feed (next ∷ rest) e
 
--- and back
-pub feed-at-end : (b : ℕ) (rest : Bytes) → So (closed (eqb line-feed) (b ∷ rest)) → last-byte (b ∷ rest) ≡ line-feed
-feed-at-end b [] e = only line-feed b e
-feed-at-end b (next ∷ rest) e = feed-at-end next rest e
-
 -- so a text that ends in a line feed is what is written of its lines
 pub written-as-read-to-feed : (text : Bytes) → last-byte text ≡ line-feed → text-of (lines-of text) ≡ text
 written-as-read-to-feed text e = written-as-read text (ends-in-feed text e)
 
 -- ---- what is read
 
--- a byte of a field is a byte of the text, and neither comma nor line feed
-pub record ReadByte (text : Bytes) (b : ℕ) : Type 0 where
-  pub in-text : List·Memᴰ b text
-  pub no-comma : eqb comma b ≡ false
-  pub no-line-feed : eqb line-feed b ≡ false
-
--- every byte of every field that is read is such a byte
-pub read-byte : (text : Bytes) (line : Line) → List·Memᴰ line (lines-of text) → (field : Bytes) → List·Memᴰ field line
-    → (b : ℕ) → List·Memᴰ b field → ReadByte text b
-read-byte text line m field n b k =
+-- a byte of a field that is read is a byte of the text
+pub read-in-text : (text : Bytes) (line : Line) → List·Memᴰ line (lines-of text) → (field : Bytes)
+    → List·Memᴰ field line → (b : ℕ) → List·Memᴰ b field → List·Memᴰ b text
+read-in-text text line m field n b k =
     let r = Memᴰ·of-map fields (lines text) m in
     let inner = parted-element (eqb comma) (r .0) field (rw (← r .2) at n) b k in
-    let outer = ended-element (eqb line-feed) text (r .0) (r .1) b (inner .member) in
-    record { in-text = outer .member; no-comma = inner .free; no-line-feed = outer .free }
+    ended-element (eqb line-feed) text (r .0) (r .1) b (inner .member) .member
 
 -- what is read are lines that a text can hold
 pub read-lines : (text : Bytes) → Lines (lines-of text)
 read-lines text line m =
+    let r = Memᴰ·of-map fields (lines text) m in
     record {
-      some-field = (let r = Memᴰ·of-map fields (lines text) m in rw (← r .2) (parted-some (eqb comma) (r .0)));
+      some-field = rw (← r .2) (parted-some (eqb comma) (r .0));
       each = λ field n.
           record {
-            no-comma = λ b k. read-byte text line m field n b k .no-comma;
-            no-line-feed = λ b k. read-byte text line m field n b k .no-line-feed;
+            no-comma = parted-parts (eqb comma) (r .0) field (rw (← r .2) at n);
+            no-line-feed = λ b k.
+                ended-parts (eqb line-feed) text (r .0) (r .1) b
+                (parted-element (eqb comma) (r .0) field (rw (← r .2) at n) b k .member);
           };
     }

@@ -3,7 +3,7 @@
 use Prim.Native.Nat.{_-_, _/_, _≤_, _<_}
 use native.Mathlib.Omega.{arith}
 use native.Mathlib.Numerals.{add-one}
-use mathlib.Core.Path.{_≡_, sym, _∙_}
+use mathlib.Core.Path.{sym, _∙_}
 use lib.ListN.{length}
 use Rattle.spec.specs.Limits.{user-limit}
 use Rattle.bits.specs.Bit.{word-bits}
@@ -34,8 +34,7 @@ small : (c : tie.After-bucket-of Inv-loop μ-loop) → (c .bucket-of .result < b
     × (c .before .before .before .loop .i / word-bits < bucket-words)
 unfolding user-limit
 small c =
-    let earlier = c .before .before .before .before .before .before in
-    let start = earlier in (
+    let start = c .before .before .before .before .before .before in (
       rw (c .bucket-of .ensures) (bucket-below (c .before .part-at .result .now)),
       omega (arith, start .pre .few, c .before .before .loop-test .taken),
     )
@@ -100,10 +99,7 @@ loop-again c =
 returns-2 : tie.Need-returns-2 Inv-loop μ-loop
 returns-2 c =
     let start = c .before .before .before .before in
-    let loop = c .before .loop in
-    let all : loop .i ≡ length (start .args .places .now) = omega arith in
-    sym (names-apart (start .args .s .now) (start .args .places .now) (length (start .args .places .now))
-    (rw all at (loop .inv .1 .apart)))
+    names-apart (start .args .s .now) (start .args .places .now) (c .loop-test .left) (c .before .loop .inv .1 .apart)
 
 pub repeated-by-buckets-spec : {M : Type 1} → statement M
 repeated-by-buckets-spec =

@@ -4,7 +4,7 @@ use Prim.Native.Nat.{_+_, _-_, _≤_}
 use native.Mathlib.Nat.{not-suc-le-zero}
 use native.Mathlib.Omega.{arith}
 use native.Mathlib.Numerals.{add-one}
-use mathlib.Core.Path.{_≡_, sym, _∙_}
+use mathlib.Core.Path.{sym, _∙_}
 use borrow.Author.Tests.{ltb-true}
 use lib.ListN.{length}
 use Rattle.names.specs.NamesAt.{Apart}
@@ -64,10 +64,7 @@ loop-again c =
 returns-2 : tie.Need-returns-2 Inv-loop μ-loop
 returns-2 c =
     let start = c .before .before .before .before in
-    let loop = c .before .loop in
-    let all : loop .i ≡ length (start .args .places .now) = omega arith in
-    sym (names-apart (start .args .s .now) (start .args .places .now) (length (start .args .places .now))
-    (rw all at (loop .inv .1)))
+    names-apart (start .args .s .now) (start .args .places .now) (c .loop-test .left) (c .before .loop .inv .1)
 
 pub repeated-few-spec : {M : Type 1} → statement M
 repeated-few-spec =

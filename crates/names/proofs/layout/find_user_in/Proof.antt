@@ -2,33 +2,28 @@
 -- found there is the user's number.
 use borrow.Author.Needs.{needs}
 use mathlib.Core.Path.{sym, _∙_}
-use Rattle.spec.specs.Sheet.{sheet-of}
-use Rattle.names.specs.NamesAt.{name-number}
 use Rattle.names.specs.LaidOut.{user-numbered}
 use Rattle.names.specs.declared.layout.FoundUser.the-variants.{Nothing}
 use Rattle.names.specs.Laws.NamesThere.{users-there}
-use Rattle.names.specs.Laws.Found.{found-number, found-none}
+use Rattle.names.specs.Laws.Found.{found-there}
 use Rattle.names.proofs.layout.find_user_in.Statement.{statement}
 use Rattle.names.proofs.layout.find_user_in.Tie as tie
-
-find-from-requires : tie.Need-find-from-requires
-find-from-requires c κs = let names = users-there (c .before .before .before .pre) in (names .inside, names .apart)
 
 returns : tie.Need-returns
 returns c =
     let found = c .before .before .before in
     let start = found .before .before .before .before in
-    found-number user-numbered Nothing (name-number (sheet-of (start .args .s .now) .users) (start .args .name .now))
-    (c .before .i .given .0 .0)
-    (sym (c .before .i .given .1) ∙ rw (users-there (start .pre) .same) at (found .find-from .ensures))
+    found-there user-numbered Nothing (start .args .name .now) (users-there (start .pre))
+    (sym (c .before .i .given .1) ∙ found .find-from .ensures)
 
 returns-2 : tie.Need-returns-2
 returns-2 c =
     let found = c .before .before in
     let start = found .before .before .before .before in
-    found-none user-numbered Nothing (name-number (sheet-of (start .args .s .now) .users) (start .args .name .now))
-    (sym (c .enum-told .given .1) ∙ rw (users-there (start .pre) .same) at (found .find-from .ensures))
+    found-there user-numbered Nothing (start .args .name .now) (users-there (start .pre))
+    (sym (c .enum-told .given .1) ∙ found .find-from .ensures)
 
 pub find-user-in-spec : {M : Type 1} → statement M
 find-user-in-spec =
-    tie.close (tie.spec find-from-requires (λ c. search needs) (λ c. search needs) returns returns-2)
+    tie.close (tie.spec (λ c κs. let n = users-there (c .before .before .before .pre) in (n .inside, n .apart))
+    (λ c. search needs) (λ c. search needs) returns returns-2)

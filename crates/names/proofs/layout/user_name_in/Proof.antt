@@ -4,15 +4,9 @@ use Rattle.names.specs.Laws.NamesThere.{name-placed}
 use Rattle.names.proofs.layout.user_name_in.Statement.{statement}
 use Rattle.names.proofs.layout.user_name_in.Tie as tie
 
-part-at-requires : tie.Need-part-at-requires
-part-at-requires c κs =
-    name-placed (c .before .before .pre .0 .names) (c .before .before .args .u .0) (c .before .before .pre .1) .0
-
-returns : tie.Need-returns
-returns c =
-    let start = c .before .before .before in
-    c .part-at .ensures ∙ name-placed (start .pre .0 .names) (start .args .u .0) (start .pre .1) .1
-
 pub user-name-in-spec : {M : Type 1} → statement M
 user-name-in-spec =
-    tie.close (tie.spec part-at-requires returns)
+    tie.close (tie.spec
+    (λ c κs. let start = c .before .before in name-placed (start .pre .0 .names) (start .args .u .0) (start .pre .1) .0)
+    (λ c. let start = c .before .before .before in
+    c .part-at .ensures ∙ name-placed (start .pre .0 .names) (start .args .u .0) (start .pre .1) .1))

@@ -103,8 +103,7 @@ permission-places-requires c κs =
 array-share-prefix-permission-places : tie.Need-array-share-prefix-permission-places
 unfolding permission-limit
 array-share-prefix-permission-places c =
-    let earlier = c .before .before .before .before .before .before in
-    let start = earlier in
+    let start = c .before .before .before .before .before .before in
     omega (arith, start .pre .1 .1 .1)
 
 slice-aggregate-repeated-in-2 : tie.Need-slice-aggregate-repeated-in-2

@@ -5,19 +5,18 @@ use Prim.Native.Nat.{_≤_}
 use mathlib.Core.Path.{_≡_, sym, ap, _∙_}
 use mathlib.Core.Bool.{Bool, not}
 use borrow.Author.Tests.{lt-ltb, le-ltb, not-false}
-use lib.Dec.{ltb}
 use native.Mathlib.Omega.{arith}
 use Rattle.spec.specs.Limits.{sheet-limit, permission-limit, user-limit, grant-limit}
 use Rattle.spec.specs.Text.{ascii, same-bytes, Bytes, between, lines-of}
 use Rattle.spec.specs.Sheet.{sheet-of}
-use Rattle.spec.specs.Refusal.{too-long, bad-first-line, bad-line-count, bad-name, uneven-line, bad-cell, name-twice}
-use Rattle.spec.specs.Refusal.{too-many-grants, refusal}
+use Rattle.spec.specs.Refusal.{too-long, bad-first-line, bad-line-count, bad-name, name-twice}
+use Rattle.spec.specs.Refusal.{refusal}
 use Rattle.bits.specs.Truth.{and-right}
 use Rattle.names.specs.Places.{part}
-use Rattle.refusal.specs.Laws.Judge.{within-high, causes-from-2, causes-from-3, causes-from-4, causes-from-5}
+use Rattle.text.specs.Laws.Byte.{between-high}
+use Rattle.refusal.specs.Laws.Judge.{causes-from-2, causes-from-3, causes-from-4, causes-from-5}
 use Rattle.refusal.specs.Laws.Judge.{causes-from-6, causes-from-7, causes-from-8, causes-from-9}
-use Rattle.refusal.specs.Laws.Judge.{refusal-in-turn, HeadRead, cause-3, cause-4, cause-5, cause-6, cause-7}
-use Rattle.refusal.specs.Laws.Judge.{cause-8, cause-9}
+use Rattle.refusal.specs.Laws.Judge.{refusal-in-turn, HeadRead, cause-3, cause-8, BodyTold, body-told}
 use Rattle.refusal.proofs.refusal.judge.Statement.{statement}
 use Rattle.refusal.proofs.refusal.judge.Tie as tie
 
@@ -69,20 +68,19 @@ past-3 c = rw (past-2 (c .before .before .before), is-3 (c .before) ∙ c .if3 .
 -- ---- 4
 
 abbrev sheet-bytes : tie.After-read-body → Bytes
-sheet-bytes c =
-    let earlier = c .before .before .before .before .before .before in
-    text earlier
+sheet-bytes c = text (c .before .before .before .before .before .before)
 
 abbrev head : (c : tie.After-read-body) → tie.After-read-line
 head c = c .before .before .before
 
+told : (c : tie.After-read-body) → BodyTold (sheet-bytes c) (head c .read-line .result) (c .read-body .result)
+told c =
+    body-told (sheet-bytes c) (head c .read-line .result) (head-read (head c)) (c .read-body .result)
+    (c .read-body .ensures)
+
 is-4 : (c : tie.After-is-within) → bad-line-count (lines-of (sheet-bytes (c .before))) ≡ not (c .is-within .result)
 unfolding user-limit
-is-4 c =
-    cause-4 (sheet-bytes (c .before)) (head (c .before) .read-line .result) (head-read (head (c .before)))
-    (c .before .read-body .result)
-    (c .before .read-body .ensures)
-    ∙ ap not (sym (c .is-within .ensures))
+is-4 c = told (c .before) .line-count ∙ ap not (sym (c .is-within .ensures))
 
 returns-4 : tie.Need-returns-4
 returns-4 c = rw (past-3 (c .before .before .before), is-4 (c .before) ∙ c .if4 .taken)
@@ -93,11 +91,7 @@ past-4 c = rw (past-3 (c .before .before .before), is-4 (c .before) ∙ c .if4 .
 -- ---- 5
 
 is-5 : (c : tie.After-both) → bad-name (sheet-of (sheet-bytes (c .before .before .before))) ≡ not (c .both .result)
-is-5 c =
-    let read = c .before .before .before in
-    cause-5 (sheet-bytes read) (head read .read-line .result) (head-read (head read)) (read .read-body .result)
-    (read .read-body .ensures)
-    ∙ ap not (sym (c .both .ensures))
+is-5 c = told (c .before .before .before) .names ∙ ap not (sym (c .both .ensures))
 
 returns-5 : tie.Need-returns-5
 returns-5 c = rw (past-4 (c .before .before), is-5 (c .before) ∙ c .if5 .taken)
@@ -109,49 +103,37 @@ past-5 c = rw (past-4 (c .before .before), is-5 (c .before) ∙ c .if5 .left)
 
 -- ---- 6
 
-is-6 : (c : tie.After-read-body) → uneven-line (lines-of (sheet-bytes c)) ≡ not (c .read-body .result .even)
-is-6 c =
-    cause-6 (sheet-bytes c) (head c .read-line .result) (head-read (head c)) (c .read-body .result)
-    (c .read-body .ensures)
-
 returns-6 : tie.Need-returns-6
 returns-6 c =
-    let earlier = c .before .before .before .before .before .before in
-    rw (past-5 (c .before .before), is-6 earlier ∙ c .if6 .taken)
+    let read = c .before .before .before .before .before .before in
+    rw (past-5 (c .before .before), told read .even ∙ c .if6 .taken)
 
 past-6 : (c : tie.Else6)
-    → let earlier = c .before .before .before .before .before .before in
-    refusal (sheet-bytes earlier) ≡ causes-from-7 (sheet-bytes earlier)
+    → let read = c .before .before .before .before .before .before in
+    refusal (sheet-bytes read) ≡ causes-from-7 (sheet-bytes read)
 past-6 c =
-    let earlier = c .before .before .before .before .before .before in
-    rw (past-5 (c .before .before), is-6 earlier ∙ c .if6 .left)
+    let read = c .before .before .before .before .before .before in
+    rw (past-5 (c .before .before), told read .even ∙ c .if6 .left)
 
 -- ---- 7
 
-is-7 : (c : tie.After-read-body) → bad-cell (lines-of (sheet-bytes c)) ≡ not (c .read-body .result .bits)
-is-7 c =
-    cause-7 (sheet-bytes c) (head c .read-line .result) (head-read (head c)) (c .read-body .result)
-    (c .read-body .ensures)
-
 returns-7 : tie.Need-returns-7
 returns-7 c =
-    let earlier = c .before .before .before .before .before .before .before .before in
-    rw (past-6 (c .before .before), is-7 earlier ∙ c .if7 .taken)
+    let read = c .before .before .before .before .before .before .before .before in
+    rw (past-6 (c .before .before), told read .cells ∙ c .if7 .taken)
 
 abbrev body : tie.Else7 → tie.After-read-body
-body c =
-    let earlier = c .before .before .before .before .before .before .before .before in
-    earlier
+body c = c .before .before .before .before .before .before .before .before
 
 past-7 : (c : tie.Else7) → refusal (sheet-bytes (body c)) ≡ causes-from-8 (sheet-bytes (body c))
-past-7 c = rw (past-6 (c .before .before), is-7 (body c) ∙ c .if7 .left)
+past-7 c = rw (past-6 (c .before .before), told (body c) .cells ∙ c .if7 .left)
 
 -- ---- 8
 
 few-users : (c : tie.Else4) → c .before .before .read-body .result .users ≤ user-limit
 unfolding user-limit
 few-users c =
-    within-high 1 user-limit (c .before .before .read-body .result .users)
+    between-high 1 user-limit (c .before .before .read-body .result .users)
     (sym (c .before .is-within .ensures) ∙ not-false (c .before .is-within .result) (c .if4 .left))
 
 few-permissions : (c : tie.Else3) → c .before .before .read-line .result .cells .count ≤ permission-limit
@@ -161,7 +143,7 @@ few-permissions c =
     let user : Bool = same-bytes (part 0 (read .to) (text earlier)) (ascii "user") in
     let good = sym (c .before .good-first-line .ensures) ∙ not-false (c .before .good-first-line .result)
     (c .if3 .left) in
-    within-high 1 permission-limit (read .cells .count)
+    between-high 1 permission-limit (read .cells .count)
     (and-right user (between 1 permission-limit (read .cells .count)) good)
 
 has-name-twice-requires : tie.Need-has-name-twice-requires
@@ -195,23 +177,15 @@ past-8 c = rw (past-7 (c .before .before), is-8 (c .before) ∙ c .if8 .left)
 
 -- ---- 9
 
-is-9 : (c : tie.After-read-body) → too-many-grants (sheet-of (sheet-bytes c)) ≡ ltb grant-limit
-    (c .read-body .result .ones)
-is-9 c =
-    cause-9 (sheet-bytes c) (head c .read-line .result) (head-read (head c)) (c .read-body .result)
-    (c .read-body .ensures)
-
 returns-9 : tie.Need-returns-9
 unfolding grant-limit
 returns-9 c =
-    let earlier = c .before .before .before .before in
-    rw (past-8 (c .before .before), is-9 (body earlier), lt-ltb _ _ (c .if9 .taken))
+    rw (past-8 (c .before .before), told (body (c .before .before .before .before)) .grants, lt-ltb _ _ (c .if9 .taken))
 
 returns-10 : tie.Need-returns-10
 unfolding grant-limit
 returns-10 c =
-    let earlier = c .before .before .before .before in
-    rw (past-8 (c .before .before), is-9 (body earlier), le-ltb _ _ (c .if9 .left))
+    rw (past-8 (c .before .before), told (body (c .before .before .before .before)) .grants, le-ltb _ _ (c .if9 .left))
 
 pub judge-spec : {M : Type 1} → statement M
 judge-spec =

@@ -5,14 +5,15 @@ use borrow.Author.Tests.{eq-eqb, ne-eqb}
 use Prim.Native.Nat.{ℕ}
 use Prim.Native.Char.{code}
 use mathlib.Core.Path.{_≡_, sym, _∙_}
-use mathlib.Core.Bool.{Bool, _||_}
+use mathlib.Core.Bool.{Bool, false, _||_}
 use lib.Dec.{eqb}
-use Rattle.spec.specs.Text.{name-byte}
+use Rattle.spec.specs.Text.{between, name-byte}
 use Rattle.text.proofs.bytes.is_name_byte.Statement.{statement}
 use Rattle.text.proofs.bytes.is_name_byte.Tie as tie
 
-abbrev other-name-byte : ℕ → Bool
-other-name-byte b = eqb b (code "-") || eqb b (code ".") || eqb b (code "_")
+-- a byte that is no letter: it is a digit, or one of the other three
+abbrev other-name-byte : Bool → ℕ → Bool
+other-name-byte digit b = digit || eqb b (code "-") || eqb b (code ".") || eqb b (code "_")
 
 returns : tie.Need-returns
 unfolding name-byte
@@ -26,30 +27,24 @@ returns-2 c =
       sym (c .before .is-between2 .ensures) ∙ c .if2 .taken,
     )
 
-returns-3 : tie.Need-returns-3
+past-letters : (c : tie.Else2)
+    → let b = c .before .before .before .before .args .b in
+    name-byte b ≡ other-name-byte (between (code "0") (code "9") b) b
 unfolding name-byte
-returns-3 c =
-    let at-if1 = c .before .before .before .before in
-    let at-is-between = at-if1 .before in
+past-letters c =
     rw (
-      sym (at-is-between .is-between .ensures) ∙ at-if1 .if1 .left,
-      sym (c .before .before .before .is-between2 .ensures) ∙ c .before .before .if2 .left,
-      sym (c .before .is-between3 .ensures) ∙ c .if3 .taken,
+      sym (c .before .before .before .is-between .ensures) ∙ c .before .before .if1 .left,
+      sym (c .before .is-between2 .ensures) ∙ c .if2 .left,
     )
+
+returns-3 : tie.Need-returns-3
+returns-3 c = rw (past-letters (c .before .before), sym (c .before .is-between3 .ensures) ∙ c .if3 .taken)
 
 -- a byte in none of the ranges
 past-ranges : (c : tie.Else3)
-    → let start = c .before .before .before .before .before .before in
-    name-byte (start .args .b) ≡ other-name-byte (start .args .b)
-unfolding name-byte
-past-ranges c =
-    let at-if1 = c .before .before .before .before in
-    let at-is-between = at-if1 .before in
-    rw (
-      sym (at-is-between .is-between .ensures) ∙ at-if1 .if1 .left,
-      sym (c .before .before .before .is-between2 .ensures) ∙ c .before .before .if2 .left,
-      sym (c .before .is-between3 .ensures) ∙ c .if3 .left,
-    )
+    → let b = c .before .before .before .before .before .before .args .b in
+    name-byte b ≡ other-name-byte false b
+past-ranges c = rw (past-letters (c .before .before), sym (c .before .is-between3 .ensures) ∙ c .if3 .left)
 
 returns-4 : tie.Need-returns-4
 returns-4 c = rw (past-ranges (c .before), eq-eqb _ _ (c .if4 .taken))
