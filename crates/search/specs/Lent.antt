@@ -20,7 +20,7 @@ use Rattle.search.specs.Gathered.{Gathered, MemberSet, gathered-more, ga
 use Rattle.search.specs.OpenTo.{open-to}
 use Rattle.search.specs.Laws.Choice.{open-joinable}
 use Rattle.search.specs.Laws.Moves.{Looked, depth-le-limit, room-below-limit, closes, takes-back, places}
-use Rattle.search.specs.Laws.Moves.{improves}
+use Rattle.search.specs.Laws.Moves.{improves, end-within-limit}
 
 -- a cursor and its two arrays as one position
 abbrev pub at-position : Cursor → List ℕ → List ℕ → Position
@@ -54,7 +54,8 @@ module _ (table : List ℕ) (sizes : Sizes) {at : Cursor} {classes best members 
             finds
             ∙ rw (lowest-below-ext end (open-to table members (at .depth) (at .next))
             (joinable table classes (at .depth) (at .next))
-            (λ c l. open-joinable table (at .depth) (at .next) (depth-le-limit (r .stands)) (r .gathered) c));
+            (λ c l. open-joinable table (at .depth) (at .next) (depth-le-limit (r .stands)) (r .gathered) c
+            (omega (arith, end-within-limit (r .stands) end ends))));
       }
 
   -- no class is found and no grant is placed
@@ -105,7 +106,7 @@ module _ (table : List ℕ) (sizes : Sizes) {at : Cursor} {classes best members 
     gathered-after : Gathered (set classes (at .depth) class) (after .depth) joined
     gathered-after =
         rw (placed .depth)
-        (gathered-more (r .gathered) joins (λ i k. getD-set-other classes (at .depth) i class 0 (λ e. omega arith))
+        (gathered-more (r .gathered) joins (λ i ne. getD-set-other classes (at .depth) i class 0 ne)
         (getD-set-same classes (at .depth) class 0 stored))
 
     pub put : (suc (at .depth) ≡ sizes .kernel → ⊥)
