@@ -2,7 +2,7 @@
 -- no longer than all, and all together have at most as many elements as parts of the greatest length would. Assumes
 -- nothing.
 use Prim.Native.Nat.{ℕ, zero, suc, _+_, _*_, _≤_, _<_}
-use native.Mathlib.Nat.{suc-mul, le-of-suc-le-suc, not-suc-le-zero, eq-or-lt-of-le}
+use native.Mathlib.Nat.{suc-mul, le-step, le-of-suc-le-suc, lt-suc-self, not-suc-le-zero, eq-or-lt-of-le}
 use native.Mathlib.Numerals.{add-one}
 use native.Mathlib.Omega.{arith}
 use mathlib.Core.Path.{_≡_, ap, _∙_}
@@ -30,13 +30,16 @@ module _ {A : Type 0} where
   pub listed-same : (count : ℕ) (f g : ℕ → List A) → ((i : ℕ) → i < count → f i ≡ g i) → listed count f ≡ listed count g
   listed-same count f g h = rw (list-of-same count f g h)
 
+  listed-grows : (count : ℕ) (f : ℕ → List A)
+      → length (listed (suc count) f) ≡ length (listed count f) + length (f count)
+  listed-grows count f = ap length (listed-suc count f) ∙ length-append (listed count f) (f count)
+
   -- parts up to one of them are no longer than all
   pub listed-front : (i count : ℕ) (f : ℕ → List A) → i < count → length (listed i f ++ f i) ≤ length (listed count f)
   listed-front i zero f h = absurd (not-suc-le-zero h)
   listed-front i (suc count) f h =
-      let whole : length (listed (suc count) f) ≡ length (listed count f ++ f count) = ap length (listed-suc count f) in
-      ⊎-elim (λ (e : i ≡ count). rw e (omega arith))
-      (λ (l : i < count). omega (arith, listed-front i count f l, length-append (listed count f) (f count)))
+      ⊎-elim (λ (e : i ≡ count). rw e (omega (arith, ap length (listed-suc count f))))
+      (λ (l : i < count). omega (arith, listed-front i count f l, listed-grows count f))
       (eq-or-lt-of-le (le-of-suc-le-suc h))
 
   -- parts of no more than a length each
@@ -44,25 +47,13 @@ module _ {A : Type 0} where
       → length (listed count f) ≤ count * most
   listed-length zero most f h = omega arith
   listed-length (suc count) most f h =
-      omega (
-        arith,
-        suc-mul count most,
-        ap length (listed-suc count f),
-        length-append (listed count f) (f count),
-        h count (omega arith),
-        listed-length count most f (λ i l. h i (omega arith)),
-      )
+      let front : length (listed count f) ≤ count * most = listed-length count most f (λ i l. h i (le-step l)) in
+      omega (arith, suc-mul count most, listed-grows count f, h count (lt-suc-self count))
 
   -- parts of one length
   pub listed-even : (count each : ℕ) (f : ℕ → List A) → ((i : ℕ) → i < count → length (f i) ≡ each)
       → length (listed count f) ≡ count * each
   listed-even zero each f h = omega arith
   listed-even (suc count) each f h =
-      omega (
-        arith,
-        suc-mul count each,
-        ap length (listed-suc count f),
-        length-append (listed count f) (f count),
-        h count (omega arith),
-        listed-even count each f (λ i l. h i (omega arith)),
-      )
+      listed-grows count f
+      ∙ rw (listed-even count each f (λ i l. h i (le-step l)), h count (lt-suc-self count), suc-mul count each)

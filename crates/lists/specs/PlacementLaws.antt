@@ -15,7 +15,7 @@ use lib.ListN.{length, length-append}
 use Rattle.spec.specs.Cover.{used, joins}
 use Rattle.bits.specs.Truth.{passes-or-fails, and-intro, and-left, and-right, implies-intro, implies-elim}
 use Rattle.bits.specs.Laws.Below.{last-or-below}
-use Rattle.lists.specs.Classing.{class-in, Valid, Grown, Classing}
+use Rattle.lists.specs.Classing.{class-in, Valid, Grown}
 
 -- ---- the class of a number
 
@@ -97,12 +97,6 @@ valid-intro together (a ∷ earlier) h = (
   valid-intro together earlier (λ i j k l e. h i j k (le-step l)
       (class-in-earlier a earlier l ∙ e ∙ sym (class-in-earlier a earlier (lt-trans k l)))),
 )
-
--- a valid placement classes its numbers
-pub valid-is-classing : (together : ℕ → ℕ → Bool) (placed : List ℕ) → Valid together placed
-    → Classing together (length placed) (used placed) (class-in placed)
-valid-is-classing together placed v =
-    record { within = λ i l. class-below-used placed l; fitting = valid-elim together placed v }
 
 -- what goes together under one test does so under another
 pub valid-mono : (together also : ℕ → ℕ → Bool) (placed : List ℕ)

@@ -1,13 +1,13 @@
--- The members of each class, in a table laid out as the fit table is: bit i of class c's words says that grant i is
--- in class c. One grant put in or taken out changes one bit, so that the table goes with the classes of the first
--- grants when the next one is placed or the latest taken back.
+-- The members of each class, in a table that has a word of each class for the first grants, then for the others. One
+-- grant put in or taken out changes one bit, so that the table goes with the classes of the first grants when the next
+-- one is placed or the latest taken back.
 use Prim.Native.Nat.{ℕ, zero, suc, _+_, _*_, _/_, _%_, _≤_, _<_}
 use mathlib.Core.Path.{_≡_, refl, sym, _∙_}
-use mathlib.Core.Logic.{_⊎_, inl, inr, ⊎-elim}
+use mathlib.Core.Logic.{_⊎_, ⊎-elim}
 use mathlib.Core.Bool.{Bool, true, false, So, _&&_, and-true, and-false, cond}
 use mathlib.Core.List.{List}
 use native.Mathlib.Omega.{arith}
-use borrow.Author.Tests.{eqb-true, eqb-false, eq-eqb, ne-eqb, lt-ltb, le-ltb}
+use borrow.Author.Tests.{eqb-true, eqb-false, eq-eqb, lt-ltb, le-ltb}
 use lib.Dec.{eqb, ltb}
 use lib.ListN.{length, getD, set, replicate, length-set, length-replicate}
 use lib.Seq.{getD-set-same, getD-set-other}
@@ -15,31 +15,34 @@ use Rattle.bits.specs.Truth.{same-truth, fails-unless, and-left, and-right, and
 use Rattle.bits.specs.Laws.Below.{below-or-from}
 use Rattle.bits.specs.Bit.{bit, word-bits}
 use Rattle.bits.specs.Laws.Bit.{bit-of-zero}
-use Rattle.search.specs.Marks.{kernel-words, mark-limit, table-words}
-use Rattle.search.specs.View.{fit-in}
+use Rattle.search.specs.Marks.{mark-limit, table-words}
 
 pub eqb-comm : (a b : ℕ) → eqb a b ≡ eqb b a
 eqb-comm a b =
     same-truth (eqb a b) (eqb b a) (λ e. eq-eqb b a (sym (eqb-true a b e))) (λ e. eq-eqb a b (sym (eqb-true b a e)))
 
+-- the word of class c that has grant i
+abbrev pub member-word : ℕ → ℕ → ℕ
+member-word c i = i / word-bits * mark-limit + c
+
 -- grant i is in class c
 abbrev pub member : List ℕ → ℕ → ℕ → Bool
-member members c i = fit-in members c i
+member members c i = bit (getD members (member-word c i) 0) (i % word-bits)
 
 -- the members of each class are those of the first grants that are placed in it
 pub record Gathered (classes : List ℕ) (depth : ℕ) (members : List ℕ) : Type 0 where
   pub sized : length members ≡ table-words
-  pub has : (c i : ℕ) → i < mark-limit → member members c i ≡ (ltb i depth && eqb (getD classes i 0) c)
+  pub has : (c i : ℕ) → c < mark-limit → i < mark-limit
+      → member members c i ≡ (ltb i depth && eqb (getD classes i 0) c)
 
 -- a table in which one grant is made a member of one class, or no member any more
 pub record MemberSet (members : List ℕ) (class grant : ℕ) (put : Bool) (after : List ℕ) : Type 0 where
   pub sized : length after ≡ length members
-  pub has : (c i : ℕ) → i < mark-limit
+  pub has : (c i : ℕ) → c < mark-limit → i < mark-limit
       → member after c i ≡ cond (eqb c class && eqb i grant) put (member members c i)
 
 -- a grant's word and bit are those of one class and one grant alone
-same-place : (c i class grant : ℕ) → i < mark-limit → grant < mark-limit
-    → c * kernel-words + i / word-bits ≡ class * kernel-words + grant / word-bits
+same-place : (c i class grant : ℕ) → c < mark-limit → class < mark-limit → member-word c i ≡ member-word class grant
     → eqb (i % word-bits) (grant % word-bits) ≡ (eqb c class && eqb i grant)
 same-place c i class grant l k e =
     same-truth (eqb (i % word-bits) (grant % word-bits)) (eqb c class && eqb i grant)
@@ -50,7 +53,7 @@ same-place c i class grant l k e =
     let grants : i ≡ grant = eqb-true i grant (and-right (eqb c class) (eqb i grant) s) in
     eq-eqb (i % word-bits) (grant % word-bits) (omega arith))
 
-other-place : (c i class grant : ℕ) → (c * kernel-words + i / word-bits ≡ class * kernel-words + grant / word-bits → ⊥)
+other-place : (c i class grant : ℕ) → (member-word c i ≡ member-word class grant → ⊥)
     → (eqb c class && eqb i grant) ≡ false
 other-place c i class grant ne =
     fails-unless (eqb c class && eqb i grant) (λ s.
@@ -60,37 +63,33 @@ other-place c i class grant ne =
 
 -- one word stored with one bit set changes that grant's bit of that class
 pub word-set : (members : List ℕ) (class grant : ℕ) (put : Bool) (word : ℕ)
-    → grant < mark-limit → class * kernel-words + grant / word-bits < length members
-    → ((q : ℕ) → bit word q ≡ cond (eqb q (grant % word-bits)) put
-    (bit (getD members (class * kernel-words + grant / word-bits) 0) q))
-    → MemberSet members class grant put (set members (class * kernel-words + grant / word-bits) word)
+    → class < mark-limit → member-word class grant < length members
+    → ((q : ℕ) → bit word q ≡ cond (eqb q (grant % word-bits)) put (bit (getD members (member-word class grant) 0) q))
+    → MemberSet members class grant put (set members (member-word class grant) word)
 word-set members class grant put word k room changes = record { sized = length-set members at word; has = has }
   where
     at : ℕ
-    at = class * kernel-words + grant / word-bits
+    at = member-word class grant
 
-    has : (c i : ℕ) → i < mark-limit
+    has : (c i : ℕ) → c < mark-limit → i < mark-limit
         → member (set members at word) c i ≡ cond (eqb c class && eqb i grant) put (member members c i)
-    has c i l =
+    has c i l _ =
         ⊎-elim
-        (λ (s : So (eqb (c * kernel-words + i / word-bits) at)).
-        let e : c * kernel-words + i / word-bits ≡ at = eqb-true (c * kernel-words + i / word-bits) at s in
+        (λ (s : So (eqb (member-word c i) at)).
+        let e : member-word c i ≡ at = eqb-true (member-word c i) at s in
         rw (e, getD-set-same members at word 0 room, ← same-place c i class grant l k e) (changes (i % word-bits)))
-        (λ (f : eqb (c * kernel-words + i / word-bits) at ≡ false).
-        let ne : c * kernel-words + i / word-bits ≡ at → ⊥ = eqb-false (c * kernel-words + i / word-bits) at f in
-        rw (
-          other-place c i class grant ne,
-          getD-set-other members at (c * kernel-words + i / word-bits) word 0 ne,
-        ))
-        (passes-or-fails (eqb (c * kernel-words + i / word-bits) at))
+        (λ (f : eqb (member-word c i) at ≡ false).
+        let ne : member-word c i ≡ at → ⊥ = eqb-false (member-word c i) at f in
+        rw (other-place c i class grant ne, getD-set-other members at (member-word c i) word 0 ne))
+        (passes-or-fails (eqb (member-word c i) at))
 
 -- no grant is placed, and no bit is set
 pub gathered-none : (classes : List ℕ) → Gathered classes 0 (replicate table-words 0)
 gathered-none classes =
     record {
       sized = length-replicate {A = ℕ} table-words 0;
-      has = λ c i l. rw (
-        zero-word table-words (c * kernel-words + i / word-bits),
+      has = λ c i k l. rw (
+        zero-word table-words (member-word c i),
         bit-of-zero (i % word-bits),
         le-ltb i 0 (omega arith),
       );
@@ -101,80 +100,51 @@ gathered-none classes =
     zero-word (suc m) zero = refl
     zero-word (suc m) (suc at) = zero-word m at
 
+-- one grant more or fewer is no other grant more or fewer
+ltb-other : (i d : ℕ) → (i ≡ d → ⊥) → ltb i (suc d) ≡ ltb i d
+ltb-other i d ne =
+    ⊎-elim (λ (l : i < d). rw (lt-ltb i d l, lt-ltb i (suc d) (omega arith)))
+    (λ (l : d ≤ i). rw (le-ltb i d l, le-ltb i (suc d) (omega arith))) (below-or-from i d)
+
+-- where one grant of a class changes, it is enough to know of the others that they stay and of this one what it
+-- becomes
+gathered-changed : {classes after members changed : List ℕ} {d n m class : ℕ} {put : Bool}
+    → Gathered classes n members → MemberSet members class d put changed
+    → ((i : ℕ) → (i ≡ d → ⊥) → ltb i m ≡ ltb i n) → ((i : ℕ) → (i ≡ d → ⊥) → getD after i 0 ≡ getD classes i 0)
+    → ((c : ℕ) → cond (eqb c class) put (ltb d n && eqb (getD classes d 0) c) ≡ (ltb d m && eqb (getD after d 0) c))
+    → Gathered after m changed
+gathered-changed {d = d} g w first same here =
+    record {
+      sized = w .sized ∙ g .sized;
+      has = λ c i k l. rw (w .has c i k l, g .has c i k l)
+          (⊎-elim (λ s. let e : i ≡ d = eqb-true i d s in rw (e, eq-eqb d d refl, and-true) (here c))
+          (λ f. let ne : i ≡ d → ⊥ = eqb-false i d f in rw (f, and-false, first i ne, same i ne))
+          (passes-or-fails (eqb i d)));
+    }
+
 -- grant d is placed in a class: the table in which it has joined the class goes with the classes in which that is
 -- stored
 pub gathered-more : {classes after members joined : List ℕ} {d class : ℕ} → Gathered classes d members
     → MemberSet members class d true joined
-    → ((i : ℕ) → i < d → getD after i 0 ≡ getD classes i 0) → getD after d 0 ≡ class → Gathered after (suc d) joined
-gathered-more {classes} {after} {d} {class} g j earlier here =
-    record {
-      sized = j .sized ∙ g .sized;
-      has = λ c i l. rw (j .has c i l, g .has c i l) (by-place c i (below-or-from i d));
-    }
+    → ((i : ℕ) → (i ≡ d → ⊥) → getD after i 0 ≡ getD classes i 0) → getD after d 0 ≡ class
+    → Gathered after (suc d) joined
+gathered-more {d = d} {class} g j others here =
+    gathered-changed g j (λ i ne. ltb-other i d ne) others (λ c.
+    rw (le-ltb d d (omega arith), lt-ltb d (suc d) (omega arith), here, eqb-comm c class) (joins (eqb class c)))
   where
-    joins-or-not : (b : Bool) → cond b true false ≡ b
-    joins-or-not true = refl
-    joins-or-not false = refl
-
-    by-place : (c i : ℕ) → (i < d) ⊎ (d ≤ i)
-        → cond (eqb c class && eqb i d) true (ltb i d && eqb (getD classes i 0) c)
-        ≡ (ltb i (suc d) && eqb (getD after i 0) c)
-    by-place c i (inl k) =
-        rw (
-          lt-ltb i d k,
-          lt-ltb i (suc d) (omega arith),
-          ne-eqb i d (λ e. omega arith),
-          and-false,
-          earlier i k,
-        )
-    by-place c i (inr k) =
-        ⊎-elim
-        (λ (m : i < suc d).
-        let e : i ≡ d = omega arith in
-        rw (
-          e,
-          le-ltb d d (omega arith),
-          lt-ltb d (suc d) (omega arith),
-          eq-eqb d d refl,
-          here,
-          eqb-comm c class,
-          and-true,
-        )
-        (joins-or-not (eqb class c)))
-        (λ (m : suc d ≤ i). rw (le-ltb i d k, le-ltb i (suc d) m, ne-eqb i d (λ e. omega arith), and-false))
-        (below-or-from i (suc d))
+    joins : (b : Bool) → cond b true false ≡ b
+    joins true = refl
+    joins false = refl
 
 -- the latest grant is taken back: it leaves its class
 pub gathered-fewer : {classes members left : List ℕ} {d : ℕ} → Gathered classes (suc d) members
     → MemberSet members (getD classes d 0) d false left
     → Gathered classes d left
-gathered-fewer {classes} {d} g w =
-    record {
-      sized = w .sized ∙ g .sized;
-      has = λ c i l. rw (w .has c i l, g .has c i l) (by-place c i (below-or-from i d));
-    }
+gathered-fewer {classes} {d = d} g w =
+    gathered-changed g w (λ i ne. sym (ltb-other i d ne)) (λ i ne. refl) (λ c.
+    rw (le-ltb d d (omega arith), lt-ltb d (suc d) (omega arith), eqb-comm c (getD classes d 0))
+    (leaves (eqb (getD classes d 0) c)))
   where
     leaves : (b : Bool) → cond b false b ≡ false
     leaves true = refl
     leaves false = refl
-
-    by-place : (c i : ℕ) → (i < d) ⊎ (d ≤ i)
-        → cond (eqb c (getD classes d 0) && eqb i d) false (ltb i (suc d) && eqb (getD classes i 0) c)
-        ≡ (ltb i d && eqb (getD classes i 0) c)
-    by-place c i (inl k) =
-        rw (lt-ltb i d k, lt-ltb i (suc d) (omega arith), ne-eqb i d (λ e. omega arith), and-false)
-    by-place c i (inr k) =
-        ⊎-elim
-        (λ (m : i < suc d).
-        let e : i ≡ d = omega arith in
-        rw (
-          e,
-          le-ltb d d (omega arith),
-          lt-ltb d (suc d) (omega arith),
-          eq-eqb d d refl,
-          and-true,
-          eqb-comm c (getD classes d 0),
-        )
-        (leaves (eqb (getD classes d 0) c)))
-        (λ (m : suc d ≤ i). rw (le-ltb i d k, le-ltb i (suc d) m, ne-eqb i d (λ e. omega arith), and-false))
-        (below-or-from i (suc d))

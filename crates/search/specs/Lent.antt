@@ -15,12 +15,13 @@ use Rattle.search.specs.declared.machine.Cursor.{Cursor}
 use Rattle.search.specs.declared.machine.Position.{Position}
 use Rattle.search.specs.declared.machine.Sizes.{Sizes}
 use Rattle.search.specs.Marks.{mark-limit}
-use Rattle.search.specs.View.{kernel-given, view, PositionStands, class-end, joinable, CursorPlaced, taken-back}
+use Rattle.search.specs.View.{kernel-given, view, PositionStands, class-end, joinable, CursorPlaced, ended-at}
+use Rattle.search.specs.View.{taken-back}
 use Rattle.search.specs.Gathered.{Gathered, MemberSet, gathered-more, gathered-fewer}
 use Rattle.search.specs.OpenTo.{open-to}
 use Rattle.search.specs.Laws.Choice.{open-joinable}
 use Rattle.search.specs.Laws.Moves.{Looked, depth-le-limit, room-below-limit, closes, takes-back, places}
-use Rattle.search.specs.Laws.Moves.{improves}
+use Rattle.search.specs.Laws.Moves.{Follows, improves, end-within-limit}
 
 -- a cursor and its two arrays as one position
 abbrev pub at-position : Cursor → List ℕ → List ℕ → Position
@@ -54,27 +55,22 @@ module _ (table : List ℕ) (sizes : Sizes) {at : Cursor} {classes best members 
             finds
             ∙ rw (lowest-below-ext end (open-to table members (at .depth) (at .next))
             (joinable table classes (at .depth) (at .next))
-            (λ c l. open-joinable table (at .depth) (at .next) (depth-le-limit (r .stands)) (r .gathered) c));
+            (λ c l. open-joinable table (at .depth) (at .next) (depth-le-limit (r .stands)) (r .gathered) c
+            (omega (arith, end-within-limit (r .stands) end ends))));
       }
+
+  moves : {after : Cursor} {classes′ best′ members′ : List ℕ}
+      → Follows table sizes (at-position at classes best) (at-position after classes′ best′)
+      → length classes′ ≡ mark-limit → Gathered classes′ (after .depth) members′
+      → Moved table sizes at classes best after classes′ best′ members′
+  moves f sized gathered =
+      record { stepped = f .0; ready = record { stands = f .1; classes-sized = sized; gathered = gathered } }
 
   -- no class is found and no grant is placed
   pub closed : end ≤ class → at .depth ≡ 0
-      → Moved table sizes at classes best
-      (record {
-        depth = at .depth;
-        next = at .next;
-        used = at .used;
-        count = at .count;
-        finished = true;
-        opened = at .opened;
-      })
-      classes best members
+      → Moved table sizes at classes best (ended-at at (at .count) true) classes best members
   closed l e =
-      let f = closes table sizes (at-position at classes best) (r .stands) looked l e in
-      record {
-        stepped = f .0;
-        ready = record { stands = f .1; classes-sized = r .classes-sized; gathered = r .gathered };
-      }
+      moves (closes table sizes (at-position at classes best) (r .stands) looked l e) (r .classes-sized) (r .gathered)
 
   -- no class is found: the latest grant is taken back, and leaves its class
   pub took-back : end ≤ class → 0 < at .depth → (after : Cursor) (left : List ℕ)
@@ -82,16 +78,8 @@ module _ (table : List ℕ) (sizes : Sizes) {at : Cursor} {classes best members 
       → MemberSet members (getD classes (at .depth - 1) 0) (at .depth - 1) false left
       → Moved table sizes at classes best after classes best left
   took-back l pos after left e leaves =
-      let f = takes-back table sizes (at-position at classes best) (r .stands) looked l pos after e in
-      record {
-        stepped = f .0;
-        ready =
-            record {
-              stands = f .1;
-              classes-sized = r .classes-sized;
-              gathered = rw e (gathered-fewer (rw latest at (r .gathered)) leaves);
-            };
-      }
+      moves (takes-back table sizes (at-position at classes best) (r .stands) looked l pos after e) (r .classes-sized)
+      (rw e (gathered-fewer (rw latest at (r .gathered)) leaves))
     where
       latest : at .depth ≡ suc (at .depth - 1)
       latest = omega arith
@@ -102,50 +90,26 @@ module _ (table : List ℕ) (sizes : Sizes) {at : Cursor} {classes best members 
     stored : at .depth < length classes
     stored = omega (arith, room-below-limit (r .stands) end ends (omega arith), r .classes-sized)
 
+    sized-after : length (set classes (at .depth) class) ≡ mark-limit
+    sized-after = length-set classes (at .depth) class ∙ r .classes-sized
+
     gathered-after : Gathered (set classes (at .depth) class) (after .depth) joined
     gathered-after =
         rw (placed .depth)
-        (gathered-more (r .gathered) joins (λ i k. getD-set-other classes (at .depth) i class 0 (λ e. omega arith))
+        (gathered-more (r .gathered) joins (λ i ne. getD-set-other classes (at .depth) i class 0 ne)
         (getD-set-same classes (at .depth) class 0 stored))
 
     pub put : (suc (at .depth) ≡ sizes .kernel → ⊥)
         → Moved table sizes at classes best after (set classes (at .depth) class) best joined
     put not-whole =
-        let f = places table sizes (at-position at classes best) (r .stands) looked l stored after
-        placed not-whole in
-        record {
-          stepped = f .0;
-          ready =
-              record {
-                stands = f .1;
-                classes-sized = length-set classes (at .depth) class ∙ r .classes-sized;
-                gathered = gathered-after;
-              };
-        }
+        moves (places table sizes (at-position at classes best) (r .stands) looked l stored after placed not-whole)
+        sized-after gathered-after
 
     -- all grants are placed, and the placement is the best one
     pub put-last : suc (at .depth) ≡ sizes .kernel → (finished : Bool)
         → finished ≡ eqb (after .used + sizes .singles) (sizes .witness)
-        → Moved table sizes at classes best
-        (record {
-          depth = after .depth;
-          next = after .next;
-          used = after .used;
-          count = after .used;
-          finished = finished;
-          opened = after .opened;
-        })
-        (set classes (at .depth) class) (set classes (at .depth) class) joined
+        → Moved table sizes at classes best (ended-at after (after .used) finished) (set classes (at .depth) class)
+        (set classes (at .depth) class) joined
     put-last whole finished e =
-        let f =
-        improves table sizes (at-position at classes best) (r .stands) looked l stored after placed
-        whole finished e in
-        record {
-          stepped = f .0;
-          ready =
-              record {
-                stands = f .1;
-                classes-sized = length-set classes (at .depth) class ∙ r .classes-sized;
-                gathered = gathered-after;
-              };
-        }
+        moves (improves table sizes (at-position at classes best) (r .stands) looked l stored after placed whole
+        finished e) sized-after gathered-after

@@ -1,6 +1,6 @@
 -- Which classes are open to a grant.
 use Prim.Native.Nat.{ℕ, _+_, _*_}
-use mathlib.Core.Bool.{Bool, not, _&&_}
+use mathlib.Core.Bool.{Bool, _&&_}
 use mathlib.Core.List.{List}
 use lib.Dec.{leb}
 use lib.ListN.{getD}
@@ -11,9 +11,13 @@ use Rattle.search.specs.Marks.{kernel-words, mark-limit}
 use Rattle.search.specs.View.{fit-in}
 use Rattle.search.specs.Gathered.{member}
 
--- the words of a grant, or of a class, in a table
+-- the words of a grant in the fit table
 abbrev pub row : List ℕ → ℕ → Marks
 row table d = record { low = getD table (d * kernel-words) 0; high = getD table (d * kernel-words + 1) 0 }
+
+-- the words of a class in the table of members
+abbrev pub class-row : List ℕ → ℕ → Marks
+class-row members c = record { low = getD members c 0; high = getD members (mark-limit + c) 0 }
 
 -- all members of class c fit grant d
 abbrev pub all-fit : List ℕ → List ℕ → ℕ → ℕ → Bool

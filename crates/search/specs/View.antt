@@ -101,6 +101,18 @@ pub record CursorPlaced (at : Cursor) (class : ℕ) (after : Cursor) : Type 0 wh
   pub opened :
       (i : ℕ) → marked (after .opened) i ≡ cond (eqb i (at .depth)) (eqb class (at .used)) (marked (at .opened) i)
 
+-- a cursor with another class count of the best placement, finished or not
+abbrev pub ended-at : Cursor → ℕ → Bool → Cursor
+ended-at at count finished =
+    record {
+      depth = at .depth;
+      next = at .next;
+      used = at .used;
+      count = count;
+      finished = finished;
+      opened = at .opened;
+    }
+
 -- a cursor once its latest grant, of a class, is taken back
 abbrev pub taken-back : Cursor → ℕ → Cursor
 taken-back at class =

@@ -1,12 +1,14 @@
 // The class in which the next grant is placed: the lowest that is not tried already and all of whose members fit it.
+use crate::Marks;
 use crate::members;
 use numbers::GrantNo;
+use numbers::KERNEL_WORDS;
 use numbers::TABLE_WORDS;
 ghost use mathlib.Core.Path.{_≡_};
 ghost use mathlib.Core.Option.{Option·getD};
 ghost use Prim.Native.Nat.{_<_, _≤_};
 ghost use Rattle.spec.specs.Vocabulary.{lowest-below};
-ghost use Rattle.search.specs.OpenTo.{open-to};
+ghost use Rattle.search.specs.OpenTo.{open-to, row};
 ghost use Rattle.search.specs.Marks.{mark-limit};
 ghost use Rattle.search.specs.View.{class-end};
 
@@ -21,6 +23,18 @@ pub fn class_end(depth: usize, size: usize, used: usize, count: usize) -> usize
         return 0;
     }
     if used + 1 < count { used + 1 } else { used }
+}
+
+// The grants that fit one, as the fit table has them.
+fn fitting(fit: &[u64; TABLE_WORDS], grant: GrantNo) -> Marks
+    requires { ⌜ grant .0 < mark-limit ⌝ }
+    ensures { λ r. ⌜ r ≡ row (now (fit .entry)) (grant .0) ⌝ }
+{
+    let at = grant.0 * KERNEL_WORDS;
+    Marks {
+        low: fit[at],
+        high: fit[at + 1],
+    }
 }
 
 // The lowest class from `next` below `end` all of whose members fit the grant, or `end`.
@@ -40,10 +54,10 @@ pub fn class_for<'a>(
         return end;
     }
     let d = grant.0;
-    let fitting = members::row(fit, d);
+    let fits = fitting(fit, GrantNo(d));
     let mut c = next;
     while c < end {
-        if members::row(members, c).within(fitting) {
+        if members::of_class(members, c).within(fits) {
             return c;
         }
         c += 1;

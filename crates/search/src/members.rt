@@ -1,10 +1,10 @@
-// The members of each class as a table of words: bit i of class c's words says that grant i is in class c, as in the
-// fit table bit j of grant i's words says that i and j fit.
+// The members of each class as a table of words: for the first WORD_BITS grants a word of each class, then for the
+// others. A bit says that its grant is in the class. So the classes that are looked through for one grant stand side
+// by side.
 use crate::Marks;
 use bits::WORD_BITS;
 use numbers::GrantNo;
 use numbers::KERNEL_LIMIT;
-use numbers::KERNEL_WORDS;
 use numbers::TABLE_WORDS;
 ghost use mathlib.Core.Path.{_≡_};
 ghost use mathlib.Core.Bool.{cond};
@@ -13,17 +13,17 @@ ghost use lib.Dec.{eqb};
 ghost use lib.ListN.{getD, length};
 ghost use Rattle.bits.specs.Bit.{bit, word-bits};
 ghost use Rattle.search.specs.Marks.{mark-limit, table-words};
-ghost use Rattle.search.specs.OpenTo.{row};
+ghost use Rattle.search.specs.OpenTo.{class-row};
 ghost use Rattle.search.specs.Gathered.{Gathered, MemberSet};
 
-// The words of one grant, or of one class, in a table.
-pub fn row(table: &[u64; TABLE_WORDS], i: usize) -> Marks
-    requires { ⌜ i < mark-limit ⌝ }
-    ensures { λ r. ⌜ r ≡ row (now (table .entry)) i ⌝ }
+// The members of one class.
+pub fn of_class(members: &[u64; TABLE_WORDS], class: usize) -> Marks
+    requires { ⌜ class < mark-limit ⌝ }
+    ensures { λ r. ⌜ r ≡ class-row (now (members .entry)) class ⌝ }
 {
     Marks {
-        low: table[i * KERNEL_WORDS],
-        high: table[i * KERNEL_WORDS + 1],
+        low: members[class],
+        high: members[KERNEL_LIMIT + class],
     }
 }
 
@@ -47,7 +47,7 @@ pub fn set(members: &mut [u64; TABLE_WORDS], class: usize, grant: GrantNo, membe
     ensures { λ _. ⌜ MemberSet (now (members .entry)) class (grant .0) member (now (members .exit)) ⌝ }
 {
     let g = grant.0;
-    let at = class * KERNEL_WORDS + g / WORD_BITS;
+    let at = g / WORD_BITS * KERNEL_LIMIT + class;
     members[at] = changed(members[at], g % WORD_BITS, member);
 }
 

@@ -1,12 +1,12 @@
 -- Which classes are open to a grant: those not below the next try all of whose members fit it, so that the lowest of
 -- them is the machine's choice.
-use Prim.Native.Nat.{ℕ, _+_, _-_, _/_, _%_, _≤_, _<_}
+use Prim.Native.Nat.{ℕ, _+_, _*_, _-_, _/_, _%_, _≤_, _<_}
 use mathlib.Core.Path.{_≡_, refl}
 use mathlib.Core.Logic.{⊎-elim}
 use mathlib.Core.Bool.{Bool, true, false, So, not, _&&_, and-false}
 use mathlib.Core.List.{List}
 use mathlib.Core.Option.{Option·getD}
-use native.Mathlib.Nat.{add-zero}
+use native.Mathlib.Nat.{add-zero, zero-add}
 use native.Mathlib.Numerals.{add-one}
 use native.Mathlib.Omega.{arith}
 use borrow.Author.Tests.{lt-ltb, le-ltb, le-leb, lt-leb}
@@ -16,44 +16,51 @@ use Rattle.spec.specs.Vocabulary.{every-below, lowest-below}
 use Rattle.bits.specs.Truth.{implies}
 use Rattle.bits.specs.Laws.Below.{below-or-from, last-or-below, every-below-ext, every-below-not}
 use Rattle.bits.specs.Laws.Lowest.{lowest-below-intro, lowest-below-none-intro}
-use Rattle.bits.specs.Bit.{word-bits}
-use Rattle.search.specs.Marks.{mark-limit, marked}
+use Rattle.bits.specs.Bit.{bit, word-bits}
+use Rattle.search.specs.declared.marks.Marks.{Marks}
+use Rattle.search.specs.Marks.{kernel-words, mark-limit, marked}
 use Rattle.search.specs.Laws.Mark.{marked-low, marked-high}
 use Rattle.search.specs.View.{fit-in, joinable}
 use Rattle.search.specs.Gathered.{member, Gathered}
 use Rattle.bits.specs.Laws.Cut.{some-below-cut}
 use Rattle.search.specs.Laws.Placed.{joins-unless-apart}
-use Rattle.search.specs.OpenTo.{open-to, row, all-fit}
+use Rattle.search.specs.OpenTo.{open-to, row, class-row, all-fit}
 
-pub marked-row : (table : List ℕ) (d : ℕ) {i : ℕ} → i < mark-limit → marked (row table d) i ≡ fit-in table d i
-marked-row table d {i} l =
+-- marks are read from the word that has their position, whichever way a table has the two words of a row
+marked-words : (m : Marks) (word : ℕ → ℕ) → m .low ≡ word 0 → m .high ≡ word 1 → {i : ℕ} → i < mark-limit
+    → marked m i ≡ bit (word (i / word-bits)) (i % word-bits)
+marked-words m word low high {i} l =
     ⊎-elim
     (λ (k : i < word-bits).
-    let word : i / word-bits ≡ 0 = omega arith in
+    let first : i / word-bits ≡ 0 = omega arith in
     let place : i % word-bits ≡ i = omega arith in
-    rw (marked-low (row table d) k, word, place, add-zero))
+    rw (marked-low m k, first, place, low))
     (λ (k : word-bits ≤ i).
-    let word : i / word-bits ≡ 1 = omega arith in
+    let second : i / word-bits ≡ 1 = omega arith in
     let place : i % word-bits ≡ i - word-bits = omega arith in
-    rw (marked-high (row table d) k, word, place))
+    rw (marked-high m k, second, place, high))
     (below-or-from i word-bits)
 
 -- a class's words are within a grant's just where all members of the class fit the grant
 pub within-row : (table members : List ℕ) (d c : ℕ)
-    → every-below mark-limit (λ p. implies (marked (row members c) p) (marked (row table d) p)) ≡ all-fit table
-    members d c
+    → every-below mark-limit (λ p. implies (marked (class-row members c) p) (marked (row table d) p))
+    ≡ all-fit table members d c
 within-row table members d c =
-    every-below-ext mark-limit (λ p. implies (marked (row members c) p) (marked (row table d) p))
-    (λ i. implies (member members c i) (fit-in table d i)) (λ i l. rw (marked-row members c l, marked-row table d l))
+    every-below-ext mark-limit (λ p. implies (marked (class-row members c) p) (marked (row table d) p))
+    (λ i. implies (member members c i) (fit-in table d i)) (λ i l.
+    rw (
+      marked-words (class-row members c) (λ j. getD members (j * mark-limit + c) 0) (rw zero-add) refl l,
+      marked-words (row table d) (λ j. getD table (d * kernel-words + j) 0) (rw add-zero) refl l,
+    ))
 
 -- a class is open to grant d just where the grant can be placed in it
 pub open-joinable : (table : List ℕ) {classes members : List ℕ} (d next : ℕ) → d ≤ mark-limit
     → Gathered classes d members
-    → (c : ℕ) → open-to table members d next c ≡ joinable table classes d next c
-open-joinable table {classes} {members} d next within g c =
+    → (c : ℕ) → c < mark-limit → open-to table members d next c ≡ joinable table classes d next c
+open-joinable table {classes} {members} d next within g c k =
     rw (
       every-below-ext mark-limit (λ i. implies (member members c i) (fits i)) (λ i. implies (in-class i) (fits i))
-          (λ i l. rw (g .has c i l)),
+          (λ i l. rw (g .has c i k l)),
       every-below-not mark-limit (λ i. implies (in-class i) (fits i)),
       joins-unless-apart (fit-in table) classes d d c,
       some-below-cut mark-limit d (λ i. not (implies (in-class i) (fits i))) (λ i. not (fits i)

@@ -1,9 +1,9 @@
 -- What the words of a set of marks say: a number below the first word's width is marked by that word, any other by
 -- the second. So a law holds of every number once it holds of each word's positions.
 use Prim.Native.Nat.{ℕ, _+_, _-_, _≤_, _<_}
-use mathlib.Core.Path.{_≡_, ap, _∙_}
+use mathlib.Core.Path.{_≡_, refl, ap, _∙_}
 use mathlib.Core.Logic.{⊎-elim}
-use mathlib.Core.Bool.{Bool, false, _&&_}
+use mathlib.Core.Bool.{Bool, true, false, not, _&&_, _||_, cond}
 use native.Mathlib.Nat.{add-sub-of-le}
 use native.Mathlib.Omega.{arith}
 use borrow.Author.Tests.{lt-ltb, le-ltb, eqb-true, eq-eqb, ne-eqb}
@@ -41,6 +41,18 @@ eqb-later p n l =
     (λ e. eq-eqb p (n - word-bits) (omega (arith, eqb-true (word-bits + p) n e)))
 
 -- ---- one number put in or taken out, in the word that has its position
+
+pub put-in : (was here : Bool) → (was || here) ≡ cond here true was
+put-in true true = refl
+put-in true false = refl
+put-in false true = refl
+put-in false false = refl
+
+pub taken-out : (was here : Bool) → (was && not here) ≡ cond here false was
+taken-out true true = refl
+taken-out true false = refl
+taken-out false true = refl
+taken-out false false = refl
 
 module _ (change : Bool → Bool → Bool) (keeps : (b : Bool) → change b false ≡ b) (m after : Marks) (p : ℕ) where
   pub changed-low :

@@ -20,7 +20,7 @@ use Rattle.search.specs.declared.machine.Position.{Position}
 use Rattle.search.specs.declared.machine.Sizes.{Sizes}
 use Rattle.search.specs.Marks.{mark-limit}
 use Rattle.search.specs.View.{kernel-given, view, Trail, PositionStands, class-end, joinable, CursorPlaced}
-use Rattle.search.specs.View.{taken-back}
+use Rattle.search.specs.View.{ended-at, taken-back}
 use Rattle.search.specs.Laws.Placed.{grown-class-le}
 use Rattle.search.specs.Laws.Trail.{trail-used-le, trail-placed, trail-taken-back}
 use Rattle.search.specs.Laws.ClassEnd.{Tried, below-class-end, choice-below-end}
@@ -112,19 +112,7 @@ module _ (table : List ℕ) (sizes : Sizes) (p : Position) (s : PositionStands (
   -- no grant is placed, and no class is found: the search is closed
   pub closes : end ≤ class → p .cursor .depth ≡ 0
       → Follows table sizes p
-      (record {
-        cursor =
-            record {
-              depth = p .cursor .depth;
-              next = p .cursor .next;
-              used = p .cursor .used;
-              count = p .cursor .count;
-              finished = true;
-              opened = p .cursor .opened;
-            };
-        classes = p .classes;
-        best = p .best;
-      })
+      (record { cursor = ended-at (p .cursor) (p .cursor .count) true; classes = p .classes; best = p .best })
   closes l e = (
     rw (steps-by-taking-back l, e),
     record { size-within = s .size-within; trail = s .trail; best-counted = s .best-counted },
@@ -183,15 +171,7 @@ module _ (table : List ℕ) (sizes : Sizes) (p : Position) (s : PositionStands (
         → finished ≡ eqb (after .used + sizes .singles) (sizes .witness)
         → Follows table sizes p
         (record {
-          cursor =
-              record {
-                depth = after .depth;
-                next = after .next;
-                used = after .used;
-                count = after .used;
-                finished = finished;
-                opened = after .opened;
-              };
+          cursor = ended-at after (after .used) finished;
           classes = set (p .classes) (p .cursor .depth) class;
           best = set (p .classes) (p .cursor .depth) class;
         })

@@ -12,10 +12,10 @@ use Rattle.search.proofs.choice.class_for.Statement.{statement}
 use Rattle.search.proofs.choice.class_for.Tie as tie
 
 abbrev Inv-loop : tie.InvT-loop
-Inv-loop members fit next end d fitting c₀ c = (next ≤ c) × ((q : ℕ) → q < c → open-to fit members d next q ≡ false)
+Inv-loop members fit next end d fits c₀ c = (next ≤ c) × ((q : ℕ) → q < c → open-to fit members d next q ≡ false)
 
 abbrev μ-loop : tie.MeasureT-loop
-μ-loop members fit next end d fitting c₀ c = end - c
+μ-loop members fit next end d fits c₀ c = end - c
 
 returns : tie.Need-returns Inv-loop μ-loop
 returns c =
@@ -24,8 +24,8 @@ returns c =
     (a .members .now) (a .grant .0) (a .next) l)
     (c .if1 .taken)
 
-row-requires : tie.Need-row-requires Inv-loop μ-loop
-row-requires c κs = c .before .pre .1 (omega arith)
+fitting-requires : tie.Need-fitting-requires Inv-loop μ-loop
+fitting-requires c κs = c .before .pre .1 (omega arith)
 
 loop-holds : tie.Need-loop-holds Inv-loop μ-loop
 loop-holds c =
@@ -41,7 +41,7 @@ told c =
     let start = c .before .before .before .before .before .before in
     let a = start .args in
     c .within .ensures
-    ∙ rw (c .before .row2 .ensures, c .before .before .before .before .row .ensures)
+    ∙ rw (c .before .of-class .ensures, c .before .before .before .before .fitting .ensures)
     (within-row (a .fit .now) (a .members .now) (a .grant .0) (c .before .before .before .loop .c))
 
 returns-2 : tie.Need-returns-2 Inv-loop μ-loop
@@ -74,5 +74,5 @@ returns-3 c =
 
 pub class-for-spec : {M : Type 1} → statement M
 class-for-spec =
-    tie.close (tie.spec Inv-loop μ-loop returns row-requires loop-holds (λ c κs. omega arith) (λ c κs. search needs)
+    tie.close (tie.spec Inv-loop μ-loop returns fitting-requires loop-holds (λ c κs. omega arith) (λ c κs. search needs)
     returns-2 (λ c. omega arith) (λ c. omega arith) loop-again returns-3)

@@ -13,39 +13,38 @@ use base.Logic.{SProp, ent, id⊢}
 use base.Fml.{Lft, Share, Fml, ftrue, fat, flft, fobs, fbor}
 use prog.Memory.{Memory}
 use prog.Routine.{Routine}
-use prog.Wp.{Heap, Calls, Loops, WpFn, Tables}
+use prog.Wp.{Heap, Calls, Loops, WpFn}
 use ghost.Atoms.{Atoms}
 use contract.Monad.{Fun, fact}
-use contract.Running.{givenOf, tables, tablesOf}
+use contract.Running.{givenOf}
 use contract.Lifetimes.{AllOutlive}
 use types.Kit.{Given, ‵, raw, some, later, _⊛_, ⋆, _$_, _∵_, !, qed, by, move, keep, drop, use1, use2, split, join}
 use types.Kit.{pick, rewrite, fsplit, fsplit3, fjoin, fjoin3, feqI, suffices, frame, await, done}
 use types.Run.{look, look-raw, init, store-raw, forget, stop, hop, from, load, addr, unit-lit, of-opd, and-then}
 use types.Run.{no-more, assigns, land, returns, enter, alloc1, alloc0, params1, pass1, pass0, free1, free0}
 use types.SemTy.{Body}
-use sound.WpLaws.{FmC, fmOf, WpFn-mono}
+use sound.WpLaws.{FmC}
 use denote.RattleType.{owns, flat}
 use denote.Laws.{Is, shows}
 use denote.Memory.{mem}
-use denote.Ref.{RefT, MutRef, ptr-vals, mut-tells, shr-tells}
-use denote.Signature.{plain, shrRefTo}
+use denote.Ref.{RefT, MutRef, ptr-vals, mut-tells}
+use denote.Signature.{plain}
 use denote.Steps.{closes, owned, peeks, heard}
 use denote.Struct.Laws as LL
 use denote.Triple.Entry.{onEntry}
-use denote.Triple.Spec.{Meets, tripleOf}
+use denote.Triple.Spec.{tripleOf}
 use denote.Triple.Statement.{Contract, Triple}
 use denote.Triple.Call.{calls-at}
 use denote.Triple.Clauses.{ensured, lasts}
-use denote.Triple.Table.{entered, cited}
-use denote.Triple.Walked.{says, needs, Stays, stay-ref, gave-ref, stay-dropped, walkOf, AllGo, goes-ref}
-use denote.Triple.Walked.{goes-gave-ref, goes-dropped, Walks, ends-at, walked, walk-meets}
-use denote.Exit.{yes}
+use denote.Triple.Walked.{says, needs, Stays, stay-ref, walkOf, goes-ref}
+use denote.Triple.Walked.{Walks, ends-at, walked}
 use Rattle.search.specs.declared.machine.Cursor.{Cursor}
 use Rattle.search.proofs.machine.Cursor as cursor
 use Rattle.search.proofs.machine.Cursor.Laws as cursor-laws
 use Rattle.search.proofs.machine.Sizes as sizes
 use Rattle.search.proofs.machine.Sizes.Laws as sizes-laws
-use Rattle.search.proofs.LentCursor.{CursorT, SizesT, Bytes, Words, bytes, words, Beside, beside-vals}
+use Rattle.search.proofs.LentCursor.{CursorT, Beside, beside-vals, beside-stays, beside-spells, beside-tells}
+use Rattle.search.proofs.LentCursor.{beside-go, by-walk}
 use Rattle.search.proofs.LentCursor.{BesideTs, beside-own, ReadyAt, MovedTo, SizesFit, val, told, own-val}
 use Rattle.search.proofs.LentCursor.{typed, sizes-typed, opens-cursor}
 use Rattle.search.proofs.moves.moved as moved
@@ -59,22 +58,7 @@ use Rattle.search.proofs.lent.advance.Code as code
 
 -- the cursor is still lent at exit; the arrays are given to `moved`, and of the rest nothing is kept
 abbrev stayed : Stays (advance.ended .signature .params) (advance.ended .kept)
-stayed = (
-  stay-ref (0 ∷ []) tt (plain (λ _. CursorT)),
-  (
-    gave-ref (1 ∷ []) tt bytes,
-    (
-      gave-ref (1 ∷ []) tt bytes,
-      (
-        gave-ref (1 ∷ []) tt words,
-        (
-          stay-dropped (shrRefTo (1 ∷ []) tt words) yes,
-          (stay-dropped (plain (λ _. SizesT)) yes, tt),
-        ),
-      ),
-    ),
-  ),
-)
+stayed = (stay-ref (0 ∷ []) tt (plain (λ _. CursorT)), beside-stays 2 1 tt)
 
 -- all that is known of `moved`
 abbrev MovedC : {M : Type 1} (𝓤 : URA M) (H : Heap 𝓤) (A : Atoms 𝓤) (at-mem : Memory → SProp 𝓤) (run : Routine
@@ -215,69 +199,18 @@ module _ {M : Type 1} (𝓤 : URA M) (H : Heap 𝓤) (A : Atoms 𝓤) (W : Given
       → Walks 𝓤 H A advance.ended stayed (WpFn 𝓤 H C Λ code.function) (advance.clauses 𝓤 H A at-mem run)
   advance-walks C Λ fm known =
       walked 𝓤 H A advance.ended stayed (advance.clauses 𝓤 H A at-mem run) (WpFn 𝓤 H C Λ code.function)
-      (λ κs. (
-        ptr-vals,
-        (
-          ptr-vals,
-          (
-            ptr-vals,
-            (ptr-vals, (ptr-vals, (LL.vals sizes.the-type sizes-laws.the-laws, tt))),
-          ),
-        ),
-      ))
-      (λ κs. (
-        mut-tells (named 0) (κs .0) CursorT,
-        (
-          mut-tells (named 1) (κs .1 .0) Bytes,
-          (
-            mut-tells (named 1) (κs .1 .0) Bytes,
-            (
-              mut-tells (named 1) (κs .1 .0) Words,
-              (
-                shr-tells (named 1) (κs .1 .0) Words,
-                (LL.tells sizes.the-type sizes-laws.the-laws, tt),
-              ),
-            ),
-          ),
-        ),
-      ))
+      (λ κs. (ptr-vals, beside-spells 2 1 tt κs))
+      (λ κs. (mut-tells (named 0) (κs .0) CursorT, beside-tells 2 1 tt κs))
       (λ κs qs bounds a g are. needs 𝓤 (ReadyAt (a .0 .now) (a .1)) _
       (walk 𝓤 H A W at-mem run (κs .0) (κs .1 .0) bounds (qs .0) (qs .1 .0) (a .0) (a .1) C Λ fm known
       (are .1 .1 .1 .1 .1 .0)))
 
-  goes-all : AllGo 𝓤 H A W 2 (advance.signature .params) (advance.ended .kept) stayed
-  goes-all = (
-    goes-ref 𝓤 H A W 2 0 tt (plain (λ _. CursorT)),
-    (
-      goes-gave-ref 𝓤 H A W 2 1 tt bytes,
-      (
-        goes-gave-ref 𝓤 H A W 2 1 tt bytes,
-        (
-          goes-gave-ref 𝓤 H A W 2 1 tt words,
-          (
-            goes-dropped 𝓤 H A W 2 (shrRefTo (1 ∷ []) tt words) yes (λ κs x f. refl),
-            (goes-dropped 𝓤 H A W 2 (plain (λ _. SizesT)) yes (λ κs x f. refl), tt),
-          ),
-        ),
-      ),
-    ),
-  )
-
-advance-meets : {M : Type 1} (𝓤 : URA M) (H : Heap 𝓤) (A : Atoms 𝓤) → Given 𝓤 H A → (at-mem : Memory → SProp 𝓤)
-    (run : Routine → Fun 𝓤) (𝓣 : Tables 𝓤 H)
-    → Triple 𝓤 (𝓣 .C #moved) (MovedC 𝓤 H A at-mem run) → Meets 𝓤 H A advance.signature
-    (WpFn 𝓤 H (𝓣 .C) (𝓣 .Λ) code.function) (advance.spec 𝓤 H A at-mem run)
-advance-meets 𝓤 H A W at-mem run 𝓣 known =
-    walk-meets 𝓤 H A advance.ended stayed W (goes-all 𝓤 H A W at-mem run) (advance.clauses 𝓤 H A at-mem run)
-    (WpFn 𝓤 H (𝓣 .C) (𝓣 .Λ) code.function)
-    (WpFn-mono 𝓤 H (W .laws) 𝓣 code.function) (advance-walks 𝓤 H A W at-mem run (𝓣 .C) (𝓣 .Λ) (fmOf 𝓤 H (W .laws) 𝓣)
-    known)
-
 pub advance-spec : {M : Type 1} → stated.statement M
-unfolding code.routine tablesOf
+unfolding code.routine
 advance-spec 𝓤 H 𝓜 𝓖 𝓡 =
-    entered 𝓤 H (tripleOf 𝓤 H (𝓖 .A) advance.signature (advance.spec 𝓤 H (𝓖 .A) (𝓜 .mem) (𝓡 .run)))
-    (tables 𝓤 H 𝓜 𝓡 code.env .C) (tables 𝓤 H 𝓜 𝓡 code.env .Λ) #advance code.function (code.unfolded 𝓤 H 𝓜 𝓡)
-    (advance-meets 𝓤 H (𝓖 .A) (givenOf 𝓤 H 𝓜 𝓖) (𝓜 .mem) (𝓡 .run) (tablesOf 𝓤 H 𝓜 (tables 𝓤 H 𝓜 𝓡 code.env))
-    (cited 𝓤 H (MovedC 𝓤 H (𝓖 .A) (𝓜 .mem) (𝓡 .run)) 𝓜 𝓡 code.env #moved moved-def.routine
-    code.calls-search·moves·moved (moved-thm.met 𝓤 H 𝓜 𝓖 𝓡)))
+    let W = givenOf 𝓤 H 𝓜 𝓖 in
+    by-walk 𝓤 H 𝓜 𝓖 𝓡 advance.ended stayed (advance.clauses 𝓤 H (𝓖 .A) (𝓜 .mem) (𝓡 .run)) code.function code.env
+    #advance (code.unfolded 𝓤 H 𝓜 𝓡) #moved moved-def.routine code.calls-search·moves·moved (MovedC 𝓤 H (𝓖 .A) (𝓜 .mem) (𝓡 .run))
+    (moved-thm.met 𝓤 H 𝓜 𝓖 𝓡)
+    (goes-ref 𝓤 H (𝓖 .A) W 2 0 tt (plain (λ _. CursorT)), beside-go 2 1 tt 𝓤 H (𝓖 .A) W)
+    (advance-walks 𝓤 H (𝓖 .A) W (𝓜 .mem) (𝓡 .run))

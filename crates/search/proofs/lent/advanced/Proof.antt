@@ -14,41 +14,41 @@ use base.Logic.{SProp, ent, id⊢}
 use base.Fml.{GName, Lft, Share, Fml, ftrue, fsep, fat, flft, flent, fres}
 use prog.Memory.{Memory}
 use prog.Routine.{Routine}
-use prog.Wp.{Heap, Calls, Loops, WpFn, Tables}
+use prog.Wp.{Heap, Calls, Loops, WpFn}
 use ghost.Atoms.{Atoms}
 use contract.Monad.{Fun, fact}
-use contract.Running.{givenOf, tables, tablesOf}
+use contract.Running.{givenOf}
 use types.Kit.{Given, ‵, raw, given, some, later, _⊛_, ⋆, _$_, _∵_, !, qed, by, move, drop, use1, use3, split, join}
 use types.Kit.{pick, learn, fsplit, fjoin, feqL, suffices, frame, await, done}
 use types.Run.{look, init, forget, stop, hop, from, load, addr, of-opd, and-then, no-more, assigns, land, returns}
 use types.Run.{enter, alloc1, alloc0, params1, pass1, pass0, free1, free0}
 use types.SemTy.{Body}
 use types.Tokens.{lft-new, lft-end}
-use sound.WpLaws.{FmC, fmOf, WpFn-mono}
+use sound.WpLaws.{FmC}
 use denote.RattleType.{owns, flat}
 use denote.Laws.{Is}
 use denote.Lend.{lends-ref, ref-back}
 use denote.Memory.{mem}
 use denote.Plain.{Nothing}
-use denote.Ref.{RefT, MutRef, ptr-vals, mut-tells, shr-tells}
-use denote.Signature.{plain, shrRefTo}
+use denote.Ref.{RefT, MutRef, ptr-vals}
+use denote.Signature.{plain}
 use denote.Steps.{only, owned, heard, nothing}
 use denote.Struct.Laws as LL
 use denote.Triple.Entry.{onEntry}
-use denote.Triple.Spec.{Meets, tripleOf}
+use denote.Triple.Spec.{tripleOf}
 use denote.Triple.Statement.{Contract, Triple}
 use denote.Triple.Call.{calls-at}
 use denote.Triple.Clauses.{ensured}
-use denote.Triple.Table.{entered, cited}
-use denote.Triple.Walked.{says, needs, Stays, gave-ref, stay-dropped, walkOf, AllGo, goes-gave-ref, goes-dropped}
-use denote.Triple.Walked.{Walks, ends-at, walked, walk-meets}
+use denote.Triple.Walked.{says, needs, Stays, stay-dropped, walkOf, goes-dropped}
+use denote.Triple.Walked.{Walks, ends-at, walked}
 use denote.Exit.{yes}
 use Rattle.search.specs.declared.machine.Cursor.{Cursor}
 use Rattle.search.proofs.machine.Cursor as cursor
 use Rattle.search.proofs.machine.Cursor.Laws as cursor-laws
 use Rattle.search.proofs.machine.Sizes as sizes
 use Rattle.search.proofs.machine.Sizes.Laws as sizes-laws
-use Rattle.search.proofs.LentCursor.{CursorT, SizesT, Bytes, Words, bytes, words, Beside, beside-vals}
+use Rattle.search.proofs.LentCursor.{CursorT, Beside, beside-vals, beside-stays, beside-spells, beside-tells}
+use Rattle.search.proofs.LentCursor.{Bytes, Words, beside-go, by-walk}
 use Rattle.search.proofs.LentCursor.{BesideTs, beside-own, ReadyAt, MovedTo, SizesFit, val, typed, sizes-typed}
 use Rattle.search.proofs.LentCursor.{lies-in, lies-out}
 use Rattle.search.proofs.lent.advance as advance
@@ -62,22 +62,7 @@ use Rattle.search.proofs.lent.advanced.Code as code
 
 -- the arrays are given to `advance`, and of the rest nothing is kept
 abbrev stayed : Stays (advanced.ended .signature .params) (advanced.ended .kept)
-stayed = (
-  stay-dropped (plain (λ _. CursorT)) yes,
-  (
-    gave-ref (0 ∷ []) tt bytes,
-    (
-      gave-ref (0 ∷ []) tt bytes,
-      (
-        gave-ref (0 ∷ []) tt words,
-        (
-          stay-dropped (shrRefTo (0 ∷ []) tt words) yes,
-          (stay-dropped (plain (λ _. SizesT)) yes, tt),
-        ),
-      ),
-    ),
-  ),
-)
+stayed = (stay-dropped (plain (λ _. CursorT)) yes, beside-stays 1 0 tt)
 
 -- all that is known of `advance`
 abbrev AdvanceC : {M : Type 1} (𝓤 : URA M) (H : Heap 𝓤) (A : Atoms 𝓤) (at-mem : Memory → SProp 𝓤) (run : Routine
@@ -225,63 +210,18 @@ module _ {M : Type 1} (𝓤 : URA M) (H : Heap 𝓤) (A : Atoms 𝓤) (W : Given
       → Walks 𝓤 H A advanced.ended stayed (WpFn 𝓤 H C Λ code.function) (advanced.clauses 𝓤 H A at-mem run)
   advanced-walks C Λ fm known =
       walked 𝓤 H A advanced.ended stayed (advanced.clauses 𝓤 H A at-mem run) (WpFn 𝓤 H C Λ code.function)
-      (λ κs. (
-        LL.vals cursor.the-type cursor-laws.the-laws,
-        (ptr-vals, (ptr-vals, (ptr-vals, (ptr-vals, (LL.vals sizes.the-type sizes-laws.the-laws, tt))))),
-      ))
-      (λ κs. (
-        LL.tells cursor.the-type cursor-laws.the-laws,
-        (
-          mut-tells (named 0) (κs .0) Bytes,
-          (
-            mut-tells (named 0) (κs .0) Bytes,
-            (
-              mut-tells (named 0) (κs .0) Words,
-              (
-                shr-tells (named 0) (κs .0) Words,
-                (LL.tells sizes.the-type sizes-laws.the-laws, tt),
-              ),
-            ),
-          ),
-        ),
-      ))
+      (λ κs. (LL.vals cursor.the-type cursor-laws.the-laws, beside-spells 1 0 tt κs))
+      (λ κs. (LL.tells cursor.the-type cursor-laws.the-laws, beside-tells 1 0 tt κs))
       (λ κs qs bounds a ghost are. needs 𝓤 (ReadyAt (a .0) (a .1)) _
       (walk 𝓤 H A W at-mem run (κs .0) (qs .0) (a .0) (a .1) C Λ fm known (are .0)
       (are .1 .1 .1 .1 .1 .0)))
 
-  goes-all : AllGo 𝓤 H A W 1 (advanced.signature .params) (advanced.ended .kept) stayed
-  goes-all = (
-    goes-dropped 𝓤 H A W 1 (plain (λ _. CursorT)) yes (λ κs x f. refl),
-    (
-      goes-gave-ref 𝓤 H A W 1 0 tt bytes,
-      (
-        goes-gave-ref 𝓤 H A W 1 0 tt bytes,
-        (
-          goes-gave-ref 𝓤 H A W 1 0 tt words,
-          (
-            goes-dropped 𝓤 H A W 1 (shrRefTo (0 ∷ []) tt words) yes (λ κs x f. refl),
-            (goes-dropped 𝓤 H A W 1 (plain (λ _. SizesT)) yes (λ κs x f. refl), tt),
-          ),
-        ),
-      ),
-    ),
-  )
-
-advanced-meets : {M : Type 1} (𝓤 : URA M) (H : Heap 𝓤) (A : Atoms 𝓤) → Given 𝓤 H A → (at-mem : Memory → SProp 𝓤)
-    (run : Routine → Fun 𝓤) (𝓣 : Tables 𝓤 H)
-    → Triple 𝓤 (𝓣 .C #advance) (AdvanceC 𝓤 H A at-mem run) → Meets 𝓤 H A advanced.signature
-    (WpFn 𝓤 H (𝓣 .C) (𝓣 .Λ) code.function) (advanced.spec 𝓤 H A at-mem run)
-advanced-meets 𝓤 H A W at-mem run 𝓣 known =
-    walk-meets 𝓤 H A advanced.ended stayed W (goes-all 𝓤 H A W at-mem run) (advanced.clauses 𝓤 H A at-mem run)
-    (WpFn 𝓤 H (𝓣 .C) (𝓣 .Λ) code.function)
-    (WpFn-mono 𝓤 H (W .laws) 𝓣 code.function) (advanced-walks 𝓤 H A W at-mem run (𝓣 .C) (𝓣 .Λ) (fmOf 𝓤 H (W .laws) 𝓣)
-    known)
-
 pub advanced-spec : {M : Type 1} → stated.statement M
-unfolding code.routine tablesOf
+unfolding code.routine
 advanced-spec 𝓤 H 𝓜 𝓖 𝓡 =
-    entered 𝓤 H (tripleOf 𝓤 H (𝓖 .A) advanced.signature (advanced.spec 𝓤 H (𝓖 .A) (𝓜 .mem) (𝓡 .run)))
-    (tables 𝓤 H 𝓜 𝓡 code.env .C) (tables 𝓤 H 𝓜 𝓡 code.env .Λ) #advanced code.function (code.unfolded 𝓤 H 𝓜 𝓡)
-    (advanced-meets 𝓤 H (𝓖 .A) (givenOf 𝓤 H 𝓜 𝓖) (𝓜 .mem) (𝓡 .run) (tablesOf 𝓤 H 𝓜 (tables 𝓤 H 𝓜 𝓡 code.env))
-    (cited 𝓤 H (AdvanceC 𝓤 H (𝓖 .A) (𝓜 .mem) (𝓡 .run)) 𝓜 𝓡 code.env #advance advance-def.routine
-    code.calls-search·lent·advance (advance-thm.met 𝓤 H 𝓜 𝓖 𝓡)))
+    let W = givenOf 𝓤 H 𝓜 𝓖 in
+    by-walk 𝓤 H 𝓜 𝓖 𝓡 advanced.ended stayed (advanced.clauses 𝓤 H (𝓖 .A) (𝓜 .mem) (𝓡 .run)) code.function code.env
+    #advanced (code.unfolded 𝓤 H 𝓜 𝓡) #advance advance-def.routine code.calls-search·lent·advance (AdvanceC 𝓤 H (𝓖 .A) (𝓜 .mem) (𝓡 .run))
+    (advance-thm.met 𝓤 H 𝓜 𝓖 𝓡)
+    (goes-dropped 𝓤 H (𝓖 .A) W 1 (plain (λ _. CursorT)) yes (λ κs x f. refl), beside-go 1 0 tt 𝓤 H (𝓖 .A) W)
+    (advanced-walks 𝓤 H (𝓖 .A) W (𝓜 .mem) (𝓡 .run))

@@ -1,23 +1,11 @@
 -- `changed`: the word with the position, or without it, has every other position as it was.
-use mathlib.Core.Path.{_≡_, refl, _∙_}
-use mathlib.Core.Bool.{Bool, true, false, not, _&&_, _||_, cond}
+use mathlib.Core.Path.{_∙_}
 use borrow.Author.Needs.{needs}
 use lib.Dec.{eqb}
 use Rattle.bits.specs.Bit.{bit}
+use Rattle.search.specs.Laws.Mark.{put-in, taken-out}
 use Rattle.search.proofs.members.changed.Statement.{statement}
 use Rattle.search.proofs.members.changed.Tie as tie
-
-put-in : (was here : Bool) → (was || here) ≡ cond here true was
-put-in true true = refl
-put-in true false = refl
-put-in false true = refl
-put-in false false = refl
-
-taken-out : (was here : Bool) → (was && not here) ≡ cond here false was
-taken-out true true = refl
-taken-out true false = refl
-taken-out false true = refl
-taken-out false false = refl
 
 returns : tie.Need-returns
 returns c q =

@@ -1,24 +1,22 @@
 -- `set`: the word that has the grant's bit of the class is changed at that bit, and no other word is.
-use Prim.Native.Nat.{_+_, _*_, _/_, _<_}
+use Prim.Native.Nat.{_<_}
 use native.Mathlib.Omega.{arith}
 use borrow.Author.Needs.{needs}
 use lib.ListN.{length}
-use Rattle.bits.specs.Bit.{word-bits}
-use Rattle.search.specs.Gathered.{word-set}
-use Rattle.search.specs.Marks.{kernel-words}
+use Rattle.search.specs.Gathered.{member-word, word-set}
 use Rattle.search.proofs.members.set.Statement.{statement}
 use Rattle.search.proofs.members.set.Tie as tie
 
 -- the table has a word for the grant in the class
 word-there : (c : tie.Start)
-    → c .args .class * kernel-words + c .args .grant .0 / word-bits < length (c .args .members .now)
+    → member-word (c .args .class) (c .args .grant .0) < length (c .args .members .now)
 word-there c = omega arith
 
 returns : tie.Need-returns
 returns c =
     let start = c .before .before in
     let a = start .args in
-    word-set (a .members .now) (a .class) (a .grant .0) (a .member) (c .changed .result) (start .pre .1 .1)
+    word-set (a .members .now) (a .class) (a .grant .0) (a .member) (c .changed .result) (start .pre .1 .0)
     (word-there start) (c .changed .ensures)
 
 pub set-spec : {M : Type 1} → statement M
