@@ -10,3 +10,5 @@ pub mod WordRows
 pub mod CellAdded
 pub mod PositionSet
 pub mod MadeCells
+pub mod NextBelow
+pub mod FirstAt

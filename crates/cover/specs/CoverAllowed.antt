@@ -3,32 +3,25 @@
 use Prim.Native.Nat.{ℕ, _+_, _-_, _/_, _%_, _^_, _≤_, _<_}
 use native.Mathlib.Nat.{lt-of-lt-of-le, mod-lt}
 use native.Mathlib.Omega.{arith}
-use mathlib.Core.Path.{_≡_, refl, sym, _∙_}
+use mathlib.Core.Path.{_≡_, sym, _∙_}
 use mathlib.Core.Logic.{⊎-elim}
 use mathlib.Core.Bool.{Bool, true, false, So, not, _&&_, _||_, and-false, and-comm, or-false, or-true}
 use mathlib.Core.List.{List}
-use borrow.Author.Tests.{eqb-true, eqb-false, eq-eqb, lt-ltb, le-ltb}
+use borrow.Author.Tests.{eqb-true, lt-ltb, le-ltb}
 use lib.Dec.{eqb, ltb, lit<}
-use lib.ListN.{length, getD, set, replicate, getD-replicate}
+use lib.ListN.{replicate, getD-replicate}
 use Rattle.spec.specs.Vocabulary.{every-below}
 use Rattle.bits.specs.Truth.{passes-or-fails, implies}
-use Rattle.bits.specs.Laws.Below.{below-or-from, every-below-intro, every-below-ext}
-use Rattle.bits.specs.Bit.{bit, word-bits}
+use Rattle.bits.specs.Laws.Below.{every-below-intro, every-below-ext}
+use Rattle.bits.specs.Bit.{word-bits}
 use Rattle.bits.specs.Laws.Bit.{bit-of-zero, bit-full}
 use Rattle.cells.specs.Rows.{row-words, row-bits, cell}
 use Rattle.cells.specs.CellAdded.{CellAdded, word-of}
-use Rattle.cells.specs.Laws.CellAdded.{word-below, cell-set}
+use Rattle.cells.specs.Laws.CellAdded.{word-below}
+use Rattle.cells.specs.Laws.NextBelow.{next-below}
 use Rattle.cover.specs.CoverMembers.{class-words, joinable}
 use Rattle.cover.specs.CoverWords.{held-at}
 use Rattle.cover.specs.CoverFree.{free}
-
--- a class put in a set of classes
-pub class-put : (words : List ℕ) (c w : ℕ) → c < row-bits → c / word-bits < length words
-    → ((x : ℕ) → bit w x ≡ (bit (getD words (c / word-bits) 0) x || eqb x (c % word-bits)))
-    → CellAdded words (set words (c / word-bits) w) 0 c true
-class-put words c w inside room says =
-    let first : word-of 0 c ≡ c / word-bits = omega arith in
-    rw first at (cell-set words 0 c w inside (rw first room) (λ x. rw first (says x)))
 
 -- user u holds all that the members of class c ask
 abbrev pub allowed-at : List ℕ → List ℕ → ℕ → ℕ → Bool
@@ -66,27 +59,8 @@ module _ (rows : List ℕ) (u : ℕ) where
   pub one-allowed : (asked allowed after : List ℕ) (n : ℕ) → AllowedSoFar rows asked u n allowed
       → CellAdded allowed after 0 n (allowed-at rows asked u n)
       → AllowedSoFar rows asked u (n + 1) after
-  one-allowed asked allowed after n so-far added = record { shows = λ c l. added .shows 0 c l ∙ step c l }
-    where
-      step : (c : ℕ) → c < row-bits
-          → (cell allowed 0 c || (eqb 0 0 && (eqb c n && allowed-at rows asked u n))) ≡ (ltb c (n + 1)
-          && allowed-at rows asked u c)
-      step c l = ⊎-elim same other (passes-or-fails (eqb c n))
-        where
-          same : So (eqb c n) → (cell allowed 0 c || (eqb 0 0 && (eqb c n && allowed-at rows asked u n))) ≡
-              (ltb c (n + 1) && allowed-at rows asked u c)
-          same t =
-              let e : c ≡ n = eqb-true c n t in
-              rw (so-far .shows c l, e, le-ltb n n (omega arith), eq-eqb n n refl, lt-ltb n (n + 1) (omega arith))
-
-          other : eqb c n ≡ false → (cell allowed 0 c || (eqb 0 0 && (eqb c n && allowed-at rows asked u n))) ≡
-              (ltb c (n + 1) && allowed-at rows asked u c)
-          other f =
-              let passed : ltb c n ≡ ltb c (n + 1) =
-              ⊎-elim (λ (k : c < n). rw (lt-ltb c n k, lt-ltb c (n + 1) (omega arith)))
-              (λ (k : n ≤ c). rw (le-ltb c n k, le-ltb c (n + 1) (omega (arith, eqb-false c n f))))
-              (below-or-from c n) in
-              rw (f, or-false (cell allowed 0 c), so-far .shows c l, passed)
+  one-allowed asked allowed after n so-far added =
+      record { shows = λ c l. added .shows 0 c l ∙ rw (so-far .shows c l) (next-below (allowed-at rows asked u) c n) }
 
   -- at first nothing is asked, so all classes are allowed
   pub all-allowed : (n m most : ℕ) → n ≡ class-words → m ≡ row-words → most ≤ row-bits

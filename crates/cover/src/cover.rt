@@ -1,6 +1,7 @@
 // The first cover: the first best of the groupings of the kernel in grant order.
 use bits::WORD_BITS;
 use cells::Kernel;
+use cells::mark;
 use cells::permission_of;
 use cells::user_of;
 use numbers::CELL_WORDS;
@@ -21,6 +22,7 @@ ghost use Rattle.spec.specs.Sheet.{Sheet};
 ghost use Rattle.spec.specs.Reduction.{kernel};
 ghost use Rattle.spec.specs.Cover.{grouping, fewer, first-best};
 ghost use Rattle.bits.specs.Bit.{word-bits};
+ghost use Rattle.bits.specs.Counting.{NextFrom};
 ghost use Rattle.lists.specs.KeyLaws.{by-key};
 ghost use Rattle.cells.specs.Rows.{row-words, row-bits, cell};
 ghost use Rattle.cells.specs.CellAdded.{CellAdded};
@@ -31,7 +33,7 @@ ghost use Rattle.cover.specs.CoverRelation.{fit-at-cells, permission-at-
 ghost use Rattle.cover.specs.CoverKeys.{class-from};
 ghost use Rattle.cover.specs.CoverMembers.{class-words};
 ghost use Rattle.cover.specs.CoverWords.{held-at, LacksAdded};
-ghost use Rattle.cover.specs.CoverFree.{free, free-in-word, FirstBelow};
+ghost use Rattle.cover.specs.CoverFree.{free, free-in-word};
 ghost use Rattle.cover.specs.CoverAllowed.{AllowedTo};
 ghost use Rattle.cover.specs.CoverPlaced.{Placed, PlacedOrMore};
 
@@ -126,8 +128,7 @@ fn put_if(allowed: &mut [u64; ROW_WORDS], c: usize, yes: bool)
     ensures { λ _. ⌜ CellAdded (now (allowed .entry)) (now (allowed .exit)) 0 c yes ⌝ }
 {
     if yes {
-        let i = c / WORD_BITS;
-        allowed[i] = bits::with(allowed[i], c % WORD_BITS);
+        mark(allowed, c);
     }
 }
 
@@ -184,7 +185,7 @@ fn is_lacked(lacked: &[u64; CLASS_WORDS], c: usize, permission: PermissionNo) ->
 // end of the word.
 fn free_in_word(lacked: &[u64; CLASS_WORDS], word: u64, j: usize, permission: PermissionNo) -> usize
     requires { ⌜ (j < row-words) × (permission .0 < row-bits) ⌝ }
-    ensures { λ r. ⌜ FirstBelow word-bits (free-in-word word (now (lacked .entry)) (permission .0) j) r ⌝ }
+    ensures { λ r. ⌜ NextFrom (free-in-word word (now (lacked .entry)) (permission .0) j) 0 word-bits r ⌝ }
 {
     let mut rest = word;
     while rest != 0 {
@@ -204,7 +205,7 @@ fn class_for<'a>(
     permission: PermissionNo,
 ) -> usize
     requires { ⌜ permission .0 < row-bits ⌝ }
-    ensures { λ r. ⌜ FirstBelow row-bits (free (now (allowed .entry)) (now (lacked .entry)) (permission .0)) r ⌝ }
+    ensures { λ r. ⌜ NextFrom (free (now (allowed .entry)) (now (lacked .entry)) (permission .0)) 0 row-bits r ⌝ }
 {
     let mut j = 0;
     while j < ROW_WORDS {
@@ -223,9 +224,7 @@ fn add_asked(asked: &mut [u64; CLASS_WORDS], c: usize, permission: PermissionNo)
     requires { ⌜ length (now asked) ≡ class-words ⌝ }
     ensures { λ _. ⌜ CellAdded (now (asked .entry)) (now (asked .exit)) c (permission .0) true ⌝ }
 {
-    let p = permission.0;
-    let i = c * ROW_WORDS + p / WORD_BITS;
-    asked[i] = bits::with(asked[i], p % WORD_BITS);
+    mark(asked, c * ROW_BITS + permission.0);
 }
 
 // Adds to class c the permissions that a user lacks.

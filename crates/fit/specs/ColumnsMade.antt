@@ -2,7 +2,7 @@
 -- one word, so a position is a permission.
 use Prim.Native.Nat.{ℕ, _+_, _*_, _/_, _%_, _≤_, _<_}
 use native.Mathlib.Omega.{arith}
-use mathlib.Core.Path.{_≡_, refl, sym, ap, _∙_}
+use mathlib.Core.Path.{_≡_, sym, ap, _∙_}
 use mathlib.Core.Logic.{⊎-elim}
 use mathlib.Core.Bool.{Bool, false, So, not, _&&_, _||_, and-true, and-false, or-assoc, or-false}
 use mathlib.Core.List.{List}
@@ -12,13 +12,13 @@ use lib.ListN.{length, getD, replicate, List·getD-eq-default}
 use Rattle.spec.specs.Limits.{user-limit}
 use Rattle.bits.specs.Truth.{passes-or-fails}
 use Rattle.bits.specs.Counting.{Lowest}
-use Rattle.bits.specs.Laws.Below.{below-or-from}
 use Rattle.bits.specs.Bit.{bit, word-bits}
 use Rattle.bits.specs.Laws.Bit.{bit-of-zero}
 use Rattle.bits.specs.Word.{LowestDropped}
 use Rattle.cells.specs.Rows.{row-words, row-bits}
 use Rattle.cells.specs.CellPlaces.{cell-words, marked}
 use Rattle.cells.specs.Laws.MadeCells.{no-cells}
+use Rattle.cells.specs.Laws.NextBelow.{next-below}
 use Rattle.fit.specs.Columns.{column-words, place-limit, place-held, Columns}
 
 -- a place is that of word i and of a permission at a position of some
@@ -90,21 +90,6 @@ pub record PutInBelow (rows : List ℕ) (i : ℕ) (columns : List ℕ) : Type 0 
 pub none-put-in : (rows : List ℕ) (count : ℕ) → PutInBelow rows 0 (replicate count 0)
 none-put-in rows count = record { says = λ n l. no-cells count n ∙ rw (le-ltb (n % cell-words) 0 (omega arith)) }
 
-one-more : (m i : ℕ) (held : ℕ → Bool) → ((ltb m i && held m) || (eqb m i && held i)) ≡ (ltb m (i + 1) && held m)
-one-more m i held =
-    ⊎-elim
-    (λ l. rw (lt-ltb m i l, lt-ltb m (i + 1) (omega arith), ne-eqb m i (omega arith)) (or-false (held m)))
-    (λ l. ⊎-elim
-    (λ k. let same : m ≡ i = omega arith in rw (
-      same,
-      le-ltb i i (omega arith),
-      lt-ltb i (i + 1) (omega arith),
-      eq-eqb i i refl,
-    ))
-    (λ k. rw (le-ltb m i l, le-ltb m (i + 1) k, ne-eqb m i (omega arith)))
-    (below-or-from m (i + 1)))
-    (below-or-from m i)
-
 pub next-put-in : (rows : List ℕ) (i : ℕ) (before after : List ℕ) → PutInBelow rows i before → PutIn i (getD rows i 0)
     before after
     → PutInBelow rows (i + 1) after
@@ -121,7 +106,7 @@ next-put-in rows i before after earlier here = record {
         let one-word : n % cell-words / row-words * row-words + n / cell-words / word-bits ≡ n % cell-words = omega
         arith in
         let position : n / cell-words % word-bits ≡ n / cell-words = omega arith in
-        rw (one-word, position) (one-more (n % cell-words) i (λ m. bit (getD rows m 0) (n / cell-words)))
+        rw (one-word, position) (next-below (λ m. bit (getD rows m 0) (n / cell-words)) (n % cell-words) i)
 
 pub columns-made : (rows columns : List ℕ) → length columns ≡ row-bits * column-words → PutInBelow rows cell-words
     columns → Columns rows columns

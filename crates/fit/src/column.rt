@@ -5,7 +5,6 @@ use cells::mark;
 use numbers::CELL_WORDS;
 use numbers::CellNo;
 use numbers::ROW_BITS;
-use numbers::ROW_WORDS;
 ghost use mathlib.Core.Path.{_≡_};
 ghost use Prim.Native.Nat.{ℕ, min, _+_, _*_, _≤_, _<_};
 ghost use lib.ListN.{length};

@@ -13,10 +13,11 @@ use numbers::ROW_BITS;
 use numbers::TABLE_WORDS;
 use numbers::UserNo;
 ghost use mathlib.Core.Path.{_≡_};
-ghost use mathlib.Core.Bool.{So};
 ghost use mathlib.Core.List.{map};
 ghost use Prim.Native.Nat.{ℕ, _/_, _%_, _≤_, _<_};
+ghost use lib.Dec.{eqb};
 ghost use lib.ListN.{length, getD, take};
+ghost use Rattle.spec.specs.Vocabulary.{some-below};
 ghost use Rattle.spec.specs.Sheet.{Sheet};
 ghost use Rattle.spec.specs.Reduction.{kernel};
 ghost use Rattle.bits.specs.Bit.{bit, word-bits};
@@ -78,7 +79,8 @@ fn line_word<'a>(rows: &'a [u64], cells: &'a [u16], from: usize, line: Line) -> 
 // The permissions of the first cells.
 fn permissions_among(cells: &[u16], count: usize) -> u64
     requires { ⌜ count ≤ length (now cells) ⌝ }
-    ensures { λ r. ⌜ ((i : ℕ) → i < count → So (bit r (getD (now (cells .entry)) i 0 % row-bits))) ⌝ }
+    ensures { λ r. ⌜ ((p : ℕ) → bit r p ≡ some-below count (λ (i : ℕ). eqb p (getD (now (cells .entry)) i 0
+        % row-bits))) ⌝ }
 {
     let mut word = 0;
     let mut i = 0;

@@ -8,10 +8,9 @@ use fit::PLACE_WORDS;
 use fit::partners_in_column;
 use numbers::CELL_WORDS;
 use numbers::CellNo;
-use numbers::ROW_BITS;
 use numbers::ROW_WORDS;
 ghost use mathlib.Core.Path.{_≡_};
-ghost use mathlib.Core.Bool.{So};
+ghost use mathlib.Core.Bool.{So, not, _&&_};
 ghost use Prim.Native.Nat.{ℕ, _+_, _*_, _/_, _<_, _≤_};
 ghost use lib.Dec.{eqb};
 ghost use Rattle.spec.specs.Limits.{user-limit};
@@ -22,7 +21,7 @@ ghost use Rattle.cells.specs.CellPlaces.{cell-words, cell-limit, marked, near, 
 ghost use Rattle.fit.specs.Columns.{Columns};
 ghost use Rattle.verdict.specs.Insides.{Insides};
 ghost use Rattle.verdict.specs.Misfits.{words-before};
-ghost use Rattle.verdict.specs.NearCells.{tie-at, Untried};
+ghost use Rattle.verdict.specs.NearCells.{tie-at};
 ghost use Rattle.verdict.specs.ReductionVerdict.{FoundIn, Judgeable, GrantJudged};
 
 // The cell that a grant is tied to, if there is one.
@@ -64,27 +63,17 @@ fn is_single<'a>(
     partners_in_column(rows, columns, left, it, 2) == 1
 }
 
-// The positions of word i whose cells of left the grant at a cell may be tied to. There are none unless all cells of
-// left in the word are in the grant's row.
-fn candidates<'a>(
-    rows: &'a [u64; CELL_WORDS],
-    left: &'a [u64; CELL_WORDS],
-    it: CellNo,
-    i: usize,
-) -> u64
-    requires { ⌜ (it .0 < cell-limit) × (i < cell-words) × Part (now left) (now rows) ⌝ }
-    ensures { λ r. ⌜ ((users : ℕ) → i < users * row-words
-        → Untried (now (rows .entry)) (now (left .entry)) users (it .0) i r) ⌝ }
+// The positions of word i whose cells of left are other than the grant at a cell.
+fn candidates(left: &[u64; CELL_WORDS], it: CellNo, i: usize) -> u64
+    requires { ⌜ i < cell-words ⌝ }
+    ensures { λ r. ⌜ ((q : ℕ) → q < word-bits → bit r q ≡ (marked (now (left .entry)) (i * word-bits + q)
+        && not (eqb (i * word-bits + q) (it .0)))) ⌝ }
 {
     let at = it.0;
-    let w = left[i];
-    if !bits::within(w, rows[at / ROW_BITS * ROW_WORDS + i % ROW_WORDS]) {
-        return 0;
-    }
     if i == at / WORD_BITS {
-        bits::without(w, at % WORD_BITS)
+        bits::without(left[i], at % WORD_BITS)
     } else {
-        w
+        left[i]
     }
 }
 
@@ -98,12 +87,12 @@ fn tie_in<'a>(
     it: CellNo,
     i: usize,
 ) -> Found
-    requires { ⌜ (users ≤ user-limit) × (it .0 < cell-limit) × (i < users * row-words) × Part (now left) (now rows)
+    requires { ⌜ (users ≤ user-limit) × (it .0 < cell-limit) × (i < users * row-words)
         × Columns (now rows) (now columns) ⌝ }
     ensures { λ r. ⌜ FoundIn (tie-at (now (rows .entry)) (now (left .entry)) users (it .0)) (i * word-bits)
         ((i + 1) * word-bits) r ⌝ }
 {
-    let mut w = candidates(rows, left, it, i);
+    let mut w = candidates(left, it, i);
     while w != 0 {
         let other = i * WORD_BITS + bits::lowest(w);
         let j = misfit(rows, columns, left, users, it, CellNo(other));

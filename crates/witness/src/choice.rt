@@ -21,13 +21,14 @@ ghost use Rattle.witness.specs.WitnessCells.{left-over};
 // A grant by its cell, and how many remaining grants fit it, itself among them: none at all where there is no grant.
 pub struct Choice {
     pub cell: CellNo,
-    pub partners: u16,
+    pub partners: usize,
 }
 
 // The choice so far, unless the grant at a cell has fewer partners.
-fn better(best: Choice, cell: CellNo, partners: u16) -> Choice
-    ensures { λ r. ⌜ r ≡ better-of best (cell .0) partners ⌝ }
+fn better(best: Choice, cell: CellNo, count: u16) -> Choice
+    ensures { λ r. ⌜ r ≡ better-of best (cell .0) count ⌝ }
 {
+    let partners = count as usize;
     if best.partners == 0 {
         return Choice { cell, partners };
     }

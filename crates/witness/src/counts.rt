@@ -1,5 +1,5 @@
-// How many of the grants open to choice fit each of them, by their cells. What stands at other cells says nothing. A
-// row is one word, so a word of a set is a user's.
+// How many of the grants open to choice fit each of them, by their cells. A row is one word, so a word of a set is a
+// user's.
 use bits::WORD_BITS;
 use fit::COLUMN_WORDS;
 use fit::PLACE_WORDS;
@@ -9,14 +9,13 @@ use numbers::CELL_WORDS;
 use numbers::ROW_WORDS;
 use numbers::UserNo;
 ghost use mathlib.Core.Path.{_≡_};
-ghost use mathlib.Core.Bool.{So};
-ghost use Prim.Native.Nat.{ℕ, _/_, _≤_, _<_};
+ghost use mathlib.Core.Bool.{So, false};
+ghost use Prim.Native.Nat.{ℕ, _≤_, _<_};
 ghost use lib.ListN.{length, getD};
 ghost use Rattle.spec.specs.Limits.{user-limit};
-ghost use Rattle.bits.specs.Bit.{word-bits};
 ghost use Rattle.cells.specs.CellPlaces.{cell-words, cell-limit, marked};
-ghost use Rattle.witness.specs.CountChange.{changed-by, CanChange, at-position, fit-count, Changed};
-ghost use Rattle.witness.specs.CountChange.{UserChanged, UsersChanged, WordChanged};
+ghost use Rattle.witness.specs.CountChange.{changed-by, CanChange, CanChangeAt, ChangedAt};
+ghost use Rattle.witness.specs.CountChange.{at-position, fit-count, of-user, of-users, of-users-below};
 ghost use Rattle.fit.specs.Columns.{column-words, Columns};
 ghost use Rattle.witness.specs.Counts.{Counted};
 
@@ -40,8 +39,9 @@ fn changed(change: Change, count: u16, by: u16) -> u16
 // Changes the counts at the positions of user u's word.
 fn change_at(counts: &mut [u16; CELL_LIMIT], change: Change, u: UserNo, some: u64, by: u16)
     requires { ⌜ (u .0 < cell-words) × (length (now counts) ≡ cell-limit)
-        × ((n : ℕ) → So (at-position (u .0) some n) → CanChange change (getD (now counts) n 0) by) ⌝ }
-    ensures { λ r. ⌜ Changed change (u .0) some by (now (counts .entry)) (now (counts .exit)) ⌝ }
+        × CanChangeAt change (at-position (u .0) some) (λ (n : ℕ). by) (now counts) ⌝ }
+    ensures { λ r. ⌜ ChangedAt change (at-position (u .0) some) (λ (n : ℕ). by) (now (counts .entry))
+        (now (counts .exit)) ⌝ }
 {
     let mut w = some;
     while w != 0 {
@@ -68,10 +68,10 @@ fn change_for_user<'a>(
     u: UserNo,
 )
     requires { ⌜ (these .user .0 < cell-words) × (u .0 < cell-words) × (length (now counts) ≡ cell-limit)
-        × ((n : ℕ) → n / word-bits ≡ u .0 → So (marked (now left) n) → CanChange change (getD (now counts) n 0)
-        (fit-count (now rows) (these .user .0) (these .word) n)) ⌝ }
-    ensures { λ r. ⌜ UserChanged change (now (rows .entry)) (now (left .entry)) (these .user .0) (these .word) (u .0)
-        (now (counts .entry)) (now (counts .exit)) ⌝ }
+        × CanChangeAt change (of-user (now left) (u .0)) (fit-count (now rows) (these .user .0) (these .word))
+        (now counts) ⌝ }
+    ensures { λ r. ⌜ ChangedAt change (of-user (now (left .entry)) (u .0)) (fit-count (now (rows .entry))
+        (these .user .0) (these .word)) (now (counts .entry)) (now (counts .exit)) ⌝ }
 {
     let at = u.0;
     let user = these.user.0;
@@ -98,10 +98,10 @@ fn change_for_users<'a>(
     some: u64,
 )
     requires { ⌜ (these .user .0 < cell-words) × (j < column-words) × (length (now counts) ≡ cell-limit)
-        × ((n : ℕ) → So (at-position j some (n / word-bits)) → So (marked (now left) n) → CanChange change
-        (getD (now counts) n 0) (fit-count (now rows) (these .user .0) (these .word) n)) ⌝ }
-    ensures { λ r. ⌜ UsersChanged change (now (rows .entry)) (now (left .entry)) (these .user .0) (these .word) j some
-        (now (counts .entry)) (now (counts .exit)) ⌝ }
+        × CanChangeAt change (of-users (now left) j some) (fit-count (now rows) (these .user .0) (these .word))
+        (now counts) ⌝ }
+    ensures { λ r. ⌜ ChangedAt change (of-users (now (left .entry)) j some) (fit-count (now (rows .entry))
+        (these .user .0) (these .word)) (now (counts .entry)) (now (counts .exit)) ⌝ }
 {
     let from = j * WORD_BITS;
     let mut w = some;
@@ -122,10 +122,10 @@ fn change_all<'a>(
     these: SomeGrants,
 )
     requires { ⌜ (these .user .0 < cell-words) × Columns (now rows) (now columns) × (length (now counts) ≡ cell-limit)
-        × ((n : ℕ) → n / word-bits < cell-words → So (marked (now left) n) → CanChange change (getD (now counts) n 0)
-        (fit-count (now rows) (these .user .0) (these .word) n)) ⌝ }
-    ensures { λ r. ⌜ WordChanged change (now (rows .entry)) (now (left .entry)) (these .user .0) (these .word)
-        cell-words (now (counts .entry)) (now (counts .exit)) ⌝ }
+        × CanChangeAt change (of-users-below (now left) cell-words) (fit-count (now rows) (these .user .0)
+        (these .word)) (now counts) ⌝ }
+    ensures { λ r. ⌜ ChangedAt change (of-users-below (now (left .entry)) cell-words) (fit-count (now (rows .entry))
+        (these .user .0) (these .word)) (now (counts .entry)) (now (counts .exit)) ⌝ }
 {
     if these.word == 0 {
         return;
@@ -138,7 +138,7 @@ fn change_all<'a>(
     }
 }
 
-// The counts of all grants of a set.
+// The counts of all grants of a set. At every other cell there is 0.
 pub fn first_counts<'a>(
     rows: &'a [u64; CELL_WORDS],
     columns: &'a [u64; PLACE_WORDS],
@@ -146,7 +146,8 @@ pub fn first_counts<'a>(
     users: usize,
 ) -> [u16; CELL_LIMIT]
     requires { ⌜ (users ≤ user-limit) × Columns (now rows) (now columns) ⌝ }
-    ensures { λ r. ⌜ Counted (now (rows .entry)) (now (left .entry)) users r ⌝ }
+    ensures { λ r. ⌜ Counted (now (rows .entry)) (now (left .entry)) users r
+        × ((n : ℕ) → marked (now (left .entry)) n ≡ false → getD r n 0 ≡ 0) ⌝ }
 {
     let mut counts = [0; CELL_LIMIT];
     let mut i = 0;
@@ -162,7 +163,7 @@ pub fn first_counts<'a>(
     counts
 }
 
-// Takes the grants that are closed to choice off the counts of the rest.
+// Takes the grants that are closed to choice off the counts of the rest. All other counts stay.
 pub fn recount<'a>(
     counts: &mut [u16; CELL_LIMIT],
     rows: &'a [u64; CELL_WORDS],
@@ -174,7 +175,9 @@ pub fn recount<'a>(
     requires { ⌜ (users ≤ user-limit) × Columns (now rows) (now columns) × Counted (now rows) (now left) users
         (now counts)
         × ((n : ℕ) → So (marked (now rest) n) → So (marked (now left) n)) ⌝ }
-    ensures { λ r. ⌜ Counted (now (rows .entry)) (now (rest .entry)) users (now (counts .exit)) ⌝ }
+    ensures { λ r. ⌜ Counted (now (rows .entry)) (now (rest .entry)) users (now (counts .exit))
+        × ((n : ℕ) → marked (now (rest .entry)) n ≡ false
+        → getD (now (counts .exit)) n 0 ≡ getD (now (counts .entry)) n 0) ⌝ }
 {
     let mut i = 0;
     while i < users * ROW_WORDS {

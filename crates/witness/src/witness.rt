@@ -25,8 +25,8 @@ ghost use Rattle.witness.specs.WitnessSingles.{CellsOf};
 ghost use Rattle.witness.specs.WitnessRows.{ReducedTo, ReducedRows, Witnessed};
 
 // Puts the grants taken from a set one after the other into another, each with the fewest partners among those left,
-// and dropped with them.
-fn choose_by_counts<'a>(
+// and dropped with them. Where the set is empty there is nothing to count.
+fn choose<'a>(
     cells: &mut [u64; CELL_WORDS],
     rows: &'a [u64; CELL_WORDS],
     columns: &'a [u64; PLACE_WORDS],
@@ -38,6 +38,10 @@ fn choose_by_counts<'a>(
         (now (rows .entry))
         → Chosen sheet (now (rows .entry)) (now (kernel .entry)) (now (cells .entry)) (now (cells .exit))) ⌝ }
 {
+    let first = next_cell(kernel, users, CellNo(0));
+    if first.0 == users * ROW_BITS {
+        return;
+    }
     let mut counts = first_counts(rows, columns, kernel, users);
     let mut left = *kernel;
     let mut count = 0;
@@ -52,25 +56,6 @@ fn choose_by_counts<'a>(
         recount(&mut counts, rows, columns, &left, &rest, users);
         left = rest;
         count += 1;
-    }
-}
-
-// The same, with nothing to count where the set is empty.
-fn choose<'a>(
-    cells: &mut [u64; CELL_WORDS],
-    rows: &'a [u64; CELL_WORDS],
-    columns: &'a [u64; PLACE_WORDS],
-    kernel: &'a [u64; CELL_WORDS],
-    users: usize,
-)
-    requires { ⌜ (users ≤ user-limit) × Columns (now rows) (now columns) × (length (now cells) ≡ cell-words) ⌝ }
-    ensures { λ r. ⌜ ((sheet : Sheet) → Shown (now (rows .entry)) users sheet → Part (now (kernel .entry))
-        (now (rows .entry))
-        → Chosen sheet (now (rows .entry)) (now (kernel .entry)) (now (cells .entry)) (now (cells .exit))) ⌝ }
-{
-    let first = next_cell(kernel, users, CellNo(0));
-    if first.0 < users * ROW_BITS {
-        choose_by_counts(cells, rows, columns, kernel, users);
     }
 }
 

@@ -16,7 +16,7 @@ use Rattle.cover.specs.Laws.Cover.{fewer-le-earlier, by-fit, by-permissi
 use Rattle.cells.specs.CellPlaces.{grant-of, Shown}
 use Rattle.cells.specs.Laws.CellPlace.{row-bits-pos}
 use Rattle.fit.specs.Laws.Fit.{Held, one-user-fits}
-use Rattle.fit.specs.Laws.FitWord.{fits-in-rows}
+use Rattle.fit.specs.Laws.FitWord.{fit-at-grants}
 use Rattle.cells.specs.KernelArray.{grant-at-cell}
 use Rattle.reduction.specs.Laws.KernelOrder.{kernel-users-rise, kernel-is-held}
 use Rattle.cover.specs.CoverRelation.{fit-at-cells, permission-at-cell, user-at-cell, HeldCells}
@@ -39,15 +39,11 @@ without-by-user sheet =
     (le-trans (fewer-le-earlier (by-fit sheet (kernel sheet)) (by-permission (kernel sheet))) (by-user-no-fewer sheet)))
 
 module _ {rows : List ℕ} {users : ℕ} {sheet : Sheet} (shown : Shown rows users sheet) (cells : List ℕ) where
-  pub fit-at-grants : (i j : ℕ) → i < length cells → j < length cells → fit-at-cells rows cells i j ≡ fit-at sheet
-      (map grant-of cells) i j
-  fit-at-grants i j k l = rw (grant-at-cell cells i k, grant-at-cell cells j l) (fits-in-rows shown _ _)
-
   grouping-by-fit : grouping (fit-at-cells rows cells) (length cells) ≡ grouping (fit-at sheet (map grant-of cells))
       (length cells)
   grouping-by-fit =
       grouping-ext (fit-at-cells rows cells) (fit-at sheet (map grant-of cells)) (length cells)
-      (λ i j k l. fit-at-grants i j l (lt-trans k l))
+      (λ i j k l. fit-at-grants shown cells i j l (lt-trans k l))
 
   grouping-by-permission : by-key (permission-at-cell cells) (length cells) ≡ grouping
       (permission-at (map grant-of cells)) (length cells)

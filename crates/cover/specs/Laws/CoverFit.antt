@@ -13,6 +13,7 @@ use mathlib.Core.List.{List}
 use lib.ListN.{length, getD, set, replicate}
 use Rattle.spec.specs.Cover.{used, joins, grouping}
 use Rattle.bits.specs.Truth.{not-both}
+use Rattle.bits.specs.Counting.{NextFrom}
 use Rattle.bits.specs.Laws.Below.{below-or-from}
 use Rattle.bits.specs.Laws.Lowest.{lowest-below-intro}
 use Rattle.lists.specs.PlacementLaws.{earlier-uses-fewer, latest-below-used}
@@ -24,7 +25,7 @@ use Rattle.cover.specs.CoverRelation.{fit-at-cells, permission-at-cell, 
 use Rattle.cover.specs.CoverPlaced.{Placed, next-class, none-placed, taken-le, one-placed}
 use Rattle.cover.specs.CoverMembers.{class-words, Members, no-members, one-member, joinable-is-joins}
 use Rattle.cover.specs.CoverWords.{LacksAdded, all-lacks-added}
-use Rattle.cover.specs.CoverFree.{free, FirstBelow}
+use Rattle.cover.specs.CoverFree.{free}
 use Rattle.cover.specs.CoverAllowed.{AllowedTo, all-allowed, allowed-kept, free-is-joinable}
 
 -- the first d numbers are grouped by fit, and the words say so; user u is the one of the latest
@@ -64,7 +65,7 @@ used-grows together m (suc n) l =
 module _ {rows cells classes : List ℕ} {d count : ℕ} {asked lacked : List ℕ} {allowed : List ℕ} {most : ℕ}
     (few : most ≤ row-bits)
     (so-far : FitSoFar rows cells classes d count asked lacked (user-at-cell cells d) allowed most)
-    {c : ℕ} (first : FirstBelow row-bits (free allowed lacked (permission-at-cell cells d)) c) where
+    {c : ℕ} (first : NextFrom (free allowed lacked (permission-at-cell cells d)) 0 row-bits c) where
   -- a class is free exactly if the next number fits all its members
   free-is-joins : (i : ℕ) → i < most
       → free allowed lacked (permission-at-cell cells d) i ≡ joins (fit-at-cells rows cells) d
@@ -82,7 +83,7 @@ module _ {rows cells classes : List ℕ} {d count : ℕ} {asked lacked : List �
           let valid = rw (grouping-length (fit-at-cells rows cells) d) at (grouping-valid (fit-at-cells rows cells)
           (suc d) .0) in
           absurd (not-both (free-is-joins (next-class (fit-at-cells rows cells) d) (lt-of-lt-of-le l o) ∙ valid)
-          (first .skipped (next-class (fit-at-cells rows cells) d) (lt-of-lt-of-le l k)))
+          (first .skipped (next-class (fit-at-cells rows cells) d) (omega arith) (lt-of-lt-of-le l k)))
 
   -- the grouping has more classes than those among which none is free
   pub more-classes : (n : ℕ) → most ≤ c → d < n → most < used (grouping (fit-at-cells rows cells) n)
@@ -100,7 +101,7 @@ module _ {rows cells classes : List ℕ} {d count : ℕ} {asked lacked : List �
     is-taken = ⊎-elim old new (below-or-from c (used (grouping (fit-at-cells rows cells) d)))
       where
         fails : (i : ℕ) → i < c → joins (fit-at-cells rows cells) d (grouping (fit-at-cells rows cells) d) i ≡ false
-        fails i l = sym (free-is-joins i (omega arith)) ∙ first .skipped i l
+        fails i l = sym (free-is-joins i (omega arith)) ∙ first .skipped i (omega arith) l
 
         old : c < used (grouping (fit-at-cells rows cells) d) → c ≡ next-class (fit-at-cells rows cells) d
         old l =

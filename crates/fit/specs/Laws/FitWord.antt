@@ -6,13 +6,14 @@ use native.Mathlib.Nat.{add-zero, le-dest, mod-lt, mul-assoc}
 use native.Mathlib.Omega.{arith}
 use mathlib.Core.Path.{_≡_, sym, ap, _∙_}
 use mathlib.Core.Bool.{Bool, false, _&&_, and-false}
-use mathlib.Core.List.{List}
+use mathlib.Core.List.{List, map}
 use lib.Arith.{digits-div, digits-mod}
 use lib.Bits.{bitAnd}
 use lib.ListN.{length, getD}
 use Rattle.spec.specs.Vocabulary.{filter}
 use Rattle.spec.specs.Sheet.{Sheet}
 use Rattle.spec.specs.Fit.{fits}
+use Rattle.spec.specs.Cover.{fit-at}
 use Rattle.bits.specs.Counting.{count-below}
 use Rattle.bits.specs.Laws.Count.{count-below-ext, count-below-add, count-below-none-intro}
 use Rattle.bits.specs.Bit.{bit, word-bits}
@@ -20,6 +21,7 @@ use Rattle.bits.specs.Truth.{fails-unless}
 use Rattle.bits.specs.Laws.Bit.{bit-and}
 use Rattle.cells.specs.Rows.{row-words, row-bits, cell}
 use Rattle.cells.specs.CellSets.{cell-grants}
+use Rattle.cells.specs.KernelArray.{grant-at-cell}
 use Rattle.cells.specs.CellPlaces.{cell-limit, cells-of, grant-of, marked, fit-in, near, FittingWord, Shown, Part}
 use Rattle.cells.specs.Laws.CellPlace.{row-bits-pos}
 use Rattle.cells.specs.Laws.CellList.{passing-grants-count}
@@ -56,6 +58,11 @@ module _ {rows : List ℕ} {users : ℕ} {sheet : Sheet} (shown : Shown rows use
         shown .cells .shows
             (n / row-bits) (m % row-bits) (mod-lt m row-bits-pos),
       )
+
+  -- the same by the numbers of some cells
+  pub fit-at-grants : (cells : List ℕ) (i j : ℕ) → i < length cells → j < length cells
+      → fit-in rows (grant-of (getD cells i 0)) (grant-of (getD cells j 0)) ≡ fit-at sheet (map grant-of cells) i j
+  fit-at-grants cells i j k l = rw (grant-at-cell cells i k, grant-at-cell cells j l) (fits-in-rows _ _)
 
   -- the grants of left that fit one, counted
   pub near-count : {left : List ℕ} → Part left rows → (it : ℕ)

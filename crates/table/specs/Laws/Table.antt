@@ -4,11 +4,11 @@
 use Prim.Native.Nat.{ℕ, _+_, _*_, _/_, _%_, _<_, _≤_}
 use native.Mathlib.Nat.{mod-lt, div-add-mod', div-lt-iff-lt-mul}
 use native.Mathlib.Omega.{arith}
-use mathlib.Core.Path.{_≡_, refl, sym, ap, _∙_}
+use mathlib.Core.Path.{_≡_, refl, _∙_}
 use mathlib.Core.Logic.{⊎-elim}
-use mathlib.Core.Bool.{Bool, true, false, So, _&&_, _||_, or-false, and-true, and-false}
+use mathlib.Core.Bool.{Bool, true, false, So, _&&_, _||_}
 use mathlib.Core.List.{List, map}
-use borrow.Author.Tests.{lt-ltb, le-ltb, eq-eqb, ne-eqb, ltb-true}
+use borrow.Author.Tests.{lt-ltb, le-ltb, ltb-true}
 use lib.Arith.{digits-div, digits-mod, digits-lt}
 use lib.Dec.{eqb, ltb, lit<}
 use lib.ListN.{length, getD, set, length-map}
@@ -18,7 +18,8 @@ use Rattle.bits.specs.Laws.Below.{below-or-from}
 use Rattle.bits.specs.Bit.{bit, word-bits}
 use Rattle.bits.specs.Laws.Bit.{bit-of-zero}
 use Rattle.cells.specs.CellPlaces.{grant-of, Shown}
-use Rattle.cover.specs.Laws.CoverArray.{fit-at-grants}
+use Rattle.cells.specs.Laws.NextBelow.{next-passes, next-fails}
+use Rattle.fit.specs.Laws.FitWord.{fit-at-grants}
 use Rattle.table.specs.TableWords.{table-row, table-limit, table-bit, fit-among, table-word, FirstBits, Table}
 
 -- ---- a word
@@ -27,38 +28,12 @@ pub no-bits : (test : ℕ → Bool) → FirstBits test 0 0
 no-bits test = record { bits = λ q l. rw (le-ltb q 0 (omega arith)) (bit-of-zero q) }
 
 module _ (test : ℕ → Bool) (count word : ℕ) (first : FirstBits test count word) where
-  -- past the position count nothing changes, and before it neither
-  one-more : (q : ℕ) (b : Bool) → test count ≡ b → q < word-bits → (bit word q || (eqb q count && b)) ≡
-      (ltb q (count + 1) && test q)
-  one-more q b e l =
-      rw (first .bits q l)
-      (⊎-elim
-      (λ (k : q < count). rw (lt-ltb q count k, lt-ltb q (count + 1) (omega arith), ne-eqb q count (omega arith))
-      (or-false (test q)))
-      (λ (k : count ≤ q). rw (le-ltb q count k) (at-least k))
-      (below-or-from q count))
-    where
-      at-least : count ≤ q → (eqb q count && b) ≡ (ltb q (count + 1) && test q)
-      at-least k =
-          ⊎-elim
-          (λ (m : q < count + 1). let same : q ≡ count = omega arith
-          in rw (eq-eqb q count same, lt-ltb q (count + 1) m, same) (sym e))
-          (λ (m : count + 1 ≤ q). rw (ne-eqb q count (omega arith), le-ltb q (count + 1) m))
-          (below-or-from q (count + 1))
-
   pub bit-put-in : (with : ℕ) → So (test count) → ((q : ℕ) → bit with q ≡ (bit word q || eqb q count))
       → FirstBits test (count + 1) with
-  bit-put-in with p says = record {
-    bits = λ q l. says q ∙ ap (λ b. bit word q || b) (sym (and-true (eqb q count)))
-        ∙ one-more q true p l;
-  }
+  bit-put-in with p says = record { bits = λ q l. says q ∙ rw (first .bits q l) (next-passes test q count p) }
 
   pub bit-left-out : test count ≡ false → FirstBits test (count + 1) word
-  bit-left-out f =
-      record {
-        bits = λ q l. sym (or-false (bit word q)) ∙ ap (λ b. bit word q || b) (sym (and-false (eqb q count)))
-            ∙ one-more q false f l;
-      }
+  bit-left-out f = record { bits = λ q l. first .bits q l ∙ next-fails test q count f }
 
 -- ---- the words
 

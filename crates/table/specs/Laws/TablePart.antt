@@ -4,11 +4,11 @@ use Prim.Native.Nat.{ℕ, _+_, _*_, _/_, _%_, _<_, _≤_}
 use native.Mathlib.Omega.{arith}
 use mathlib.Core.Path.{_≡_, refl, sym, _∙_}
 use mathlib.Core.Logic.{⊎-elim}
-use mathlib.Core.Bool.{Bool, true, false, So, _&&_, _||_, or-true, false≢true}
+use mathlib.Core.Bool.{Bool, true, false, So, _&&_, false≢true}
 use mathlib.Core.List.{List}
-use borrow.Author.Tests.{lt-ltb, le-ltb, eq-eqb}
+use borrow.Author.Tests.{lt-ltb, le-ltb}
 use lib.Arith.{digits-div, digits-mod}
-use lib.Dec.{eqb, ltb}
+use lib.Dec.{ltb}
 use lib.ListN.{length, getD, set, replicate, length-set, getD-replicate}
 use lib.Seq.{getD-set-same, getD-set-other}
 use lib.Bits.{bitAnd}
@@ -34,19 +34,6 @@ all-cells {size} {from} {count} there test first = record {
 
     outside : (q : ℕ) → q < word-bits → count ≤ q → (ltb q count && test q) ≡ (ltb (from + q) size && test q)
     outside q l k = rw (le-ltb q count k, le-ltb (from + q) size (there .all q l k))
-
--- the permission of one more cell
-pub permission-put-in : (cells : List ℕ) (i word with p : ℕ) → p ≡ getD cells i 0 % row-bits
-    → ((q : ℕ) → bit with q ≡ (bit word q || eqb q p))
-    → ((j : ℕ) → j < i → So (bit word (getD cells j 0 % row-bits))) → (j : ℕ) → j < i + 1
-    → So (bit with (getD cells j 0 % row-bits))
-permission-put-in cells i word with p e says earlier j l =
-    says (getD cells j 0 % row-bits) ∙ ⊎-elim (λ k. rw (earlier j k)) latest (below-or-from j i)
-  where
-    latest : i ≤ j → So (bit word (getD cells j 0 % row-bits) || eqb (getD cells j 0 % row-bits) p)
-    latest k =
-        let same : j ≡ i = omega arith in
-        rw (same, eq-eqb (getD cells i 0 % row-bits) p (sym e)) (or-true (bit word (getD cells i 0 % row-bits)))
 
 -- the columns of the permissions below p + 1
 module _ {rows cells : List ℕ} {from some p : ℕ} {words : List ℕ} (so-far : ColumnsOf rows cells from some p words)

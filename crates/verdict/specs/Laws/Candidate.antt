@@ -1,56 +1,28 @@
--- The candidates of a word for a tie: cells of left but the judged one itself, and none unless all cells of left in
--- the word are in its row. A misfit of the lowest one fails it, and with it all others whose permissions the misfit's
--- user holds.
-use Prim.Native.Nat.{ℕ, _+_, _*_, _/_, _%_, _≤_, _<_}
+-- The candidates of a word for a tie: a misfit of the lowest one fails it, and with it all others whose permissions
+-- the misfit's user holds.
+use Prim.Native.Nat.{ℕ, _+_, _*_, _/_, _≤_, _<_}
 use native.Mathlib.Omega.{arith}
 use mathlib.Core.Path.{_≡_, sym, ap, _∙_}
 use mathlib.Core.Logic.{⊎-elim}
 use mathlib.Core.Bool.{false, So, not, _&&_, and-true, and-false}
 use mathlib.Core.List.{List}
-use borrow.Author.Tests.{eq-eqb, eqb-true}
 use lib.Dec.{eqb}
-use lib.ListN.{getD}
 use Rattle.bits.specs.Bit.{bit, word-bits}
-use Rattle.bits.specs.Truth.{passes-or-fails, fails-unless, not-both, not-passes, not-fails, and-left, and-right}
+use Rattle.bits.specs.Truth.{passes-or-fails, not-both, and-left}
 use Rattle.bits.specs.Counting.{Lowest}
 use Rattle.cells.specs.Rows.{row-words}
 use Rattle.cells.specs.CellPlaces.{marked}
-use Rattle.fit.specs.Laws.FitWord.{marked-in-word}
 use Rattle.verdict.specs.NearCells.{tie-at, Untried}
 use Rattle.verdict.specs.Misfits.{row-word, misfit-at}
 use Rattle.verdict.specs.Laws.Misfit.{misfit-fails, misfit-of-others, misfit-held}
 
 module _ (rows left : List ℕ) (users it i : ℕ) where
-  -- all cells of the judged one's own word but itself
-  pub all-but-itself : (w : ℕ) → i ≡ it / word-bits
-      → ((q : ℕ) → bit w q ≡ (bit (getD left i 0) q && not (eqb q (it % word-bits))))
-      → Untried rows left users it i w
-  all-but-itself w own says =
-      record {
-        set = λ q l p. marked-in-word left i q l ∙ and-left (bit (getD left i 0) q) (not (eqb q (it % word-bits)))
-            (sym (says q) ∙ p);
-        other = λ q l p. not-passes (eqb (i * word-bits + q) it) (fails-unless (eqb (i * word-bits + q) it) (λ e.
-            not-both (eq-eqb q (it % word-bits) (omega (arith, eqb-true (i * word-bits + q) it e, l)))
-            (not-fails (eqb q (it % word-bits)) (and-right (bit (getD left i 0) q) (not (eqb q (it % word-bits)))
-            (sym (says q) ∙ p)))));
-        tried = λ q l e. ⊎-elim (λ same. itself q (eqb-true q (it % word-bits) same))
-            (λ other. let unset : marked left (i * word-bits + q) ≡ false =
-            marked-in-word left i q l ∙ sym (and-true (bit (getD left i 0) q)) ∙ (rw other at (sym (says q) ∙ e))
-            in rw unset)
-            (passes-or-fails (eqb q (it % word-bits)));
-      }
-    where
-      itself : (q : ℕ) → q ≡ it % word-bits → tie-at rows left users it (i * word-bits + q) ≡ false
-      itself q e =
-          let same : i * word-bits + q ≡ it = omega arith in
-          rw (eq-eqb (i * word-bits + q) it same) (and-false (marked left (i * word-bits + q)))
-
   -- a misfit of the lowest candidate
-  module _ (w q j rest : ℕ) (low : Lowest word-bits (bit w) q)
+  module _ (j : ℕ) {w q rest : ℕ} (low : Lowest word-bits (bit w) q)
       (misfit : So (misfit-at rows left it (i * word-bits + q) j))
       (says : (r : ℕ) → bit rest r ≡ (bit w r && not (bit (row-word rows (j / row-words) i) r))) where
-    pub misfit-tried : j < users * row-words → Untried rows left users it i w → Untried rows left users it i rest
-    misfit-tried inside u =
+    tried-by-misfit : j < users * row-words → Untried rows left users it i w → Untried rows left users it i rest
+    tried-by-misfit inside u =
         record {
           set = λ r l p. u .set r l (and-left (bit w r) (not (bit (row-word rows (j / row-words) i) r)) (sym (says r)
               ∙ p));
@@ -72,7 +44,7 @@ module _ (rows left : List ℕ) (users it i : ℕ) where
             (and-false (marked left (i * word-bits + r)))
 
     -- the lowest is one that fails, so fewer are left
-    pub fewer-untried : rest ≤ w → rest < w
+    fewer-untried : rest ≤ w → rest < w
     fewer-untried most = omega (arith, most, differs)
       where
         differs : rest ≡ w → ⊥
@@ -80,3 +52,7 @@ module _ (rows left : List ℕ) (users it i : ℕ) where
             not-both (low .holds)
             (sym (ap (λ n. bit n q) e) ∙ says q
             ∙ rw (misfit-held rows left it i j q (low .within) misfit) (and-false (bit w q)))
+
+    pub misfit-tried : j < users * row-words → rest ≤ w → Untried rows left users it i w
+        → (rest < w) × Untried rows left users it i rest
+    misfit-tried inside most u = (fewer-untried most, tried-by-misfit inside u)

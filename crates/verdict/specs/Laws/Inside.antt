@@ -1,23 +1,24 @@
 -- How the words that a word's grants can be tied to are found, that they stay the same while its own grants are
 -- removed, and that no other word has a tie.
-use Prim.Native.Nat.{ℕ, _+_, _*_, _/_, _%_, _≤_, _<_}
+use Prim.Native.Nat.{ℕ, _+_, _*_, _/_, _%_, _<_}
 use native.Mathlib.Nat.{mod-lt, div-add-mod'}
 use native.Mathlib.Omega.{arith}
-use mathlib.Core.Path.{_≡_, sym, ap, subst, _∙_}
+use mathlib.Core.Path.{_≡_, sym, subst, _∙_}
 use mathlib.Core.Logic.{⊎-elim}
-use mathlib.Core.Bool.{Bool, true, false, So, _&&_, _||_, or-false, and-true, and-false}
+use mathlib.Core.Bool.{Bool, false, So, _&&_, _||_}
 use mathlib.Core.List.{List, [], _∷_, List·Memᴰ·eq-of-singleton}
-use borrow.Author.Tests.{lt-ltb, le-ltb, eq-eqb, ne-eqb}
+use borrow.Author.Tests.{lt-ltb}
 use lib.Dec.{eqb, ltb, lit<}
 use lib.ListN.{getD}
 use Rattle.spec.specs.Vocabulary.{some-below, every-below}
 use Rattle.bits.specs.Bit.{bit, word-bits}
 use Rattle.bits.specs.Truth.{implies, implies-intro, passes-or-fails, not-both, and-intro}
-use Rattle.bits.specs.Laws.Below.{below-or-from, some-below-intro, some-below-ext, none-below-elim, every-below-intro}
+use Rattle.bits.specs.Laws.Below.{some-below-intro, some-below-ext, none-below-elim, every-below-intro}
 use Rattle.bits.specs.Laws.Below.{every-below-ext}
 use Rattle.cells.specs.Rows.{row-words, row-bits}
 use Rattle.cells.specs.CellPlaces.{marked, Part}
 use Rattle.cells.specs.Laws.CellPlace.{user-of-cell}
+use Rattle.cells.specs.Laws.NextBelow.{next-passes, next-fails}
 use Rattle.fit.specs.Laws.FitWord.{marked-in-word}
 use Rattle.verdict.specs.NearCells.{tie-at}
 use Rattle.verdict.specs.Laws.NearWord.{unless-in-own-row, unless-held}
@@ -36,28 +37,12 @@ abbrev pub PassedBelow : (ℕ → Bool) → ℕ → List ℕ → Type 0
 PassedBelow test k words = (m : ℕ) → marked words m ≡ (ltb m k && test m)
 
 module _ (test : ℕ → Bool) (k : ℕ) (words : List ℕ) (below : PassedBelow test k words) where
-  next-below : (m : ℕ) (b : Bool) → test k ≡ b → (marked words m || (eqb m k && b)) ≡ (ltb m (k + 1) && test m)
-  next-below m b e =
-      rw (below m)
-      (⊎-elim
-      (λ (l : m < k). rw (lt-ltb m k l, lt-ltb m (k + 1) (omega arith), ne-eqb m k (omega arith)) (or-false (test m)))
-      (λ (l : k ≤ m). rw (le-ltb m k l) (from l))
-      (below-or-from m k))
-    where
-      from : k ≤ m → (eqb m k && b) ≡ (ltb m (k + 1) && test m)
-      from l =
-          ⊎-elim
-          (λ (n : m < k + 1). let same : m ≡ k = omega arith in rw (eq-eqb m k same, lt-ltb m (k + 1) n, same) (sym e))
-          (λ (n : k + 1 ≤ m). rw (ne-eqb m k (omega arith), le-ltb m (k + 1) n))
-          (below-or-from m (k + 1))
-
   pub passed-put-in : (more : List ℕ) → So (test k) → ((m : ℕ) → marked more m ≡ (marked words m || eqb m k))
       → PassedBelow test (k + 1) more
-  passed-put-in more p says m = says m ∙ ap (λ b. marked words m || b) (sym (and-true (eqb m k))) ∙ next-below m true p
+  passed-put-in more p says m = says m ∙ rw (below m) (next-passes test m k p)
 
   pub passed-left-out : test k ≡ false → PassedBelow test (k + 1) words
-  passed-left-out f m = sym (or-false (marked words m)) ∙ ap (λ b. marked words m || b) (sym (and-false (eqb m k)))
-      ∙ next-below m false f
+  passed-left-out f m = below m ∙ next-fails test m k f
 
 -- the test of a word is that of its cells
 pub may-tie-by-word : (rows left : List ℕ) (u k : ℕ)

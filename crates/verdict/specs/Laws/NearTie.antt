@@ -4,20 +4,17 @@
 use Prim.Native.Nat.{ℕ, _+_, _-_, _*_, _/_, _≤_, _<_}
 use native.Mathlib.Nat.{add-sub-of-le}
 use native.Mathlib.Omega.{arith}
-use mathlib.Core.Path.{_≡_, _∙_}
+use mathlib.Core.Path.{_≡_, sym, ap, _∙_}
 use mathlib.Core.Logic.{⊎-elim}
-use mathlib.Core.Bool.{Bool, false, So, not}
+use mathlib.Core.Bool.{Bool, false, So, not, _&&_, and-assoc}
 use mathlib.Core.List.{List}
-use borrow.Author.Tests.{ne-eqb}
 use lib.Dec.{eqb}
-use lib.ListN.{getD}
 use Rattle.bits.specs.Bit.{bit, word-bits}
 use Rattle.bits.specs.Laws.Bit.{bit-of-zero}
-use Rattle.bits.specs.Truth.{not-both, and-intro}
+use Rattle.bits.specs.Truth.{and-intro, and-left, and-right}
 use Rattle.bits.specs.Counting.{Lowest}
 use Rattle.bits.specs.Laws.Below.{below-or-from}
 use Rattle.cells.specs.CellPlaces.{marked}
-use Rattle.fit.specs.Laws.FitWord.{marked-in-word}
 use Rattle.verdict.specs.NearCells.{dominates-in, tie-test, tie-at, Untried}
 use Rattle.verdict.specs.ReductionVerdict.{LowestIn, NoneIn}
 
@@ -32,23 +29,20 @@ pub none-in-word : (i : ℕ) (passes : ℕ → Bool) → ((q : ℕ) → q < word
 none-in-word i passes h = record { fails = λ m from to. each-cell (λ n. passes n ≡ false) i m h from to }
 
 module _ (rows left : List ℕ) (users it i : ℕ) where
-  -- all cells of left in another word than the judged one's
-  pub all-untried : (i ≡ it / word-bits → ⊥) → Untried rows left users it i (getD left i 0)
-  all-untried apart =
+  -- all cells of left but the judged one itself
+  pub all-untried : {w : ℕ} → ((q : ℕ) → q < word-bits → bit w q ≡ (marked left (i * word-bits + q)
+      && not (eqb (i * word-bits + q) it)))
+      → Untried rows left users it i w
+  all-untried says =
       record {
-        set = λ q l p. marked-in-word left i q l ∙ p;
-        other = λ q l p. rw (ne-eqb (i * word-bits + q) it (λ e. apart (omega (arith, e, l))));
-        tried = λ q l e. rw (marked-in-word left i q l ∙ e);
-      }
-
-  -- where none is tied, none need be tried
-  pub all-tried : ((q : ℕ) → q < word-bits → tie-at rows left users it (i * word-bits + q) ≡ false)
-      → Untried rows left users it i 0
-  all-tried fails =
-      record {
-        set = λ q l p. absurd (not-both p (bit-of-zero q));
-        other = λ q l p. absurd (not-both p (bit-of-zero q));
-        tried = λ q l e. fails q l;
+        set = λ q l p. and-left (marked left (i * word-bits + q)) (not (eqb (i * word-bits + q) it)) (sym (says q l)
+            ∙ p);
+        other = λ q l p. and-right (marked left (i * word-bits + q)) (not (eqb (i * word-bits + q) it))
+            (sym (says q l) ∙ p);
+        tried = λ q l e.
+            sym (and-assoc (marked left (i * word-bits + q)) (not (eqb (i * word-bits + q) it))
+            (dominates-in rows left users it (i * word-bits + q)))
+            ∙ ap (λ b. b && dominates-in rows left users it (i * word-bits + q)) (sym (says q l) ∙ e);
       }
 
   pub lowest-untried : {w q : ℕ} → Untried rows left users it i w → Lowest word-bits (bit w) q

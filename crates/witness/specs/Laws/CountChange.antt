@@ -1,21 +1,22 @@
--- Counts changed at the positions of a word, one after the other: each by the same operation, all others stay.
+-- Counts changed at some cells, one after the other: changes at different cells join to one at all of them, and where
+-- nothing is to be added or taken off a count may be said to be changed or not.
 use Prim.Native.Nat.{ℕ, _+_, _*_, _/_, _%_, _<_}
 use native.Mathlib.Nat.{add-zero, sub-zero}
 use native.Mathlib.Omega.{arith}
 use mathlib.Core.Path.{_≡_, refl, sym, ap, _∙_}
 use mathlib.Core.Logic.{⊎-elim}
-use mathlib.Core.Bool.{false, So, not, _&&_, cond, and-true, and-false}
+use mathlib.Core.Bool.{Bool, true, false, So, not, _&&_, _||_, cond, and-true, and-false, or-true, or-false}
 use mathlib.Core.List.{List}
 use borrow.Author.Tests.{eq-eqb, eqb-true, eqb-false}
 use lib.Dec.{eqb}
 use lib.ListN.{length, getD, set, length-set}
 use lib.Seq.{getD-set-same, getD-set-other}
-use Rattle.bits.specs.Truth.{passes-or-fails, same-truth, and-left, and-right, not-fails}
+use Rattle.bits.specs.Truth.{passes-or-fails, same-truth, and-left}
 use Rattle.bits.specs.Counting.{Lowest}
 use Rattle.bits.specs.Bit.{bit, word-bits}
 use Rattle.bits.specs.Laws.Bit.{bit-of-zero}
 use Rattle.bits.specs.Word.{LowestDropped}
-use Rattle.witness.specs.CountChange.{changed-by, at-position, Changed}
+use Rattle.witness.specs.CountChange.{changed-by, at-position, ChangedAt}
 use Rattle.witness.specs.declared.counts.Change.{Change}
 use Rattle.witness.specs.declared.counts.Change.the-variants.{Added, TakenOff}
 
@@ -30,28 +31,102 @@ word-of-position u some n p = eqb-true (n / word-bits) u (and-left (eqb (n / wor
 pub none-at : (u n : ℕ) → at-position u 0 n ≡ false
 none-at u n = ap (λ b. eqb (n / word-bits) u && b) (bit-of-zero (n % word-bits)) ∙ and-false (eqb (n / word-bits) u)
 
--- those at the positions of w are still to be changed
-pub record Changing (change : Change) (u some by w : ℕ) (before now : List ℕ) : Type 0 where
-  pub sized : length now ≡ length before
-  pub among : (n : ℕ) → So (at-position u w n) → So (at-position u some n)
-  pub still : (n : ℕ) → So (at-position u w n) → getD now n 0 ≡ getD before n 0
-  pub done : (n : ℕ) → at-position u w n ≡ false → getD now n 0 ≡ cond (at-position u some n)
-      (changed-by change (getD before n 0) by) (getD before n 0)
+module _ (change : Change) where
+  -- a count at another cell stays
+  pub not-changed : {at : ℕ → Bool} {by : ℕ → ℕ} {before after : List ℕ} → ChangedAt change at by before after → (n : ℕ)
+      → at n ≡ false → getD after n 0 ≡ getD before n 0
+  not-changed c n f = rw f at (c .says n)
 
-pub nothing-changed : (change : Change) (u by : ℕ) (before : List ℕ) → Changed change u 0 by before before
-nothing-changed change u by before = record { sized = refl; says = λ n. rw (none-at u n) }
+  -- nothing is changed
+  pub nothing-changed : {at : ℕ → Bool} {by : ℕ → ℕ} → ((n : ℕ) → at n ≡ false) → (counts : List ℕ)
+      → ChangedAt change at by counts counts
+  nothing-changed none counts = record { sized = refl; says = λ n. rw (none n) }
 
-pub change-starts : (change : Change) (u some by : ℕ) (before : List ℕ) → Changing change u some by some before before
-change-starts change u some by before = record {
-  sized = refl;
-  among = λ n p. p;
-  still = λ n p. refl;
-  done = λ n f. rw f;
-}
+  -- one count is changed
+  pub one-changed : {by : ℕ → ℕ} (counts : List ℕ) (k : ℕ) → k < length counts
+      → ChangedAt change (λ n. eqb n k) by counts (set counts k (changed-by change (getD counts k 0) (by k)))
+  one-changed {by} counts k inside = record {
+    sized = length-set counts k (changed-by change (getD counts k 0) (by k));
+    says = λ n. ⊎-elim
+        (λ e. rw (eqb-true n k e, eq-eqb k k refl) (getD-set-same counts k (changed-by change (getD counts k 0) (by k)) 0
+        inside))
+        (λ f. rw f (getD-set-other counts k n (changed-by change (getD counts k 0) (by k)) 0 (eqb-false n k f)))
+        (passes-or-fails (eqb n k));
+  }
 
-pub change-ends : (change : Change) (u some by : ℕ) (before now : List ℕ) → Changing change u some by 0 before now
-    → Changed change u some by before now
-change-ends change u some by before now c = record { sized = c .sized; says = λ n. c .done n (none-at u n) }
+  -- counts are changed at some cells, and then at others
+  pub then-changed : {first then all : ℕ → Bool} {by : ℕ → ℕ} {before middle after : List ℕ}
+      → ChangedAt change first by before middle → ChangedAt change then by middle after
+      → ((n : ℕ) → So (then n) → first n ≡ false) → ((n : ℕ) → all n ≡ (first n || then n))
+      → ChangedAt change all by before after
+  then-changed {first} {then} {before = before} {middle} earlier later apart joined = record {
+    sized = later .sized ∙ earlier .sized;
+    says = λ n. later .says n ∙ ⊎-elim
+        (λ (p : So (then n)). let same : getD middle n 0 ≡ getD before n 0 = not-changed earlier n (apart n p) in
+        rw (joined n, p, or-true (first n), same))
+        (λ (f : then n ≡ false). rw (joined n, f, or-false (first n)) (earlier .says n))
+        (passes-or-fails (then n));
+  }
+
+  -- the same said of more cells, where no more is changed
+  pub changed-as : {at wider : ℕ → Bool} {by said : ℕ → ℕ} {before after : List ℕ}
+      → ((n : ℕ) → So (at n) → So (wider n) × (by n ≡ said n)) → ((n : ℕ) → at n ≡ false → So (wider n) → said n ≡ 0)
+      → ChangedAt change at by before after → ChangedAt change wider said before after
+  changed-as {at} {wider} {by} {said} {before} same none c = record {
+    sized = c .sized;
+    says = λ n. c .says n ∙ ⊎-elim (λ (p : So (at n)). rw (p, same n p .0, same n p .1))
+        (λ f. rw f (sym (unchanged n f))) (passes-or-fails (at n));
+  }
+    where
+      unchanged : (n : ℕ) → at n ≡ false
+          → cond (wider n) (changed-by change (getD before n 0) (said n)) (getD before n 0) ≡ getD before n 0
+      unchanged n f =
+          ⊎-elim (λ (p : So (wider n)). rw (p, none n f p) (nothing-by change (getD before n 0))) (λ g. rw g)
+          (passes-or-fails (wider n))
+
+-- ---- one after the other
+
+-- of the cells whose counts are to be changed, some are still to come
+pub record Changing (change : Change) (all coming : ℕ → Bool) (by : ℕ → ℕ) (before now : List ℕ) : Type 0 where
+  pub among : (n : ℕ) → So (coming n) → So (all n)
+  pub done : ChangedAt change (λ n. all n && not (coming n)) by before now
+
+not-itself : (b : Bool) → (b && not b) ≡ false
+not-itself true = refl
+not-itself false = refl
+
+pub change-starts : (change : Change) (all : ℕ → Bool) (by : ℕ → ℕ) (before : List ℕ)
+    → Changing change all all by before before
+change-starts change all by before =
+    record { among = λ n p. p; done = nothing-changed change (λ n. not-itself (all n)) before }
+
+module _ {change : Change} {all coming : ℕ → Bool} {by : ℕ → ℕ} {before now : List ℕ}
+    (going : Changing change all coming by before now) where
+  -- those to come are as they were
+  pub still-to-come : (n : ℕ) → So (coming n) → getD now n 0 ≡ getD before n 0
+  still-to-come n p = not-changed change (going .done) n (rw p (and-false (all n)))
+
+  pub change-goes-on : {here rest : ℕ → Bool} {after : List ℕ} → ((n : ℕ) → So (here n) → So (coming n))
+      → ((n : ℕ) → rest n ≡ (coming n && not (here n))) → ChangedAt change here by now after
+      → Changing change all rest by before after
+  change-goes-on {here} {rest} within left changed = record {
+    among = λ n p. going .among n (and-left (coming n) (not (here n)) (sym (left n) ∙ p));
+    done = then-changed change (going .done) changed (λ n p. rw (within n p) (and-false (all n))) joined;
+  }
+    where
+      joined : (n : ℕ) → (all n && not (rest n)) ≡ ((all n && not (coming n)) || here n)
+      joined n =
+          ⊎-elim (λ (p : So (here n)). rw (left n, within n p, p, going .among n (within n p)))
+          (λ (f : here n ≡ false). rw (left n, f, and-true (coming n), or-false (all n && not (coming n))))
+          (passes-or-fails (here n))
+
+  pub change-ends : ((n : ℕ) → coming n ≡ false) → ChangedAt change all by before now
+  change-ends none = record {
+    sized = going .done .sized;
+    says = λ n. rw (none n, and-true (all n)) at (going .done .says n);
+  }
+
+-- ---- at the positions of a word
 
 -- the lowest position dropped
 pub lowest-at : (u w : ℕ) {low : ℕ} → Lowest word-bits (bit w) low → So (at-position u w (u * word-bits + low))
@@ -60,7 +135,7 @@ lowest-at u w {low} is-low =
     let position : (u * word-bits + low) % word-bits ≡ low = omega (arith, is-low .within) in
     rw (word, position, eq-eqb u u refl) (is-low .holds)
 
-at-dropped : (u : ℕ) {w low rest : ℕ} → Lowest word-bits (bit w) low → LowestDropped w rest → (n : ℕ)
+pub at-dropped : (u : ℕ) {w low rest : ℕ} → Lowest word-bits (bit w) low → LowestDropped w rest → (n : ℕ)
     → at-position u rest n ≡ (at-position u w n && not (eqb n (u * word-bits + low)))
 at-dropped u {w} {low} {rest} is-low dropped n = ⊎-elim here elsewhere (passes-or-fails (eqb (n / word-bits) u))
   where
@@ -84,51 +159,12 @@ at-dropped u {w} {low} {rest} is-low dropped n = ⊎-elim here elsewhere (passes
         ap (λ b. b && bit rest (n % word-bits)) f
         ∙ sym (ap (λ b. (b && bit w (n % word-bits)) && not (eqb n (u * word-bits + low))) f)
 
-module _ (u : ℕ) {w low rest : ℕ} (is-low : Lowest word-bits (bit w) low) (dropped : LowestDropped w rest) (n : ℕ) where
-  pub was-at : So (at-position u rest n) → So (at-position u w n)
-  was-at p = and-left (at-position u w n) (not (eqb n (u * word-bits + low))) (sym (at-dropped u is-low dropped n) ∙ p)
-
-  pub not-lowest : So (at-position u rest n) → eqb n (u * word-bits + low) ≡ false
-  not-lowest p =
-      not-fails (eqb n (u * word-bits + low))
-      (and-right (at-position u w n) (not (eqb n (u * word-bits + low))) (sym (at-dropped u is-low dropped n) ∙ p))
-
-  pub was-not-at : at-position u rest n ≡ false → eqb n (u * word-bits + low) ≡ false → at-position u w n ≡ false
-  was-not-at f g =
-      sym (and-true (at-position u w n)) ∙ ap (λ b. at-position u w n && not b) (sym g)
-      ∙ sym (at-dropped u is-low dropped n) ∙ f
-
-module _ (change : Change) (u some by : ℕ) {w low rest : ℕ} (before now : List ℕ) (c : Changing change u some by w
-    before
-    now)
-    (is-low : Lowest word-bits (bit w) low) (dropped : LowestDropped w rest) (inside : u * word-bits + low < length
-    now) where
-  changed : List ℕ
-  changed = set now (u * word-bits + low) (changed-by change (getD now (u * word-bits + low) 0) by)
-
-  other : (n : ℕ) → eqb n (u * word-bits + low) ≡ false → getD changed n 0 ≡ getD now n 0
-  unfolding changed
-  other n f = getD-set-other now (u * word-bits + low) n (changed-by change (getD now (u * word-bits + low) 0) by) 0
-      (eqb-false n (u * word-bits + low) f)
-
-  pub change-goes-on : Changing change u some by rest before
-      (set now (u * word-bits + low) (changed-by change (getD now (u * word-bits + low) 0) by))
-  unfolding changed
-  change-goes-on = record {
-    sized = length-set now (u * word-bits + low) (changed-by change (getD now (u * word-bits + low) 0) by) ∙ c .sized;
-    among = λ n p. c .among n (was-at u is-low dropped n p);
-    still = λ n p. other n (not-lowest u is-low dropped n p) ∙ c .still n (was-at u is-low dropped n p);
-    done = λ n f. ⊎-elim (λ e. here n (eqb-true n (u * word-bits + low) e)) (λ g. other n g
-        ∙ c .done n (was-not-at u is-low dropped n f g))
-        (passes-or-fails (eqb n (u * word-bits + low)));
-  }
-    where
-      here : (n : ℕ) → n ≡ u * word-bits + low
-          → getD changed n 0 ≡ cond (at-position u some n) (changed-by change (getD before n 0) by) (getD before n 0)
-      here n e =
-          rw (
-            e,
-            getD-set-same now (u * word-bits + low) (changed-by change (getD now (u * word-bits + low) 0) by) 0 inside,
-            c .among (u * word-bits + low) (lowest-at u w is-low),
-            c .still (u * word-bits + low) (lowest-at u w is-low),
-          )
+-- the count at the lowest position is changed, and the position dropped
+pub position-changed : {change : Change} {all : ℕ → Bool} {by : ℕ → ℕ} (u : ℕ) {w low rest : ℕ} {before now : List ℕ}
+    → Changing change all (at-position u w) by before now → Lowest word-bits (bit w) low → LowestDropped w rest
+    → u * word-bits + low < length now
+    → Changing change all (at-position u rest) by before (set now (u * word-bits + low)
+    (changed-by change (getD now (u * word-bits + low) 0) (by (u * word-bits + low))))
+position-changed {change} u {w} {low} {now = now} going is-low dropped inside =
+    change-goes-on going (λ n e. rw (eqb-true n (u * word-bits + low) e) (lowest-at u w is-low))
+    (at-dropped u is-low dropped) (one-changed change now (u * word-bits + low) inside)

@@ -3,14 +3,17 @@
 use Prim.Native.Nat.{ℕ, _+_, _-_, _*_, _/_, _≤_, _<_}
 use native.Mathlib.Omega.{arith}
 use mathlib.Core.Path.{_≡_, refl, sym, ap, ap₂, _∙_}
-use mathlib.Core.Bool.{Bool, true, false, So, not, _&&_, and-comm}
+use mathlib.Core.Logic.{⊎-elim}
+use mathlib.Core.Bool.{Bool, true, false, So, not, _&&_, cond, and-comm, and-false}
 use mathlib.Core.List.{List}
+use borrow.Author.Tests.{lt-ltb, ltb-true}
+use lib.Dec.{ltb}
 use lib.ListN.{length, getD, replicate, length-replicate}
 use Rattle.spec.specs.Vocabulary.{filter}
 use Rattle.spec.specs.Limits.{user-limit}
 use Rattle.spec.specs.Sheet.{Sheet}
 use Rattle.spec.specs.Fit.{fits}
-use Rattle.bits.specs.Truth.{not-both}
+use Rattle.bits.specs.Truth.{not-both, passes-or-fails, and-intro, and-left, and-right}
 use Rattle.bits.specs.Counting.{sum-below}
 use Rattle.bits.specs.Laws.Block.{count-below-blocks}
 use Rattle.bits.specs.Laws.Count.{count-below-le, count-below-ext}
@@ -24,7 +27,7 @@ use Rattle.cells.specs.CellPlaces.{cell-words, cell-limit, grant-of, marked, fi
 use Rattle.fit.specs.Laws.FitWord.{marked-in-word, near-count}
 use Rattle.cells.specs.Laws.MadeCells.{getD-zeros}
 use Rattle.fit.specs.Columns.{near-in-word}
-use Rattle.witness.specs.CountChange.{fit-count, WordChanged}
+use Rattle.witness.specs.CountChange.{fit-count, ChangedAt, CanChangeAt, of-users-below}
 use Rattle.witness.specs.Counts.{near-below, Counted}
 use Rattle.witness.specs.declared.counts.Change.the-variants.{Added, TakenOff}
 
@@ -49,56 +52,79 @@ near-as-word rows left n i =
 -- the grants of the first i words are counted
 pub record Growing (rows left : List ℕ) (users i : ℕ) (counts : List ℕ) : Type 0 where
   pub sized : length counts ≡ cell-limit
-  pub so-far : (n : ℕ) → n / word-bits < cell-words → So (marked left n) → getD counts n 0 ≡ near-below rows left n i
+  pub so-far : (n : ℕ) → getD counts n 0 ≡ cond (of-users-below left cell-words n) (near-below rows left n i) 0
 
 pub growth-starts : (rows left : List ℕ) (users : ℕ) → Growing rows left users 0 (replicate cell-limit 0)
 unfolding sum-below
-growth-starts rows left users =
-    record { sized = length-replicate cell-limit 0; so-far = λ n l p. getD-zeros cell-limit n }
+growth-starts rows left users = record {
+  sized = length-replicate cell-limit 0;
+  so-far = λ n. getD-zeros cell-limit n ∙ ⊎-elim (λ p. rw p) (λ f. rw f) (passes-or-fails (of-users-below left
+      cell-words n));
+}
 
 module _ (rows left : List ℕ) (users i : ℕ) (counts : List ℕ) (growing : Growing rows left users i counts) where
-  pub growth-fits : i < cell-words → (n : ℕ) → n / word-bits < cell-words → So (marked left n)
-      → getD counts n 0 + fit-count rows i (getD left i 0) n ≤ cell-limit
-  growth-fits inside n l p =
+  -- what stands at a cell of left
+  counted-here : (n : ℕ) → So (of-users-below left cell-words n) → getD counts n 0 ≡ near-below rows left n i
+  counted-here n p = rw p at (growing .so-far n)
+
+  pub growth-fits : i < cell-words → CanChangeAt Added (of-users-below left cell-words) (fit-count rows i (getD left i 0))
+      counts
+  growth-fits inside n p =
       omega (
         arith,
-        growing .so-far n l p,
+        counted-here n p,
         sum-below-le i word-bits (near-in-word rows left n) (λ j k. count-below-le word-bits
             (λ q. near rows left n (j * word-bits + q))),
         count-below-le word-bits (λ q. bit (getD left i 0) q && fit-in rows (grant-of n)
             (grant-of (i * word-bits + q))),
       )
 
-  pub growth-goes-on : (after : List ℕ) → WordChanged Added rows left i (getD left i 0) cell-words counts after
+  pub growth-goes-on : (after : List ℕ)
+      → ChangedAt Added (of-users-below left cell-words) (fit-count rows i (getD left i 0)) counts after
       → Growing rows left users (i + 1) after
   growth-goes-on after changed = record {
     sized = changed .sized ∙ growing .sized;
-    so-far = λ n l p.
-        omega (
+    so-far = λ n. changed .says n ∙ ⊎-elim
+        (λ p. rw p (omega (
           arith,
-          changed .below n l p,
-          growing .so-far n l p,
+          counted-here n p,
           near-as-word rows left n i,
           sum-below-step i (near-in-word rows left n),
-        );
+        )))
+        (λ f. rw f (rw f at (growing .so-far n)))
+        (passes-or-fails (of-users-below left cell-words n));
   }
+
+-- all grants are counted, and at every other cell there is 0
+pub growth-ends : (rows left : List ℕ) (users : ℕ) (counts : List ℕ) → Growing rows left users (users * row-words) counts
+    → Counted rows left users counts × ((n : ℕ) → marked left n ≡ false → getD counts n 0 ≡ 0)
+growth-ends rows left users counts whole = (
+  record {
+    sized = whole .sized;
+    exact = λ n l p. rw (p, lt-ltb (n / word-bits) cell-words l) at (whole .so-far n);
+  },
+  λ n f. whole .so-far n ∙ rw (f, and-false (ltb (n / word-bits) cell-words)),
+)
 
 -- ---- when grants are closed
 
--- the closed grants of the first i words are taken off
-pub record Recounting (rows left rest : List ℕ) (users i : ℕ) (counts : List ℕ) : Type 0 where
+-- the closed grants of the first i words are taken off the counts of the rest, and all others stay
+pub record Recounting (rows left rest : List ℕ) (users : ℕ) (before : List ℕ) (i : ℕ) (counts : List ℕ) : Type 0 where
   pub sized : length counts ≡ cell-limit
   pub so-far :
       (n : ℕ) → n / word-bits < cell-words → So (marked rest n)
       → getD counts n 0 + near-below rows left n i ≡ near-below rows left n (users * row-words) + near-below rows rest
       n i
+  pub others : (n : ℕ) → marked rest n ≡ false → getD counts n 0 ≡ getD before n 0
 
 module _ (rows left rest : List ℕ) (users : ℕ) (within : (n : ℕ) → So (marked rest n) → So (marked left n)) where
-  pub recount-starts : (counts : List ℕ) → Counted rows left users counts → Recounting rows left rest users 0 counts
+  pub recount-starts : (counts : List ℕ) → Counted rows left users counts
+      → Recounting rows left rest users counts 0 counts
   unfolding sum-below
   recount-starts counts counted = record {
     sized = counted .sized;
     so-far = λ n l p. omega (arith, counted .exact n l (within n p));
+    others = λ n f. refl;
   }
 
   -- the cells of a word that are near a grant are those of the rest and the closed ones
@@ -129,36 +155,40 @@ module _ (rows left rest : List ℕ) (users : ℕ) (within : (n : ℕ) → So (m
       gone true f r = and-comm f (not r)
       gone false f r = refl
 
-  module _ (i closed : ℕ) (counts : List ℕ) (going : Recounting rows left rest users i counts)
+  module _ (i closed : ℕ) (before counts : List ℕ) (going : Recounting rows left rest users before i counts)
       (inside : i < users * row-words)
       (says : (q : ℕ) → bit closed q ≡ (bit (getD left i 0) q && not (bit (getD rest i 0) q))) where
-    pub recount-enough : (n : ℕ) → n / word-bits < cell-words → So (marked rest n) → fit-count rows i closed n ≤ getD
-        counts n 0
-    recount-enough n l p =
+    pub recount-enough : CanChangeAt TakenOff (of-users-below rest cell-words) (fit-count rows i closed) counts
+    recount-enough n p =
         omega (
           arith,
-          going .so-far n l p,
+          going .so-far n (ltb-true (n / word-bits) cell-words (and-left (ltb (n / word-bits) cell-words)
+              (marked rest n) p)) (and-right (ltb (n / word-bits) cell-words) (marked rest n) p),
           near-split n i closed says,
           sum-below-step i (near-in-word rows left n),
           sum-below-more (i + 1) (users * row-words) (near-in-word rows left n) (omega arith),
         )
 
-    pub recount-goes-on : (after : List ℕ) → WordChanged TakenOff rows rest i closed cell-words counts after
-        → Recounting rows left rest users (i + 1) after
+    pub recount-goes-on : (after : List ℕ)
+        → ChangedAt TakenOff (of-users-below rest cell-words) (fit-count rows i closed) counts after
+        → Recounting rows left rest users before (i + 1) after
     recount-goes-on after changed = record {
       sized = changed .sized ∙ going .sized;
       so-far = λ n l p.
-          omega (
+          let here = and-intro (ltb (n / word-bits) cell-words) (marked rest n) (lt-ltb (n / word-bits) cell-words l) p
+          in omega (
             arith,
-            changed .below n l p,
+            rw here at (changed .says n),
             going .so-far n l p,
-            recount-enough n l p,
+            recount-enough n here,
             near-split n i closed says,
             sum-below-step i (near-in-word rows left n),
             sum-below-step i (near-in-word rows rest n),
           );
+      others = λ n f. changed .says n ∙ rw (f, and-false (ltb (n / word-bits) cell-words)) (going .others n f);
     }
 
-  pub recount-ends : (counts : List ℕ) → Recounting rows left rest users (users * row-words) counts
-      → Counted rows rest users counts
-  recount-ends counts going = record { sized = going .sized; exact = λ n l p. omega (arith, going .so-far n l p) }
+  pub recount-ends : (before counts : List ℕ) → Recounting rows left rest users before (users * row-words) counts
+      → Counted rows rest users counts × ((n : ℕ) → marked rest n ≡ false → getD counts n 0 ≡ getD before n 0)
+  recount-ends before counts going =
+      (record { sized = going .sized; exact = λ n l p. omega (arith, going .so-far n l p) }, going .others)

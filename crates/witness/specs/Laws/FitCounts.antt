@@ -5,13 +5,14 @@ use native.Mathlib.Nat.{mod-lt}
 use native.Mathlib.Omega.{arith}
 use mathlib.Core.Path.{_≡_, refl, sym, ap, _∙_}
 use mathlib.Core.Logic.{⊎-elim}
-use mathlib.Core.Bool.{Bool, false, So, _&&_, cond, and-true, and-false}
+use mathlib.Core.Bool.{Bool, true, false, So, not, _&&_, _||_, and-true, and-false, or-false}
 use mathlib.Core.List.{List}
-use borrow.Author.Tests.{eq-eqb, ne-eqb, eqb-true, eqb-false}
+use borrow.Author.Tests.{eq-eqb, ne-eqb, eqb-true, lt-ltb, le-ltb}
 use lib.Bits.{bitAnd}
-use lib.Dec.{lit<, eqb}
-use lib.ListN.{length, getD}
-use Rattle.bits.specs.Truth.{passes-or-fails, not-both, fails-unless, and-intro, and-left, and-right}
+use lib.Dec.{lit<, eqb, ltb}
+use lib.ListN.{getD}
+use Rattle.spec.specs.Limits.{user-limit}
+use Rattle.bits.specs.Truth.{not-both, fails-unless, and-intro, and-left, and-right}
 use Rattle.bits.specs.Counting.{count-below, Lowest}
 use Rattle.bits.specs.Laws.Below.{below-or-from}
 use Rattle.bits.specs.Laws.Count.{count-below-ext, count-below-none-intro}
@@ -19,11 +20,11 @@ use Rattle.bits.specs.Bit.{bit, word-bits}
 use Rattle.bits.specs.Laws.Bit.{bit-and, bit-of-zero}
 use Rattle.bits.specs.Word.{LowestDropped}
 use Rattle.cells.specs.Rows.{row-words, row-bits}
-use Rattle.cells.specs.CellPlaces.{grant-of, marked, fit-in}
+use Rattle.cells.specs.CellPlaces.{cell-words, grant-of, marked, fit-in}
 use Rattle.cells.specs.Laws.CellPlace.{fit-by-word}
-use Rattle.witness.specs.CountChange.{changed-by, at-position, fit-count, Changed, UserChanged, UsersChanged}
-use Rattle.witness.specs.CountChange.{WordChanged}
-use Rattle.witness.specs.Laws.CountChange.{nothing-by, none-at, lowest-at, was-at, not-lowest, was-not-at}
+use Rattle.witness.specs.CountChange.{at-position, fit-count, ChangedAt, of-user, of-users, of-users-below}
+use Rattle.witness.specs.Laws.CountChange.{word-of-position, none-at, nothing-changed, then-changed, changed-as, Changing}
+use Rattle.witness.specs.Laws.CountChange.{change-goes-on, lowest-at, at-dropped}
 use Rattle.witness.specs.declared.counts.Change.{Change}
 use Rattle.fit.specs.Columns.{column-words, held-in, Columns}
 use Rattle.fit.specs.ColumnUnion.{in-union}
@@ -78,119 +79,89 @@ shared rows word u = count-below word-bits (bit (bitAnd word (getD rows u 0)))
 
 module _ (rows left : List ℕ) (i word u : ℕ) where
   -- a grant of the user that is reached is open
-  pub reached-open : (n : ℕ) → So (at-position u (reached rows left i u) n) → (n / word-bits ≡ u) × So (marked left n)
+  pub reached-open : (n : ℕ) → So (at-position u (reached rows left i u) n) → So (of-user left u n)
       × (shared rows word u ≡ fit-count rows i word n)
   reached-open n p =
-      let same = eqb-true (n / word-bits) u (and-left (eqb (n / word-bits) u)
-      (bit (reached rows left i u) (n % word-bits)) p) in
+      let own = and-left (eqb (n / word-bits) u) (bit (reached rows left i u) (n % word-bits)) p in
+      let same = eqb-true (n / word-bits) u own in
       let both = sym (bit-and (getD left u 0) (getD rows i 0) (n % word-bits)) ∙ and-right (eqb (n / word-bits) u)
       (bit (reached rows left i u) (n % word-bits)) p in (
-        same,
-        rw same (and-left (bit (getD left u 0) (n % word-bits)) (bit (getD rows i 0) (n % word-bits)) both),
+        and-intro (eqb (n / word-bits) u) (marked left n) own
+            (rw same (and-left (bit (getD left u 0) (n % word-bits)) (bit (getD rows i 0) (n % word-bits)) both)),
         ap (λ k. shared rows word k) (sym same)
             ∙ fit-count-held rows i word n (and-right (bit (getD left u 0) (n % word-bits))
             (bit (getD rows i 0) (n % word-bits)) both),
       )
 
-  pub user-changed : (change : Change) → (before after : List ℕ)
-      → Changed change u (reached rows left i u) (shared rows word u) before after → UserChanged change rows left i
-      word u
-      before after
-  user-changed change before after c = record {
-    sized = c .sized;
-    own = λ n e p. c .says n ∙ ⊎-elim (held n e p) (lacked n e) (passes-or-fails (bit (getD rows i 0) (n % word-bits)));
-    others = λ n other. c .says n ∙ ap (λ b. cond (b && bit (reached rows left i u) (n % word-bits))
-        (changed-by change (getD before n 0) (shared rows word u)) (getD before n 0)) (ne-eqb (n / word-bits) u other);
-  }
+  -- one that is open and not reached changes by nothing
+  pub user-changed : (change : Change) (before after : List ℕ)
+      → ChangedAt change (at-position u (reached rows left i u)) (λ n. shared rows word u) before after
+      → ChangedAt change (of-user left u) (fit-count rows i word) before after
+  user-changed change before after =
+      changed-as change reached-open (λ n f p. fit-count-lacked rows i word n (lacked n f p))
     where
-      told : ℕ → Bool → ℕ
-      told n b = cond b (changed-by change (getD before n 0) (shared rows word u)) (getD before n 0)
-
-      held : (n : ℕ) → n / word-bits ≡ u → So (marked left n) → So (bit (getD rows i 0) (n % word-bits))
-          → told n (at-position u (reached rows left i u) n) ≡ changed-by change (getD before n 0)
-          (fit-count rows i word n)
-      held n e p h =
-          let there = and-intro (eqb (n / word-bits) u) (bit (reached rows left i u) (n % word-bits))
-          (eq-eqb (n / word-bits) u e)
+      lacked : (n : ℕ) → at-position u (reached rows left i u) n ≡ false → So (of-user left u n)
+          → bit (getD rows i 0) (n % word-bits) ≡ false
+      lacked n f p =
+          let own = and-left (eqb (n / word-bits) u) (marked left n) p in
+          let same = eqb-true (n / word-bits) u own in
+          let set = and-right (eqb (n / word-bits) u) (marked left n) p in
+          fails-unless (bit (getD rows i 0) (n % word-bits)) (λ h. not-both
+          (and-intro (eqb (n / word-bits) u) (bit (reached rows left i u) (n % word-bits)) own
           (bit-and (getD left u 0) (getD rows i 0) (n % word-bits)
-          ∙ and-intro (bit (getD left u 0) (n % word-bits)) (bit (getD rows i 0) (n % word-bits)) (rw e at p) h) in
-          ap (told n) there ∙ ap (changed-by change (getD before n 0)) (reached-open n there .2)
-
-      lacked : (n : ℕ) → n / word-bits ≡ u → bit (getD rows i 0) (n % word-bits) ≡ false
-          → told n (at-position u (reached rows left i u) n) ≡ changed-by change (getD before n 0)
-          (fit-count rows i word n)
-      lacked n e f =
-          ap (λ b. told n (eqb (n / word-bits) u && b)) (bit-and (getD left u 0) (getD rows i 0) (n % word-bits)
-          ∙ ap (λ b. bit (getD left u 0) (n % word-bits) && b) f ∙ and-false (bit (getD left u 0) (n % word-bits)))
-          ∙ ap (told n) (and-false (eqb (n / word-bits) u))
-          ∙ sym (ap (changed-by change (getD before n 0)) (fit-count-lacked rows i word n f)
-          ∙ nothing-by change (getD before n 0))
+          ∙ and-intro (bit (getD left u 0) (n % word-bits)) (bit (getD rows i 0) (n % word-bits)) (rw same at set) h))
+          f)
 
 -- ---- the counts of the users of a column's word
 
--- those at the positions of w are still to come
-pub record UsersChanging (change : Change) (rows left : List ℕ) (i word j some w : ℕ) (before now : List ℕ) : Type 0
-  where
-    pub sized : length now ≡ length before
-    pub among : (u : ℕ) → So (at-position j w u) → So (at-position j some u)
-    pub still : (n : ℕ) → So (at-position j w (n / word-bits)) → getD now n 0 ≡ getD before n 0
-    pub own :
-        (n : ℕ) → So (at-position j some (n / word-bits)) → at-position j w (n / word-bits) ≡ false → So (marked left n)
-        → getD now n 0 ≡ changed-by change (getD before n 0) (fit-count rows i word n)
-    pub others : (n : ℕ) → at-position j some (n / word-bits) ≡ false → getD now n 0 ≡ getD before n 0
+apart-where : (a e m : Bool) → ((a && not e) && m) ≡ ((a && m) && not (e && m))
+apart-where false e m = refl
+apart-where true true true = refl
+apart-where true true false = refl
+apart-where true false true = refl
+apart-where true false false = refl
 
-module _ (change : Change) (rows left : List ℕ) (i word j some : ℕ) (before : List ℕ) where
-  pub users-start : UsersChanging change rows left i word j some some before before
-  users-start = record {
-    sized = refl;
-    among = λ u p. p;
-    still = λ n p. refl;
-    own = λ n p f m. absurd (not-both p f);
-    others = λ n f. refl;
-  }
+-- the cells of the user at the lowest position are among those to come
+pub lowest-to-come : (left : List ℕ) (j w : ℕ) {low : ℕ} → Lowest word-bits (bit w) low → (n : ℕ)
+    → So (of-user left (j * word-bits + low) n) → So (of-users left j w n)
+lowest-to-come left j w {low} is-low n p =
+    and-intro (at-position j w (n / word-bits)) (marked left n)
+    (rw (eqb-true (n / word-bits) (j * word-bits + low) (and-left (eqb (n / word-bits) (j * word-bits + low))
+    (marked left n) p)) (lowest-at j w is-low))
+    (and-right (eqb (n / word-bits) (j * word-bits + low)) (marked left n) p)
 
-  pub users-go-on : {w low rest : ℕ} (now after : List ℕ) → UsersChanging change rows left i word j some w before now
-      → Lowest word-bits (bit w) low → LowestDropped w rest → UserChanged change rows left i word (j * word-bits + low)
-      now after
-      → UsersChanging change rows left i word j some rest before after
-  users-go-on {w} {low} {rest} now after earlier is-low dropped here = record {
-    sized = here .sized ∙ earlier .sized;
-    among = λ u p. earlier .among u (was-at j is-low dropped u p);
-    still = λ n p. here .others n (eqb-false (n / word-bits) (j * word-bits + low)
-        (not-lowest j is-low dropped (n / word-bits) p)) ∙ earlier .still n (was-at j is-low dropped (n / word-bits)
-        p);
-    own = λ n p f m. ⊎-elim
-        (λ e. here .own n (eqb-true (n / word-bits) (j * word-bits + low) e) m
-        ∙ ap (λ k. changed-by change k (fit-count rows i word n))
-        (earlier .still n (rw (eqb-true (n / word-bits) (j * word-bits + low) e) (lowest-at j w is-low))))
-        (λ g. here .others n (eqb-false (n / word-bits) (j * word-bits + low) g)
-        ∙ earlier .own n p (was-not-at j is-low dropped (n / word-bits) f g) m)
-        (passes-or-fails (eqb (n / word-bits) (j * word-bits + low)));
-    others = λ n f. here .others n (λ e. not-both (earlier .among (j * word-bits + low) (lowest-at j w is-low))
-        (rw e at f)) ∙ earlier .others n f;
-  }
+pub users-go-on : {change : Change} {all : ℕ → Bool} {by : ℕ → ℕ} (left : List ℕ) (j : ℕ) {w low rest : ℕ}
+    {before now after : List ℕ} → Changing change all (of-users left j w) by before now → Lowest word-bits (bit w) low
+    → LowestDropped w rest → ChangedAt change (of-user left (j * word-bits + low)) by now after
+    → Changing change all (of-users left j rest) by before after
+users-go-on left j {w} {low} going is-low dropped =
+    change-goes-on going (lowest-to-come left j w is-low)
+    (λ n. rw (at-dropped j is-low dropped (n / word-bits))
+    (apart-where (at-position j w (n / word-bits)) (eqb (n / word-bits) (j * word-bits + low)) (marked left n)))
 
-  pub users-end : (now : List ℕ) → UsersChanging change rows left i word j some 0 before now
-      → UsersChanged change rows left i
-      word j some before now
-  users-end now all = record {
-    sized = all .sized;
-    own = λ n p m. all .own n p (none-at j (n / word-bits)) m;
-    others =
-        all .others;
-  }
+pub no-users-left : (left : List ℕ) (j n : ℕ) → of-users left j 0 n ≡ false
+no-users-left left j n = rw (none-at j (n / word-bits))
 
 -- ---- the counts of all users
 
+-- the cells of users at the positions of a column's word are not below it, and below the end of all
+pub column-to-come : (left : List ℕ) (j some n : ℕ) → j < column-words → So (of-users left j some n)
+    → (of-users-below left (j * word-bits) n ≡ false) × So (of-users-below left cell-words n)
+unfolding user-limit row-words
+column-to-come left j some n inside p =
+    let at = and-left (at-position j some (n / word-bits)) (marked left n) p in
+    let column = word-of-position j some (n / word-bits) at in (
+      rw (le-ltb (n / word-bits) (j * word-bits) (omega arith)),
+      and-intro (ltb (n / word-bits) cell-words) (marked left n) (lt-ltb (n / word-bits) cell-words (omega arith))
+          (and-right (at-position j some (n / word-bits)) (marked left n) p),
+    )
+
 -- a word with no grants changes nothing
-pub no-word-changed : (change : Change) → (rows left : List ℕ) (i end : ℕ) (before : List ℕ)
-    → WordChanged change rows left i 0 end before before
-no-word-changed change rows left i end before = record {
-  sized = refl;
-  below = λ n l p. sym (ap (changed-by change (getD before n 0)) (fit-count-of-none rows i n)
-      ∙ nothing-by change (getD before n 0));
-  rest = λ n l. refl;
-}
+pub no-word-changed : (change : Change) (rows left : List ℕ) (i end : ℕ) (before : List ℕ)
+    → ChangedAt change (of-users-below left end) (fit-count rows i 0) before before
+no-word-changed change rows left i end before =
+    changed-as change {at = λ n. false} {by = λ n. 0} (λ n p. absurd (not-both p refl))
+    (λ n f p. fit-count-of-none rows i n) (nothing-changed change (λ n. refl) before)
 
 -- a user who holds none of their permissions has no grant that fits
 fit-count-unreached : (rows columns : List ℕ) → Columns rows columns → (i word j n : ℕ) → j < column-words
@@ -214,37 +185,57 @@ fit-count-unreached rows columns made i word j n inside column unreached =
         (sym (fit-by-row rows i n q l) ∙ and-right (bit word q)
         (fit-in rows (grant-of n) (grant-of (i * word-bits + q))) p))
 
+-- cell n is one of left, of a user in word j of the columns
+abbrev in-column : List ℕ → ℕ → ℕ → Bool
+in-column left j n = eqb (n / word-bits / word-bits) j && marked left n
+
 module _ (change : Change) (rows left : List ℕ) (i word : ℕ) where
-  pub no-user-changed : (before : List ℕ) → WordChanged change rows left i word 0 before before
-  no-user-changed before = record { sized = refl; below = λ n l. absurd (omega arith); rest = λ n l. refl }
+  pub no-user-changed : (before : List ℕ) → ChangedAt change (of-users-below left 0) (fit-count rows i word) before
+      before
+  no-user-changed before = nothing-changed change (λ n. rw (le-ltb (n / word-bits) 0 (omega arith))) before
 
   pub next-users-changed : (j some : ℕ) (columns before now after : List ℕ) → Columns rows columns → j < column-words
       → ((t : ℕ) → bit some t ≡ in-union columns word j t)
-      → WordChanged change rows left i word (j * word-bits) before now → UsersChanged change rows left i word j some
-      now after
-      → WordChanged change rows left i word ((j + 1) * word-bits) before after
-  next-users-changed j some columns before now after made inside union earlier here = record {
-    sized = here .sized ∙ earlier .sized;
-    below = λ n l p. ⊎-elim
-        (λ k. here .others n (elsewhere n (omega arith)) ∙ earlier .below n k p)
-        (λ k. in-word n (omega arith) p ∙ ap (λ m. changed-by change m (fit-count rows i word n)) (earlier .rest n k))
-        (below-or-from (n / word-bits) (j * word-bits));
-    rest = λ n l. here .others n (elsewhere n (omega arith)) ∙ earlier .rest n (omega arith);
-  }
+      → ChangedAt change (of-users-below left (j * word-bits)) (fit-count rows i word) before now
+      → ChangedAt change (of-users left j some) (fit-count rows i word) now after
+      → ChangedAt change (of-users-below left ((j + 1) * word-bits)) (fit-count rows i word) before after
+  next-users-changed j some columns before now after made inside union earlier here =
+      then-changed change earlier (changed-as change {wider = in-column left j} (λ n p. (wider n p, refl)) unreached here)
+      (λ n p. rw (le-ltb (n / word-bits) (j * word-bits) (omega (arith, column n p)))) joined
     where
-      elsewhere : (n : ℕ) → (n / word-bits / word-bits ≡ j → ⊥) → at-position j some (n / word-bits) ≡ false
-      elsewhere n other = ap (λ b. b && bit some (n / word-bits % word-bits)) (ne-eqb (n / word-bits / word-bits) j
-          other)
+      column : (n : ℕ) → So (in-column left j n) → n / word-bits / word-bits ≡ j
+      column n p = eqb-true (n / word-bits / word-bits) j (and-left (eqb (n / word-bits / word-bits) j) (marked left n)
+          p)
 
-      in-word : (n : ℕ) → n / word-bits / word-bits ≡ j → So (marked left n) → getD after n 0 ≡ changed-by change
-          (getD now n 0)
-          (fit-count rows i word n)
-      in-word n column p = ⊎-elim
-          (λ e. here .own n (and-intro (eqb (n / word-bits / word-bits) j) (bit some (n / word-bits % word-bits))
-          (eq-eqb (n / word-bits / word-bits) j column) e) p)
-          (λ f. here .others n (ap (λ b. eqb (n / word-bits / word-bits) j && b) f
-          ∙ and-false (eqb (n / word-bits / word-bits) j))
-          ∙ sym (ap (changed-by change (getD now n 0)) (fit-count-unreached rows columns made i word j n inside column
-          (sym (union (n / word-bits % word-bits)) ∙ f))
-          ∙ nothing-by change (getD now n 0)))
-          (passes-or-fails (bit some (n / word-bits % word-bits)))
+      wider : (n : ℕ) → So (of-users left j some n) → So (in-column left j n)
+      wider n p =
+          let at = and-left (at-position j some (n / word-bits)) (marked left n) p in
+          and-intro (eqb (n / word-bits / word-bits) j) (marked left n)
+          (and-left (eqb (n / word-bits / word-bits) j) (bit some (n / word-bits % word-bits)) at)
+          (and-right (at-position j some (n / word-bits)) (marked left n) p)
+
+      unreached : (n : ℕ) → of-users left j some n ≡ false → So (in-column left j n) → fit-count rows i word n ≡ 0
+      unreached n f p =
+          fit-count-unreached rows columns made i word j n inside (column n p)
+          (sym (union (n / word-bits % word-bits))
+          ∙ (rw (
+            and-left (eqb (n / word-bits / word-bits) j) (marked left n) p,
+            and-right (eqb (n / word-bits / word-bits) j) (marked left n) p,
+            and-true (bit some (n / word-bits % word-bits)),
+          ) at f))
+
+      joined : (n : ℕ) → of-users-below left ((j + 1) * word-bits) n ≡ (of-users-below left (j * word-bits) n
+          || in-column left j n)
+      joined n =
+          ⊎-elim
+          (λ l. rw (
+            lt-ltb (n / word-bits) (j * word-bits) l,
+            lt-ltb (n / word-bits) ((j + 1) * word-bits) (omega arith),
+            ne-eqb (n / word-bits / word-bits) j (omega arith),
+          )
+          (sym (or-false (marked left n))))
+          (λ l. rw (le-ltb (n / word-bits) (j * word-bits) l) (⊎-elim
+          (λ k. rw (lt-ltb (n / word-bits) ((j + 1) * word-bits) k, eq-eqb (n / word-bits / word-bits) j (omega arith)))
+          (λ k. rw (le-ltb (n / word-bits) ((j + 1) * word-bits) k, ne-eqb (n / word-bits / word-bits) j (omega arith)))
+          (below-or-from (n / word-bits) ((j + 1) * word-bits))))
+          (below-or-from (n / word-bits) (j * word-bits))

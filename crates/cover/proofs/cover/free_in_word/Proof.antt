@@ -4,9 +4,8 @@ use native.Mathlib.Omega.{arith}
 use mathlib.Core.Bool.{Bool, not}
 use mathlib.Core.List.{List}
 use Rattle.bits.specs.Bit.{word-bits}
-use Rattle.bits.specs.Laws.Walk.{Walk}
 use Rattle.cells.specs.Rows.{row-words, row-bits, cell}
-use Rattle.cover.specs.CoverFree.{Fails, none-tried, lowest-passes, one-tried, all-tried}
+use Rattle.cells.specs.Laws.FirstAt.{Tried, none-tried, lowest-passes, one-tried, all-tried}
 use Rattle.cover.proofs.cover.free_in_word.Statement.{statement}
 use Rattle.cover.proofs.cover.free_in_word.Tie as tie
 
@@ -15,7 +14,7 @@ abbrev unlacked : List ℕ → ℕ → ℕ → ℕ → Bool
 unlacked lacked p j x = not (cell lacked (j * word-bits + x) p)
 
 abbrev Inv-loop : tie.InvT-loop
-Inv-loop lacked word j permission rest₀ rest = Walk word (Fails word (unlacked lacked (permission .0) j)) rest
+Inv-loop lacked word j permission rest₀ rest = Tried word (unlacked lacked (permission .0) j) rest
 
 abbrev μ-loop : tie.MeasureT-loop
 μ-loop lacked word j permission rest₀ rest = rest

@@ -8,12 +8,13 @@ use mathlib.Core.Path.{_≡_, refl, _∙_}
 use mathlib.Core.Logic.{inl, inr}
 use lib.ListN.{length, getD, length-set}
 use Rattle.spec.specs.Limits.{grant-limit}
+use Rattle.bits.specs.Counting.{NextFrom}
 use Rattle.cells.specs.Rows.{row-words, row-bits}
 use Rattle.cells.specs.Blank.{BlankFrom, zeros-blank, set-blank, later-blank}
 use Rattle.cells.specs.Laws.CellPlace.{row-bits-pos}
 use Rattle.cover.specs.CoverRelation.{user-at-cell, permission-at-cell, HeldCells, user-room, user-has-room}
 use Rattle.cover.specs.CoverMembers.{class-words}
-use Rattle.cover.specs.CoverFree.{free, FirstBelow}
+use Rattle.cover.specs.CoverFree.{free}
 use Rattle.cover.specs.Laws.CoverFit.{FitSoFar, none-fitted, next-user, more-classes, one-fitted}
 use Rattle.cover.proofs.cover.grouped_by_fit.Statement.{statement}
 use Rattle.cover.proofs.cover.grouped_by_fit.Tie as tie
@@ -62,9 +63,7 @@ class-for-requires c κs = rw (c .before .before .before .before .permission-of 
 
 -- from the class found back to the turn of the loop, and to the start
 abbrev turn : tie.After-class-for Inv-loop μ-loop → tie.In-loop Inv-loop μ-loop
-turn c =
-    let earlier = c .before .before .before .before .before .before .before .before in
-    earlier
+turn c = c .before .before .before .before .before .before .before .before
 
 abbrev start : tie.After-class-for Inv-loop μ-loop → tie.Start Inv-loop μ-loop
 start c = turn c .before .before .before .before
@@ -94,8 +93,8 @@ fitted c held =
 found : (c : tie.After-class-for Inv-loop μ-loop) →
     let a = start c .args in
     let l = turn c .before .loop in
-    FirstBelow row-bits (free (c .before .before .before .allowed-next .result) (l .lacked)
-    (permission-at-cell (a .cells .now) (l .d))) (c .class-for .result)
+    NextFrom (free (c .before .before .before .allowed-next .result) (l .lacked)
+    (permission-at-cell (a .cells .now) (l .d))) 0 row-bits (c .class-for .result)
 found c = rw (c .before .before .before .before .before .permission-of .ensures) at (c .class-for .ensures)
 
 add-used : tie.Need-add-used Inv-loop μ-loop
@@ -131,8 +130,7 @@ add-asked-requires c κs =
 
 add-lacked-requires : tie.Need-add-lacked-requires Inv-loop μ-loop
 add-lacked-requires c κs =
-    let earlier = c .before .before .before .before in
-    let found-class = earlier in (
+    let found-class = c .before .before .before .before in (
       (
         small (c .before .before .before),
         user-below (found-class .before .before .before .before .before .before),

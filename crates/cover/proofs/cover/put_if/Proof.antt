@@ -1,22 +1,18 @@
--- `cover::cover::put_if`: one bit more in the word where the class stands, or nothing.
-use borrow.Author.Needs.{needs}
-use Prim.Native.Nat.{_/_, _<_}
+-- `cover::cover::put_if`: the position of the class is set, or nothing.
+use Prim.Native.Nat.{_+_, _*_}
 use native.Mathlib.Omega.{arith}
-use lib.ListN.{length}
-use Rattle.bits.specs.Bit.{word-bits}
+use mathlib.Core.Path.{_≡_}
 use Rattle.cells.specs.Rows.{row-words, row-bits}
 use Rattle.cells.specs.Laws.CellAdded.{cell-kept}
-use Rattle.cover.specs.CoverAllowed.{class-put}
+use Rattle.cells.specs.Laws.PositionSet.{cell-added}
 use Rattle.cover.proofs.cover.put_if.Statement.{statement}
 use Rattle.cover.proofs.cover.put_if.Tie as tie
 
 returns : tie.Need-returns
-unfolding row-bits row-words
 returns c =
     let start = c .before .before .before in
-    let within : start .args .c / word-bits < length (start .args .allowed .now) = omega arith in
-    rw (c .before .before .if1 .taken) (class-put (start .args .allowed .now) (start .args .c) (c .with .result)
-    (start .pre .0) within (c .with .ensures))
+    let first-row : 0 * row-bits + start .args .c ≡ start .args .c = omega arith in
+    rw (c .before .before .if1 .taken) (cell-added _ _ 0 (start .args .c) (start .pre .0) (rw first-row (c .mark .ensures)))
 
 returns-2 : tie.Need-returns-2
 returns-2 c = rw (c .if1 .left) (cell-kept _ 0 _)
@@ -24,5 +20,4 @@ returns-2 c = rw (c .if1 .left) (cell-kept _ 0 _)
 pub put-if-spec : {M : Type 1} → statement M
 unfolding row-bits row-words
 put-if-spec =
-    tie.close (tie.spec (λ c. search needs) (λ c. omega arith) (λ c κs. search needs) (λ c. search needs)
-    (λ c. omega arith) returns returns-2)
+    tie.close (tie.spec (λ c κs. omega arith) returns returns-2)

@@ -21,18 +21,6 @@ Inv-loop rows left it from some start most n₀ w₀ n w =
 abbrev μ-loop : tie.MeasureT-loop
 μ-loop rows left it from some start most n₀ w₀ n w = w
 
-add-i : tie.Need-add-i Inv-loop μ-loop
-unfolding user-limit row-words
-add-i c = omega (arith, c .lowest .ensures .within)
-
-mul-count : tie.Need-mul-count Inv-loop μ-loop
-unfolding user-limit row-words
-mul-count c = omega (arith, c .lowest .ensures .within)
-
-element-copy-out-count : tie.Need-element-copy-out-count Inv-loop μ-loop
-unfolding user-limit row-words
-element-copy-out-count c = omega (arith, c .lowest .ensures .within)
-
 fitting-requires : tie.Need-fitting-requires Inv-loop μ-loop
 unfolding user-limit row-words
 fitting-requires c κs = omega (arith, c .before .lowest .ensures .within)
@@ -85,7 +73,9 @@ returns-2 c =
     record { below = λ l. omega (arith, all, nothing); not-more = omega (arith, all, nothing) }
 
 pub partners-among-spec : {M : Type 1} → statement M
+unfolding user-limit row-words
 partners-among-spec =
-    tie.close (tie.spec Inv-loop μ-loop (λ c. omega arith) (λ c κs. omega arith) add-i mul-count
-    element-copy-out-count fitting-requires (λ c κs. tt) add-n (λ c κs. omega arith) loop-less loop-again returns
-    returns-2)
+    tie.close (tie.spec Inv-loop μ-loop (λ c. omega arith) (λ c κs. omega arith)
+    (λ c. omega (arith, c .lowest .ensures .within)) (λ c. omega (arith, c .lowest .ensures .within))
+    (λ c. omega (arith, c .lowest .ensures .within)) fitting-requires (λ c κs. tt) add-n (λ c κs. omega arith)
+    loop-less loop-again returns returns-2)

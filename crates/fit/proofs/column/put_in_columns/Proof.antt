@@ -18,14 +18,6 @@ loop-holds : tie.Need-loop-holds Inv-loop μ-loop
 unfolding user-limit row-words row-bits
 loop-holds c = record { sized = refl; lacks = λ n. refl }
 
-mul-mark : tie.Need-mul-mark Inv-loop μ-loop
-unfolding user-limit row-words
-mul-mark c = omega (arith, c .lowest .ensures .within)
-
-add-mark : tie.Need-add-mark Inv-loop μ-loop
-unfolding user-limit row-words
-add-mark c = omega (arith, c .lowest .ensures .within)
-
 mark-requires : tie.Need-mark-requires Inv-loop μ-loop
 unfolding user-limit row-words row-bits
 mark-requires c κs =
@@ -51,6 +43,8 @@ returns c =
     all-put-in _ _ _ _ (rw none at (c .before .loop .inv))
 
 pub put-in-columns-spec : {M : Type 1} → statement M
+unfolding user-limit row-words
 put-in-columns-spec =
-    tie.close (tie.spec Inv-loop μ-loop loop-holds (λ c κs. omega arith) mul-mark add-mark mark-requires
+    tie.close (tie.spec Inv-loop μ-loop loop-holds (λ c κs. omega arith)
+    (λ c. omega (arith, c .lowest .ensures .within)) (λ c. omega (arith, c .lowest .ensures .within)) mark-requires
     (λ c κs. omega arith) loop-less loop-again returns)

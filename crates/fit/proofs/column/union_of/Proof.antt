@@ -16,22 +16,6 @@ abbrev μ-loop : tie.MeasureT-loop
 loop-holds : tie.Need-loop-holds Inv-loop μ-loop
 loop-holds c = union-starts (c .args .columns .now) (c .args .word) (c .args .j)
 
-mul-some : tie.Need-mul-some Inv-loop μ-loop
-unfolding user-limit row-words
-mul-some c = omega (arith, c .lowest .ensures .within)
-
-add-some : tie.Need-add-some Inv-loop μ-loop
-unfolding user-limit row-words
-add-some c = omega (arith, c .lowest .ensures .within)
-
-mul-some-2 : tie.Need-mul-some-2 Inv-loop μ-loop
-unfolding user-limit row-words
-mul-some-2 c = omega (arith, c .lowest .ensures .within)
-
-element-copy-out-some : tie.Need-element-copy-out-some Inv-loop μ-loop
-unfolding user-limit row-words
-element-copy-out-some c = omega (arith, c .lowest .ensures .within)
-
 loop-less : tie.Need-loop-less Inv-loop μ-loop
 loop-less c = c .without-lowest .ensures .less
 
@@ -50,6 +34,9 @@ returns c =
     (rw (c .loop-test .left) at (c .before .loop .inv))
 
 pub union-of-spec : {M : Type 1} → statement M
+unfolding user-limit row-words
 union-of-spec =
-    tie.close (tie.spec Inv-loop μ-loop loop-holds (λ c κs. omega arith) mul-some add-some mul-some-2
-    element-copy-out-some (λ c κs. omega arith) loop-less loop-again returns)
+    tie.close (tie.spec Inv-loop μ-loop loop-holds (λ c κs. omega arith)
+    (λ c. omega (arith, c .lowest .ensures .within)) (λ c. omega (arith, c .lowest .ensures .within))
+    (λ c. omega (arith, c .lowest .ensures .within)) (λ c. omega (arith, c .lowest .ensures .within))
+    (λ c κs. omega arith) loop-less loop-again returns)

@@ -1,24 +1,29 @@
--- `table::table::permissions_among`: cell by cell its permission is put in, and none is taken out.
-use Prim.Native.Nat.{ℕ, _-_, _%_, _≤_, _<_}
+-- `table::table::permissions_among`: after i turns the word has the permissions of the first i cells.
+use Prim.Native.Nat.{ℕ, _-_, _%_, _≤_}
 use native.Mathlib.Omega.{arith}
 use mathlib.Core.Path.{_≡_}
-use mathlib.Core.Bool.{So}
+use mathlib.Core.Bool.{Bool, or-comm}
 use borrow.Author.Needs.{needs}
+use lib.Dec.{eqb}
 use lib.ListN.{getD}
+use Rattle.spec.specs.Vocabulary.{some-below}
 use Rattle.bits.specs.Bit.{bit}
+use Rattle.bits.specs.Laws.Bit.{bit-of-zero}
+use Rattle.bits.specs.Laws.Step.{some-below-step}
 use Rattle.cells.specs.Rows.{row-words, row-bits}
-use Rattle.table.specs.Laws.TablePart.{permission-put-in}
 use Rattle.table.proofs.table.permissions_among.Statement.{statement}
 use Rattle.table.proofs.table.permissions_among.Tie as tie
 
 abbrev Inv-loop : tie.InvT-loop
-Inv-loop cells count word₀ i₀ word i = (i ≤ count) × ((j : ℕ) → j < i → So (bit word (getD cells j 0 % row-bits)))
+Inv-loop cells count word₀ i₀ word i =
+    (i ≤ count) × ((p : ℕ) → bit word p ≡ some-below i (λ j. eqb p (getD cells j 0 % row-bits)))
 
 abbrev μ-loop : tie.MeasureT-loop
 μ-loop cells count word₀ i₀ word i = count - i
 
 loop-holds : tie.Need-loop-holds Inv-loop μ-loop
-loop-holds c = (omega arith, λ j l. absurd (omega arith))
+unfolding some-below
+loop-holds c = (omega arith, bit-of-zero)
 
 cast-at : tie.Need-cast-at Inv-loop μ-loop
 cast-at c = omega (arith, c .shared-slice-known2 .given (c .before .before .loop .i))
@@ -30,10 +35,11 @@ with-requires c κs = omega (arith, c .permission-of .ensures)
 loop-again : tie.Need-loop-again Inv-loop μ-loop
 loop-again c =
     let at = c .before .before .before .before in
-    let cells = at .before .before .args .cells .now in (
+    let i = at .loop .i in (
       omega arith,
-      permission-put-in cells (at .loop .i) (at .loop .word) _ _ (c .before .permission-of .ensures)
-          (c .with .ensures) (at .loop .inv .1),
+      λ p. let is-its : ℕ → Bool = λ j. eqb p (getD (at .before .before .args .cells .now) j 0 % row-bits) in
+          rw (c .with .ensures p, at .loop .inv .1 p, c .before .permission-of .ensures, some-below-step i is-its)
+          (or-comm (some-below i is-its) (is-its i)),
     )
 
 returns : tie.Need-returns Inv-loop μ-loop

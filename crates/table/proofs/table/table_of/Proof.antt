@@ -4,7 +4,9 @@ use Prim.Native.Nat.{ℕ, _*_, _-_, _≤_, _<_}
 use native.Mathlib.Omega.{arith}
 use mathlib.Core.Path.{_≡_, _∙_}
 use borrow.Author.Needs.{needs}
+use borrow.Author.Tests.{eq-eqb}
 use lib.ListN.{length, length-set, length-replicate}
+use Rattle.bits.specs.Laws.Below.{some-below-intro}
 use Rattle.cells.specs.Rows.{row-words, row-bits}
 use Rattle.table.specs.TableWords.{table-row, table-limit}
 use Rattle.table.specs.TableHeld.{HeldBy, own-user}
@@ -108,7 +110,8 @@ loop-again c =
     let some = made .before .before in
     let i = at .loop .i in
     let p = at-permission .permission-of .result .0 in
-    let wanted = rw (← at-permission .permission-of .ensures) at (some .permissions-among .ensures i (omega arith)) in (
+    let wanted = some .permissions-among .ensures p ∙ some-below-intro _ _ {i = i} (omega arith)
+    (eq-eqb _ _ (at-permission .permission-of .ensures)) in (
       omega arith,
       simp length-set (at .loop .inv .1),
       own-user (at-held .held-again .ensures),

@@ -82,7 +82,7 @@ within c =
 tie-in-requires : tie.Need-tie-in-requires Inv-loop μ-loop
 tie-in-requires c κs =
     let s = c .before .before .before .before .before .before in
-    (s .pre .0, s .pre .1, within c, s .pre .3, s .pre .4)
+    (s .pre .0, s .pre .1, within c, s .pre .4)
 
 returns : tie.Need-returns Inv-loop μ-loop
 returns c =

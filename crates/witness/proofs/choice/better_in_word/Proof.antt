@@ -23,18 +23,6 @@ abbrev μ-loop : tie.MeasureT-loop
 loop-holds : tie.Need-loop-holds Inv-loop μ-loop
 loop-holds c rows users few inside counted walked = word-starts _ _ _ _ _ walked
 
-add-n : tie.Need-add-n Inv-loop μ-loop
-unfolding user-limit row-words
-add-n c = omega (arith, c .lowest .ensures .within)
-
-mul-better : tie.Need-mul-better Inv-loop μ-loop
-unfolding user-limit row-words
-mul-better c = omega (arith, c .lowest .ensures .within)
-
-element-copy-out-better : tie.Need-element-copy-out-better Inv-loop μ-loop
-unfolding user-limit row-words
-element-copy-out-better c = omega (arith, c .lowest .ensures .within)
-
 loop-less : tie.Need-loop-less Inv-loop μ-loop
 loop-less c = c .without-lowest .ensures .less
 
@@ -54,5 +42,6 @@ pub better-in-word-spec : {M : Type 1} → statement M
 unfolding user-limit row-words
 better-in-word-spec =
     tie.close (tie.spec Inv-loop μ-loop (λ c. omega arith) (λ c. omega arith) (λ c. omega arith) loop-holds
-    (λ c κs. omega arith) add-n mul-better element-copy-out-better (λ c κs. search needs) (λ c κs. omega arith)
-    loop-less loop-again returns)
+    (λ c κs. omega arith) (λ c. omega (arith, c .lowest .ensures .within))
+    (λ c. omega (arith, c .lowest .ensures .within)) (λ c. omega (arith, c .lowest .ensures .within))
+    (λ c κs. search needs) (λ c κs. omega arith) loop-less loop-again returns)

@@ -1,6 +1,6 @@
 -- `witness::counts::change_all`: the words of the columns are passed one after the other. The counts of the users
 -- still to come are as they were, and a user whom no column reaches has no grant that fits.
-use Prim.Native.Nat.{_*_, _-_, _/_, _≤_}
+use Prim.Native.Nat.{_*_, _-_, _≤_}
 use native.Mathlib.Omega.{arith}
 use mathlib.Core.Path.{_≡_, _∙_}
 use Rattle.spec.specs.Limits.{user-limit}
@@ -8,24 +8,30 @@ use Rattle.bits.specs.Bit.{word-bits}
 use Rattle.cells.specs.Rows.{row-words}
 use Rattle.cells.specs.CellPlaces.{cell-words}
 use Rattle.fit.specs.Columns.{column-words}
-use Rattle.witness.specs.Laws.CountChange.{word-of-position}
-use Rattle.witness.specs.CountChange.{WordChanged}
-use Rattle.witness.specs.Laws.FitCounts.{no-word-changed, no-user-changed, next-users-changed}
+use Rattle.witness.specs.Laws.CountChange.{not-changed}
+use Rattle.witness.specs.CountChange.{ChangedAt, fit-count, of-users-below}
+use Rattle.witness.specs.Laws.FitCounts.{column-to-come, no-word-changed, no-user-changed, next-users-changed}
 use Rattle.witness.proofs.counts.change_all.Statement.{statement}
 use Rattle.witness.proofs.counts.change_all.Tie as tie
 
 abbrev Inv-loop : tie.InvT-loop
 Inv-loop counts₀ change rows columns left these j₀ counts j =
-    (j ≤ column-words) × WordChanged change rows left (these .user .0) (these .word) (j * word-bits) counts₀ counts
+    (j ≤ column-words) × ChangedAt change (of-users-below left (j * word-bits)) (fit-count rows (these .user .0)
+    (these .word)) counts₀ counts
 
 abbrev μ-loop : tie.MeasureT-loop
 μ-loop counts₀ change rows columns left these j₀ counts j = column-words - j
 
 returns : tie.Need-returns Inv-loop μ-loop
-returns c = rw (c .if1 .taken) (no-word-changed _ _ _ _ _ _)
+returns c =
+    let a = c .before .before .args in
+    rw (c .if1 .taken) (no-word-changed (a .change) (a .rows .now) (a .left .now) (a .these .user .0) cell-words
+    (a .counts .now))
 
 loop-holds : tie.Need-loop-holds Inv-loop μ-loop
-loop-holds c = (omega arith, no-user-changed _ _ _ _ _ _)
+loop-holds c =
+    let a = c .before .before .args in
+    (omega arith, no-user-changed (a .change) (a .rows .now) (a .left .now) (a .these .user .0) (a .these .word) _)
 
 change-for-users-requires : tie.Need-change-for-users-requires Inv-loop μ-loop
 unfolding user-limit row-words
@@ -36,9 +42,9 @@ change-for-users-requires c κs =
       start .pre .0,
       omega arith,
       at .inv .1 .sized ∙ start .pre .2,
-      λ n here p.
-          let column = word-of-position (at .j) (c .before .union-of .result) (n / word-bits) here in
-          rw (at .inv .1 .rest n (omega arith)) (start .pre .3 n (omega arith) p),
+      λ n p.
+          let here = column-to-come (start .args .left .now) (at .j) (c .before .union-of .result) n (omega arith) p in
+          rw (not-changed _ (at .inv .1) n (here .0)) (start .pre .3 n (here .1)),
     )
 
 loop-again : tie.Need-loop-again Inv-loop μ-loop
@@ -46,9 +52,11 @@ unfolding user-limit row-words
 loop-again c =
     let at-loop = c .before .before .before .before in
     let start = at-loop .before .before .before in
+    let a = start .args in
     let at = at-loop .loop in (
       omega arith,
-      next-users-changed _ _ _ _ _ (at .j) (c .before .before .union-of .result) _ _ (at .counts) _
+      next-users-changed _ (a .rows .now) (a .left .now) (a .these .user .0) (a .these .word) (at .j)
+          (c .before .before .union-of .result) (a .columns .now) _ (at .counts) _
           (start .pre .1) (omega arith) (c .before .before .union-of .ensures) (at .inv .1)
           (c .change-for-users .ensures),
     )

@@ -8,8 +8,8 @@ use Rattle.spec.specs.Limits.{user-limit}
 use Rattle.bits.specs.Bit.{word-bits}
 use Rattle.bits.specs.Laws.Count.{count-below-le}
 use Rattle.cells.specs.Rows.{row-words}
-use Rattle.witness.specs.Laws.CountChange.{nothing-changed}
-use Rattle.witness.specs.Laws.FitCounts.{shared, reached-open, user-changed}
+use Rattle.witness.specs.Laws.CountChange.{none-at, nothing-changed}
+use Rattle.witness.specs.Laws.FitCounts.{reached-open, user-changed}
 use Rattle.witness.proofs.counts.change_for_user.Statement.{statement}
 use Rattle.witness.proofs.counts.change_for_user.Tie as tie
 
@@ -25,7 +25,7 @@ change-at-requires c κs =
       start .pre .1,
       start .pre .2,
       λ n p. let told = reached-open (a .rows .now) (a .left .now) (a .these .user .0) (a .these .word) (a .u .0) n p in
-          rw (c .count .ensures ∙ told .2) (start .pre .3 n (told .0) (told .1)),
+          rw (c .count .ensures ∙ told .1) (start .pre .3 n (told .0)),
     )
 
 returns : tie.Need-returns
@@ -39,8 +39,7 @@ returns-2 : tie.Need-returns-2
 returns-2 c =
     let a = c .before .before .before .args in
     user-changed (a .rows .now) (a .left .now) (a .these .user .0) (a .these .word) (a .u .0) (a .change) _ _
-    (rw (c .if1 .left) (nothing-changed (a .change) (a .u .0) (shared (a .rows .now) (a .these .word) (a .u .0))
-    (a .counts .now)))
+    (rw (c .if1 .left) (nothing-changed (a .change) (none-at (a .u .0)) (a .counts .now)))
 
 pub change-for-user-spec : {M : Type 1} → statement M
 unfolding user-limit row-words

@@ -1,27 +1,25 @@
 -- `witness::counts::change_for_users`: the counts of the users at the positions of w are still as they were. The lowest
 -- is next, and its position is dropped.
-use Prim.Native.Nat.{_/_}
 use native.Mathlib.Omega.{arith}
 use mathlib.Core.Path.{_∙_}
-use mathlib.Core.Bool.{So}
 use Rattle.spec.specs.Limits.{user-limit}
-use Rattle.bits.specs.Bit.{word-bits}
 use Rattle.cells.specs.Rows.{row-words}
-use Rattle.witness.specs.CountChange.{at-position}
-use Rattle.witness.specs.Laws.CountChange.{lowest-at}
-use Rattle.witness.specs.Laws.FitCounts.{UsersChanging, users-start, users-go-on, users-end}
+use Rattle.witness.specs.CountChange.{fit-count, of-users}
+use Rattle.witness.specs.Laws.CountChange.{Changing, change-starts, still-to-come, change-ends}
+use Rattle.witness.specs.Laws.FitCounts.{lowest-to-come, users-go-on, no-users-left}
 use Rattle.witness.proofs.counts.change_for_users.Statement.{statement}
 use Rattle.witness.proofs.counts.change_for_users.Tie as tie
 
 abbrev Inv-loop : tie.InvT-loop
 Inv-loop counts₀ change rows left these j some from w₀ counts w =
-    UsersChanging change rows left (these .user .0) (these .word) j some w counts₀ counts
+    Changing change (of-users left j some) (of-users left j w) (fit-count rows (these .user .0) (these .word)) counts₀
+    counts
 
 abbrev μ-loop : tie.MeasureT-loop
 μ-loop counts₀ change rows left these j some from w₀ counts w = w
 
 loop-holds : tie.Need-loop-holds Inv-loop μ-loop
-loop-holds c = users-start _ _ _ _ _ _ _ _
+loop-holds c = change-starts _ _ _ _
 
 add-u : tie.Need-add-u Inv-loop μ-loop
 unfolding user-limit row-words
@@ -36,11 +34,10 @@ change-for-user-requires c κs =
     let low = c .before .lowest .ensures in (
       start .pre .0,
       omega (arith, low .within, start .pre .1),
-      at .inv .sized ∙ start .pre .2,
-      λ n e p.
-          let here : So (at-position (start .args .j) (at .w) (n / word-bits)) = rw e
-          (lowest-at (start .args .j) (at .w) low) in
-          rw (at .inv .still n here) (start .pre .3 n (at .inv .among (n / word-bits) here) p),
+      at .inv .done .sized ∙ start .pre .2,
+      λ n p.
+          let here = lowest-to-come (start .args .left .now) (start .args .j) (at .w) low n p in
+          rw (still-to-come (at .inv) n here) (start .pre .3 n (at .inv .among n here)),
     )
 
 loop-less : tie.Need-loop-less Inv-loop μ-loop
@@ -51,11 +48,13 @@ unfolding user-limit row-words
 loop-again c =
     let at-loop = c .before .before .before .before .before in
     let at = at-loop .loop in
-    users-go-on _ _ _ _ _ _ _ _ (at .counts) _ (at .inv) (c .before .before .before .lowest .ensures)
-    (c .without-lowest .ensures) (c .before .change-for-user .ensures)
+    users-go-on (at-loop .before .args .left .now) _ (at .inv) (c .before .before .before .lowest .ensures) (c .without-lowest .ensures)
+    (c .before .change-for-user .ensures)
 
 returns : tie.Need-returns Inv-loop μ-loop
-returns c = users-end _ _ _ _ _ _ _ _ _ (rw (c .loop-test .left) at (c .before .loop .inv))
+returns c =
+    let a = c .before .before .args in
+    change-ends (rw (c .loop-test .left) at (c .before .loop .inv)) (no-users-left (a .left .now) (a .j))
 
 pub change-for-users-spec : {M : Type 1} → statement M
 unfolding user-limit row-words

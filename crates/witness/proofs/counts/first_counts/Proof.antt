@@ -4,7 +4,7 @@ use native.Mathlib.Omega.{arith}
 use mathlib.Core.Path.{_≡_}
 use Rattle.spec.specs.Limits.{user-limit}
 use Rattle.cells.specs.Rows.{row-words}
-use Rattle.witness.specs.Laws.Counts.{Growing, growth-starts, growth-fits, growth-goes-on}
+use Rattle.witness.specs.Laws.Counts.{Growing, growth-starts, growth-fits, growth-goes-on, growth-ends}
 use Rattle.witness.proofs.counts.first_counts.Statement.{statement}
 use Rattle.witness.proofs.counts.first_counts.Tie as tie
 
@@ -47,8 +47,7 @@ unfolding row-words
 returns c =
     let at = c .before .loop in
     let end : at .i ≡ c .before .before .args .users * row-words = omega arith in
-    let whole = rw end at (at .inv .1) in
-    record { sized = whole .sized; exact = whole .so-far }
+    growth-ends _ _ _ _ (rw end at (at .inv .1))
 
 pub first-counts-spec : {M : Type 1} → statement M
 unfolding user-limit row-words

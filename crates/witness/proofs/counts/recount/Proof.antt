@@ -10,7 +10,7 @@ use Rattle.witness.proofs.counts.recount.Tie as tie
 
 abbrev Inv-loop : tie.InvT-loop
 Inv-loop counts₀ rows columns left rest users i₀ counts i =
-    (i ≤ users * row-words) × Recounting rows left rest users i counts
+    (i ≤ users * row-words) × Recounting rows left rest users counts₀ i counts
 
 abbrev μ-loop : tie.MeasureT-loop
 μ-loop counts₀ rows columns left rest users i₀ counts i = users * row-words - i
@@ -29,7 +29,7 @@ change-all-requires c κs =
       start .pre .1,
       at .inv .1 .sized,
       recount-enough (a .rows .now) (a .left .now) (a .rest .now) (a .users) (start .pre .3) (at .i)
-          (c .before .apart .result)
+          (c .before .apart .result) _
           (at .counts) (at .inv .1) (omega arith) (c .before .apart .ensures .1),
     )
 
@@ -42,7 +42,7 @@ loop-again c =
     let at = at-loop .loop in (
       omega arith,
       recount-goes-on (a .rows .now) (a .left .now) (a .rest .now) (a .users) (start .pre .3) (at .i)
-          (c .before .before .apart .result) (at .counts) (at .inv .1) (omega arith)
+          (c .before .before .apart .result) _ (at .counts) (at .inv .1) (omega arith)
           (c .before .before .apart .ensures .1) _ (c .change-all .ensures),
     )
 
@@ -52,7 +52,7 @@ returns c =
     let start = c .before .before in
     let at = c .before .loop in
     let end : at .i ≡ start .args .users * row-words = omega arith in
-    recount-ends _ _ _ _ (start .pre .3) _ (rw end at (at .inv .1))
+    recount-ends _ _ _ _ (start .pre .3) _ _ (rw end at (at .inv .1))
 
 pub recount-spec : {M : Type 1} → statement M
 unfolding user-limit row-words
