@@ -2,8 +2,8 @@
 use cell_text::cell_at;
 use numbers::PermissionNo;
 use numbers::UserNo;
-use reading::Witness;
-use reading::WitnessLine;
+use read_fields::Witness;
+use read_fields::WitnessLine;
 ghost use mathlib.Core.Path.{_≡_};
 ghost use Prim.Native.Nat.{_+_, _*_, _≤_, _<_};
 ghost use lib.ListN.{length};

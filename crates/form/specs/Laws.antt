@@ -1,4 +1,5 @@
 -- The laws behind what contracts cite.
 pub mod RoleLimit
+pub mod Placed
 pub mod Step
 pub mod Aligned

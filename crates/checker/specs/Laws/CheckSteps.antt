@@ -19,10 +19,10 @@ use Rattle.names.specs.LaidOut.{LaidOut}
 use Rattle.names.specs.declared.layout.Layout.{Layout}
 use Rattle.rules.specs.AcceptedFacts.{accepted-lawful}
 use Rattle.blocks.specs.declared.counts.Counts.{Counts}
-use Rattle.reading.specs.declared.witness_block.Witness.{Witness}
+use Rattle.read_fields.specs.declared.witness_block.Witness.{Witness}
 use Rattle.sheet.specs.Stands.{Stands}
 use Rattle.form.specs.Pieces.{users-part}
-use Rattle.reading.specs.WitnessSteps.{WitnessPart}
+use Rattle.read_fields.specs.WitnessSteps.{WitnessPart}
 use Rattle.right.specs.Judgement.{refused-by-sheet, too-long-book, Unwritten, unwritten-book, written-book}
 use Rattle.checker.specs.BookSays.{JudgedAs}
 use Rattle.checker.specs.BookRead.{FrontRead, said-read, read-is-written, read-is-said}

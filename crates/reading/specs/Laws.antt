@@ -1,4 +1,0 @@
--- The laws behind what contracts cite.
-pub mod Room
-pub mod NameFound
-pub mod FirstLine
