@@ -16,15 +16,15 @@ use Rattle.roles.specs.StandingCases.{standing-case}
 use Rattle.decimal.specs.Laws.Count.{decimal-is-count, count-is-decimal}
 use Rattle.blocks.specs.RowsSaid.{roles-in}
 use Rattle.blocks.specs.declared.counts.Counts.{Counts}
-use Rattle.form.specs.declared.witness_block.Witness.{Witness}
+use Rattle.read_fields.specs.declared.witness_block.Witness.{Witness}
 use Rattle.right.specs.WrittenLines.{Sayable}
-use Rattle.form.specs.Steps.{Reads}
+use Rattle.sheet.specs.Stands.{Stands}
 use Rattle.form.specs.Pieces.{counts-part, roles-part, users-part, witness-texts, witness-part, book-in-parts}
 use Rattle.decimal.specs.Capped.{count-cap}
-use Rattle.form.specs.CountSteps.{CountsAt, NoCounts, counts-parts-aligned}
-use Rattle.form.specs.RoleSteps.{RolesPart, NoRolesPart, roles-part-once}
-use Rattle.form.specs.UserSteps.{NoUsersPart, users-parts-aligned}
-use Rattle.form.specs.WitnessSteps.{WitnessPart, NoWitnessPart, lines-few}
+use Rattle.read_fields.specs.CountSteps.{CountsAt, NoCounts, counts-parts-aligned}
+use Rattle.read_rows.specs.RoleSteps.{RolesPart, NoRolesPart, roles-part-once}
+use Rattle.read_rows.specs.UserSteps.{NoUsersPart, users-parts-aligned}
+use Rattle.read_fields.specs.WitnessSteps.{WitnessPart, NoWitnessPart, lines-few}
 use Rattle.right.specs.Judgement.{Unwritten, WrittenAs}
 use Rattle.checker.specs.BookSays.{Says, BookSays}
 
@@ -90,7 +90,7 @@ module _ (sheet : Sheet) {book : Bytes} where
 
     -- ---- block 4
 
-    module _ (has : List ℕ) {fourth : ℕ} (users : Reads book third (users-part sheet roles (cell has)) fourth) where
+    module _ (has : List ℕ) {fourth : ℕ} (users : Stands book third (users-part sheet roles (cell has)) fourth) where
       behind-users : (says : Said) → Sayable sheet says → book ≡ book-text sheet says
           → drop fourth book ≡ witness-part sheet (says .witness)
       behind-users says s e =

@@ -24,12 +24,12 @@ use Rattle.roles.specs.StandingCases.{standing-case}
 use Rattle.blocks.specs.RowsSaid.{roles-in}
 use Rattle.right.specs.CheckParts.{counts-agree-elim}
 use Rattle.blocks.specs.declared.counts.Counts.{Counts}
-use Rattle.form.specs.declared.witness_block.Witness.{Witness}
+use Rattle.read_fields.specs.declared.witness_block.Witness.{Witness}
 use Rattle.checker.specs.declared.judgement.Checked.{Checked}
 use Rattle.decimal.specs.Capped.{count-cap, capped, capped-test}
 use Rattle.checker.specs.ProductWords.{row-agrees, rows-are-sheet}
-use Rattle.form.specs.WitnessList.{Collects}
-use Rattle.form.specs.WitnessLineSteps.{Known}
+use Rattle.read_fields.specs.WitnessList.{Collects}
+use Rattle.read_fields.specs.WitnessLineSteps.{Known}
 use Rattle.checker.specs.WitnessWords.{LinesWithin, lines-within, lines-stand, stands-by-words}
 use Rattle.right.specs.Judgement.{judged-number, answered}
 

@@ -18,11 +18,11 @@ use Rattle.lists.specs.TestLaws.{member-at, place-of}
 use Rattle.lists.specs.EachLaws.{Each}
 use Rattle.cells.specs.Rows.{row-words, row-bits, cell, RowsOf}
 use Rattle.right.specs.CheckParts.{witness-stands-elim, witness-stands-intro}
-use Rattle.form.specs.declared.witness_block.WitnessLine.{WitnessLine}
-use Rattle.form.specs.declared.witness_block.Witness.{Witness}
+use Rattle.read_fields.specs.declared.witness_block.WitnessLine.{WitnessLine}
+use Rattle.read_fields.specs.declared.witness_block.Witness.{Witness}
 use Rattle.form.specs.Laws.RoleLimit.{row-within}
-use Rattle.form.specs.WitnessList.{named-grant, no-line, Collects}
-use Rattle.form.specs.WitnessLineSteps.{Known}
+use Rattle.read_fields.specs.WitnessList.{named-grant, no-line, Collects}
+use Rattle.read_fields.specs.WitnessLineSteps.{Known}
 
 -- a line by its number
 abbrev pub line-of : Witness → ℕ → WitnessLine

@@ -3,7 +3,7 @@ use crate::agree::counts_agree;
 use crate::product::rows_agree;
 use crate::witness_lines::witness_stands;
 use blocks::Counts;
-use form::Witness;
+use read_fields::Witness;
 ghost use mathlib.Core.Path.{_≡_};
 ghost use mathlib.Core.Bool.{So};
 ghost use Prim.Native.Nat.{_*_, _≤_};

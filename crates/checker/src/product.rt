@@ -2,6 +2,7 @@
 use bits::WORD_BITS;
 use form::cells_in_word;
 use numbers::ROW_WORDS;
+use numbers::RoleNo;
 use numbers::UserNo;
 ghost use mathlib.Core.Path.{_≡_};
 ghost use mathlib.Core.Bool.{_||_};
@@ -22,16 +23,16 @@ fn roles_word(has: &[u64], roles: usize, u: UserNo, j: usize) -> u64
     has[u.0 * ROW_WORDS + j] & bits::full(cells_in_word(roles, j))
 }
 
-// A word, and word k of what the roles at the positions of some give, role after role. The positions are counted from
-// `first` on.
-fn with_given(start: u64, gives: &[u64], first: usize, some: u64, k: usize) -> u64
-    requires { ⌜ (k < row-words) × GivenWithin (now gives) first some ⌝ }
-    ensures { λ r. ⌜ ((q : ℕ) → bit r q ≡ (bit start q || some-given (now (gives .entry)) first k q some)) ⌝ }
+// A word, and word k of what the roles at the positions of some give, role after role. `first` is the role of
+// position 0.
+fn with_given(start: u64, gives: &[u64], first: RoleNo, some: u64, k: usize) -> u64
+    requires { ⌜ (k < row-words) × GivenWithin (now gives) (first .0) some ⌝ }
+    ensures { λ r. ⌜ ((q : ℕ) → bit r q ≡ (bit start q || some-given (now (gives .entry)) (first .0) k q some)) ⌝ }
 {
     let mut word = start;
     let mut left = some;
     while left != 0 {
-        let role = first + bits::lowest(left);
+        let role = first.0 + bits::lowest(left);
         word = word | gives[role * ROW_WORDS + k];
         left = bits::without_lowest(left);
     }
@@ -48,7 +49,7 @@ fn given_word(has: &[u64], gives: &[u64], roles: usize, u: UserNo, k: usize) -> 
     let mut j = 0;
     while j < ROW_WORDS {
         let some = roles_word(has, roles, u, j);
-        word = with_given(word, gives, j * WORD_BITS, some, k);
+        word = with_given(word, gives, RoleNo(j * WORD_BITS), some, k);
         j += 1;
     }
     word

@@ -1,9 +1,9 @@
 // Whether a witness stands: every grant is held, and no two on different lines fit.
 use cell_text::cell_at;
-use form::Witness;
-use form::WitnessLine;
 use numbers::PermissionNo;
 use numbers::UserNo;
+use read_fields::Witness;
+use read_fields::WitnessLine;
 ghost use mathlib.Core.Path.{_≡_};
 ghost use Prim.Native.Nat.{_+_, _*_, _≤_, _<_};
 ghost use lib.ListN.{length};

@@ -18,19 +18,21 @@ use Rattle.cell_text.specs.Laws.CellsWritten.{cell-field-length}
 use Rattle.form.specs.Laws.Aligned.{Aligned, aligned-length, aligned-listed}
 use Rattle.form.specs.declared.cursor.Step.{Step}
 use Rattle.form.specs.declared.cursor.Step.the-variants.{On, Off}
-use Rattle.form.specs.Steps.{Reads, Misses}
+use Rattle.sheet.specs.Stands.{Stands}
+use Rattle.form.specs.Steps.{Misses}
 use Rattle.form.specs.Pieces.{cell-fields}
-use Rattle.form.specs.RowGrown.{Blank, Grown, grown-none, WordStored, cells-kept, cells-read, grown-more}
+use Rattle.form.specs.RowGrown.{Blank, OthersKept, Grown, grown-none, WordStored, cells-kept, cells-read, grown-more}
 
 -- cells were read into a row
 pub record RowRead (text : Bytes) (at row count : ℕ) (words after : List ℕ) (next : ℕ) : Type 0 where
-  pub reads : Reads text at (cell-fields count (cell after row)) next
+  pub reads : Stands text at (cell-fields count (cell after row)) next
   pub grown : Grown words after row count
 
--- a step over so many cells
+-- a step over so many cells; where they do not stand, only their row has changed
 abbrev pub CellsRead : Bytes → ℕ → ℕ → ℕ → List ℕ → List ℕ → Step → Type 0
 CellsRead text at row count words after (On next) = RowRead text at row count words after next
-CellsRead text at row count words after Off = (cells : ℕ → Bool) → Misses text at (cell-fields count cells)
+CellsRead text at row count words after Off =
+    ((cells : ℕ → Bool) → Misses text at (cell-fields count cells)) × OthersKept words after row
 
 -- any two cells take as many bytes
 cells-aligned : (a b : Bool) → Aligned (cell-field a) (cell-field b)
@@ -112,8 +114,7 @@ reading-more {text} {at} {row} {i} {n} {k} {w} {words} {mid} {after} r put insid
 pub reading-ends : {text : Bytes} {at row count : ℕ} {words mid : List ℕ} → Reading text at row count words mid
     → RowRead text at row count words mid (at + 2 * count)
 reading-ends {text} {at} {row} {count} {words} {mid} r =
-    let s = stands-cells text at count (cell mid row) (r .stand) in
-    record { reads = record { forward = s .forward; within = s .within; reads = s .reads }; grown = r .grown }
+    record { reads = stands-cells text at count (cell mid row) (r .stand); grown = r .grown }
 
 pub reading-off : {text : Bytes} {at : ℕ} (i n count : ℕ) → at ≤ length text → i + n ≤ count
     → ((ones : ℕ → Bool) → CellsStand text (at + 2 * i) n ones → ⊥) → (cells : ℕ → Bool)

@@ -18,7 +18,7 @@ use Rattle.form.specs.Laws.Aligned.{ended-same}
 use Rattle.names.specs.Places.{part}
 use Rattle.form.specs.declared.cursor.Step.{Step}
 use Rattle.form.specs.declared.cursor.Step.the-variants.{On, Off}
-use Rattle.form.specs.Steps.{Reads}
+use Rattle.sheet.specs.Stands.{Stands}
 
 -- a part from one place up to another, where the byte that ends it stands
 pub record Ended (text : Bytes) (at : ℕ) (end : ℕ) (to : ℕ) : Type 0 where
@@ -105,28 +105,23 @@ no-end {text} {at} {end} {i} p h = record { none = contradiction }
 
 -- ---- there is one such part
 
--- what a text has at a place before an end, and behind it
-pub record EndedAs (text : Bytes) (at to : ℕ) (bytes rest : Bytes) : Type 0 where
-  pub before : bytes ≡ part at to text
-  pub behind : rest ≡ drop (suc to) text
-
+-- bytes before such an end are the part, and what follows them follows it
 pub ended-once : {text : Bytes} {at end to : ℕ} → Ended text at end to → (bytes rest : Bytes) → Free (eqb end) bytes
-    → drop at text ≡ bytes ++ end ∷ rest → EndedAs text at to bytes rest
+    → drop at text ≡ bytes ++ end ∷ rest → (bytes ≡ part at to text) × (rest ≡ drop (suc to) text)
 ended-once {text} {at} {end} {to} p bytes rest free e =
     let there : bytes ++ end ∷ rest ≡ part at to text ++ end ∷ drop (suc to) text = sym e ∙ p .reads in
     let same : bytes ≡ part at to text =
     ended-same (eqb end) end (eq-eqb end end refl) bytes (part at to text) rest (drop (suc to) text) free (p .free)
-    there in
-    record {
-      before = same;
-      behind = tail-eq-of-cons-eq (append-cancel-left (part at to text) (end ∷ rest) (end ∷ drop (suc to) text)
-          (rw same at there));
-    }
+    there in (
+      same,
+      tail-eq-of-cons-eq (append-cancel-left (part at to text) (end ∷ rest) (end ∷ drop (suc to) text)
+          (rw same at there)),
+    )
 
 -- a part and the byte that ends it stand there
-pub ended-reads : {text : Bytes} {at end to : ℕ} → Ended text at end to → Reads text at (part at to text ++ end ∷ [])
+pub ended-stands : {text : Bytes} {at end to : ℕ} → Ended text at end to → Stands text at (part at to text ++ end ∷ [])
     (suc to)
-ended-reads {text} {at} {end} {to} p =
+ended-stands {text} {at} {end} {to} p =
     record {
       forward = omega (arith, p .forward);
       within = p .within;

@@ -1,6 +1,5 @@
 -- The laws behind what contracts cite.
 pub mod RoleLimit
+pub mod Placed
 pub mod Step
-pub mod NameFound
 pub mod Aligned
-pub mod FirstLine

@@ -1,15 +1,9 @@
--- Reading a book, block after block, against the sheet that it is for.
+-- Steps over a book: bytes that are known, a part up to a byte, the cells of a row, a line of a name and cells.
 pub mod Steps
 pub mod Ended
 pub mod Pieces
-pub mod CountSteps
 pub mod RowGrown
 pub mod CellSteps
 pub mod LineSteps
 pub mod RowSteps
-pub mod RoleSteps
-pub mod UserSteps
-pub mod WitnessList
-pub mod WitnessLineSteps
-pub mod WitnessSteps
 pub mod Laws

@@ -21,9 +21,13 @@ use Rattle.cells.specs.Laws.CellAdded.{one-user}
 pub record Blank (words : List ℕ) (row : ℕ) : Type 0 where
   pub none : (p : ℕ) → p < row-bits → cell words row p ≡ false
 
+-- every row but one is as it was
+abbrev pub OthersKept : List ℕ → List ℕ → ℕ → Type 0
+OthersKept words after row = (u p : ℕ) → u ≢ row → p < row-bits → cell after u p ≡ cell words u p
+
 -- the first n cells of a row have been read: no other row has changed, and no further cell is set
 pub record Grown (words after : List ℕ) (row n : ℕ) : Type 0 where
-  pub others : (u p : ℕ) → u ≢ row → p < row-bits → cell after u p ≡ cell words u p
+  pub others : OthersKept words after row
   pub beyond : (p : ℕ) → n ≤ p → p < row-bits → cell after row p ≡ false
 
 pub grown-none : {words : List ℕ} {row : ℕ} → Blank words row → Grown words words row 0

@@ -1,5 +1,5 @@
 -- Reading lines of known names and cells, one after the other, into the rows of as many words. Assumes nothing.
-use Prim.Native.Nat.{ℕ, _+_, _≤_, _<_}
+use Prim.Native.Nat.{ℕ, _+_, _*_, _/_, _%_, _≤_, _<_}
 use native.Mathlib.Omega.{arith}
 use mathlib.Core.Path.{_≡_, sym, ap, _∙_}
 use mathlib.Core.Logic.{⊎-elim}
@@ -9,12 +9,15 @@ use lib.ListN.{length, replicate}
 use Rattle.spec.specs.Text.{Bytes}
 use Rattle.bits.specs.Laws.Below.{below-or-from}
 use Rattle.lists.specs.Listed.{listed-same}
-use Rattle.cells.specs.Rows.{row-bits, cell}
-use Rattle.roles.specs.RoleMatrices.{no-cells}
+use Rattle.bits.specs.Bit.{word-bits}
+use Rattle.bits.specs.Laws.Bit.{bit-of-zero}
+use Rattle.cells.specs.Rows.{row-words, row-bits, cell}
+use Rattle.cells.specs.Laws.MadeCells.{getD-zeros}
 use Rattle.text.specs.Line.{line-end}
 use Rattle.cell_text.specs.CellsText.{cell-field}
-use Rattle.form.specs.Steps.{Reads}
-use Rattle.form.specs.Laws.Step.{reads-nothing, reads-more}
+use Rattle.sheet.specs.Stands.{Stands}
+use Rattle.sheet.specs.Laws.Stands.{stands-nothing}
+use Rattle.form.specs.Laws.Step.{stands-more}
 use Rattle.form.specs.Pieces.{named-text, named-texts}
 use Rattle.form.specs.RowGrown.{Blank}
 use Rattle.form.specs.LineSteps.{LineRead}
@@ -24,12 +27,15 @@ pub record AllBlank (words : List ℕ) : Type 0 where
   pub rows : (row : ℕ) → Blank words row
 
 pub zeros-blank : (n : ℕ) → AllBlank (replicate n 0)
-zeros-blank n = record { rows = λ row. record { none = no-cells n .shown row } }
+zeros-blank n =
+    record {
+      rows = λ row. record { none = λ p l. rw (getD-zeros n (row * row-words + p / word-bits)) (bit-of-zero (p % word-bits)) };
+    }
 
 -- the lines below i have been read: their rows have no cell beyond, and no other row has any
 pub record LinesBelow (text : Bytes) (at : ℕ) (name : ℕ → Bytes) (width : ℕ) (words : List ℕ) (i next : ℕ) : Type 0
   where
-    pub reads : Reads text at (named-texts name width (cell words) i) next
+    pub reads : Stands text at (named-texts name width (cell words) i) next
     pub blank : (row : ℕ) → i ≤ row → Blank words row
     pub beyond : (row p : ℕ) → row < i → width ≤ p → p < row-bits → cell words row p ≡ false
 
@@ -37,7 +43,7 @@ pub lines-start : {text : Bytes} {at : ℕ} (name : ℕ → Bytes) (width : ℕ)
     → AllBlank words
     → LinesBelow text at name width words 0 at
 lines-start {text} {at} name width h b =
-    record { reads = reads-nothing text at h; blank = λ row l. b .rows row; beyond = λ row p l. absurd (omega arith) }
+    record { reads = stands-nothing text at h; blank = λ row l. b .rows row; beyond = λ row p l. absurd (omega arith) }
 
 pub lines-more : {text : Bytes} {at : ℕ} {name : ℕ → Bytes} {width i next last : ℕ} {words after : List ℕ}
     → width ≤ row-bits
@@ -45,7 +51,7 @@ pub lines-more : {text : Bytes} {at : ℕ} {name : ℕ → Bytes} {width i next 
     → LinesBelow text at name width after (i + 1) last
 lines-more {text} {at} {name} {width} {i} {next} {last} {words} {after} h b l =
     record {
-      reads = reads-more i (λ row. named-text (name row) width (cell after row)) (rw same at (b .reads)) (l .reads);
+      reads = stands-more i (λ row. named-text (name row) width (cell after row)) (rw same at (b .reads)) (l .reads);
       blank = λ row k. record { none = λ p m. kept row p (omega arith) m ∙ b .blank row (omega arith) .none p m };
       beyond = λ row p k m n. ⊎-elim
           (λ (below : row < i). kept row p (omega arith) n ∙ b .beyond row p below m n)

@@ -1,21 +1,12 @@
-// Reading a book, block after block, against the sheet that it is for.
-mod counts_block;
+// Steps over a book: bytes that are known, a part up to a byte, the cells of a row, a line of a name and cells.
 mod cursor;
-mod expected;
 mod line;
-mod roles_block;
 mod row_cells;
-mod users_block;
-mod witness_block;
 
-pub use counts_block::CountsRead;
-pub use counts_block::read_counts;
 pub use cursor::Step;
-pub use roles_block::RolesRead;
-pub use roles_block::read_roles;
+pub use cursor::expect;
+pub use cursor::expect_byte;
+pub use cursor::part_end;
+pub use line::read_line;
 pub use row_cells::cells_in_word;
-pub use users_block::read_users;
-pub use witness_block::Witness;
-pub use witness_block::WitnessLine;
-pub use witness_block::WitnessesRead;
-pub use witness_block::read_witness;
+pub use row_cells::clear_rows;

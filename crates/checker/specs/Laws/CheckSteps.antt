@@ -19,10 +19,10 @@ use Rattle.names.specs.LaidOut.{LaidOut}
 use Rattle.names.specs.declared.layout.Layout.{Layout}
 use Rattle.rules.specs.AcceptedFacts.{accepted-lawful}
 use Rattle.blocks.specs.declared.counts.Counts.{Counts}
-use Rattle.form.specs.declared.witness_block.Witness.{Witness}
-use Rattle.form.specs.Steps.{Reads}
+use Rattle.read_fields.specs.declared.witness_block.Witness.{Witness}
+use Rattle.sheet.specs.Stands.{Stands}
 use Rattle.form.specs.Pieces.{users-part}
-use Rattle.form.specs.WitnessSteps.{WitnessPart}
+use Rattle.read_fields.specs.WitnessSteps.{WitnessPart}
 use Rattle.right.specs.Judgement.{refused-by-sheet, too-long-book, Unwritten, unwritten-book, written-book}
 use Rattle.checker.specs.BookSays.{JudgedAs}
 use Rattle.checker.specs.BookRead.{FrontRead, said-read, read-is-written, read-is-said}
@@ -60,7 +60,7 @@ module _ {text book : Bytes} {answer : CheckAnswer} where
     pub judged-as-read : {counts : Counts} {gives : List ℕ} {roles third fourth : ℕ} {w : Witness} (has : List ℕ)
         → length book ≤ book-limit
         → (front : FrontRead (sheet-of text) book counts gives roles third)
-        → (users : Reads book third (users-part (sheet-of text) roles (cell has)) fourth)
+        → (users : Stands book third (users-part (sheet-of text) roles (cell has)) fourth)
         → (last : WitnessPart (sheet-of text) book fourth w)
         → JudgedAs (sheet-of text) counts roles has gives w answer → Checks text book answer
     judged-as-read has h front users last judged =

@@ -12,29 +12,18 @@ use Rattle.lists.specs.Listed.{listed, listed-more}
 use Rattle.form.specs.Laws.Aligned.{Aligned, aligned-same, listed-next}
 use Rattle.form.specs.declared.cursor.Step.{Step}
 use Rattle.form.specs.declared.cursor.Step.the-variants.{On, Off}
-use Rattle.form.specs.Steps.{Reads, Misses, Expects}
-
--- no bytes stand at every place
-pub reads-nothing : (text : Bytes) (at : ℕ) → at ≤ length text → Reads text at [] at
-reads-nothing text at h = record { forward = omega arith; within = h; reads = refl }
-
-pub reads-then : {text a b : Bytes} {at next last : ℕ} → Reads text at a next → Reads text next b last
-    → Reads text at (a ++ b) last
-reads-then {text} {a} {b} {at} {next} {last} p q =
-    record {
-      forward = omega (arith, p .forward, q .forward);
-      within = q .within;
-      reads = p .reads ∙ ap (λ l. a ++ l) (q .reads) ∙ sym (append-assoc a b (drop last text));
-    }
+use Rattle.sheet.specs.Stands.{Stands}
+use Rattle.sheet.specs.Laws.Stands.{stands-then, stands-byte}
+use Rattle.form.specs.Steps.{Misses, Expects}
 
 -- what follows bytes that stand there is what the text goes on with
-pub reads-rest : {text a : Bytes} {at next : ℕ} → Reads text at a next → (rest : Bytes) → drop at text ≡ a ++ rest
+pub stands-rest : {text a : Bytes} {at next : ℕ} → Stands text at a next → (rest : Bytes) → drop at text ≡ a ++ rest
     → rest ≡ drop next text
-reads-rest {text} {a} {at} {next} p rest e = append-cancel-left a rest (drop next text) (sym e ∙ p .reads)
+stands-rest {text} {a} {at} {next} p rest e = append-cancel-left a rest (drop next text) (sym e ∙ p .reads)
 
 -- the place where it goes on is as far as the bytes are long
-pub reads-place : {text a : Bytes} {at next : ℕ} → Reads text at a next → next ≡ at + length a
-reads-place {text} {a} {at} {next} p =
+pub stands-place : {text a : Bytes} {at next : ℕ} → Stands text at a next → next ≡ at + length a
+stands-place {text} {a} {at} {next} p =
     omega (
       arith,
       ap length (p .reads),
@@ -50,13 +39,13 @@ pub misses-first : {text a : Bytes} {at : ℕ} (b : Bytes) → Misses text at a 
 misses-first {text} {a} {at} b m = record { misses = λ rest e. m .misses (b ++ rest) (e ∙ append-assoc a b rest) }
 
 -- the second part is missing
-pub misses-second : {text a : Bytes} {at next : ℕ} (b : Bytes) → Reads text at a next → Misses text next b
+pub misses-second : {text a : Bytes} {at next : ℕ} (b : Bytes) → Stands text at a next → Misses text next b
     → Misses text at (a ++ b)
 misses-second {text} {a} {at} {next} b p m =
-    record { misses = λ rest e. m .misses rest (sym (reads-rest p (b ++ rest) (e ∙ append-assoc a b rest))) }
+    record { misses = λ rest e. m .misses rest (sym (stands-rest p (b ++ rest) (e ∙ append-assoc a b rest))) }
 
 -- the second part is missing behind another first part that can only be followed by the same
-pub misses-after : {text a b : Bytes} {at next : ℕ} (c : Bytes) → Reads text at a next → Aligned a b
+pub misses-after : {text a b : Bytes} {at next : ℕ} (c : Bytes) → Stands text at a next → Aligned a b
     → Misses text next c
     → Misses text at (b ++ c)
 misses-after {text} {a} {b} {at} {next} c p same m =
@@ -68,7 +57,7 @@ misses-after {text} {a} {b} {at} {next} c p same m =
 -- the next of parts by number is missing
 pub misses-next : {text : Bytes} {at next : ℕ} (j count : ℕ) (f g : ℕ → Bytes) → j < count
     → ((i : ℕ) → i < j → Aligned (f i) (g i))
-    → Reads text at (listed j f) next → Misses text next (g j) → Misses text at (listed count g)
+    → Stands text at (listed j f) next → Misses text next (g j) → Misses text at (listed count g)
 misses-next {text} {at} {next} j count f g h same p m =
     record {
       misses = λ rest e.
@@ -77,33 +66,25 @@ misses-next {text} {at} {next} j count f g h same p m =
     }
 
 -- the next of parts that are known is missing
-pub misses-known : {text : Bytes} {at next : ℕ} (j count : ℕ) (f : ℕ → Bytes) → j < count → Reads text at (listed j f)
+pub misses-known : {text : Bytes} {at next : ℕ} (j count : ℕ) (f : ℕ → Bytes) → j < count → Stands text at (listed j f)
     next
     → Misses text next (f j) → Misses text at (listed count f)
 misses-known j count f h p m = misses-next j count f f h (λ i l. aligned-same (f i)) p m
 
 -- with the next of parts by number there, one more is
-pub reads-more : {text : Bytes} {at next last : ℕ} (j : ℕ) (f : ℕ → Bytes) → Reads text at (listed j f) next
-    → Reads text next (f j) last
-    → Reads text at (listed (j + 1) f) last
-reads-more j f p q = rw (listed-more j f) (reads-then p q)
+pub stands-more : {text : Bytes} {at next last : ℕ} (j : ℕ) (f : ℕ → Bytes) → Stands text at (listed j f) next
+    → Stands text next (f j) last
+    → Stands text at (listed (j + 1) f) last
+stands-more j f p q = rw (listed-more j f) (stands-then p q)
 
 -- with the first part there, the second decides
-pub expects-then : {text a : Bytes} {at next : ℕ} (b : Bytes) → Reads text at a next → (r : Step)
+pub expects-then : {text a : Bytes} {at next : ℕ} (b : Bytes) → Stands text at a next → (r : Step)
     → Expects text next b r
     → Expects text at (a ++ b) r
-expects-then b p (On last) q = reads-then p q
+expects-then b p (On last) q = stands-then p q
 expects-then b p Off m = misses-second b p m
 
 -- ---- one byte
-
-pub reads-byte : (text : Bytes) (at : ℕ) → at < length text → Reads text at (getD text at 0 ∷ []) (suc at)
-reads-byte text at h = record { forward = omega arith; within = h; reads = drop-cons text at 0 h }
-
--- a byte that stands there
-pub reads-this-byte : (text : Bytes) (at b : ℕ) → at < length text → getD text at 0 ≡ b → Reads text at (b ∷ [])
-    (at + 1)
-reads-this-byte text at b h same = rw (← same, add-one at) (reads-byte text at h)
 
 -- another byte stands there
 pub misses-byte : (text : Bytes) (at b : ℕ) (rest : Bytes) → at < length text → (getD text at 0 ≡ b → ⊥)
@@ -124,4 +105,4 @@ pub expects-next : (text word : Bytes) (at i : ℕ) → i < length word → at +
 expects-next text word at i h k same r e =
     let later : at + (i + 1) ≡ suc (at + i) = omega arith in
     rw (drop-cons word i 0 h, ← same)
-    (expects-then (drop (suc i) word) (reads-byte text (at + i) k) r (rw (later, add-one i) at e))
+    (expects-then (drop (suc i) word) (stands-byte text (at + i) (getD text (at + i) 0) k refl) r (rw (later, add-one i) at e))

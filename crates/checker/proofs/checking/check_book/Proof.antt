@@ -6,7 +6,7 @@ use borrow.Author.Needs.{needs}
 use Rattle.spec.specs.Limits.{role-limit}
 use Rattle.spec.specs.Sheet.{Sheet, sheet-of}
 use Rattle.cells.specs.Rows.{row-words}
-use Rattle.form.specs.CountSteps.{CountsAt}
+use Rattle.read_fields.specs.CountSteps.{CountsAt}
 use Rattle.form.specs.RowSteps.{zeros-blank}
 use Rattle.checker.specs.BookRead.{FrontRead, no-counts-written, no-roles-written}
 use Rattle.checker.specs.Laws.CheckSteps.{refused-for-form}

@@ -10,8 +10,8 @@ use Rattle.spec.specs.Limits.{user-limit, role-limit}
 use Rattle.spec.specs.Sheet.{Sheet, sheet-of}
 use Rattle.cells.specs.Rows.{row-words}
 use Rattle.form.specs.RowSteps.{zeros-blank}
-use Rattle.form.specs.UserSteps.{UsersPart}
-use Rattle.form.specs.WitnessSteps.{WitnessPart}
+use Rattle.read_rows.specs.UserSteps.{UsersPart}
+use Rattle.read_fields.specs.WitnessSteps.{WitnessPart}
 use Rattle.checker.specs.BookRead.{no-users-written, no-witness-written, something-said}
 use Rattle.checker.specs.Laws.CheckSteps.{rows-within, users-within, refused-for-form, judged-as-read}
 use Rattle.checker.proofs.checking.check_from_users.Statement.{statement}

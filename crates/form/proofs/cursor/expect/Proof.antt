@@ -7,7 +7,8 @@ use lib.Seq.{drop-cons}
 use Rattle.form.specs.declared.cursor.Step.{Step}
 use Rattle.form.specs.declared.cursor.Step.the-variants.{On, Off}
 use Rattle.form.specs.Steps.{Expects}
-use Rattle.form.specs.Laws.Step.{reads-nothing, expects-next, misses-byte, misses-at-end}
+use Rattle.sheet.specs.Laws.Stands.{stands-nothing}
+use Rattle.form.specs.Laws.Step.{expects-next, misses-byte, misses-at-end}
 use Rattle.form.proofs.cursor.expect.Statement.{statement}
 use Rattle.form.proofs.cursor.expect.Tie as tie
 
@@ -61,7 +62,7 @@ returns-3 c =
     let i = c .before .loop .i in
     let whole : length (a .word .now) ≤ i = omega arith in
     c .before .loop .inv .2 (On (a .at + i))
-    (rw (drop-of-length-le (a .word .now) whole) (reads-nothing (a .book .now) (a .at + i) (omega arith)))
+    (rw (drop-of-length-le (a .word .now) whole) (stands-nothing (a .book .now) (a .at + i) (omega arith)))
 
 pub expect-spec : {M : Type 1} → statement M
 expect-spec =

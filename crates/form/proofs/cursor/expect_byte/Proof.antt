@@ -1,7 +1,9 @@
 -- `cursor::expect_byte`: nothing stands past the end, and before it the byte there decides.
 use borrow.Author.Needs.{needs}
+use native.Mathlib.Numerals.{add-one}
 use mathlib.Core.List.{[]}
-use Rattle.form.specs.Laws.Step.{reads-this-byte, misses-byte, misses-at-end}
+use Rattle.sheet.specs.Laws.Stands.{stands-byte}
+use Rattle.form.specs.Laws.Step.{misses-byte, misses-at-end}
 use Rattle.form.proofs.cursor.expect_byte.Statement.{statement}
 use Rattle.form.proofs.cursor.expect_byte.Tie as tie
 
@@ -16,7 +18,7 @@ returns-2 c =
 returns-3 : tie.Need-returns-3
 returns-3 c =
     let a = c .before .before .before .args in
-    reads-this-byte (a .book .now) (a .at) (a .b) (search needs) (c .if2 .left)
+    rw (add-one (a .at)) (stands-byte (a .book .now) (a .at) (a .b) (search needs) (c .if2 .left))
 
 pub expect-byte-spec : {M : Type 1} → statement M
 expect-byte-spec =

@@ -43,10 +43,12 @@ returns c =
     let start = at-loop .before .before .before in
     let a = start .args in
     let at = at-loop .loop in
-    let n = c .before .before .before .cells-in-word in
-    reading-off (before-word (a .count) (at .k)) (n .result) (a .count) (start .pre .0)
-    (omega (arith, n .ensures)) (rw (at .inv .2) at (c .before .before .cells-word .ensures .off
-    (not-true _ (c .if1 .taken))))
+    let n = c .before .before .before .cells-in-word in (
+      reading-off (before-word (a .count) (at .k)) (n .result) (a .count) (start .pre .0)
+          (omega (arith, n .ensures)) (rw (at .inv .2) at (c .before .before .cells-word .ensures .off
+          (not-true _ (c .if1 .taken)))),
+      at .inv .3 .grown .others,
+    )
 
 -- the word is among the words
 word-there : (c : tie.In-loop Inv-loop μ-loop)

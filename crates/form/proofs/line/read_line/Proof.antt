@@ -1,0 +1,65 @@
+-- `line::read_line`: the name, the cells, then the line feed.
+use mathlib.Core.Path.{refl}
+use borrow.Author.Needs.{needs}
+use Rattle.sheet.specs.Stands.{Stands}
+use Rattle.form.specs.CellSteps.{RowRead}
+use Rattle.form.specs.LineSteps.{no-name, no-cells, cells-then-end}
+use Rattle.form.proofs.line.read_line.Statement.{statement}
+use Rattle.form.proofs.line.read_line.Tie as tie
+
+-- the call, from where the name has been read, and that place from where the cells have been
+abbrev call : tie.After-known-told → tie.Start
+call c = c .before .before .before .before .before .before .before
+
+abbrev named : tie.After-known-told2 → tie.After-known-told
+named c = c .before .before .before .before .before .before .before
+
+returns : tie.Need-returns
+returns c =
+    let start = c .before .before .before .before .before .before in (
+      no-name (start .args .count) (rw (c .enum-told .given .1) at (c .before .before .expect .ensures)),
+      λ u p h l. refl,
+    )
+
+name : (c : tie.After-known-told)
+    → Stands (call c .args .book .now) (call c .args .at) (call c .args .name .now) (c .before .cells .given .0 .0)
+name c = rw (c .before .cells .given .1) at (c .before .before .before .expect .ensures)
+
+read-cells-requires : tie.Need-read-cells-requires
+read-cells-requires c κs =
+    let start = call (c .before) in
+    (name (c .before) .within, start .pre .1, start .pre .2, start .pre .3)
+
+same-length : tie.Need-same-length
+same-length c = c .before .before .before .before .read-cells .kept .1 .1 .0
+
+returns-2 : tie.Need-returns-2
+returns-2 c =
+    let at-read-cells = c .before .before .before .before in
+    let read = at-read-cells .before .before in
+    let none = rw (c .enum-told2 .given .1) at (at-read-cells .read-cells .ensures) in
+    (no-cells (call read .args .count) (name read) (none .0), none .1)
+
+cells : (c : tie.After-known-told2)
+    → let start = call (named c) in
+    RowRead (start .args .book .now) (named c .before .cells .given .0 .0) (start .args .row) (start .args .count)
+    (start .args .rows .now) (c .before .before .before .before .before .read-cells .last .1 .1 .0)
+    (c .before .end .given .0 .0)
+cells c = rw (c .before .end .given .1) at (c .before .before .before .before .before .read-cells .ensures)
+
+expect-byte-requires : tie.Need-expect-byte-requires
+expect-byte-requires c κs = cells c .reads .within
+
+same-length-2 : tie.Need-same-length-2
+same-length-2 c =
+    let at-read-cells = c .before .before .before .before .before .before in
+    at-read-cells .read-cells .kept .1 .1 .0
+
+returns-3 : tie.Need-returns-3
+returns-3 c =
+    cells-then-end (name (named (c .before))) (cells (c .before)) (c .expect-byte .result) (c .expect-byte .ensures)
+
+pub read-line-spec : {M : Type 1} → statement M
+read-line-spec =
+    tie.close (tie.spec (λ c κs. search needs) (λ c. search needs) (λ c. search needs) returns read-cells-requires
+    (λ c. search needs) (λ c. search needs) same-length returns-2 expect-byte-requires same-length-2 returns-3)

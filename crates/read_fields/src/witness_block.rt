@@ -1,0 +1,168 @@
+// Block 4: the witness.
+use form::Step;
+use form::expect;
+use form::part_end;
+use names::FoundPermission;
+use names::FoundUser;
+use names::Layout;
+use numbers::PermissionNo;
+use numbers::ROLE_LIMIT;
+use numbers::UserNo;
+ghost use mathlib.Core.Path.{_≡_};
+ghost use Prim.Native.Nat.{_≤_};
+ghost use lib.ListN.{length};
+ghost use Rattle.spec.specs.Sheet.{sheet-of};
+ghost use Rattle.names.specs.LaidOut.{LaidOut, UsersAt, PermissionsAt};
+ghost use Rattle.read_fields.specs.WitnessList.{no-witness};
+ghost use Rattle.read_fields.specs.WitnessLineSteps.{WitnessReads};
+ghost use Rattle.read_fields.specs.WitnessSteps.{WitnessLinesRead, WitnessPartReads};
+
+// The grant that a witness line names.
+pub struct WitnessLine {
+    pub user: UserNo,
+    pub permission: PermissionNo,
+}
+
+// What reading a witness line finds: its grant, and where to go on.
+pub enum WitnessRead {
+    Line(WitnessLine, usize),
+    Off,
+}
+
+// The witness: how many lines it has, and the grants of as many of the first as there can be roles.
+pub struct Witness {
+    pub lines: usize,
+    pub first: [WitnessLine; ROLE_LIMIT],
+}
+
+// A witness that was read to the end of the book, where the book is of the form.
+pub struct WitnessesRead {
+    pub of_form: bool,
+    pub witness: Witness,
+}
+
+impl Witness {
+    // No line.
+    fn none() -> Self
+        ensures { λ r. ⌜ r ≡ no-witness ⌝ }
+    {
+        let line = WitnessLine {
+            user: UserNo(0),
+            permission: PermissionNo(0),
+        };
+        Self {
+            lines: 0,
+            first: [line; ROLE_LIMIT],
+        }
+    }
+}
+
+// Reads a witness line: a user's name, a comma, a permission's name and a line feed. The users from number `first` on
+// are looked at first.
+fn witness_line<'a, 'b>(
+    book: &'a [u8],
+    at: usize,
+    sheet: &'a [u8],
+    users: &'b [u64],
+    permissions: &'b [u64],
+    first: UserNo,
+) -> WitnessRead
+    requires { ⌜ (at ≤ length (now book)) × UsersAt (now sheet) (now users)
+        × PermissionsAt (now sheet) (now permissions) ⌝ }
+    ensures { λ r. ⌜ WitnessReads (sheet-of (now (sheet .entry))) (now (book .entry)) at r ⌝ }
+{
+    let Step::On(comma) = part_end(book, at, b',') else {
+        return WitnessRead::Off;
+    };
+    let user_name = &book[at..comma];
+    let FoundUser::At(user) = names::find_user_in(sheet, users, first, user_name) else {
+        return WitnessRead::Off;
+    };
+    let start = comma + 1;
+    let Step::On(end) = part_end(book, start, b'\n') else {
+        return WitnessRead::Off;
+    };
+    let permission_name = &book[start..end];
+    let FoundPermission::At(permission) = names::find_permission_in(
+        sheet,
+        permissions,
+        PermissionNo(0),
+        permission_name,
+    ) else {
+        return WitnessRead::Off;
+    };
+    let next = end + 1;
+    WitnessRead::Line(WitnessLine { user, permission }, next)
+}
+
+// Reads witness lines up to the end of the book. The grants of a witness are mostly in order, so a user is looked for
+// from the last one on.
+fn witness_lines<'a, 'b>(
+    book: &'a [u8],
+    at: usize,
+    sheet: &'a [u8],
+    users: &'b [u64],
+    permissions: &'b [u64],
+) -> WitnessesRead
+    requires { ⌜ (at ≤ length (now book)) × UsersAt (now sheet) (now users)
+        × PermissionsAt (now sheet) (now permissions) ⌝ }
+    ensures { λ r. ⌜ WitnessLinesRead (sheet-of (now (sheet .entry))) (now (book .entry)) at r ⌝ }
+{
+    let none = Witness::none();
+    let mut first = none.first;
+    let mut lines = 0;
+    let mut next = at;
+    let mut last = UserNo(0);
+    while next < book.len() {
+        let WitnessRead::Line(line, after) = witness_line(
+            book,
+            next,
+            sheet,
+            users,
+            permissions,
+            last,
+        ) else {
+            return WitnessesRead {
+                of_form: false,
+                witness: none,
+            };
+        };
+        if lines < ROLE_LIMIT {
+            first[lines] = line;
+        }
+        lines += 1;
+        next = after;
+        let user = line.user;
+        last = user;
+    }
+    WitnessesRead {
+        of_form: true,
+        witness: Witness { lines, first },
+    }
+}
+
+// Reads block 4, which ends the book.
+pub fn read_witness<'a>(book: &'a [u8], at: usize, sheet: &'a [u8], layout: Layout) -> WitnessesRead
+    requires { ⌜ (at ≤ length (now book)) × LaidOut (now sheet) layout ⌝ }
+    ensures { λ r. ⌜ WitnessPartReads (sheet-of (now (sheet .entry))) (now (book .entry)) at r ⌝ }
+{
+    let Step::On(lines) = expect(book, at, b"user,permission\n") else {
+        return WitnessesRead {
+            of_form: false,
+            witness: Witness::none(),
+        };
+    };
+    let users = layout.users;
+    let user_places = layout.user_places;
+    let users_at = user_places.at;
+    let permissions = layout.permissions;
+    let permission_places = layout.permission_places;
+    let permissions_at = permission_places.at;
+    witness_lines(
+        book,
+        lines,
+        sheet,
+        &users_at[..users],
+        &permissions_at[..permissions],
+    )
+}
