@@ -1,12 +1,14 @@
--- Four cells, each behind a comma, as the eight bytes of one number, the lowest byte first: a number so made is
--- written as four cells, and a row of cells is written four by four. Assumes nothing.
-use Prim.Native.Nat.{ℕ, zero, suc, _+_, _*_, _/_, _%_, _^_, _≤_}
+-- Four cells, each behind a comma, from a table of the sixteen that they can be: the four lowest digits of a word say
+-- where they stand in it, and a row of cells is written four by four. Assumes nothing.
+use Prim.Native.Nat.{ℕ, zero, suc, _+_, _*_, _/_, _%_, _^_, _≤_, _-_}
 use native.Mathlib.Nat.{add-zero}
 use native.Mathlib.Omega.{arith}
 use mathlib.Core.Path.{_≡_, refl, sym, ap, _∙_}
 use mathlib.Core.Bool.{Bool, true, false}
-use mathlib.Core.List.{_++_, append-assoc}
-use Rattle.spec.specs.Vocabulary.{list-of}
+use mathlib.Core.List.{[], _++_, append-assoc}
+use lib.Arith.{mod-mul}
+use lib.Dec.{lit<}
+use lib.ListN.{length, take, drop}
 use Rattle.spec.specs.Text.{Bytes}
 use Rattle.bits.specs.Counting.{one-if}
 use Rattle.bits.specs.Bit.{bit}
@@ -14,40 +16,38 @@ use Rattle.bits.specs.Laws.Bit.{first-digit, bit-shift}
 use Rattle.lists.specs.Listed.{listed, listed-suc, listed-more}
 use Rattle.cell_text.specs.CellsText.{cell-field}
 
--- byte k of a number
-abbrev pub byte-in : ℕ → ℕ → ℕ
-byte-in n k = n / 2 ^ (8 * k) % 256
+-- four cells, each behind a comma
+abbrev pub four-fields : Bool → Bool → Bool → Bool → Bytes
+four-fields a b c d = cell-field a ++ (cell-field b ++ (cell-field c ++ cell-field d))
 
--- its eight bytes, the lowest first
-abbrev pub eight-bytes : ℕ → Bytes
-eight-bytes n = list-of 8 (byte-in n)
+-- the word of four cells
+abbrev pub four-word : Bool → Bool → Bool → Bool → ℕ
+four-word a b c d = one-if a + one-if b * 2 + one-if c * 4 + one-if d * 8
 
--- four cells that are not set: the bytes `,0,0,0,0`
-abbrev pub no-cells : ℕ
-no-cells = 3471202379140706348
+-- the first of the sixteen that four cells can be, by their words
+abbrev pub fours : ℕ → Bytes
+fours zero = []
+fours (suc n) = fours n ++ four-fields (bit n 0) (bit n 1) (bit n 2) (bit n 3)
 
--- the number of four cells: a cell that is set has one more in its byte
-abbrev pub four-cells : Bool → Bool → Bool → Bool → ℕ
-four-cells a b c d = no-cells + one-if a * 2 ^ 8 + one-if b * 2 ^ 24 + one-if c * 2 ^ 40 + one-if d * 2 ^ 56
-
-pub four-said : (a b c d : Bool) → eight-bytes (four-cells a b c d) ≡ cell-field a ++
-    (cell-field b ++ (cell-field c ++ cell-field d))
-four-said true true true true = refl
-four-said true true true false = refl
-four-said true true false true = refl
-four-said true true false false = refl
-four-said true false true true = refl
-four-said true false true false = refl
-four-said true false false true = refl
-four-said true false false false = refl
-four-said false true true true = refl
-four-said false true true false = refl
-four-said false true false true = refl
-four-said false true false false = refl
-four-said false false true true = refl
-four-said false false true false = refl
-four-said false false false true = refl
-four-said false false false false = refl
+four-in : (a b c d : Bool) → let from = 8 * four-word a b c d in
+    take (from + 8 - from) (drop from (fours 16)) ≡ four-fields a b c d
+unfolding bit
+four-in true true true true = refl
+four-in true true true false = refl
+four-in true true false true = refl
+four-in true true false false = refl
+four-in true false true true = refl
+four-in true false true false = refl
+four-in true false false true = refl
+four-in true false false false = refl
+four-in false true true true = refl
+four-in false true true false = refl
+four-in false true false true = refl
+four-in false true false false = refl
+four-in false false true true = refl
+four-in false false true false = refl
+four-in false false false true = refl
+four-in false false false false = refl
 
 -- a binary digit of a number
 pub digit-is : (n p : ℕ) → n / 2 ^ p % 2 ≡ one-if (bit n p)
@@ -57,10 +57,31 @@ pub one-if-small : (b : Bool) → one-if b ≤ 1
 one-if-small true = omega arith
 one-if-small false = omega arith
 
+-- the four lowest digits of a number are its remainder
+lowest-four : (n : ℕ) → n % 16 ≡ four-word (bit n 0) (bit n 1) (bit n 2) (bit n 3)
+lowest-four n =
+    let eights : n % 16 ≡ n / 8 % 2 * 8 + n % 8 = mod-mul n (lit< tt) (lit< tt) in
+    let fours : n % 8 ≡ n / 4 % 2 * 4 + n % 4 = mod-mul n (lit< tt) (lit< tt) in
+    let twos : n % 4 ≡ n / 2 % 2 * 2 + n % 2 = mod-mul n (lit< tt) (lit< tt) in
+    rw (eights, fours, twos, digit-is n 3, digit-is n 2, digit-is n 1, first-digit n)
+    (sum (one-if (bit n 0)) (one-if (bit n 1)) (one-if (bit n 2)) (one-if (bit n 3)))
+  where
+    sum : (a b c d : ℕ) → d * 8 + (c * 4 + (b * 2 + a)) ≡ a + b * 2 + c * 4 + d * 8
+    sum a b c d = omega arith
+
+pub fours-length : length (fours 16) ≡ 128
+unfolding bit
+fours-length = refl
+
+-- where they stand
+pub four-part : (word : ℕ) {table : Bytes} → table ≡ fours 16 → let from = 8 * (word % 16) in
+    take (from + 8 - from) (drop from table) ≡ four-fields (bit word 0) (bit word 1) (bit word 2) (bit word 3)
+four-part word e = rw (e, lowest-four word) (four-in (bit word 0) (bit word 1) (bit word 2) (bit word 3))
+
 module _ (test : ℕ → Bool) where
   -- the bytes of the cells from 4 * j on
   abbrev pub four-at : ℕ → Bytes
-  four-at j = eight-bytes (four-cells (test (4 * j)) (test (4 * j + 1)) (test (4 * j + 2)) (test (4 * j + 3)))
+  four-at j = four-fields (test (4 * j)) (test (4 * j + 1)) (test (4 * j + 2)) (test (4 * j + 3))
 
   abbrev field-at : ℕ → Bytes
   field-at p = cell-field (test p)
@@ -89,7 +110,6 @@ module _ (test : ℕ → Bool) where
       listed-suc q four-at
       ∙ rw (
         fours-said q,
-        four-said (test (4 * q)) (test (4 * q + 1)) (test (4 * q + 2)) (test (4 * q + 3)),
         e,
         second,
         third,
@@ -98,8 +118,8 @@ module _ (test : ℕ → Bool) where
 
 -- what is said of a word shifted to the first of four cells
 pub four-shifted : (word j : ℕ)
-    → let rest = word / 2 ^ (4 * j) in eight-bytes (four-cells (bit rest 0) (bit rest 1) (bit rest 2) (bit rest 3)) ≡
-    four-at (bit word) j
+    → let rest = word / 2 ^ (4 * j) in four-fields (bit rest 0) (bit rest 1) (bit rest 2) (bit rest 3) ≡ four-at
+    (bit word) j
 four-shifted word j =
     rw (
       bit-shift word (4 * j) 0,

@@ -13,16 +13,16 @@ use Rattle.bits.specs.Truth.{not-both, passes-or-fails}
 use Rattle.bits.specs.Laws.Bit.{bit-and, bit-ext, bit-of-zero, bit-one-shifted, one-shifted}
 use Rattle.bits.specs.Counting.{one-if}
 use Rattle.bits.specs.Bit.{bit}
-use Rattle.cell_text.specs.FourCells.{no-cells, one-if-small}
+use Rattle.cell_text.specs.FourCells.{four-word, one-if-small}
 use Rattle.cell_text.specs.declared.line_cells.CellsWord.{CellsWord}
+
+-- four cells that are not set: the bytes `,0,0,0,0`
+abbrev pub no-cells : ℕ
+no-cells = 3471202379140706348
 
 -- what cells that are set add to them
 abbrev pub four-set : Bool → Bool → Bool → Bool → ℕ
 four-set a b c d = one-if a * 2 ^ 8 + one-if b * 2 ^ 24 + one-if c * 2 ^ 40 + one-if d * 2 ^ 56
-
--- the word of four cells
-abbrev pub four-word : Bool → Bool → Bool → Bool → ℕ
-four-word a b c d = one-if a + one-if b * 2 + one-if c * 4 + one-if d * 8
 
 -- four bytes as one number, the first the lowest
 pub record FourBytes (a b c d n : ℕ) : Type 0 where

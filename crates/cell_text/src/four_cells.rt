@@ -9,7 +9,8 @@ ghost use lib.ListN.{length};
 ghost use Rattle.bits.specs.Counting.{one-if};
 ghost use Rattle.bits.specs.Bit.{bit, word-bits};
 ghost use Rattle.cell_text.specs.CellsWord.{WordOfCells};
-ghost use Rattle.cell_text.specs.FourRead.{four-set, four-word, FourBytes, FourOf};
+ghost use Rattle.cell_text.specs.FourCells.{four-word};
+ghost use Rattle.cell_text.specs.FourRead.{four-set, FourBytes, FourOf};
 
 // A number without its other positions.
 fn kept_at(n: u64, p: usize) -> u64

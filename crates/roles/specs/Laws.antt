@@ -7,3 +7,4 @@ pub mod GoingBack
 pub mod RoleNumber
 pub mod RolesInput
 pub mod ReducedBelongs
+pub mod RoleWalk

@@ -3,6 +3,7 @@ pub mod StandingCases
 pub mod CellClasses
 pub mod RoleNumbers
 pub mod RoleMatrices
+pub mod RoleWalk
 pub mod RolesShown
 pub mod RolesInput
 pub mod Laws

@@ -71,46 +71,12 @@ no-cells n = record { shown = λ u p l. rw (zeros n (word-of u p)) (bit-of-zero 
     zeros (suc n) zero = refl
     zeros (suc n) (suc i) = zeros n i
 
--- one cell more, as a test on its two parts says it
-one-more : (already first second : Bool) → (already || (first && (second && true))) ≡ ((first && second) || already)
-one-more already first second = rw (and-true second) (or-comm already (first && second))
-
-module _ {before after : List ℕ} (cells roles : List ℕ) (i : ℕ) where
-  pub has-role-next : CellAdded before after (grant-of (getD cells i 0) .user) (getD roles i 0) true
-      → CellsShow before (has-role (paired-in cells roles i))
-      → CellsShow after (has-role (paired-in cells roles (i + 1)))
-  has-role-next added so-far = record { shown = next }
-    where
-      next : (u r : ℕ) → r < row-bits → cell after u r ≡ has-role (paired-in cells roles (i + 1)) u r
-      next u r l =
-          let user = grant-of (getD cells i 0) .user in
-          let role = getD roles i 0 in
-          rw (
-            add-one i,
-            paired-next cells roles i,
-            added .shows u r l,
-            so-far .shown u r l,
-            eqb-comm u user,
-            eqb-comm r role,
-          )
-          (one-more (has-role (paired-in cells roles i) u r) (eqb user u) (eqb role r))
-
-  pub gives-permission-next : CellAdded before after (getD roles i 0) (grant-of (getD cells i 0) .permission) true
-      → CellsShow before (gives-permission (paired-in cells roles i))
-      → CellsShow after (gives-permission (paired-in cells roles (i + 1)))
-  gives-permission-next added so-far = record { shown = next }
-    where
-      next : (r p : ℕ) → p < row-bits → cell after r p ≡ gives-permission (paired-in cells roles (i + 1)) r p
-      next r p l =
-          let permission = grant-of (getD cells i 0) .permission in
-          let role = getD roles i 0 in
-          rw (
-            add-one i,
-            paired-next cells roles i,
-            added .shows r p l,
-            so-far .shown r p l,
-            eqb-comm r role,
-            eqb-comm p permission,
-          )
-          (rw (and-comm (eqb permission p) (eqb role r))
-          (one-more (gives-permission (paired-in cells roles i) r p) (eqb role r) (eqb permission p)))
+-- one cell more
+pub one-cell-more : {before after : List ℕ} {matrix next : ℕ → ℕ → Bool} (a b : ℕ) → CellAdded before after a b true
+    → CellsShow before matrix → ((u p : ℕ) → next u p ≡ ((eqb a u && eqb b p) || matrix u p)) → CellsShow after next
+one-cell-more {matrix} a b added so-far more =
+    record {
+      shown = λ u p l.
+          rw (added .shows u p l, so-far .shown u p l, eqb-comm u a, eqb-comm p b, and-true (eqb b p), more u p)
+          (or-comm (matrix u p) (eqb a u && eqb b p));
+    }

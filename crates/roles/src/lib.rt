@@ -7,8 +7,8 @@ mod numbering;
 mod rows;
 mod standing;
 
-pub use matrices::RoleMatrices;
 pub use matrices::roles_of;
+pub use rows::RoleMatrices;
 pub use standing::Standing;
 pub use standing::bound_of;
 pub use standing::standing_of;

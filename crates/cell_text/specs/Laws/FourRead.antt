@@ -15,8 +15,8 @@ use Rattle.bits.specs.Laws.Below.{below-or-from}
 use Rattle.bits.specs.Bit.{bit}
 use Rattle.bits.specs.Laws.Bit.{bit-above, bit-or, bit-shift-left, bit-shift-left-low}
 use Rattle.cell_text.specs.CellsWord.{cell-byte, CellsStand, CellsIn, WordOfCells}
-use Rattle.cell_text.specs.FourCells.{no-cells, one-if-small}
-use Rattle.cell_text.specs.FourRead.{four-set, FourBytes, FourOf}
+use Rattle.cell_text.specs.FourCells.{one-if-small}
+use Rattle.cell_text.specs.FourRead.{no-cells, four-set, FourBytes, FourOf}
 use Rattle.cell_text.specs.declared.line_cells.CellsWord.{CellsWord}
 
 -- a cell's byte is the digit's

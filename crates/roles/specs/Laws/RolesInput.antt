@@ -2,37 +2,40 @@
 -- the classes by cell are the classes of all grants; and the roles of the listed grants in these classes are the
 -- roles of the sheet.
 use Prim.Native.Nat.{ℕ, _+_, _*_, _/_, _%_, _≤_, _<_}
-use native.Mathlib.Nat.{mul-assoc, div-lt-iff-lt-mul, lt-of-lt-of-le}
+use native.Mathlib.Nat.{mul-assoc, mul-le-mul-right, mod-lt, div-lt-iff-lt-mul, lt-of-lt-of-le}
 use native.Mathlib.Omega.{arith}
 use mathlib.Core.Path.{_≡_, refl, sym, ap, _∙_}
 use mathlib.Core.Bool.{Bool, true, false, cond}
 use mathlib.Core.List.{List, map, List·Memᴰ, Memᴰ·cast}
 use borrow.Author.Tests.{eqb-true}
 use lib.Dec.{eqb, lit<}
-use lib.ListN.{length, getD, take}
-use lib.Seq.{getD-take, length-take-le}
-use Rattle.spec.specs.Vocabulary.{list-of}
+use lib.ListN.{length, getD}
 use Rattle.spec.specs.Limits.{user-limit, grant-limit}
 use Rattle.spec.specs.Sheet.{Sheet, Grant, grants}
 use Rattle.spec.specs.Reduction.{single, tied, reduction, kernel}
 use Rattle.spec.specs.Cover.{used}
-use Rattle.spec.specs.Roles.{class-of, classes-of, roles-of-classes, roles-of}
+use Rattle.spec.specs.Roles.{classes-of, roles-of}
 use Rattle.bits.specs.Bit.{word-bits}
-use Rattle.lists.specs.ListOfLaws.{list-of-same, list-of-places, list-of-member, map-list-of}
+use Rattle.bits.specs.Counting.{Skipped}
+use Rattle.bits.specs.Truth.{fails-unless}
+use Rattle.lists.specs.ListOfLaws.{list-of-places, list-of-member, map-list-of}
 use Rattle.lists.specs.LatestFirst.{latest-first}
-use Rattle.lists.specs.KeyLaws.{by-key}
 use Rattle.cells.specs.Laws.Grant.{grant-held}
 use Rattle.cells.specs.Rows.{row-words, row-bits}
-use Rattle.cells.specs.CellPlaces.{cell-limit, grant-of, Shown}
-use Rattle.cells.specs.Laws.CellPlace.{row-bits-pos}
-use Rattle.cells.specs.KernelArray.{Roomy, Listed, shown-roomy, listed-grants}
+use Rattle.cells.specs.CellPlaces.{cell-limit, grant-of, marked, Shown}
+use Rattle.cells.specs.Laws.CellPlace.{row-bits-pos, cell-marked}
+use Rattle.cells.specs.Laws.CellList.{cell-grants-by-cell}
+use Rattle.cells.specs.KernelArray.{shown-roomy}
 use Rattle.verdict.specs.Log.{removal-at}
 use Rattle.verdict.specs.Laws.ReductionWork.{part-all}
 use Rattle.reduction.specs.Laws.ReductionSettle.{all-remain}
 use Rattle.reduction.specs.Laws.RemovedGranted.{RemovalOf, reduction-granted, kernel-granted, logged-removal}
 use Rattle.roles.specs.CellClasses.{ClassAt, ClassesAt, CellsBelow, UsersBelow, listed, reduction-in, classes-in}
 use Rattle.roles.specs.Laws.GoingBack.{class-below}
-use Rattle.roles.specs.RoleNumbers.{class-limit, class-key, KeysBelow}
+use Rattle.roles.specs.RoleNumbers.{class-limit}
+use Rattle.roles.specs.RoleWalk.{all-cells, ClassedRows, RolesTo, RolesFound}
+use Rattle.roles.specs.RolesShown.{RolesAt, RolesOnly, matrices-show, matrices-only}
+use Rattle.roles.specs.Laws.RoleWalk.{roles-skip}
 use Rattle.roles.specs.Laws.RoleNumber.{role-numbers-by-class}
 use Rattle.roles.specs.RolesInput.{Belongs}
 
@@ -53,18 +56,6 @@ pub listed-whole : (cells : List ℕ) → listed cells (length cells) ≡ map gr
 listed-whole cells =
     sym (map-list-of grant-of (length cells) (λ i. getD cells i 0)) ∙ ap (map grant-of) (list-of-places cells 0)
 
--- the first cells of an array, listed and taken
-pub listed-taken : (cells : List ℕ) (size : ℕ) → size ≤ length cells → listed cells size ≡ map grant-of
-    (take size cells)
-listed-taken cells size l =
-    sym (map-list-of grant-of size (λ i. getD cells i 0)) ∙ ap (map grant-of) (taken)
-  where
-    taken : list-of size (λ i. getD cells i 0) ≡ take size cells
-    taken =
-        list-of-same size (λ i. getD cells i 0) (λ i. getD (take size cells) i 0)
-        (λ i k. sym (getD-take size cells i 0 k))
-        ∙ (rw (length-take-le size cells l) at (list-of-places (take size cells) 0))
-
 -- the cells of listed grants
 pub listed-below : {rows : List ℕ} {users : ℕ} {sheet : Sheet} → Shown rows users sheet → users ≤ user-limit
     → (cells : List ℕ) (size : ℕ)
@@ -78,10 +69,26 @@ listed-below shown few cells size inside =
 
 -- ---- all grants, listed
 
-pub all-listed : {rows : List ℕ} {users : ℕ} {sheet : Sheet} (cells : List ℕ) (size : ℕ) → Shown rows users sheet
-    → length cells ≡ grant-limit → Listed rows users cells size → listed cells size ≡ grants sheet
-all-listed {rows} cells size shown room all =
-    listed-taken cells size (rw room (all .few)) ∙ listed-grants shown (part-all rows) all ∙ all-remain shown
+module _ {rows : List ℕ} {users : ℕ} {sheet : Sheet} (shown : Shown rows users sheet) (few : users ≤ user-limit) where
+  -- the rows show the sheet for as many users as there can be
+  shown-all : Shown rows user-limit sheet
+  shown-all =
+      record {
+        cells = shown .cells;
+        few = λ u p h. lt-of-lt-of-le (shown .few u p h) few;
+        short = shown .short;
+      }
+
+  all-listed : listed (all-cells rows) (length (all-cells rows)) ≡ grants sheet
+  all-listed =
+      listed-whole (all-cells rows) ∙ sym (cell-grants-by-cell shown-all (part-all rows)) ∙ all-remain shown-all
+
+  -- past the users no cell is set
+  none-past : Skipped (marked rows) (users * row-bits) (user-limit * row-bits)
+  none-past n l k = fails-unless (marked rows n) (λ s.
+      let held = rw (← cell-marked rows n, shown .cells .shows (n / row-bits) (n % row-bits) (mod-lt n row-bits-pos)) at
+      s in
+      omega (arith, div-lt-iff-lt-mul row-bits-pos .0 (shown .few (n / row-bits) (n % row-bits) held)))
 
 class-limit-pos : 0 < class-limit
 unfolding grant-limit
@@ -89,10 +96,6 @@ class-limit-pos = lit< tt
 
 module _ {rows : List ℕ} {users : ℕ} {cells placed : List ℕ} {total : ℕ} {removed partner : List ℕ} {sheet : Sheet}
     {placement : List ℕ} (belongs : Belongs rows users cells placed total removed partner sheet placement) where
-  -- there is room for the cells of all grants
-  pub all-roomy : Roomy rows (users * row-bits)
-  all-roomy = shown-roomy (belongs .shown) (part-all rows) (belongs .few-grants)
-
   -- ---- the cells of the kernel and of the log
 
   kernel-whole : listed cells (length cells) ≡ kernel sheet
@@ -148,40 +151,52 @@ module _ {rows : List ℕ} {users : ℕ} {cells placed : List ℕ} {total : ℕ}
       same : reduction-in cells removed partner ≡ reduction sheet
       same = λ i. record { remaining = kernel-whole i; removed = belongs .log-held i }
 
-  module _ {class : List ℕ} {opened : ℕ} (all : List ℕ) (n : ℕ) (whole : listed all n ≡ grants sheet)
-      (at : ClassesAt class opened (classes-in cells placed removed partner)) where
-    pub all-below : CellsBelow n all
-    all-below = listed-below (belongs .shown) (belongs .few-users) all n (λ g m. rw whole at m)
+  module _ {class : List ℕ} {opened : ℕ} (at : ClassesAt class opened (classes-in cells placed removed partner)) where
+    abbrev all : List ℕ
+    all = all-cells rows
 
-    pub all-users-below : UsersBelow users n all
+    whole : listed all (length all) ≡ grants sheet
+    whole = all-listed (belongs .shown) (belongs .few-users)
+
+    all-below : CellsBelow (length all) all
+    all-below = listed-below (belongs .shown) (belongs .few-users) all (length all) (λ g m. rw whole at m)
+
+    all-users-below : UsersBelow users (length all) all
     all-users-below =
         record {
           below = λ i l.
               belongs .shown .few (getD all i 0 / row-bits) (getD all i 0 % row-bits)
-              (grant-held sheet (rw whole at (list-of-member n (λ j. grant-of (getD all j 0)) i l)));
+              (grant-held sheet (rw whole at (list-of-member (length all) (λ j. grant-of (getD all j 0)) i l)));
         }
 
-    pub classes-below : KeysBelow n class all
-    classes-below = record {
-      below = λ i l. rw (at .each .shown (getD all i 0) (all-below .below i l))
-          (few (grant-of (getD all i 0)));
-    }
+    all-class-at : ClassAt class (classes-of (reduction sheet) placement .members)
+    all-class-at = rw classes-belong at (at .each)
+
+    pub classed-rows : ClassedRows rows class
+    unfolding roles-of
+    classed-rows =
+        record {
+          few = shown-roomy (shown-all (belongs .shown) (belongs .few-users)) (part-all rows) (belongs .few-grants);
+          in-table = λ n l. rw (at .each .shown n l) (class-below cells placed removed partner class-limit
+              class-limit-pos counted (grant-of n));
+          few-roles = rw (← role-numbers-by-class all-class-at (length all) all-below, whole) (belongs .few-roles);
+        }
       where
         counted : used (latest-first placed (length cells)) + length removed ≤ class-limit
         counted = rw (belongs .placement-held .so-far, ← belongs .placement-held .in-use)
             (omega (arith, belongs .few-classes, belongs .few-removals))
 
-        few : (g : Grant) → class-of (classes-in cells placed removed partner .members) g < class-limit
-        few = class-below cells placed removed partner class-limit class-limit-pos counted
+    module _ {has gives : List ℕ} {count : ℕ} (roles : RolesFound rows class (users * row-bits) has gives count) where
+      found : RolesTo rows class (user-limit * row-bits) (roles .table) has gives count
+      found =
+          roles-skip (user-limit * row-bits) (mul-le-mul-right row-bits (belongs .few-users))
+          (none-past (belongs .shown) (belongs .few-users)) (roles .found)
 
-    pub all-class-at : ClassAt class (classes-of (reduction sheet) placement .members)
-    all-class-at = rw classes-belong at (at .each)
+      pub roles-shown : RolesAt has gives count users (roles-of sheet placement)
+      unfolding roles-of
+      roles-shown =
+          rw whole at (matrices-show users all-class-at all-below (found .numbered .placed) (classed-rows .few-roles)
+          (found .has-shown) (found .gives-shown))
 
-    pub roles-belong : roles-of-classes (listed all n) (classes-of (reduction sheet) placement .members) ≡ roles-of
-        sheet placement
-    unfolding roles-of
-    roles-belong = rw whole
-
-    pub roles-few : used (by-key (class-key class all) n) ≤ row-bits
-    unfolding roles-of
-    roles-few = rw (← role-numbers-by-class all-class-at n all-below, whole) (belongs .few-roles)
+      pub roles-only : RolesOnly has gives count users
+      roles-only = matrices-only (found .numbered .placed) all-users-below (found .has-shown) (found .gives-shown)

@@ -8,8 +8,7 @@ use mathlib.Core.Bool.{false≢true, true≢false}
 use borrow.Author.Tests.{not-false}
 use Rattle.bits.specs.Truth.{not-fails}
 use Rattle.bits.specs.Bit.{bit}
-use Rattle.cell_text.specs.FourCells.{no-cells}
-use Rattle.cell_text.specs.FourRead.{four-unset, four-good, word-small}
+use Rattle.cell_text.specs.FourRead.{no-cells, four-unset, four-good, word-small}
 use Rattle.cell_text.proofs.four_cells.four_of.Statement.{statement}
 use Rattle.cell_text.proofs.four_cells.four_of.Tie as tie
 

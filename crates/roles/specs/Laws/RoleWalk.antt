@@ -1,0 +1,282 @@
+-- How the roles grow along the rows. The set cells in order are one list, and those below a cell are its first; so
+-- the next set cell is the next of the list, its grant takes the role of its class, and sets one cell in either
+-- matrix. No role is past the last one of the whole list, so each is a column of a row.
+use Prim.Native.Nat.{ℕ, zero, suc, _+_, _*_, _/_, _%_, _^_, _≤_, _<_, _-_, max, zero-le}
+use native.Mathlib.Nat.{le-refl, le-of-lt, le-trans, lt-of-lt-of-le, eq-or-lt-of-le, le-of-suc-le-suc}
+use native.Mathlib.Numerals.{add-one}
+use native.Mathlib.Omega.{arith}
+use mathlib.Core.Path.{_≡_, refl, sym, ap, _∙_}
+use mathlib.Core.Logic.{⊎-elim}
+use mathlib.Core.Bool.{true, false, So, not, _&&_, _||_, and-true, and-false, and-comm, false≢true}
+use mathlib.Core.List.{List, [], _∷_, _++_, map, append-assoc}
+use borrow.Author.Tests.{eq-eqb, ne-eqb}
+use lib.Dec.{eqb}
+use lib.ListN.{length, getD, set, replicate, length-append, length-set, length-replicate}
+use lib.Seq.{getD-append-seam, getD-set-same, set-set}
+use Rattle.spec.specs.Limits.{user-limit, grant-limit}
+use Rattle.spec.specs.Cover.{used}
+use Rattle.bits.specs.Counting.{Lowest, Skipped}
+use Rattle.bits.specs.Laws.Below.{below-or-from}
+use Rattle.bits.specs.Bit.{bit, word-bits}
+use Rattle.bits.specs.Laws.Bit.{bit-of-zero}
+use Rattle.bits.specs.Word.{LowestDropped}
+use Rattle.lists.specs.PassingBelow.{passing-below, passing-until, passing-next, passing-add}
+use Rattle.lists.specs.PlacementLaws.{earlier-uses-fewer, latest-below-used}
+use Rattle.lists.specs.LatestFirst.{latest-first-later}
+use Rattle.lists.specs.KeyLaws.{by-key}
+use Rattle.lists.specs.KeyStep.{next-class}
+use Rattle.cells.specs.Rows.{row-words, row-bits}
+use Rattle.cells.specs.CellAdded.{CellAdded}
+use Rattle.cells.specs.Laws.CellAdded.{cell-set}
+use Rattle.cells.specs.CellPlaces.{cell-words, cell-limit, grant-of, marked}
+use Rattle.cover.specs.CoverKeys.{Keyed, class-from, none-keyed, keyed-count-le, class-from-is-next, one-keyed}
+use Rattle.roles.specs.CellClasses.{paired-in}
+use Rattle.roles.specs.RoleNumbers.{class-limit, no-role, class-key}
+use Rattle.roles.specs.RoleMatrices.{role-words, no-cells, one-cell-more}
+use Rattle.roles.specs.RoleWalk.{all-cells, passed, ClassedRows, RolesTo}
+use Rattle.roles.specs.Laws.CellClass.{listed-next}
+
+-- ---- the list of the set cells
+
+module _ (rows : List ℕ) (n : ℕ) (inside : n < user-limit * row-bits) (held : So (marked rows n)) where
+  -- those below n, then n, then the rest
+  split : (b : ℕ) → passing-below (suc n + b) (marked rows) ≡ passing-below n (marked rows) ++ n ∷
+      map (λ i. suc n + i) (passing-below b (λ i. marked rows (suc n + i)))
+  split b =
+      passing-add (suc n) b (marked rows)
+      ∙ rw (passing-next n (marked rows) held) (append-assoc (passing-below n (marked rows)) (n ∷ [])
+      (map (λ i. suc n + i) (passing-below b (λ i. marked rows (suc n + i)))))
+
+  whole : suc n + (user-limit * row-bits - suc n) ≡ user-limit * row-bits
+  whole = omega arith
+
+  pub listed-here : getD (all-cells rows) (passed rows n) 0 ≡ n
+  listed-here =
+      ap (λ l. getD l (passed rows n) 0) (rw whole at (split (user-limit * row-bits - suc n)))
+      ∙ getD-append-seam (passing-below n (marked rows)) n _ 0
+
+  pub passed-below : passed rows n < length (all-cells rows)
+  passed-below =
+      let e = ap length (rw whole at (split (user-limit * row-bits - suc n))) in
+      omega (
+        arith,
+        e,
+        length-append (passing-below n (marked rows)) (n ∷ map (λ i. suc n + i)
+            (passing-below (user-limit * row-bits - suc n) (λ i. marked rows (suc n + i)))),
+      )
+
+  pub passed-next : passed rows (suc n) ≡ suc (passed rows n)
+  passed-next =
+      ap length (passing-next n (marked rows) held) ∙ length-append (passing-below n (marked rows)) (n ∷ [])
+      ∙ add-one (passed rows n)
+
+-- ---- roles so far
+
+-- a longer grouping uses no fewer classes
+used-more : (key : ℕ → ℕ) (i n : ℕ) → i ≤ n → used (by-key key i) ≤ used (by-key key n)
+used-more key i zero l = let e : i ≡ 0 = omega arith in rw e (le-refl 0)
+used-more key i (suc n) l =
+    ⊎-elim (λ (e : i ≡ suc n). rw e (le-refl (used (by-key key (suc n)))))
+    (λ (k : i < suc n). le-trans (used-more key i n (le-of-suc-le-suc k)) (earlier-uses-fewer (next-class key n)
+    (by-key key n)))
+    (eq-or-lt-of-le l)
+
+pub no-roles : (rows class : List ℕ) (n : ℕ) → n ≡ grant-limit
+    → RolesTo rows class 0 (replicate class-limit no-role) (replicate cell-words 0) (replicate role-words 0) 0
+unfolding passing-below
+no-roles rows class n room =
+    record {
+      roles = replicate n 0;
+      numbered = none-keyed (class-key class (all-cells rows)) n class-limit no-role room;
+      has-wide = length-replicate cell-words 0;
+      has-shown = no-cells cell-words;
+      gives-wide = length-replicate role-words 0;
+      gives-shown = no-cells role-words;
+    }
+
+-- no set cell on the way
+pub roles-skip : {rows class : List ℕ} {m : ℕ} {table has gives : List ℕ} {count : ℕ} (n : ℕ) → m ≤ n
+    → Skipped (marked rows) m n → RolesTo rows class m table has gives count
+    → RolesTo rows class n table has gives count
+roles-skip {rows} {class} {m} n l none so-far =
+    let same = passing-until m n (marked rows) l none in
+    record {
+      roles = so-far .roles;
+      numbered = rw same (so-far .numbered);
+      has-wide = so-far .has-wide;
+      has-shown = rw same (so-far .has-shown);
+      gives-wide = so-far .gives-wide;
+      gives-shown = rw same (so-far .gives-shown);
+    }
+
+-- the next grant
+module _ {rows class : List ℕ} {n : ℕ} {table has gives : List ℕ} {count : ℕ} (classed : ClassedRows rows class)
+    (so-far : RolesTo rows class n table has gives count) (inside : n < user-limit * row-bits)
+    (below : n < cell-limit) (held : So (marked rows n)) where
+  abbrev key : ℕ → ℕ
+  key = class-key class (all-cells rows)
+
+  key-here : key (passed rows n) ≡ getD class n 0
+  key-here = ap (λ m. getD class m 0) (listed-here rows n inside held)
+
+  fits : key (passed rows n) < class-limit
+  fits = rw key-here (classed .in-table n below)
+
+  room : passed rows n < grant-limit
+  room = lt-of-lt-of-le (passed-below rows n inside held) (classed .few)
+
+  pub few-roles : count < grant-limit
+  few-roles = omega (arith, keyed-count-le (so-far .numbered), room)
+
+  module _ {r : ℕ} (taken : r ≡ class-from no-role table count (getD class n 0)) where
+    takes : r ≡ next-class key (passed rows n)
+    takes =
+        (rw (← key-here) at taken) ∙ class-from-is-next (so-far .numbered) room fits (le-of-lt few-roles)
+
+    pub role-below : r < row-bits
+    role-below =
+        rw takes (lt-of-lt-of-le (latest-below-used (next-class key (passed rows n)) (by-key key (passed rows n)))
+        (le-trans (used-more key (suc (passed rows n)) (length (all-cells rows)) (passed-below rows n inside held))
+        (classed .few-roles)))
+
+    -- the pairs with the next one in front
+    paired-here : paired-in (all-cells rows) (set (so-far .roles) (passed rows n) r) (suc (passed rows n))
+        ≡ record { grant = grant-of n; class = r } ∷ paired-in (all-cells rows) (so-far .roles) (passed rows n)
+    paired-here =
+        rw (
+          listed-next (all-cells rows) (passed rows n),
+          getD-set-same (so-far .roles) (passed rows n) r 0 (rw (so-far .numbered .room) room),
+          latest-first-later (so-far .roles) (passed rows n) r (passed rows n) (le-refl (passed rows n)),
+          listed-here rows n inside held,
+        )
+
+    pub roles-next : {has-next gives-next : List ℕ} → CellAdded has has-next (n / row-bits) r true
+        → CellAdded gives gives-next r (n % row-bits) true
+        → RolesTo rows class (suc n) (set table (getD class n 0) r) has-next gives-next (max (suc r) count)
+    roles-next has-added gives-added =
+        let next = passed-next rows n inside held in
+        record {
+          roles = set (so-far .roles) (passed rows n) r;
+          numbered = rw next (rw (add-one (passed rows n), key-here) at
+              (one-keyed (so-far .numbered) room fits (le-of-lt few-roles) r takes));
+          has-wide = has-added .size ∙ so-far .has-wide;
+          has-shown = one-cell-more (n / row-bits) r has-added (so-far .has-shown) (λ u q. rw (next, paired-here));
+          gives-wide = gives-added .size ∙ so-far .gives-wide;
+          gives-shown = one-cell-more r (n % row-bits) gives-added (so-far .gives-shown)
+              (λ u p. rw (next, paired-here, and-comm (eqb (n % row-bits) p) (eqb r u)));
+        }
+
+-- ---- within a row
+
+-- w has the positions of user u's row from a place on, and the roles are those of the grants before that place
+pub record RowTo (rows class : List ℕ) (u w : ℕ) (table has gives : List ℕ) (count : ℕ) : Type 0 where
+  pub place : ℕ
+  pub inside : place ≤ row-bits
+  pub before : (q : ℕ) → q < place → bit w q ≡ false
+  pub ahead : (q : ℕ) → place ≤ q → bit w q ≡ bit (getD rows u 0) q
+  pub so-far : RolesTo rows class (u * row-bits + place) table has gives count
+
+pub row-starts : {rows class table has gives : List ℕ} {u count : ℕ}
+    → RolesTo rows class (u * row-bits) table has gives count → RowTo rows class u (getD rows u 0) table has gives count
+row-starts {u} roles =
+    let same : u * row-bits + 0 ≡ u * row-bits = omega arith in
+    record {
+      place = 0;
+      inside = zero-le;
+      before = λ q l. absurd (omega arith);
+      ahead = λ q l. refl;
+      so-far = rw same roles;
+    }
+
+module _ {rows class table has gives : List ℕ} {u w count : ℕ} (row : RowTo rows class u w table has gives count) where
+  -- where no position of w is below j, no cell from the place on up to that of j is set
+  none-between : (j : ℕ) → j ≤ row-bits → ((q : ℕ) → q < j → bit w q ≡ false)
+      → Skipped (marked rows) (u * row-bits + row .place) (u * row-bits + j)
+  unfolding row-bits row-words
+  none-between j inside none n k l =
+      let word : n / word-bits ≡ u = omega arith in
+      rw word (sym (row .ahead (n % word-bits) (omega arith)) ∙ none (n % word-bits) (omega arith))
+
+  -- the end of the row
+  pub row-ends : w ≡ 0 → RolesTo rows class ((u + 1) * row-bits) table has gives count
+  row-ends e =
+      let end : u * row-bits + row-bits ≡ (u + 1) * row-bits = omega arith in
+      rw (← end) (roles-skip (u * row-bits + row-bits) (omega (arith, row .inside))
+      (none-between row-bits (le-refl row-bits) (λ q l. rw e (bit-of-zero q))) (row .so-far))
+
+  -- its lowest position is the next grant
+  module _ {j : ℕ} (low : Lowest word-bits (bit w) j) (user : u < user-limit) (classed : ClassedRows rows class) where
+    not-before : row .place ≤ j
+    not-before = ⊎-elim (λ k. absurd (false≢true (sym (row .before j k) ∙ low .holds))) (λ k. k)
+        (below-or-from j (row .place))
+
+    inside : u * row-bits + j < user-limit * row-bits
+    unfolding row-bits row-words
+    inside = omega (arith, low .within)
+
+    pub cell-below : u * row-bits + j < cell-limit
+    unfolding row-bits row-words
+    cell-below = omega (arith, low .within)
+
+    held : So (marked rows (u * row-bits + j))
+    unfolding row-bits row-words
+    held =
+        let within = low .within in
+        let word : (u * word-bits + j) / word-bits ≡ u = omega arith in
+        let position : (u * word-bits + j) % word-bits ≡ j = omega arith in
+        rw (word, position) (sym (row .ahead j not-before) ∙ low .holds)
+
+    here : RolesTo rows class (u * row-bits + j) table has gives count
+    unfolding row-bits row-words
+    here =
+        roles-skip (u * row-bits + j) (omega (arith, not-before))
+        (none-between j (omega (arith, low .within)) (low .first)) (row .so-far)
+
+    pub few-here : count < grant-limit
+    few-here = few-roles classed here inside cell-below held
+
+    module _ {r : ℕ} (taken : r ≡ class-from no-role table count (getD class (u * row-bits + j) 0)) where
+      pub role-here : r < row-bits
+      role-here = role-below classed here inside cell-below held taken
+
+      -- one position less
+      pub row-next : {left : ℕ} {has-next gives-next : List ℕ} → LowestDropped w left
+          → CellAdded has has-next u r true → CellAdded gives gives-next r j true
+          → RowTo rows class u left (set table (getD class (u * row-bits + j) 0) r) has-next gives-next
+          (max (suc r) count)
+      unfolding row-bits row-words
+      row-next dropped has-added gives-added =
+          let within = low .within in
+          let next : u * word-bits + (j + 1) ≡ suc (u * word-bits + j) = omega arith in
+          let user-of : (u * word-bits + j) / word-bits ≡ u = omega arith in
+          let permission : (u * word-bits + j) % word-bits ≡ j = omega arith in
+          record {
+            place = j + 1;
+            inside = omega arith;
+            before = λ q l. dropped .others low q ∙ ⊎-elim (λ k. rw (low .first q k)) (λ k. last q l k)
+                (below-or-from q j);
+            ahead = λ q l.
+                dropped .others low q ∙ rw (ne-eqb q j (omega arith)) (and-true (bit w q))
+                ∙ row .ahead q (omega (arith, not-before));
+            so-far = rw next (roles-next classed here inside cell-below held taken (rw user-of has-added)
+                (rw permission gives-added));
+          }
+        where
+          last : (q : ℕ) → q < j + 1 → j ≤ q → (bit w q && not (eqb q j)) ≡ false
+          last q l k = rw (eq-eqb q j (omega arith)) (and-false (bit w q))
+
+-- a position more in the word of a row
+pub word-added : (words : List ℕ) (u p w : ℕ) → u < length words → p < row-bits
+    → ((q : ℕ) → bit w q ≡ (bit (getD words u 0) q || eqb q p)) → CellAdded words (set words u w) u p true
+unfolding row-bits row-words
+word-added words u p w l k says =
+    let word : u * 1 + p / word-bits ≡ u = omega arith in
+    let position : p % word-bits ≡ p = omega arith in
+    rw word at (cell-set words u p w k (rw word l) (λ q. rw (word, position) (says q)))
+
+pub row-added : (words : List ℕ) (u p before w : ℕ) → u < length words → p < row-bits
+    → ((q : ℕ) → bit w q ≡ (bit before q || eqb q p)) → CellAdded (set words u before) (set words u w) u p true
+row-added words u p before w l k says =
+    rw (set-set words u before w) at
+    (word-added (set words u before) u p w (rw (length-set words u before) l) k
+    (λ q. rw (getD-set-same words u before 0 l) (says q)))
