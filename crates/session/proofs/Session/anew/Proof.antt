@@ -38,7 +38,7 @@ returns c =
     record {
       accepts = refl;
       whole = omega (arith, room at-copied, unrefused-short text (at-copied .before .before .pre .0));
-      kept = at-copied .copied .ensures;
+      kept = at-copied .copied .ensures .0;
       found = found at-prepared;
       first = c .before .first-classes .result;
       same = λ l. c .before .first-classes .ensures _ l;
