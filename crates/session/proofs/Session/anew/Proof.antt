@@ -27,7 +27,7 @@ prepare-requires c κs =
 found : (c : tie.After-prepare) → PreparedFor (c .before .before .before .args .s .now) (c .prepare .result)
 found c =
     let read = c .before .before .before .pre in
-    c .prepare .ensures (c .before .before .before .args .s .now) (read .1) (read .2)
+    c .prepare .ensures .0 (c .before .before .before .args .s .now) (read .1) (read .2)
 
 returns : tie.Need-returns
 returns c =
