@@ -2,12 +2,12 @@
 use crate::adler::adler_32;
 use crate::lines::put_digest_line;
 use crate::lines::put_line;
-use checker::Checked;
-use roles::Standing;
 use answers::LoadAnswer;
 use answers::Named;
 use answers::SearchAnswer;
 use answers::WriteAnswer;
+use checker::Checked;
+use roles::Standing;
 ghost use mathlib.Core.Path.{_≡_};
 ghost use Prim.Native.Nat.{_≤_};
 ghost use lib.ListN.{length};

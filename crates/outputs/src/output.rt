@@ -1,10 +1,10 @@
 // What the book program and the check program print.
-use porvuund::porvuund_book;
-use porvuund::porvuund_check;
 use crate::lines::put_number_line;
 use crate::lines::put_pair_line;
 use decimal::budget_of;
 use numbers::BOOK_LIMIT;
+use porvuund::porvuund_book;
+use porvuund::porvuund_check;
 ghost use mathlib.Core.List.{[], _∷_};
 ghost use Rattle.spec.specs.Program.{program-output};
 ghost use Rattle.text.specs.Written.{Written};

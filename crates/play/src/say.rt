@@ -1,4 +1,4 @@
-// Answers on standard output. What a line has is said where it is built, in `answers`; what is here only writes it.
+// Answers on standard output. What a line has is said where it is built, in `answer_lines`; what is here only writes it.
 use answer_lines::ANSWER_BUFFER;
 use answer_lines::Answer;
 use answer_lines::put_answer;

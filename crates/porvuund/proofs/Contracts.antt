@@ -47,12 +47,10 @@ exported =
 pub exported-tied : Tied exported
 exported-tied =
     record {
-      begins = λ b. let e = b .1 tt in record { stands = e .0; sound = e .1 };
-      loads = λ m sound. let e = m .1 sound in record { happens = e .0; sound = e .1 .0; kept = e .1 .1 };
-      searches = λ m sound.
-          let e = m .1 sound in
-          record { happens = numbers-searched (e .0); sound = e .1 .0; kept = e .1 .1 };
-      writes = λ m sound. record { happens = m .1 sound; sound = sound; kept = λ n. refl };
+      begins = λ b. b .1 tt;
+      loads = λ m. m .1;
+      searches = λ m sound. let e = m .1 sound in (numbers-searched (e .0), e .1);
+      writes = λ m sound. (m .1 sound, (sound, λ n. refl));
     }
 
 -- the demands hold of the exported calls

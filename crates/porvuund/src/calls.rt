@@ -1,7 +1,7 @@
 // A whole task in one call over bytes, as other languages link it.
+use answers::WriteAnswer;
 use checker::Checked;
 use session::Session;
-use answers::WriteAnswer;
 ghost use Rattle.spec.specs.Calls.{Checks};
 ghost use Rattle.checker.specs.BookSays.{answer-of};
 ghost use Rattle.answers.specs.Said.{write-said};

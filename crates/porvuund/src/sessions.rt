@@ -1,11 +1,11 @@
 // A session held by another language: each function is the session's own call of that name. Other languages keep what
 // `Sound` asks by handing in only sessions that these functions gave. A writing gives none: the session that was
 // handed in is the one after it.
+use answers::Named;
+use answers::WriteAnswer;
 use roles::Standing;
 use session::Loaded;
-use answers::Named;
 use session::Session;
-use answers::WriteAnswer;
 ghost use mathlib.Core.Path.{_≡_};
 ghost use mathlib.Core.Logic.{_≢_};
 ghost use Rattle.spec.specs.Session.{fresh};

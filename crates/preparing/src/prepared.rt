@@ -77,6 +77,7 @@ impl Prepared {
 pub fn prepare(layout: Layout, rows: [u64; CELL_WORDS]) -> Prepared
     requires { ⌜ ReadFrom layout rows ⌝ }
     ensures { λ r. ⌜ ((text : Bytes) → LaidOut text layout → RowsRead rows (sheet-of text) → PreparedFor text r) ⌝ }
+    ensures { λ r. ⌜ (r .layout ≡ layout) × (r .rows ≡ rows) ⌝ }
 {
     let columns = fit::columns_of(&rows);
     let reduced = reduction::reduce(&rows, &columns, layout.users);

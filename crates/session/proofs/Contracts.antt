@@ -66,10 +66,10 @@ calling =
 pub contracts-tied : Tied calling
 contracts-tied =
     record {
-      begins = λ b. let e = b .1 tt in record { stands = e .0; sound = e .1 };
-      loads = λ m sound. let e = m .1 sound in record { happens = e .0; sound = e .1 .0; kept = e .1 .1 };
-      searches = λ m sound. let e = m .1 sound in record { happens = e .0; sound = e .1 .0; kept = e .1 .1 };
-      writes = λ m sound. record { happens = m .1 sound; sound = sound; kept = λ n. refl };
+      begins = λ b. b .1 tt;
+      loads = λ m. m .1;
+      searches = λ m. m .1;
+      writes = λ m sound. (m .1 sound, (sound, λ n. refl));
     }
 
 -- demand 1 holds of every call of the code, on any value that the calls led to

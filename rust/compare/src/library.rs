@@ -2,6 +2,7 @@
 //! `porvuund`, gives them, and the structs have the fields of its structs in their order. Of all that only the sizes
 //! can be checked here, and they are, before the first session is made.
 
+use std::mem::{MaybeUninit, swap};
 use std::sync::OnceLock;
 
 use second::checker::CheckAnswer;
@@ -16,6 +17,7 @@ use session::Session;
 pub use session::{SESSION_BYTES, wrong_size};
 
 #[repr(C)]
+#[derive(Clone, Copy)]
 struct LoadNumbers {
     number: usize,
     users: usize,
@@ -26,12 +28,14 @@ struct LoadNumbers {
 }
 
 #[repr(C)]
+#[derive(Clone, Copy)]
 struct Loaded {
     session: Session,
     answer: LoadNumbers,
 }
 
 #[repr(C)]
+#[derive(Clone, Copy)]
 struct SearchNumbers {
     number: usize,
     steps: u32,
@@ -42,6 +46,7 @@ struct SearchNumbers {
 }
 
 #[repr(C)]
+#[derive(Clone, Copy)]
 struct Searched {
     session: Session,
     answer: SearchNumbers,
@@ -60,12 +65,18 @@ struct CheckNumbers {
     witness_lines: usize,
 }
 
-// Three of these are declared once more where the sizes are asked for, as they are called on x86-64.
+// The first three are declared as they are called on x86-64, with the place for what they hand back as their first
+// argument: a session then stays where it was written. They are declared once more where the sizes are asked for.
 #[allow(clashing_extern_declarations)]
 unsafe extern "C" {
-    fn porvuund_fresh() -> Session;
-    fn porvuund_load(session: Session, sheet: *const u8, sheet_length: usize) -> Loaded;
-    fn porvuund_search(session: Session, budget: u32) -> Searched;
+    fn porvuund_fresh(place: *mut Handed) -> *mut Handed;
+    fn porvuund_load(
+        place: *mut Handed,
+        session: Session,
+        sheet: *const u8,
+        sheet_length: usize,
+    ) -> *mut Handed;
+    fn porvuund_search(place: *mut Handed, session: Session, budget: u32) -> *mut Handed;
     fn porvuund_write(session: Session, out: *mut u8, out_length: usize) -> WriteNumbers;
     fn porvuund_check(
         sheet: *const u8,
@@ -82,10 +93,23 @@ unsafe extern "C" {
     ) -> WriteNumbers;
 }
 
+/// What a call hands back: a session, alone or with an answer behind it.
+#[repr(C)]
+#[derive(Clone, Copy)]
+union Handed {
+    session: Session,
+    loaded: Loaded,
+    searched: Searched,
+}
+
 /// A session of the proved implementation. It is a value that goes into each call, and comes back from a load and
-/// a search; only the calls make one.
+/// a search; only the calls make one. A call writes to the other place than the one that its session is at, and then
+/// the two change places.
 #[derive(Clone)]
-pub struct Library(Box<Session>);
+pub struct Library {
+    at: Box<MaybeUninit<Handed>>,
+    other: Box<MaybeUninit<Handed>>,
+}
 
 impl Implementation for Library {
     fn fresh() -> Library {
@@ -93,24 +117,38 @@ impl Implementation for Library {
         if let Some(change) = WRONG_SIZE.get_or_init(wrong_size) {
             panic!("{change}");
         }
-        // SAFETY: the function takes nothing and asks nothing of its caller, and a session has the size declared.
-        Library(Box::new(unsafe { porvuund_fresh() }))
+        let mut at = Box::new(MaybeUninit::uninit());
+        // SAFETY: a session has the size declared, and the function asks nothing of its caller but a place for one.
+        unsafe { porvuund_fresh(at.as_mut_ptr()) };
+        Library { at, other: Box::new(MaybeUninit::uninit()) }
     }
 
     fn load(&mut self, sheet: &[u8]) -> Result<LoadAnswer, Refusal> {
-        // SAFETY: the session comes from a call, and the pointer is that of a slice of that length.
-        let loaded = unsafe { porvuund_load(*self.0, sheet.as_ptr(), sheet.len()) };
-        *self.0 = loaded.session;
-        let LoadNumbers { number, users, permissions, grants, kernel, witness } = loaded.answer;
+        // SAFETY: the session comes from a call, the pointer is that of a slice of that length, and the place is
+        // another than the session's.
+        let answer = unsafe {
+            porvuund_load(
+                self.other.as_mut_ptr(),
+                self.at.assume_init_ref().session,
+                sheet.as_ptr(),
+                sheet.len(),
+            );
+            swap(&mut self.at, &mut self.other);
+            self.at.assume_init_ref().loaded.answer
+        };
+        let LoadNumbers { number, users, permissions, grants, kernel, witness } = answer;
         let counts = [users, permissions, grants, kernel, witness];
         result(number, &counts, LoadAnswer { users, permissions, grants, kernel, witness })
     }
 
     fn search(&mut self, budget: u32) -> Result<SearchAnswer, Refusal> {
-        // SAFETY: the session comes from a call.
-        let searched = unsafe { porvuund_search(*self.0, budget) };
-        *self.0 = searched.session;
-        let SearchNumbers { number, steps, state, roles, bound } = searched.answer;
+        // SAFETY: the session comes from a call, and the place is another than the session's.
+        let answer = unsafe {
+            porvuund_search(self.other.as_mut_ptr(), self.at.assume_init_ref().session, budget);
+            swap(&mut self.at, &mut self.other);
+            self.at.assume_init_ref().searched.answer
+        };
+        let SearchNumbers { number, steps, state, roles, bound } = answer;
         let found = |state| SearchAnswer { steps, roles, bound, state };
         match state.checked_sub(1).map(|index| State::ALL[index as usize]) {
             Some(state) => {
@@ -123,7 +161,8 @@ impl Implementation for Library {
 
     fn write(&mut self, buffer: &mut [u8]) -> Result<usize, Refusal> {
         // SAFETY: the session comes from a call, and the pointer is that of a lent slice of that length.
-        let written = unsafe { porvuund_write(*self.0, buffer.as_mut_ptr(), buffer.len()) };
+        let written =
+            unsafe { porvuund_write(self.at.assume_init_ref().session, buffer.as_mut_ptr(), buffer.len()) };
         let WriteNumbers { number, count } = written;
         result(number, &[count], count)
     }

@@ -31,15 +31,9 @@ answered (write buffer) written = written .answer .number
 
 -- what the contract of a call ensures, of the value that it was made on and the value after it: the one that a load
 -- or a search handed back; a writing hands none back, and the value that it was made on is the one after it
-pub record Ensured (call : Call) (outcome : Outcome call) (before after : CodeSession) : Type 0 where
-  pub happens : Happens call outcome (view before) (view after)
-  pub sound : Sound after
-  pub kept : answered call outcome ≢ 0 → after ≡ before
-
--- what the contract of a call that makes a fresh session ensures
-pub record Fresh (s : CodeSession) : Type 0 where
-  pub stands : view s ≡ fresh
-  pub sound : Sound s
+abbrev pub Ensured : (call : Call) → Outcome call → CodeSession → CodeSession → Type 0
+Ensured call outcome before after =
+    Happens call outcome (view before) (view after) × (Sound after × (answered call outcome ≢ 0 → after ≡ before))
 
 -- calls of one kind, their contract kept: the value that each was made on, what it was given, what it answered, and
 -- the value after it
@@ -77,7 +71,7 @@ Ran calling (event ∷ earlier) s =
 
 -- the contracts give what the demands need; each may require that its value came from the calls
 pub record Tied (calling : Calling) : Type 1 where
-  pub begins : (first : calling .Begun) → Fresh (calling .begun first)
+  pub begins : (first : calling .Begun) → (view (calling .begun first) ≡ fresh) × Sound (calling .begun first)
   pub loads : (made : calling .loads .Made)
       → let way = calling .loads in
       Sound (way .on made) → Ensured (load (way .given made)) (way .gave made) (way .on made) (way .led made)
@@ -131,15 +125,15 @@ Demand3Of calling = (events : List Event) (s : CodeSession) → Ran calling even
 -- the value is judged as the session that it stands for is, and a refusal hands back the very value
 judged : (call : Call) (outcome : Outcome call) (before after : CodeSession) → Ensured call outcome before after
     → Judged (causes call (view before)) (answered call outcome) (Refused call outcome before after)
-judged (load text) answer before after e =
-    let j = demand-1 .loads (view before) (view after) text answer (e .happens) in
-    record { lowest = j .lowest; refused = λ n. (j .refused n .0, e .kept n) }
-judged (search budget) answer before after e =
-    let j = demand-1 .searches (view before) (view after) budget answer (e .happens) in
-    record { lowest = j .lowest; refused = λ n. (j .refused n .0, e .kept n) }
-judged (write buffer) written before after e =
-    let j = demand-1 .writes (view before) (view after) buffer (written .lent) (written .answer) (e .happens) in
-    record { lowest = j .lowest; refused = λ n. (j .refused n .0, j .refused n .1, e .kept n) }
+judged (load text) answer before after (happens, (sound, kept)) =
+    let j = demand-1 .loads (view before) (view after) text answer happens in
+    record { lowest = j .lowest; refused = λ n. (j .refused n .0, kept n) }
+judged (search budget) answer before after (happens, (sound, kept)) =
+    let j = demand-1 .searches (view before) (view after) budget answer happens in
+    record { lowest = j .lowest; refused = λ n. (j .refused n .0, kept n) }
+judged (write buffer) written before after (happens, (sound, kept)) =
+    let j = demand-1 .writes (view before) (view after) buffer (written .lent) (written .answer) happens in
+    record { lowest = j .lowest; refused = λ n. (j .refused n .0, j .refused n .1, kept n) }
 
 module _ {calling : Calling} (tied : Tied calling) where
   ensured : (call : Call) (outcome : Outcome call) (before after : CodeSession)
@@ -154,17 +148,17 @@ module _ {calling : Calling} (tied : Tied calling) where
 
   -- what the calls led to is what the next call requires
   pub ran-sound : (events : List Event) (s : CodeSession) → Ran calling events s → Sound s
-  ran-sound [] s (first, same) = rw same (tied .begins first .sound)
+  ran-sound [] s (first, same) = rw same (tied .begins first .1)
   ran-sound (event ∷ earlier) s ran =
-      ensured (event .call) (event .outcome) (ran .0) s (ran .2) (ran-sound earlier (ran .0) (ran .1)) .sound
+      ensured (event .call) (event .outcome) (ran .0) s (ran .2) (ran-sound earlier (ran .0) (ran .1)) .1 .0
 
   -- the calls of the code are a sequence of demand 3
   pub ran-led : (events : List Event) (s : CodeSession) → Ran calling events s → Led events (view s)
-  ran-led [] s (first, same) = rw same (tied .begins first .stands)
+  ran-led [] s (first, same) = rw same (tied .begins first .0)
   ran-led (event ∷ earlier) s ran = (
     view (ran .0),
     ran-led earlier (ran .0) (ran .1),
-    ensured (event .call) (event .outcome) (ran .0) s (ran .2) (ran-sound earlier (ran .0) (ran .1)) .happens,
+    ensured (event .call) (event .outcome) (ran .0) s (ran .2) (ran-sound earlier (ran .0) (ran .1)) .0,
   )
 
   pub tied-demand-1 : Demand1Of calling
@@ -175,7 +169,7 @@ module _ {calling : Calling} (tied : Tied calling) where
   tied-demand-2 =
       record {
         accepts-sheets = λ earlier before after text answer ran step.
-            let happens = ensured (load text) answer before after step (ran-sound earlier before ran) .happens in
+            let happens = ensured (load text) answer before after step (ran-sound earlier before ran) .0 in
             let same = ap (λ (a : LoadAnswer). a .number) (happens .answers) in
             let exact = demand-2 .accepts-sheets text in
             (λ z. exact .0 (sym same ∙ z), λ keeps. same ∙ exact .1 keeps);

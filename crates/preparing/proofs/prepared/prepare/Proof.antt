@@ -1,7 +1,7 @@
 -- `session::prepared::prepare`: an accepted sheet keeps the rules, so its rows show it, and each call gets what it
 -- asks for of that sheet; each part is then what its own call says of every sheet that the rows show.
 use borrow.Author.Needs.{needs}
-use mathlib.Core.Path.{_≡_}
+use mathlib.Core.Path.{_≡_, refl}
 use lib.ListN.{length}
 use Rattle.spec.specs.Limits.{grant-limit}
 use Rattle.spec.specs.Sheet.{sheet-of}
@@ -66,32 +66,35 @@ fit-table-requires c κs =
     of-kernel (at-witness .before .before .before .before .before .before .before .before .before)
 
 returns : tie.Need-returns
-returns c text laid read =
-    let at-witness = c .before .before .before .before in
-    let at-singles = at-witness .before .before .before .before .before in
-    let at-listed = at-singles .before .before .before .before in
-    let at-reduce = at-listed .before .before .before in
-    let users = at-reduce .before .before .before .before .before .args .layout .users in
-    let from = at-reduce .reduce .ensures in
-    let listed = at-listed .listed .ensures in
-    let here = laid-shown laid read in
-    let few = laid-lawful laid .few-grants in
-    let cells = kernel-cells from here few listed in
-    record {
-      laid = laid;
-      shown = here;
-      reduced = from;
-      listed = listed;
-      room = room at-listed;
-      kernel-size = kernel-counted from here few listed (room at-listed);
-      witness = at-witness .witness-of .ensures (sheet-of text) here
-          (reduced-to from here few (at-singles .single-cells .ensures));
-      first = kernel-placed from here few listed (room at-listed) (c .before .before .first-best .ensures .0 users
-          (sheet-of text) here cells);
-      first-room = first-room (c .before .before);
-      first-past = c .before .before .first-best .ensures .1;
-      table = c .fit-table .ensures users (sheet-of text) here cells;
-    }
+returns c = (
+  λ text laid read.
+      let at-witness = c .before .before .before .before in
+      let at-singles = at-witness .before .before .before .before .before in
+      let at-listed = at-singles .before .before .before .before in
+      let at-reduce = at-listed .before .before .before in
+      let users = at-reduce .before .before .before .before .before .args .layout .users in
+      let from = at-reduce .reduce .ensures in
+      let listed = at-listed .listed .ensures in
+      let here = laid-shown laid read in
+      let few = laid-lawful laid .few-grants in
+      let cells = kernel-cells from here few listed in
+      record {
+        laid = laid;
+        shown = here;
+        reduced = from;
+        listed = listed;
+        room = room at-listed;
+        kernel-size = kernel-counted from here few listed (room at-listed);
+        witness = at-witness .witness-of .ensures (sheet-of text) here
+            (reduced-to from here few (at-singles .single-cells .ensures));
+        first = kernel-placed from here few listed (room at-listed) (c .before .before .first-best .ensures .0 users
+            (sheet-of text) here cells);
+        first-room = first-room (c .before .before);
+        first-past = c .before .before .first-best .ensures .1;
+        table = c .fit-table .ensures users (sheet-of text) here cells;
+      },
+  (refl, refl),
+)
 
 pub prepare-spec : {M : Type 1} → statement M
 prepare-spec =

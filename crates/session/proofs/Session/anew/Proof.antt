@@ -27,7 +27,7 @@ prepare-requires c κs =
 found : (c : tie.After-prepare) → PreparedFor (c .before .before .before .args .s .now) (c .prepare .result)
 found c =
     let read = c .before .before .before .pre in
-    c .prepare .ensures (c .before .before .before .args .s .now) (read .1) (read .2)
+    c .prepare .ensures .0 (c .before .before .before .args .s .now) (read .1) (read .2)
 
 returns : tie.Need-returns
 returns c =
@@ -38,7 +38,7 @@ returns c =
     record {
       accepts = refl;
       whole = omega (arith, room at-copied, unrefused-short text (at-copied .before .before .pre .0));
-      kept = at-copied .copied .ensures;
+      kept = at-copied .copied .ensures .0;
       found = found at-prepared;
       first = c .before .first-classes .result;
       same = λ l. c .before .first-classes .ensures _ l;
