@@ -22,21 +22,18 @@ pub const SIZES: Sizes = Sizes {
     witness: 3,
 };
 
-fn user(g: usize) -> usize {
-    g / HELD
-}
-
+// The permission of a grant, whose user is g / HELD.
 fn permission(g: usize) -> usize {
     let p = g % HELD;
-    if p < user(g) { p } else { p + 1 }
+    if p < g / HELD { p } else { p + 1 }
 }
 
 // Whether two grants fit: the user of each holds the permission of the other.
 fn fits(g: usize, h: usize) -> bool {
-    if user(g) == permission(h) {
+    if g / HELD == permission(h) {
         return false;
     }
-    user(h) != permission(g)
+    h / HELD != permission(g)
 }
 
 // The first word of a grant in the fit table.

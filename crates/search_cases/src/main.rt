@@ -31,15 +31,15 @@ fn start() -> Position
 }
 
 fn report(steps: u32, searches: u32, position: Position) {
-    print::number(steps);
+    print::number(steps as usize);
     print::text(b",");
-    print::number(searches);
+    print::number(searches as usize);
     if position.cursor.finished {
         print::text(b",finished,");
     } else {
         print::text(b",open,");
     }
-    print::number((position.cursor.count % 1000) as u32);
+    print::number(position.cursor.count);
     print::text(b"\n");
 }
 
@@ -65,7 +65,7 @@ fn many_searches(fit: &[u64; TABLE_WORDS]) {
 
 // The steps of one search made one by one, beside the search.
 fn steps_beside(fit: &[u64; TABLE_WORDS], budget: u32) {
-    print::number(budget);
+    print::number(budget as usize);
     if as_the_search(start(), fit, budget) {
         print::text(b",same\n");
     } else {

@@ -34,15 +34,15 @@ loop-holds c =
 
 -- the test tells whether all members of the class fit the grant
 told : (c : tie.After-within Inv-loop μ-loop)
-    → let start = c .before .before .before .before .before .before in
-    c .within .result ≡ (let a = start .args in all-fit (a .fit .now) (a .members .now) (a .grant .0)
-    (c .before .before .before .loop .c))
+    → let at-loop = c .before .before .before in
+    let a = at-loop .before .before .before .args in
+    c .within .result ≡ all-fit (a .fit .now) (a .members .now) (a .grant .0) (at-loop .loop .c)
 told c =
-    let start = c .before .before .before .before .before .before in
-    let a = start .args in
+    let at-loop = c .before .before .before in
+    let a = at-loop .before .before .before .args in
     c .within .ensures
-    ∙ rw (c .before .of-class .ensures, c .before .before .before .before .fitting .ensures)
-    (within-row (a .fit .now) (a .members .now) (a .grant .0) (c .before .before .before .loop .c))
+    ∙ rw (c .before .of-class .ensures, at-loop .before .fitting .ensures)
+    (within-row (a .fit .now) (a .members .now) (a .grant .0) (at-loop .loop .c))
 
 returns-2 : tie.Need-returns-2 Inv-loop μ-loop
 returns-2 c =

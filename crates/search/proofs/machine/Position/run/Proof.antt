@@ -42,16 +42,16 @@ loop-holds c =
 
 advanced-requires : tie.Need-advanced-requires Inv-loop μ-loop
 advanced-requires c κs =
-    let at-loop = c .before .before .before .before .before .before in
-    at-loop .loop .inv .1
+    let at-if1 = c .before .before .before in
+    at-if1 .before .before .before .loop .inv .1
 
 loop-again : tie.Need-loop-again Inv-loop μ-loop
 loop-again c =
     let at-if1 = c .before .before .before .before in
     let at-loop-test = at-if1 .before .before in
     let at-loop = at-loop-test .before in
-    let still-start = at-loop .before .before .before .before .before .before in
-    let a = still-start .args in
+    let at-gathered = at-loop .before in
+    let a = at-gathered .before .before .before .before .before .args in
     let loop = at-loop .loop in
     let moved = c .advanced .ensures in (
       running-more (kernel-given (a .fit .now) (a .sizes)) (a .budget)
@@ -64,11 +64,12 @@ loop-again c =
 
 returns : tie.Need-returns Inv-loop μ-loop
 returns c =
-    let still-start = c .before .before .before .before .before .before .before .before in
-    let a = still-start .args in
+    let at-loop = c .before .before in
+    let at-gathered = at-loop .before in
+    let a = at-gathered .before .before .before .before .before .args in
     let kernel = kernel-given (a .fit .now) (a .sizes) in
     let from = view (a .self) (a .sizes .kernel) in
-    let loop = c .before .before .loop in
+    let loop = at-loop .loop in
     rw (c .of .ensures) (
       ⊎-elim (λ other. running-finished kernel (a .budget) from (loop .inv .0) (not-false (loop .at .finished)
           (other .2 .left)))

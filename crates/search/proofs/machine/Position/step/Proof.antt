@@ -17,13 +17,9 @@ whole-array c = search needs
 
 moved-requires : tie.Need-moved-requires
 moved-requires c κs =
-    let start = c .before .before .before .before .before .before .before .before in
-    record {
-      stands = start .pre;
-      classes-sized = whole-array start;
-      gathered =
-          c .before .before .before .gathered .ensures;
-    }
+    let at-gathered = c .before .before .before in
+    let start = at-gathered .before .before .before .before .before in
+    record { stands = start .pre; classes-sized = whole-array start; gathered = at-gathered .gathered .ensures }
 
 returns : tie.Need-returns
 returns c =
