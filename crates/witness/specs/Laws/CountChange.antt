@@ -33,8 +33,8 @@ none-at u n = ap (λ b. eqb (n / word-bits) u && b) (bit-of-zero (n % word-bits)
 
 module _ (change : Change) where
   -- a count at another cell stays
-  pub not-changed : {at : ℕ → Bool} {by : ℕ → ℕ} {before after : List ℕ} → ChangedAt change at by before after → (n : ℕ)
-      → at n ≡ false → getD after n 0 ≡ getD before n 0
+  pub not-changed : {at : ℕ → Bool} {by : ℕ → ℕ} {before after : List ℕ} → ChangedAt change at by before after
+      → (n : ℕ) → at n ≡ false → getD after n 0 ≡ getD before n 0
   not-changed c n f = rw f at (c .says n)
 
   -- nothing is changed
@@ -48,8 +48,8 @@ module _ (change : Change) where
   one-changed {by} counts k inside = record {
     sized = length-set counts k (changed-by change (getD counts k 0) (by k));
     says = λ n. ⊎-elim
-        (λ e. rw (eqb-true n k e, eq-eqb k k refl) (getD-set-same counts k (changed-by change (getD counts k 0) (by k)) 0
-        inside))
+        (λ e. rw (eqb-true n k e, eq-eqb k k refl)
+        (getD-set-same counts k (changed-by change (getD counts k 0) (by k)) 0 inside))
         (λ f. rw f (getD-set-other counts k n (changed-by change (getD counts k 0) (by k)) 0 (eqb-false n k f)))
         (passes-or-fails (eqb n k));
   }

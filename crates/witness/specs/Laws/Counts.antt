@@ -67,8 +67,8 @@ module _ (rows left : List ℕ) (users i : ℕ) (counts : List ℕ) (growing : G
   counted-here : (n : ℕ) → So (of-users-below left cell-words n) → getD counts n 0 ≡ near-below rows left n i
   counted-here n p = rw p at (growing .so-far n)
 
-  pub growth-fits : i < cell-words → CanChangeAt Added (of-users-below left cell-words) (fit-count rows i (getD left i 0))
-      counts
+  pub growth-fits : i < cell-words → CanChangeAt Added (of-users-below left cell-words)
+      (fit-count rows i (getD left i 0)) counts
   growth-fits inside n p =
       omega (
         arith,
@@ -96,7 +96,8 @@ module _ (rows left : List ℕ) (users i : ℕ) (counts : List ℕ) (growing : G
   }
 
 -- all grants are counted, and at every other cell there is 0
-pub growth-ends : (rows left : List ℕ) (users : ℕ) (counts : List ℕ) → Growing rows left users (users * row-words) counts
+pub growth-ends : (rows left : List ℕ) (users : ℕ) (counts : List ℕ)
+    → Growing rows left users (users * row-words) counts
     → Counted rows left users counts × ((n : ℕ) → marked left n ≡ false → getD counts n 0 ≡ 0)
 growth-ends rows left users counts whole = (
   record {

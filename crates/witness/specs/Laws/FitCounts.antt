@@ -23,8 +23,8 @@ use Rattle.cells.specs.Rows.{row-words, row-bits}
 use Rattle.cells.specs.CellPlaces.{cell-words, grant-of, marked, fit-in}
 use Rattle.cells.specs.Laws.CellPlace.{fit-by-word}
 use Rattle.witness.specs.CountChange.{at-position, fit-count, ChangedAt, of-user, of-users, of-users-below}
-use Rattle.witness.specs.Laws.CountChange.{word-of-position, none-at, nothing-changed, then-changed, changed-as, Changing}
-use Rattle.witness.specs.Laws.CountChange.{change-goes-on, lowest-at, at-dropped}
+use Rattle.witness.specs.Laws.CountChange.{word-of-position, none-at, nothing-changed, then-changed}
+use Rattle.witness.specs.Laws.CountChange.{changed-as, Changing, change-goes-on, lowest-at, at-dropped}
 use Rattle.witness.specs.declared.counts.Change.{Change}
 use Rattle.fit.specs.Columns.{column-words, held-in, Columns}
 use Rattle.fit.specs.ColumnUnion.{in-union}
@@ -200,12 +200,13 @@ module _ (change : Change) (rows left : List ℕ) (i word : ℕ) where
       → ChangedAt change (of-users left j some) (fit-count rows i word) now after
       → ChangedAt change (of-users-below left ((j + 1) * word-bits)) (fit-count rows i word) before after
   next-users-changed j some columns before now after made inside union earlier here =
-      then-changed change earlier (changed-as change {wider = in-column left j} (λ n p. (wider n p, refl)) unreached here)
+      then-changed change earlier
+      (changed-as change {wider = in-column left j} (λ n p. (wider n p, refl)) unreached here)
       (λ n p. rw (le-ltb (n / word-bits) (j * word-bits) (omega (arith, column n p)))) joined
     where
       column : (n : ℕ) → So (in-column left j n) → n / word-bits / word-bits ≡ j
-      column n p = eqb-true (n / word-bits / word-bits) j (and-left (eqb (n / word-bits / word-bits) j) (marked left n)
-          p)
+      column n p =
+          eqb-true (n / word-bits / word-bits) j (and-left (eqb (n / word-bits / word-bits) j) (marked left n) p)
 
       wider : (n : ℕ) → So (of-users left j some n) → So (in-column left j n)
       wider n p =
@@ -235,7 +236,13 @@ module _ (change : Change) (rows left : List ℕ) (i word : ℕ) where
           )
           (sym (or-false (marked left n))))
           (λ l. rw (le-ltb (n / word-bits) (j * word-bits) l) (⊎-elim
-          (λ k. rw (lt-ltb (n / word-bits) ((j + 1) * word-bits) k, eq-eqb (n / word-bits / word-bits) j (omega arith)))
-          (λ k. rw (le-ltb (n / word-bits) ((j + 1) * word-bits) k, ne-eqb (n / word-bits / word-bits) j (omega arith)))
+          (λ k. rw (
+            lt-ltb (n / word-bits) ((j + 1) * word-bits) k,
+            eq-eqb (n / word-bits / word-bits) j (omega arith),
+          ))
+          (λ k. rw (
+            le-ltb (n / word-bits) ((j + 1) * word-bits) k,
+            ne-eqb (n / word-bits / word-bits) j (omega arith),
+          ))
           (below-or-from (n / word-bits) ((j + 1) * word-bits))))
           (below-or-from (n / word-bits) (j * word-bits))

@@ -12,7 +12,8 @@ returns : tie.Need-returns
 returns c =
     let start = c .before .before .before in
     let first-row : 0 * row-bits + start .args .c ≡ start .args .c = omega arith in
-    rw (c .before .before .if1 .taken) (cell-added _ _ 0 (start .args .c) (start .pre .0) (rw first-row (c .mark .ensures)))
+    rw (c .before .before .if1 .taken)
+    (cell-added _ _ 0 (start .args .c) (start .pre .0) (rw first-row (c .mark .ensures)))
 
 returns-2 : tie.Need-returns-2
 returns-2 c = rw (c .if1 .left) (cell-kept _ 0 _)

@@ -44,60 +44,8 @@ loop-holds c = (
       _ _,
 )
 
-mul-at : tie.Need-mul-at Inv-loop μ-loop
-unfolding table-row
-mul-at c = omega (arith, within c)
-
 cast-at : tie.Need-cast-at Inv-loop μ-loop
 cast-at c = omega (arith, c .shared-slice-known3 .given (c .before .before .loop .i))
-
-mul-words : tie.Need-mul-words Inv-loop μ-loop
-unfolding row-bits row-words
-mul-words c = omega (arith, column c)
-
-array-read-words : tie.Need-array-read-words Inv-loop μ-loop
-unfolding row-bits row-words
-array-read-words c = omega (arith, column c)
-
-mul-words-2 : tie.Need-mul-words-2 Inv-loop μ-loop
-unfolding table-row
-mul-words-2 c = omega (arith, within (c .before .before .before .before))
-
-mul-words-3 : tie.Need-mul-words-3 Inv-loop μ-loop
-unfolding table-row
-mul-words-3 c = omega (arith, within (c .before .before .before .before))
-
-array-write-words : tie.Need-array-write-words Inv-loop μ-loop
-unfolding table-row
-array-write-words c = omega (arith, within (c .before .before .before .before))
-
-mul-words-4 : tie.Need-mul-words-4 Inv-loop μ-loop
-unfolding row-bits row-words
-mul-words-4 c = omega (arith, column (c .before))
-
-array-read-words-2 : tie.Need-array-read-words-2 Inv-loop μ-loop
-unfolding row-bits row-words
-array-read-words-2 c = omega (arith, column (c .before))
-
-mul-words-5 : tie.Need-mul-words-5 Inv-loop μ-loop
-unfolding table-row
-mul-words-5 c = omega (arith, within (c .before .before .before .before .before))
-
-add-words : tie.Need-add-words Inv-loop μ-loop
-unfolding table-row
-add-words c = omega (arith, within (c .before .before .before .before .before))
-
-mul-words-6 : tie.Need-mul-words-6 Inv-loop μ-loop
-unfolding table-row
-mul-words-6 c = omega (arith, within (c .before .before .before .before .before))
-
-array-write-words-2 : tie.Need-array-write-words-2 Inv-loop μ-loop
-unfolding table-row
-array-write-words-2 c = omega (arith, within (c .before .before .before .before .before))
-
-add-i : tie.Need-add-i Inv-loop μ-loop
-unfolding table-row
-add-i c = omega (arith, within (c .before .before .before .before .before))
 
 loop-again : tie.Need-loop-again Inv-loop μ-loop
 unfolding table-row
@@ -132,10 +80,16 @@ returns c users sheet shown =
     table-of _ _ (at .loop .words) (all-filled (at .loop .inv .3) (λ l. end ∙ limited .ensures .2 (omega arith))) shown
 
 pub table-of-spec : {M : Type 1} → statement M
-unfolding table-row
+unfolding table-row row-bits row-words
 table-of-spec =
     tie.close (tie.spec Inv-loop μ-loop (λ c κs. search needs) (λ c κs. search needs) (λ c κs. omega arith)
-    (λ c κs. omega arith) (λ c κs. search needs) loop-holds mul-at (λ c. omega arith) cast-at (λ c κs. search needs)
-    (λ c κs. search needs) mul-words array-read-words mul-words-2 mul-words-3 array-write-words mul-words-4
-    array-read-words-2 mul-words-5 add-words mul-words-6 array-write-words-2 add-i (λ c. omega arith) loop-again
-    returns)
+    (λ c κs. omega arith) (λ c κs. search needs) loop-holds (λ c. omega (arith, within c)) (λ c. omega arith) cast-at
+    (λ c κs. search needs) (λ c κs. search needs) (λ c. omega (arith, column c)) (λ c. omega (arith, column c))
+    (λ c. omega (arith, within (c .before .before .before .before)))
+    (λ c. omega (arith, within (c .before .before .before .before)))
+    (λ c. omega (arith, within (c .before .before .before .before))) (λ c. omega (arith, column (c .before)))
+    (λ c. omega (arith, column (c .before))) (λ c. omega (arith, within (c .before .before .before .before .before)))
+    (λ c. omega (arith, within (c .before .before .before .before .before)))
+    (λ c. omega (arith, within (c .before .before .before .before .before)))
+    (λ c. omega (arith, within (c .before .before .before .before .before)))
+    (λ c. omega (arith, within (c .before .before .before .before .before))) (λ c. omega arith) loop-again returns)

@@ -43,7 +43,8 @@ change-for-users-requires c κs =
       omega arith,
       at .inv .1 .sized ∙ start .pre .2,
       λ n p.
-          let here = column-to-come (start .args .left .now) (at .j) (c .before .union-of .result) n (omega arith) p in
+          let some = c .before .union-of .result in
+          let here = column-to-come (start .args .left .now) (at .j) some n (omega arith) p in
           rw (not-changed _ (at .inv .1) n (here .0)) (start .pre .3 n (here .1)),
     )
 

@@ -48,8 +48,8 @@ unfolding user-limit row-words
 loop-again c =
     let at-loop = c .before .before .before .before .before in
     let at = at-loop .loop in
-    users-go-on (at-loop .before .args .left .now) _ (at .inv) (c .before .before .before .lowest .ensures) (c .without-lowest .ensures)
-    (c .before .change-for-user .ensures)
+    users-go-on (at-loop .before .args .left .now) _ (at .inv) (c .before .before .before .lowest .ensures)
+    (c .without-lowest .ensures) (c .before .change-for-user .ensures)
 
 returns : tie.Need-returns Inv-loop μ-loop
 returns c =

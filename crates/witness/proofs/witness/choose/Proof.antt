@@ -1,6 +1,6 @@
--- `witness::witness::choose`: from an empty set none is taken. Else each turn takes the grant with the fewest partners
--- among those left, as the definition does. The turns end when none is left, or with as many as a sheet can have
--- grants.
+-- `witness::witness::choose`: from an empty set none is taken. Else each turn takes the grant with the fewest
+-- partners among those left, as the definition does. The turns end when none is left, or with as many as a sheet can
+-- have grants.
 use borrow.Author.Needs.{needs}
 use Prim.Native.Nat.{suc, _+_, _-_, _≤_, _<_}
 use native.Mathlib.Nat.{sub-zero}
