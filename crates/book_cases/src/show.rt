@@ -98,7 +98,7 @@ fn show_both<'a>(
     }
 }
 
-// The case that starts at this place of a table. Answers where the next one starts.
+// The case that starts at this place. Answers where the next one starts.
 fn show_case(of: Damages, cases: &[u8], at: usize) -> usize
     requires { ⌜ at ≤ length (now cases) ⌝ }
 {
@@ -122,16 +122,24 @@ fn show_case(of: Damages, cases: &[u8], at: usize) -> usize
     field_behind(cases, with_end)
 }
 
-// The cases of a table, as long as one starts behind the other.
-pub fn show_cases(of: Damages, cases: &[u8]) {
-    let mut at = 0;
+// The cases of the group whose heading starts at this place, as long as one starts behind the other. Answers where the
+// next group starts.
+pub fn show_cases(of: Damages, cases: &[u8], heading: usize) -> usize {
+    if cases.len() <= heading {
+        return heading;
+    }
+    let mut at = field_behind(cases, field_end(cases, heading));
     while at < cases.len() {
+        if cases[at] == b'#' {
+            return at;
+        }
         let next = show_case(of, cases, at);
         if next <= at {
-            return;
+            return at;
         }
         at = next;
     }
+    at
 }
 
 // Checks the book of document 01 with one part replaced by a word that stands many times between two others.
