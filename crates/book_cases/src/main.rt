@@ -1,69 +1,68 @@
 // Checks good and damaged books. A line of the output says what is checked, and the number, the roles and the witness
 // lines that the checker answers. What it has to answer was worked out from document 01; the file `stdout` has it.
+//
+// The file `stdin` has the cases, in groups with a heading that starts with `#`. A case is a line of five fields with
+// bars between them: what is checked; a part of the book or the sheet of document 01, and what stands in its place;
+// another part, and what stands in its place. With an empty part nothing is replaced. A group of sheets and books of
+// their own has in each case what is checked, the sheet, the book, and two empty fields. In a field a slash stands for
+// a line feed, and a backslash for a carriage return.
 mod build;
-mod cases;
 mod fields;
 mod show;
 mod texts;
 
+use fields::end_fields;
+use libc::STDIN_FILENO;
 use show::Damages;
-use show::show;
 use show::show_cases;
-use show::show_full_sheet;
 use show::show_long;
 use show::show_long_sheet;
-use show::show_roles;
+
+// Room for the cases.
+const SPACE: usize = 16_384;
 
 fn main() {
-    accepted();
-    refused_sheets();
-    damaged_lines();
-    damaged_counts();
-    wrong_counts();
-    long_counts();
-    wrong_products();
-    several();
+    let mut space = [0u8; SPACE];
+    let n = io::read_full(STDIN_FILENO, &mut space);
+    end_fields(&mut space);
+    show_all(&space[..n]);
 }
 
-fn accepted() {
-    show_cases(Damages::Book, &cases::ACCEPTED);
-    show(
-        b"a role without use",
-        &texts::SHEET,
-        &texts::BOOK_OF_THREE_ROLES,
-    );
-    show(b"no role", &texts::EMPTY_SHEET, &texts::EMPTY_BOOK);
-    show_roles(b"64 roles", 64);
-}
-
-fn refused_sheets() {
+fn show_all(cases: &[u8]) {
+    let own = show_cases(Damages::Book, cases, 0);
+    let sheets = show_cases(Damages::Nothing, cases, own);
     show_long_sheet(b"a sheet of 40961 bytes", 40_961);
-    show_cases(Damages::Sheet, &cases::SHEETS);
-    show_full_sheet(b"a sheet of 2112 grants", 33);
+    let others = show_cases(Damages::Sheet, cases, sheets);
+    let lines = show_cases(Damages::Nothing, cases, others);
+    let counts = show_lines(cases, lines);
+    let products = show_counts(cases, counts);
+    show_long_counts();
+    let witnesses = show_cases(Damages::Book, cases, products);
+    let twice = show_cases(Damages::Book, cases, witnesses);
+    let several = show_cases(Damages::Nothing, cases, twice);
+    show_cases(Damages::Book, cases, several);
 }
 
-fn damaged_lines() {
-    show(b"an empty book", &texts::SHEET, b"");
-    show_cases(Damages::Book, &cases::LINES);
-    show_cases(Damages::Book, &cases::HEADINGS);
-    show_cases(Damages::Book, &cases::ROLES);
-    show_roles(b"65 roles", 65);
-    show_cases(Damages::Book, &cases::USERS);
+// Damaged lines. Answers where the next group starts.
+fn show_lines(cases: &[u8], at: usize) -> usize {
+    let headings = show_cases(Damages::Book, cases, at);
+    let roles = show_cases(Damages::Book, cases, headings);
+    let more = show_cases(Damages::Book, cases, roles);
+    let users = show_cases(Damages::Nothing, cases, more);
+    show_cases(Damages::Book, cases, users)
 }
 
-fn damaged_counts() {
-    show_cases(Damages::Book, &cases::COUNTS);
+// Damaged and wrong counts, and damaged witness lines. Answers where the next group starts.
+fn show_counts(cases: &[u8], at: usize) -> usize {
+    let witness = show_cases(Damages::Book, cases, at);
     show_zeros(b"a book of 65537 bytes", b"2", 65_404, b",2,");
-    show_cases(Damages::Book, &cases::WITNESS);
+    let wrong = show_cases(Damages::Book, cases, witness);
+    let bounds = show_cases(Damages::Book, cases, wrong);
+    let long = show_cases(Damages::Book, cases, bounds);
+    show_cases(Damages::Book, cases, long)
 }
 
-fn wrong_counts() {
-    show_cases(Damages::Book, &cases::WRONG_COUNTS);
-    show_cases(Damages::Book, &cases::BOUNDS);
-    show_cases(Damages::Book, &cases::LONG_COUNTS);
-}
-
-fn long_counts() {
+fn show_long_counts() {
     show_zeros(b"roles of 60000 digits", b"2", 59_999, b",2,");
     show_zeros(b"a bound of 60000 digits", b"2,2", 59_999, b",");
     show_zeros(b"a book of 65536 bytes", b"2", 65_403, b",2,");
@@ -73,19 +72,4 @@ fn long_counts() {
 // The book of document 01 with zeros in its counts, behind one text and before another.
 fn show_zeros<'a>(what: &'a [u8], head: &'a [u8], zeros: usize, tail: &'a [u8]) {
     show_long(what, b"2,2,", head, b"0", zeros, tail);
-}
-
-fn wrong_products() {
-    show_cases(Damages::Book, &cases::PRODUCTS);
-    show_cases(Damages::Book, &cases::WITNESSES);
-    show(
-        b"the same one first and third",
-        &texts::DIAGONAL_SHEET,
-        &texts::DIAGONAL_BOOK,
-    );
-}
-
-fn several() {
-    show(b"7 and 12", b"user,a\nbo,2\n", b"");
-    show_cases(Damages::Book, &cases::SEVERAL);
 }

@@ -1,14 +1,11 @@
 // What the checker answers for a sheet and a book, on standard output.
 use crate::build::damaged;
 use crate::build::put;
-use crate::build::put_full_sheet;
-use crate::build::put_roles;
 use crate::build::put_times;
 use crate::fields::field_behind;
 use crate::fields::field_end;
 use crate::texts::BOOK;
 use crate::texts::SHEET;
-use crate::texts::SHEET_OF_ONE;
 use libc::STDOUT_FILENO;
 ghost use Prim.Native.Nat.{_≤_};
 ghost use lib.ListN.{length};
@@ -16,10 +13,11 @@ ghost use lib.ListN.{length};
 // Room for a book above the limit.
 const SPACE: usize = 66_000;
 
-// What a case damages: the book of document 01, or its sheet.
+// What a case damages: the book of document 01, its sheet, or nothing, where it has a sheet and a book of its own.
 pub enum Damages {
     Book,
     Sheet,
+    Nothing,
 }
 
 // Writes what is checked, and the number, the roles and the witness lines that are answered.
@@ -69,14 +67,7 @@ fn show_damaged<'a>(of: Damages, what: &'a [u8], text: &'a [u8], old: &'a [u8], 
     match of {
         Damages::Book => show_book(what, &SHEET, &space, n),
         Damages::Sheet => show_sheet(what, &space, n),
-    }
-}
-
-// Puts the book or the sheet of document 01 with one part replaced into a buffer. Answers its length.
-fn put_damaged<'a>(out: &mut [u8], of: Damages, old: &'a [u8], new: &'a [u8]) -> usize {
-    match of {
-        Damages::Book => damaged(out, &BOOK, old, new),
-        Damages::Sheet => damaged(out, &SHEET, old, new),
+        Damages::Nothing => unmade(what),
     }
 }
 
@@ -84,13 +75,14 @@ fn put_damaged<'a>(out: &mut [u8], of: Damages, old: &'a [u8], new: &'a [u8]) ->
 fn show_both<'a>(
     of: Damages,
     what: &'a [u8],
+    text: &'a [u8],
     old: &'a [u8],
     new: &'a [u8],
     other: &'a [u8],
     with: &'a [u8],
 ) {
     let mut space = [0u8; 1024];
-    let n = put_damaged(&mut space, of, old, new);
+    let n = damaged(&mut space, text, old, new);
     if n < space.len() {
         show_damaged(of, what, &space[..n], other, with);
     } else {
@@ -98,7 +90,23 @@ fn show_both<'a>(
     }
 }
 
-// The case that starts at this place of a table. Answers where the next one starts.
+// Checks what the fields of a case say.
+fn show_fields<'a>(
+    of: Damages,
+    what: &'a [u8],
+    old: &'a [u8],
+    new: &'a [u8],
+    other: &'a [u8],
+    with: &'a [u8],
+) {
+    match of {
+        Damages::Book => show_both(of, what, &BOOK, old, new, other, with),
+        Damages::Sheet => show_both(of, what, &SHEET, old, new, other, with),
+        Damages::Nothing => show(what, old, new),
+    }
+}
+
+// The case that starts at this place. Answers where the next one starts.
 fn show_case(of: Damages, cases: &[u8], at: usize) -> usize
     requires { ⌜ at ≤ length (now cases) ⌝ }
 {
@@ -111,7 +119,7 @@ fn show_case(of: Damages, cases: &[u8], at: usize) -> usize
     let other_end = field_end(cases, other);
     let with = field_behind(cases, other_end);
     let with_end = field_end(cases, with);
-    show_both(
+    show_fields(
         of,
         &cases[at..what],
         &cases[old..old_end],
@@ -122,16 +130,24 @@ fn show_case(of: Damages, cases: &[u8], at: usize) -> usize
     field_behind(cases, with_end)
 }
 
-// The cases of a table, as long as one starts behind the other.
-pub fn show_cases(of: Damages, cases: &[u8]) {
-    let mut at = 0;
+// The cases of the group whose heading starts at this place, as long as one starts behind the other. Answers where the
+// next group starts.
+pub fn show_cases(of: Damages, cases: &[u8], heading: usize) -> usize {
+    if cases.len() <= heading {
+        return heading;
+    }
+    let mut at = field_behind(cases, field_end(cases, heading));
     while at < cases.len() {
+        if cases[at] == b'#' {
+            return at;
+        }
         let next = show_case(of, cases, at);
         if next <= at {
-            return;
+            return at;
         }
         at = next;
     }
+    at
 }
 
 // Checks the book of document 01 with one part replaced by a word that stands many times between two others.
@@ -154,22 +170,7 @@ pub fn show_long<'a>(
     }
 }
 
-// Checks a book of as many roles as asked.
-pub fn show_roles(what: &[u8], roles: usize) {
-    let mut space = [0u8; SPACE];
-    let n = put_roles(&mut space, roles);
-    show_book(what, &SHEET_OF_ONE, &space, n);
-}
-
-// Checks the book of document 01 against a sheet of as many users as asked, who hold as many permissions as there can
-// be.
-pub fn show_full_sheet(what: &[u8], users: usize) {
-    let mut space = [0u8; SPACE];
-    let n = put_full_sheet(&mut space, users);
-    show_sheet(what, &space, n);
-}
-
-// Checks it against a sheet of as many bytes as asked.
+// Checks it against a sheet of as many bytes as asked, which are all one letter.
 pub fn show_long_sheet(what: &[u8], n: usize) {
     let mut space = [0u8; SPACE];
     let end = put_times(&mut space, 0, b"a", n);

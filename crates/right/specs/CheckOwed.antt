@@ -2,21 +2,21 @@
 -- whose numbers rise, so it is the lowest; where it is not 0 its counts are 0; and it is 0 exactly where the sheet
 -- keeps the rules and the book is right.
 use Prim.Native.Nat.{ℕ}
-use mathlib.Core.Path.{_≡_, refl, sym, ap, _∙_}
-use mathlib.Core.Bool.{Bool, true, false, So}
+use mathlib.Core.Path.{_≡_, sym, ap, _∙_}
+use mathlib.Core.Bool.{So}
 use mathlib.Core.List.{List}
 use mathlib.Core.Logic.{_≢_, _↔_}
-use borrow.Author.Tests.{eqb-true, ne-eqb}
-use lib.Dec.{eqb}
+use borrow.Author.Tests.{ne-eqb}
 use Rattle.spec.specs.Text.{Bytes}
 use Rattle.spec.specs.Sheet.{Sheet}
 use Rattle.spec.specs.Rules.{Keeps}
 use Rattle.spec.specs.Book.{Said}
 use Rattle.spec.specs.Right.{Right}
-use Rattle.spec.specs.Refusal.{Cause, first-number, sheet-causes, check-causes, book-causes}
+use Rattle.spec.specs.Refusal.{Cause, first-number, check-causes}
 use Rattle.spec.specs.Calls.{CheckAnswer, check, check-refused, check-counts, Checks}
 use Rattle.spec.specs.Demands.{LowestThatApplies, Judged}
 use Rattle.rules.specs.CauseLaws.{rising, none-lower, some-applies}
+use Rattle.right.specs.Verdict.{check-causes-rise, check-number}
 use Rattle.right.specs.Exact.{accepts-books, answers-counts}
 
 -- the first of rising causes is the lowest that applies
@@ -28,19 +28,6 @@ pub judged : (causes : List Cause) (number : ℕ) (Refused : Type 0) → So (ris
     → (first-number causes ≢ 0 → Refused) → Judged causes number Refused
 judged causes number Refused r e h =
     record { lowest = rw e (first-is-lowest causes r); refused = λ n. h (λ z. n (e ∙ z)) }
-
-check-causes-rise : (sheet book : Bytes) → So (rising 0 (check-causes sheet book))
-unfolding check-causes sheet-causes book-causes
-check-causes-rise sheet book = refl
-
-check-number : (sheet book : Bytes) → check sheet book .number ≡ first-number (check-causes sheet book)
-unfolding check
-check-number sheet book = choose (eqb (first-number (check-causes sheet book)) 0) refl
-  where
-    choose : (b : Bool) → eqb (first-number (check-causes sheet book)) 0 ≡ b → check sheet book .number ≡ first-number
-        (check-causes sheet book)
-    choose true e = rw e (sym (eqb-true (first-number (check-causes sheet book)) 0 e))
-    choose false e = rw e
 
 refused-check : (sheet book : Bytes) → first-number (check-causes sheet book) ≢ 0
     → check sheet book ≡ check-refused (first-number (check-causes sheet book))
