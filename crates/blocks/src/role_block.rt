@@ -5,7 +5,6 @@ use names::permission_name_in;
 use numbers::PermissionNo;
 use numbers::RoleNo;
 use text::put_bytes;
-use text::put_empty_line;
 use text::put_field;
 ghost use Prim.Native.Nat.{_+_, _*_, _≤_, _<_};
 ghost use lib.ListN.{length};
@@ -83,6 +82,7 @@ pub fn put_roles<'a, 'b>(
 {
     let names = put_bytes(out, b"role");
     let end = names + put_permission_fields(&mut out[names..], s, places);
-    let lines = end + put_empty_line(&mut out[end..]);
+    out[end] = b'\n';
+    let lines = end + 1;
     lines + put_role_lines(&mut out[lines..], gives, roles, places.len())
 }

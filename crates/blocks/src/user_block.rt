@@ -4,7 +4,6 @@ use crate::role_names::put_role_fields;
 use names::user_name_in;
 use numbers::UserNo;
 use text::put_bytes;
-use text::put_empty_line;
 ghost use Prim.Native.Nat.{_*_, _≤_};
 ghost use lib.ListN.{length};
 ghost use Rattle.spec.specs.Text.{line-text, text-of};
@@ -57,6 +56,7 @@ pub fn put_users<'a, 'b>(
 {
     let names = put_bytes(out, b"user");
     let end = names + put_role_fields(&mut out[names..], roles);
-    let lines = end + put_empty_line(&mut out[end..]);
+    out[end] = b'\n';
+    let lines = end + 1;
     lines + put_user_lines(&mut out[lines..], s, places, has, roles)
 }

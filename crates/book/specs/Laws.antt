@@ -5,3 +5,4 @@ pub mod Placed
 pub mod CountsMeasured
 pub mod WitnessMeasured
 pub mod BookMeasured
+pub mod BlockBehind

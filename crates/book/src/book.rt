@@ -1,5 +1,6 @@
 // The whole book: four blocks, one empty line between each two. Each block is written where the one before ended,
 // plus that empty line.
+use crate::places::first_places;
 use blocks::Counts;
 use blocks::put_counts;
 use blocks::put_roles;
@@ -8,7 +9,6 @@ use blocks::put_witness;
 use names::Layout;
 use numbers::CELL_WORDS;
 use numbers::ROLE_WORDS;
-use text::put_empty_line;
 ghost use Prim.Native.Nat.{_≤_};
 ghost use lib.ListN.{length};
 ghost use Rattle.spec.specs.Sheet.{sheet-of};
@@ -35,29 +35,16 @@ pub fn write_book<'a>(
         (now (out .entry)) (now (out .exit)) r ⌝ }
 {
     let roles = counts.roles;
-    let users = layout.users;
-    let permissions = layout.permissions;
-    let user_places = layout.user_places.at;
-    let permission_places = layout.permission_places.at;
+    let users = first_places(&layout.user_places.at, layout.users);
+    let permissions = first_places(&layout.permission_places.at, layout.permissions);
     let first = put_counts(out, counts);
-    let from = first + put_empty_line(&mut out[first..]);
-    let second = from
-        + put_roles(
-            &mut out[from..],
-            s,
-            &permission_places[..permissions],
-            gives,
-            roles,
-        );
-    let from = second + put_empty_line(&mut out[second..]);
-    let third = from + put_users(&mut out[from..], s, &user_places[..users], has, roles);
-    let from = third + put_empty_line(&mut out[third..]);
-    from
-        + put_witness(
-            &mut out[from..],
-            s,
-            &user_places[..users],
-            &permission_places[..permissions],
-            witness,
-        )
+    out[first] = b'\n';
+    let from = first + 1;
+    let second = from + put_roles(&mut out[from..], s, permissions, gives, roles);
+    out[second] = b'\n';
+    let from = second + 1;
+    let third = from + put_users(&mut out[from..], s, users, has, roles);
+    out[third] = b'\n';
+    let from = third + 1;
+    from + put_witness(&mut out[from..], s, users, permissions, witness)
 }

@@ -1,5 +1,6 @@
 // How long a book is, before anything of it is written: one sum of the bytes of its counts, its names, its cells and
 // its headings, whatever the cells are, and of its witness.
+use crate::places::first_places;
 use blocks::Counts;
 use cell_text::next_set;
 use decimal::decimal_length;
@@ -135,17 +136,12 @@ pub fn book_length<'a>(
     let roles = counts.roles;
     let users = layout.users;
     let permissions = layout.permissions;
-    let user_places = layout.user_places.at;
-    let permission_places = layout.permission_places.at;
-    let sheet_names = bytes_at(&user_places[..users]) + bytes_at(&permission_places[..permissions]);
+    let user_places = first_places(&layout.user_places.at, users);
+    let permission_places = first_places(&layout.permission_places.at, permissions);
+    let sheet_names = bytes_at(user_places) + bytes_at(permission_places);
     let names = sheet_names + 2 * role_names_length(roles);
     let lines = roles * (2 * permissions + 1) + users * (2 * roles + 1);
     let headings = HEADINGS + permissions + roles;
-    let shown = witness_length(
-        s,
-        &user_places[..users],
-        &permission_places[..permissions],
-        witness,
-    );
+    let shown = witness_length(s, user_places, permission_places, witness);
     counts_length(counts) + headings + names + lines + shown
 }

@@ -1,6 +1,7 @@
 // Writing a role book into a lent buffer, if there is room for it.
 mod book;
 mod length;
+mod places;
 mod writing;
 
 pub use book::write_book;

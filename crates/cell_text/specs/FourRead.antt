@@ -9,7 +9,7 @@ use borrow.Author.Tests.{eqb-true, eq-eqb}
 use lib.Bits.{bitAnd, and-lt}
 use lib.Dec.{eqb}
 use lib.Pow.{pow-pos, pow-lt}
-use Rattle.bits.specs.Truth.{not-both, passes-or-fails}
+use Rattle.bits.specs.Truth.{not-both, passes-or-fails, and-left, and-right}
 use Rattle.bits.specs.Laws.Bit.{bit-and, bit-ext, bit-of-zero, bit-one-shifted, one-shifted}
 use Rattle.bits.specs.Counting.{one-if}
 use Rattle.bits.specs.Bit.{bit}
@@ -40,46 +40,39 @@ pub record FourOf (n : ℕ) (r : CellsWord) : Type 0 where
   pub off : r .good ≡ false → (a b c d : Bool) → n ≡ no-cells + four-set a b c d → ⊥
   pub blank : r .good ≡ false → r .word ≡ 0
 
+-- a test that passes in each of the sixteen cases
+abbrev each : (Bool → Bool) → Bool
+each test = test true && test false
+
+in-each : (test : Bool → Bool) → So (each test) → (b : Bool) → So (test b)
+in-each test e true = and-left (test true) (test false) e
+in-each test e false = and-right (test true) (test false) e
+
+each-four : (f g : Bool → Bool → Bool → Bool → ℕ)
+    → So (each (λ a. each (λ b. each (λ c. each (λ d. eqb (f a b c d) (g a b c d)))))) → (a b c d : Bool)
+    → f a b c d ≡ g a b c d
+each-four f g e a b c d =
+    eqb-true (f a b c d) (g a b c d)
+    (in-each (λ d. eqb (f a b c d) (g a b c d))
+    (in-each (λ c. each (λ d. eqb (f a b c d) (g a b c d)))
+    (in-each (λ b. each (λ c. each (λ d. eqb (f a b c d) (g a b c d))))
+    (in-each (λ a. each (λ b. each (λ c. each (λ d. eqb (f a b c d) (g a b c d))))) e a) b) c) d)
+
 -- the positions of four cells say which are set
-pub set-digits : (a b c d : Bool) → let n = four-set a b c d in four-set (bit n 8) (bit n 24) (bit n 40) (bit n 56) ≡ n
+abbrev set-read : ℕ → ℕ
+set-read n = four-set (bit n 8) (bit n 24) (bit n 40) (bit n 56)
+
+pub set-digits : (a b c d : Bool) → set-read (four-set a b c d) ≡ four-set a b c d
 unfolding bit
-set-digits true true true true = refl
-set-digits true true true false = refl
-set-digits true true false true = refl
-set-digits true true false false = refl
-set-digits true false true true = refl
-set-digits true false true false = refl
-set-digits true false false true = refl
-set-digits true false false false = refl
-set-digits false true true true = refl
-set-digits false true true false = refl
-set-digits false true false true = refl
-set-digits false true false false = refl
-set-digits false false true true = refl
-set-digits false false true false = refl
-set-digits false false false true = refl
-set-digits false false false false = refl
+set-digits = each-four (λ a b c d. set-read (four-set a b c d)) four-set refl
 
 -- so do the positions of their word
-pub word-digits : (a b c d : Bool) → let w = four-word a b c d in four-set (bit w 0) (bit w 1) (bit w 2) (bit w 3) ≡
-    four-set a b c d
+abbrev word-read : ℕ → ℕ
+word-read n = four-set (bit n 0) (bit n 1) (bit n 2) (bit n 3)
+
+pub word-digits : (a b c d : Bool) → word-read (four-word a b c d) ≡ four-set a b c d
 unfolding bit
-word-digits true true true true = refl
-word-digits true true true false = refl
-word-digits true true false true = refl
-word-digits true true false false = refl
-word-digits true false true true = refl
-word-digits true false true false = refl
-word-digits true false false true = refl
-word-digits true false false false = refl
-word-digits false true true true = refl
-word-digits false true true false = refl
-word-digits false true false true = refl
-word-digits false true false false = refl
-word-digits false false true true = refl
-word-digits false false true false = refl
-word-digits false false false true = refl
-word-digits false false false false = refl
+word-digits = each-four (λ a b c d. word-read (four-word a b c d)) four-set refl
 
 pub word-small : (a b c d : Bool) → four-word a b c d < 2 ^ 4
 word-small a b c d = omega (arith, one-if-small a, one-if-small b, one-if-small c, one-if-small d)

@@ -2,13 +2,11 @@
 -- grant. Assumes nothing.
 use Prim.Native.Nat.{ℕ, _/_, _<_}
 use mathlib.Core.Path.{_≡_}
-use mathlib.Core.Bool.{cond}
 use mathlib.Core.List.{List, reverse}
-use lib.Dec.{eqb}
 use lib.ListN.{length, getD}
 use Rattle.spec.specs.Vocabulary.{list-of}
 use Rattle.spec.specs.Sheet.{Grant}
-use Rattle.spec.specs.Reduction.{Removal, single, tied, Reduction}
+use Rattle.spec.specs.Reduction.{Reduction}
 use Rattle.spec.specs.Roles.{Classed, Classes, paired, class-of, classes-of}
 use Rattle.lists.specs.LatestFirst.{latest-first}
 use Rattle.cells.specs.Rows.{row-bits}
@@ -40,10 +38,6 @@ pub record CellsBelow (size : ℕ) (cells : List ℕ) : Type 0 where
 -- these are cells of the first so many users
 pub record UsersBelow (users size : ℕ) (cells : List ℕ) : Type 0 where
   pub below : (i : ℕ) → i < size → getD cells i 0 / row-bits < users
-
--- a removal by its two cells: a grant whose partner is itself was removed as single
-abbrev pub removal-of : ℕ → ℕ → Removal
-removal-of it partner = cond (eqb it partner) (single (grant-of it)) (tied (grant-of it) (grant-of partner))
 
 -- what a reduction left and removed, as arrays of cells say it
 abbrev pub reduction-in : List ℕ → List ℕ → List ℕ → Reduction

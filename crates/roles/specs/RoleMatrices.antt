@@ -1,27 +1,19 @@
 -- The two matrices of some grants in roles as rows of words: a user has the role of each of its grants, and a role
 -- gives the permission of each of its grants. Each grant sets one cell in either matrix, and the cells set by the
 -- grants so far are those that the definition finds among them.
-use Prim.Native.Nat.{ℕ, zero, suc, _+_, _*_, _/_, _%_, _<_}
-use native.Mathlib.Nat.{mul-assoc, mod-lt}
-use native.Mathlib.Numerals.{add-one}
+use Prim.Native.Nat.{ℕ, zero, suc, _*_, _%_, _<_}
 use mathlib.Core.Path.{_≡_, refl}
-use mathlib.Core.Bool.{Bool, true, false, _&&_, _||_, or-comm, and-comm, and-true}
+use mathlib.Core.Bool.{Bool, true, false, _&&_, _||_, or-comm, and-true}
 use mathlib.Core.List.{List}
 use lib.Dec.{eqb}
 use lib.ListN.{getD, replicate}
 use Rattle.spec.specs.Vocabulary.{any}
-use Rattle.spec.specs.Limits.{user-limit}
 use Rattle.spec.specs.Roles.{Classed}
 use Rattle.bits.specs.Bit.{word-bits}
 use Rattle.bits.specs.Laws.Bit.{bit-of-zero}
 use Rattle.cells.specs.Rows.{row-words, row-bits, cell}
 use Rattle.cells.specs.CellAdded.{CellAdded, word-of}
-use Rattle.cells.specs.Laws.CellAdded.{word-below}
 use Rattle.search.specs.Gathered.{eqb-comm}
-use Rattle.cells.specs.CellPlaces.{cell-words, cell-limit, grant-of}
-use Rattle.cells.specs.Laws.CellPlace.{row-bits-pos, user-below}
-use Rattle.roles.specs.CellClasses.{paired-in}
-use Rattle.roles.specs.Laws.CellClass.{paired-next}
 
 -- user u has a grant of role r
 abbrev pub has-role : List Classed → ℕ → ℕ → Bool
@@ -38,27 +30,6 @@ pub record CellsShow (words : List ℕ) (matrix : ℕ → ℕ → Bool) : Type 0
 -- the words of as many roles as a row has bits
 abbrev pub role-words : ℕ
 role-words = row-bits * row-words
-
--- the first role numbers are columns of a row
-pub record RolesBelow (size : ℕ) (roles : List ℕ) : Type 0 where
-  pub below : (i : ℕ) → i < size → getD roles i 0 < row-bits
-
--- ---- where a grant's cell stands
-
-user-of-cell-below : (n : ℕ) → n < cell-limit → n / row-bits < user-limit
-unfolding row-bits
-user-of-cell-below n l = user-below n user-limit (rw (mul-assoc user-limit row-words word-bits) at l)
-
--- in the rows of the users, by its user and its role
-pub user-word-below : (it role : ℕ) → it < cell-limit → role < row-bits → word-of (it / row-bits) role < cell-words
-user-word-below it role l k = word-below user-limit (it / row-bits) role (user-of-cell-below it l) k
-
--- in the rows of the roles, by its role and its permission
-pub permission-of-cell-below : (n : ℕ) → n % row-bits < row-bits
-permission-of-cell-below n = mod-lt n row-bits-pos
-
-pub role-word-below : (it role : ℕ) → role < row-bits → word-of role (it % row-bits) < role-words
-role-word-below it role k = word-below row-bits role (it % row-bits) k (permission-of-cell-below it)
 
 -- ---- no grant, and one grant more
 

@@ -1,6 +1,6 @@
 -- Role numbers as arrays: the role of each grant by its number, found through a table with the role of each class.
 -- Assumes nothing.
-use Prim.Native.Nat.{ℕ, _*_, _<_}
+use Prim.Native.Nat.{ℕ, _*_}
 use mathlib.Core.List.{List}
 use lib.ListN.{getD}
 use Rattle.spec.specs.Limits.{grant-limit}
@@ -16,7 +16,3 @@ no-role = grant-limit
 -- the class of grant i, as arrays say it
 abbrev pub class-key : List ℕ → List ℕ → ℕ → ℕ
 class-key class cells i = getD class (getD cells i 0) 0
-
--- the classes of the first grants stand in the table
-pub record KeysBelow (size : ℕ) (class cells : List ℕ) : Type 0 where
-  pub below : (i : ℕ) → i < size → class-key class cells i < class-limit

@@ -14,7 +14,7 @@ use Rattle.spec.specs.Roles.{Classed, roles-of-classes}
 use Rattle.bits.specs.Truth.{fails-unless}
 use Rattle.lists.specs.ListOfLaws.{length-list-of, getD-list-of}
 use Rattle.lists.specs.PlacementLaws.{class-below-used}
-use Rattle.lists.specs.LatestFirst.{latest-first, latest-first-length, latest-first-class}
+use Rattle.lists.specs.LatestFirst.{latest-first, latest-first-length}
 use Rattle.lists.specs.KeyLaws.{by-key}
 use Rattle.cells.specs.Rows.{row-bits, cell}
 use Rattle.cells.specs.CellPlaces.{grant-of}
@@ -24,7 +24,7 @@ use Rattle.roles.specs.CellClasses.{ClassAt, CellsBelow, UsersBelow, lis
 use Rattle.roles.specs.Laws.Role.{has-role-elim, gives-permission-elim}
 use Rattle.roles.specs.RoleNumbers.{class-key}
 use Rattle.roles.specs.Laws.RoleNumber.{role-numbers-by-class}
-use Rattle.roles.specs.RoleMatrices.{has-role, gives-permission, CellsShow, RolesBelow}
+use Rattle.roles.specs.RoleMatrices.{has-role, gives-permission, CellsShow}
 
 -- a role set as words, with its count
 pub record RolesAt (has gives : List ℕ) (count users : ℕ) (roles : RoleSet) : Type 0 where
@@ -36,18 +36,6 @@ pub record RolesOnly (has gives : List ℕ) (count users : ℕ) : Type 0 where
   pub no-user : (u r : ℕ) → users ≤ u → r < row-bits → cell has u r ≡ false
   pub no-role : (u r : ℕ) → count ≤ r → r < row-bits → cell has u r ≡ false
   pub no-giver : (r p : ℕ) → count ≤ r → p < row-bits → cell gives r p ≡ false
-
--- role numbers are columns of a row
-pub roles-below : {numbers roles : List ℕ} {size count : ℕ} → Placed numbers roles size count
-    → used numbers ≤ row-bits → RolesBelow size roles
-roles-below {numbers} {roles} {size} placed few =
-    let room : used (latest-first roles size) ≤ row-bits = rw (placed .so-far) few in
-    record {
-      below = λ i l.
-          let within : i < length (latest-first roles size) = rw (latest-first-length roles size) l in
-          rw (latest-first-class roles size l) at (lt-of-lt-of-le (class-below-used (latest-first roles size) within)
-          room);
-    }
 
 -- what the two matrices and the count show
 pub matrices-show : {class cells roles has gives : List ℕ} {members : List Classed} {size count : ℕ} (users : ℕ)

@@ -10,7 +10,8 @@ ghost use Rattle.spec.specs.Cover.{used};
 ghost use Rattle.spec.specs.Roles.{Classes, put-back};
 ghost use Rattle.lists.specs.LatestFirst.{latest-first};
 ghost use Rattle.cells.specs.CellPlaces.{cell-limit};
-ghost use Rattle.roles.specs.CellClasses.{ClassAt, ClassesAt, CellsBelow, removal-of, classes-in, paired-in};
+ghost use Rattle.verdict.specs.Log.{removal-of};
+ghost use Rattle.roles.specs.CellClasses.{ClassAt, ClassesAt, CellsBelow, classes-in, paired-in};
 
 // A class number of one byte in two.
 fn wide(class: u8) -> u16

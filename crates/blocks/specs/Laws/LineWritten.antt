@@ -3,11 +3,11 @@
 use Prim.Native.Nat.{ℕ, _+_, _≤_}
 use mathlib.Core.Path.{_≡_, sym}
 use mathlib.Core.List.{_++_}
-use lib.ListN.{length, take, drop}
+use lib.ListN.{length, set, take, drop}
 use lib.Seq.{take-at}
 use Rattle.spec.specs.Text.{Bytes}
 use Rattle.text.specs.Line.{line-end}
-use Rattle.text.specs.Written.{Written, WrittenSoFar, rest-from, with-rest, front-fits, then-written}
+use Rattle.text.specs.Written.{Written, WrittenSoFar, rest-from, with-rest, front-fits, then-byte, then-written}
 
 -- the buffer has room for a line
 pub record LineRoom (name fields before : Bytes) : Type 0 where
@@ -36,10 +36,9 @@ module _ {word fields lines before : Bytes} (room : BlockRoom word fields lines 
   pub heading-room : LineRoom word fields before
   heading-room = record { fits = front-fits ((word ++ fields) ++ line-end) lines (room .fits) }
 
-  pub behind-heading : {mid rest : Bytes} {at m : ℕ} → WrittenSoFar (word ++ fields) line-end before mid at
-      → Written line-end (rest-from at mid) rest m
-      → WrittenSoFar ((word ++ fields) ++ line-end) lines before (with-rest at mid rest) (at + m)
-  behind-heading r v = record { written = then-written r v; fits = room .fits }
+  pub behind-heading : {mid : Bytes} {at : ℕ} → WrittenSoFar (word ++ fields) line-end before mid at
+      → WrittenSoFar ((word ++ fields) ++ line-end) lines before (set mid at 10) (at + 1)
+  behind-heading r = record { written = then-byte r; fits = room .fits }
 
 -- what was written is the front of the buffer
 pub front-written : {bytes before after : Bytes} {count : ℕ} → Written bytes before after count

@@ -2,9 +2,12 @@
 use Prim.Native.Nat.{ℕ, _+_, _*_, _≤_}
 use native.Mathlib.Nat.{mul-le-mul-right}
 use native.Mathlib.Omega.{arith}
-use lib.ListN.{length, length-take}
+use mathlib.Core.Path.{_≡_}
+use mathlib.Core.List.{List}
+use lib.ListN.{length, take, length-take}
 use Rattle.spec.specs.Text.{Bytes}
-use Rattle.names.specs.LaidOut.{LaidOut}
+use Rattle.names.specs.LaidOut.{LaidOut, UsersAt, PermissionsAt}
+use Rattle.names.specs.Laws.LaidOut.{users-at, permissions-at}
 use Rattle.names.specs.declared.layout.Layout.{Layout}
 
 module _ {text : Bytes} {layout : Layout} (laid : LaidOut text layout) where
@@ -25,6 +28,15 @@ module _ {text : Bytes} {layout : Layout} (laid : LaidOut text layout) where
         laid .permission-names .total,
         laid .permission-total,
       )
+
+module _ {text : Bytes} {layout : Layout} (laid : LaidOut text layout) {places : List ℕ} where
+  -- these places of each kind
+  pub users-lent : places ≡ take (layout .users) (layout .«user_places» .at) → UsersAt text places
+  users-lent e = rw e (users-at text layout laid)
+
+  pub permissions-lent : places ≡ take (layout .permissions) (layout .«permission_places» .at)
+      → PermissionsAt text places
+  permissions-lent e = rw e (permissions-at text layout laid)
 
 -- so many lines of so many cells
 pub cells-small : (cells : ℕ) {lines most : ℕ} → lines ≤ most → lines * (2 * cells + 1) ≤ most * (2 * cells + 1)

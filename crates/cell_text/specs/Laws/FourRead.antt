@@ -106,11 +106,6 @@ module _ (text : Bytes) (at low high : ℕ)
         low-two = two-cells _ _ _ _ low (ones 0) (ones 1) l (omega (
           arith,
           e,
-          l .first,
-          l .second,
-          l .third,
-          l .fourth,
-          l .sum,
           one-if-small (ones 0),
           one-if-small (ones 1),
         ))
@@ -120,11 +115,6 @@ module _ (text : Bytes) (at low high : ℕ)
         high-two = two-cells _ _ _ _ high (ones 2) (ones 3) h (omega (
           arith,
           e,
-          l .first,
-          l .second,
-          l .third,
-          l .fourth,
-          l .sum,
           one-if-small (ones 0),
           one-if-small (ones 1),
         ))

@@ -19,7 +19,8 @@ use Rattle.lists.specs.ListOfLaws.{list-of-last}
 use Rattle.cells.specs.Laws.Grant.{same-grant-equal, equal-same-grant}
 use Rattle.cells.specs.CellPlaces.{cell-limit, grant-of}
 use Rattle.cells.specs.Laws.CellList.{cell-of, cell-of-grant}
-use Rattle.roles.specs.CellClasses.{ClassAt, ClassesAt, listed, paired-in, removal-of}
+use Rattle.verdict.specs.Log.{removal-of}
+use Rattle.roles.specs.CellClasses.{ClassAt, ClassesAt, listed, paired-in}
 
 -- ---- cells and grants
 

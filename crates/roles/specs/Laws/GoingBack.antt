@@ -13,8 +13,8 @@ use Rattle.spec.specs.Reduction.{Removal, single, tied}
 use Rattle.spec.specs.Cover.{used}
 use Rattle.spec.specs.Roles.{Classes, paired, class-of, put-back, put-all-back, kernel-classes, classes-of}
 use Rattle.lists.specs.LatestFirst.{latest-first}
-use Rattle.verdict.specs.Log.{log-of}
-use Rattle.roles.specs.CellClasses.{ClassAt, ClassesAt, listed, paired-in, removal-of, classes-in}
+use Rattle.verdict.specs.Log.{removal-of, log-of}
+use Rattle.roles.specs.CellClasses.{ClassAt, ClassesAt, listed, paired-in, classes-in}
 
 -- ---- how great class numbers are
 

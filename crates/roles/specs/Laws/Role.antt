@@ -93,6 +93,19 @@ pub record OpenedBy (grants : List Grant) (placed : List ℕ) (u p : ℕ) : Type
   pub permission : grant-at grants second .permission ≡ p
   pub one-role : class-in placed first ≡ class-in placed second
 
+opened : {grants : List Grant} {placed : List ℕ} {u p r : ℕ} → RoleGrant (λ g. g .user) grants placed u r
+    → RoleGrant (λ g. g .permission) grants placed p r → OpenedBy grants placed u p
+opened a b =
+    record {
+      first = a .number;
+      first-within = a .within;
+      user = a .valued;
+      second = b .number;
+      second-within = b .within;
+      permission = b .valued;
+      one-role = a .of-role ∙ sym (b .of-role);
+    }
+
 module _ (grants : List Grant) (placed : List ℕ) (count : ℕ) (whole : length grants ≡ length placed) where
   -- a cell that the product opens comes from two grants of one role
   pub product-elim : (u p : ℕ) → So (product (placed-roles grants placed count) u p) → OpenedBy grants placed u p
@@ -101,19 +114,10 @@ module _ (grants : List Grant) (placed : List ℕ) (count : ℕ) (whole : length
       let roles = placed-roles grants placed count in
       let found = some-below-elim count (λ r. roles .has u r && roles .gives r p) e in
       let r = found .place in
-      let a = has-role-elim grants placed count whole u r (and-left (roles .has u r) (roles .gives r p)
-      (found .holds)) in
-      let b = gives-permission-elim grants placed count whole r p (and-right (roles .has u r) (roles .gives r p)
-      (found .holds)) in
-      record {
-        first = a .number;
-        first-within = a .within;
-        user = a .valued;
-        second = b .number;
-        second-within = b .within;
-        permission = b .valued;
-        one-role = a .of-role ∙ sym (b .of-role);
-      }
+      opened
+      (has-role-elim grants placed count whole u r (and-left (roles .has u r) (roles .gives r p) (found .holds)))
+      (gives-permission-elim grants placed count whole r p (and-right (roles .has u r) (roles .gives r p)
+      (found .holds)))
 
   -- the product opens every grant whose role is counted
   pub product-intro : (i : ℕ) → i < length placed → class-in placed i < count

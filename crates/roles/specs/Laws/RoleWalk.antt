@@ -1,7 +1,7 @@
 -- How the roles grow along the rows. The set cells in order are one list, and those below a cell are its first; so
 -- the next set cell is the next of the list, its grant takes the role of its class, and sets one cell in either
 -- matrix. No role is past the last one of the whole list, so each is a column of a row.
-use Prim.Native.Nat.{ℕ, zero, suc, _+_, _*_, _/_, _%_, _^_, _≤_, _<_, _-_, max, zero-le}
+use Prim.Native.Nat.{ℕ, zero, suc, _+_, _*_, _/_, _%_, _≤_, _<_, _-_, max, zero-le}
 use native.Mathlib.Nat.{le-refl, le-of-lt, le-trans, lt-of-lt-of-le, eq-or-lt-of-le, le-of-suc-le-suc}
 use native.Mathlib.Numerals.{add-one}
 use native.Mathlib.Omega.{arith}
@@ -29,7 +29,7 @@ use Rattle.cells.specs.Rows.{row-words, row-bits}
 use Rattle.cells.specs.CellAdded.{CellAdded}
 use Rattle.cells.specs.Laws.CellAdded.{cell-set}
 use Rattle.cells.specs.CellPlaces.{cell-words, cell-limit, grant-of, marked}
-use Rattle.cover.specs.CoverKeys.{Keyed, class-from, none-keyed, keyed-count-le, class-from-is-next, one-keyed}
+use Rattle.cover.specs.CoverKeys.{class-from, none-keyed, keyed-count-le, class-from-is-next, one-keyed}
 use Rattle.roles.specs.CellClasses.{paired-in}
 use Rattle.roles.specs.RoleNumbers.{class-limit, no-role, class-key}
 use Rattle.roles.specs.RoleMatrices.{role-words, no-cells, one-cell-more}

@@ -58,46 +58,28 @@ put-counted-requires c κs =
     let s = c .before .before .before in
     front-fits (front s) (bound s) (front-room s)
 
-sub-put-counted : tie.Need-sub-put-counted
-sub-put-counted c = within-buffer (behind-roles (c .before .before))
-
-part-put-counted-start : tie.Need-part-put-counted-start
-part-put-counted-start c = within-buffer (behind-roles (c .before .before))
-
-put-counted-requires-2 : tie.Need-put-counted-requires-2
-put-counted-requires-2 c κs = room-behind (behind-roles (c .before .before .before .before))
-
-add-bound : tie.Need-add-bound
-add-bound c = omega (arith, place-within (behind-bound (c .before .before)))
-
-sub-put-standing : tie.Need-sub-put-standing
-sub-put-standing c = within-buffer (behind-bound (c .before .before))
-
-part-put-standing-start : tie.Need-part-put-standing-start
-part-put-standing-start c = within-buffer (behind-bound (c .before .before))
-
-put-standing-requires : tie.Need-put-standing-requires
-put-standing-requires c κs = room-behind (behind-bound (c .before .before .before))
-
-add-result : tie.Need-add-result
-add-result c =
-    let earlier = c .before .before .before .before .before .before in
-    omega (arith, end-within (behind-bound earlier) (c .before .before .put-standing .ensures))
-
-same-length : tie.Need-same-length
-same-length c =
-    let earlier = c .before .before .before .before .before .before in
-    then-same-length (behind-bound earlier) (c .before .before .put-standing .ensures)
+-- the bound is the last before the state
+abbrev bounded : tie.After-put-standing → tie.After-put-counted2
+bounded c = c .before .before .before .before
 
 returns : tie.Need-returns
 returns c =
-    let earlier = c .before .before .before .before .before .before in
-    let a = earlier in
-    written-as (sym (counts-parts (start (first a) .args .counts)))
-    (then-written (behind-bound a) (c .before .before .put-standing .ensures))
+    let put = c .before .before in
+    written-as (sym (counts-parts (start (first (bounded put)) .args .counts)))
+    (then-written (behind-bound (bounded put)) (put .put-standing .ensures))
 
 pub put-counts-spec : {M : Type 1} → statement M
 put-counts-spec =
-    tie.close (tie.spec (λ c. search needs) put-counted-requires sub-put-counted part-put-counted-start
-    (λ c. search needs) (λ c. search needs) put-counted-requires-2 add-bound sub-put-standing part-put-standing-start
-    (λ c. search needs) put-standing-requires add-result same-length returns)
+    tie.close (tie.spec (λ c. search needs) put-counted-requires
+    (λ c. within-buffer (behind-roles (c .before .before))) (λ c. within-buffer (behind-roles (c .before .before)))
+    (λ c. search needs) (λ c. search needs) (λ c κs. room-behind (behind-roles (c .before .before .before .before)))
+    (λ c. omega (arith, place-within (behind-bound (c .before .before))))
+    (λ c. within-buffer (behind-bound (c .before .before))) (λ c. within-buffer (behind-bound (c .before .before)))
+    (λ c. search needs) (λ c κs. room-behind (behind-bound (c .before .before .before)))
+    (λ c. omega (
+      arith,
+      end-within (behind-bound (bounded (c .before .before))) (c .before .before .put-standing
+          .ensures),
+    ))
+    (λ c. then-same-length (behind-bound (bounded (c .before .before))) (c .before .before .put-standing .ensures))
+    returns)

@@ -39,37 +39,18 @@ behind-second c =
     let a = c .before .before .before .before in
     behind-fields (room (start a)) (a .put-bytes .ensures) (c .put-cells .ensures)
 
-put-bytes-requires : tie.Need-put-bytes-requires
-put-bytes-requires c κs = name-fits (room (c .before .before .before .before))
-
-sub-put-cells : tie.Need-sub-put-cells
-sub-put-cells c = within-buffer (behind-first (c .before .before))
-
-part-put-cells-start : tie.Need-part-put-cells-start
-part-put-cells-start c = within-buffer (behind-first (c .before .before))
-
-put-cells-requires : tie.Need-put-cells-requires
-put-cells-requires c κs =
-    let a = c .before .before .before in
-    (start a .pre .0, room-behind (behind-first a))
-
-add-end : tie.Need-add-end
-add-end c = omega (arith, place-within (behind-second (c .before .before)))
-
-slice-write-out : tie.Need-slice-write-out
-slice-write-out c = byte-within (behind-second (c .before .before))
-
-add-result : tie.Need-add-result
-add-result c =
-    omega (arith, byte-within (behind-second (c .before .before)), place-within (behind-second (c .before .before)))
-
-same-length : tie.Need-same-length
-same-length c = byte-same-length (behind-second (c .before .before))
-
-returns : tie.Need-returns
-returns c = then-byte (behind-second (c .before .before))
-
 pub put-named-line-spec : {M : Type 1} → statement M
 put-named-line-spec =
-    tie.close (tie.spec put-bytes-requires sub-put-cells part-put-cells-start (λ c. search needs) put-cells-requires
-    add-end slice-write-out add-result same-length returns)
+    tie.close (tie.spec (λ c κs. name-fits (room (c .before .before .before .before)))
+    (λ c. within-buffer (behind-first (c .before .before))) (λ c. within-buffer (behind-first (c .before .before)))
+    (λ c. search needs)
+    (λ c κs. (start (c .before .before .before) .pre .0, room-behind (behind-first (c .before .before .before))))
+    (λ c. omega (arith, place-within (behind-second (c .before .before))))
+    (λ c. byte-within (behind-second (c .before .before)))
+    (λ c. omega (
+      arith,
+      byte-within (behind-second (c .before .before)),
+      place-within (behind-second
+          (c .before .before)),
+    )) (λ c. byte-same-length (behind-second (c .before .before)))
+    (λ c. then-byte (behind-second (c .before .before))))

@@ -38,35 +38,17 @@ behind-second c =
     let a = c .before .before .before .before in
     behind-fields (room (start a)) (a .put-bytes .ensures) (c .put-field .ensures)
 
-put-bytes-requires : tie.Need-put-bytes-requires
-put-bytes-requires c κs = name-fits (room (c .before .before .before .before))
-
-sub-put-field : tie.Need-sub-put-field
-sub-put-field c = within-buffer (behind-first (c .before .before))
-
-part-put-field-start : tie.Need-part-put-field-start
-part-put-field-start c = within-buffer (behind-first (c .before .before))
-
-put-field-requires : tie.Need-put-field-requires
-put-field-requires c κs = room-behind (behind-first (c .before .before .before))
-
-add-end : tie.Need-add-end
-add-end c = omega (arith, place-within (behind-second (c .before .before)))
-
-slice-write-out : tie.Need-slice-write-out
-slice-write-out c = byte-within (behind-second (c .before .before))
-
-add-result : tie.Need-add-result
-add-result c =
-    omega (arith, byte-within (behind-second (c .before .before)), place-within (behind-second (c .before .before)))
-
-same-length : tie.Need-same-length
-same-length c = byte-same-length (behind-second (c .before .before))
-
-returns : tie.Need-returns
-returns c = then-byte (behind-second (c .before .before))
-
 pub put-pair-line-spec : {M : Type 1} → statement M
 put-pair-line-spec =
-    tie.close (tie.spec put-bytes-requires sub-put-field part-put-field-start (λ c. search needs) put-field-requires
-    add-end slice-write-out add-result same-length returns)
+    tie.close (tie.spec (λ c κs. name-fits (room (c .before .before .before .before)))
+    (λ c. within-buffer (behind-first (c .before .before))) (λ c. within-buffer (behind-first (c .before .before)))
+    (λ c. search needs) (λ c κs. room-behind (behind-first (c .before .before .before)))
+    (λ c. omega (arith, place-within (behind-second (c .before .before))))
+    (λ c. byte-within (behind-second (c .before .before)))
+    (λ c. omega (
+      arith,
+      byte-within (behind-second (c .before .before)),
+      place-within (behind-second
+          (c .before .before)),
+    )) (λ c. byte-same-length (behind-second (c .before .before)))
+    (λ c. then-byte (behind-second (c .before .before))))

@@ -1,261 +1,144 @@
 -- `length::book_length`: each summand is what the law of the book's length says, and the limits of a sheet keep the
 -- sum small.
 use borrow.Author.Needs.{needs}
-use Prim.Native.Nat.{_≤_}
+use Prim.Native.Nat.{ℕ, _+_, _*_, _^_, _≤_, _<_}
 use native.Mathlib.Omega.{arith}
 use mathlib.Core.Path.{_∙_}
-use lib.ListN.{length-take}
 use Rattle.spec.specs.Limits.{user-limit}
 use Rattle.cells.specs.Rows.{row-words, row-bits}
 use Rattle.rules.specs.AcceptedFacts.{accepted-lawful}
-use Rattle.names.specs.Laws.LaidOut.{users-at, permissions-at}
+use Rattle.names.specs.LaidOut.{UsersAt, PermissionsAt}
+use Rattle.names.specs.declared.layout.Layout.{Layout}
 use Rattle.blocks.specs.Laws.Laid.{few-users, permissions-fit}
 use Rattle.book.specs.Laws.NameBytes.{bytes-small, role-bytes-small, users-short, permissions-short}
 use Rattle.book.specs.Laws.NameBytes.{users-bytes, permissions-bytes}
-use Rattle.book.specs.Laws.Placed.{users-placed, permissions-placed, cells-small}
+use Rattle.book.specs.Laws.Placed.{users-placed, permissions-placed, users-lent, permissions-lent, cells-small}
 use Rattle.book.specs.Laws.BookMeasured.{book-sum}
 use Rattle.book.proofs.length.book_length.Statement.{statement}
 use Rattle.book.proofs.length.book_length.Tie as tie
 
-abbrev start : tie.After-permission-places → tie.Start
-start c = c .before .before .before
+-- the layout, which the function keeps where it can be lent
+abbrev layout : tie.Start → Layout
+layout s = s .args .t2
+
+abbrev begun : tie.After-first-places → tie.Start
+begun c = c .before .before .before .before .before
 
 -- where the names of the sheet are counted, and those of the roles
 abbrev counted : tie.After-bytes-at2 → tie.Start
-counted c = start (c .before .before .before .before)
+counted c =
+    let placed = c .before .before in
+    begun (placed .before .before .before)
 
 abbrev named : tie.After-role-names-length → tie.Start
 named c = counted (c .before)
 
-users-fit : (c : tie.After-bytes-at) → c .bytes-at .result ≤ 4_096
-users-fit c =
-    let s = start (c .before .before) in
-    omega (
-      arith,
-      c .bytes-at .ensures,
-      bytes-small (users-short (users-at (s .args .s .now) (s .args .layout)
-          (s .pre .0))),
-    )
+first-places-requires : tie.Need-first-places-requires
+first-places-requires c κs = users-placed (c .before .before .before .before .pre .0)
 
-permissions-in : (c : tie.After-bytes-at2) → c .bytes-at2 .result ≤ 4_096
-permissions-in c =
-    let s = counted c in
+first-places-requires-2 : tie.Need-first-places-requires-2
+first-places-requires-2 c κs = permissions-placed (begun (c .before .before) .pre .0)
+
+-- the places of the names
+users-at : (c : tie.After-first-places2)
+    → UsersAt (begun (c .before .before .before) .args .s .now) (c .before .before .before .first-places .result .now)
+users-at c = users-lent (begun (c .before .before .before) .pre .0) (c .before .before .before .first-places .ensures)
+
+permissions-at : (c : tie.After-first-places2)
+    → PermissionsAt (begun (c .before .before .before) .args .s .now) (c .first-places2 .result .now)
+permissions-at c = permissions-lent (begun (c .before .before .before) .pre .0) (c .first-places2 .ensures)
+
+-- the names, and the lines, within their bounds
+names-small : (c : tie.After-bytes-at2) → c .before .bytes-at .result + c .bytes-at2 .result ≤ 8_192
+names-small c =
     omega (
       arith,
+      c .before .bytes-at .ensures,
+      bytes-small (users-short (users-at (c .before .before))),
       c .bytes-at2 .ensures,
-      bytes-small (permissions-short (permissions-at (s .args .s .now)
-          (s .args .layout) (s .pre .0))),
+      bytes-small (permissions-short (permissions-at (c .before .before))),
     )
 
-roles-in : (c : tie.After-role-names-length) → c .role-names-length .result ≤ 192
-roles-in c =
+roles-small : (c : tie.After-role-names-length) → c .role-names-length .result ≤ 192
+roles-small c =
     let s = named c in
     omega (arith, c .role-names-length .ensures, role-bytes-small (s .args .counts .roles) (s .pre .1))
 
-array-share-prefix-user-places : tie.Need-array-share-prefix-user-places
-unfolding user-limit
-array-share-prefix-user-places c =
-    let laid = start c .pre .0 in
-    omega (arith, few-users laid, users-placed laid)
-
-slice-aggregate-bytes-at : tie.Need-slice-aggregate-bytes-at
-unfolding user-limit
-slice-aggregate-bytes-at c =
-    let laid = start (c .before) .pre .0 in
-    simp length-take (omega (arith, few-users laid, users-placed laid))
-
-bytes-at-requires : tie.Need-bytes-at-requires
-bytes-at-requires c κs =
-    let s = start (c .before) in
-    users-short (users-at (s .args .s .now) (s .args .layout) (s .pre .0))
-
-array-share-prefix-permission-places : tie.Need-array-share-prefix-permission-places
-unfolding row-bits row-words
-array-share-prefix-permission-places c =
-    let laid = start (c .before .before) .pre .0 in
-    omega (arith, permissions-fit laid, permissions-placed laid)
-
-slice-aggregate-bytes-at-2 : tie.Need-slice-aggregate-bytes-at-2
-unfolding row-bits row-words
-slice-aggregate-bytes-at-2 c =
-    let laid = start (c .before .before .before) .pre .0 in
-    simp length-take (omega (arith, permissions-fit laid, permissions-placed laid))
-
-bytes-at-requires-2 : tie.Need-bytes-at-requires-2
-bytes-at-requires-2 c κs =
-    let s = start (c .before .before .before) in
-    permissions-short (permissions-at (s .args .s .now) (s .args .layout) (s .pre .0))
-
-add-sheet-names : tie.Need-add-sheet-names
-add-sheet-names c = omega (arith, users-fit (c .before .before), permissions-in c)
-
-role-names-length-requires : tie.Need-role-names-length-requires
-role-names-length-requires c κs = counted c .pre .1
-
-mul-names : tie.Need-mul-names
-mul-names c = omega (arith, roles-in c)
-
-add-names : tie.Need-add-names
-add-names c = omega (arith, roles-in c, permissions-in (c .before), users-fit (c .before .before .before))
-
-mul-lines : tie.Need-mul-lines
-unfolding row-bits row-words
-mul-lines c = omega (arith, permissions-fit (named c .pre .0))
-
-add-lines : tie.Need-add-lines
-unfolding row-bits row-words
-add-lines c = omega (arith, permissions-fit (named c .pre .0))
-
-mul-lines-2 : tie.Need-mul-lines-2
-unfolding row-bits row-words
-mul-lines-2 c =
-    let s = named c in
-    omega (arith, permissions-fit (s .pre .0), cells-small (s .args .layout .permissions) (s .pre .1))
-
-mul-lines-3 : tie.Need-mul-lines-3
-unfolding row-bits row-words
-mul-lines-3 c = omega (arith, named c .pre .1)
-
-add-lines-2 : tie.Need-add-lines-2
-unfolding row-bits row-words
-add-lines-2 c = omega (arith, named c .pre .1)
-
-mul-lines-4 : tie.Need-mul-lines-4
+lines-small : (s : tie.Start)
+    → let roles = s .args .counts .roles in
+    (roles ≤ 64) × (layout s .permissions ≤ 64) × (roles * (2 * layout s .permissions + 1) ≤ 8_256)
+    × (layout s .users * (2 * roles + 1) ≤ 33_024)
 unfolding row-bits row-words user-limit
-mul-lines-4 c =
-    let s = named c in
-    omega (arith, s .pre .1, cells-small (s .args .counts .roles) (few-users (s .pre .0)))
-
-add-lines-3 : tie.Need-add-lines-3
-unfolding row-bits row-words user-limit
-add-lines-3 c =
-    let s = named c in
-    omega (
-      arith,
-      permissions-fit (s .pre .0),
-      cells-small (s .args .layout .permissions) (s .pre .1),
-      s .pre .1,
-      cells-small (s .args .counts .roles) (few-users (s .pre .0)),
-    )
-
-add-headings : tie.Need-add-headings
-unfolding row-bits row-words
-add-headings c = omega (arith, permissions-fit (named c .pre .0))
-
-add-headings-2 : tie.Need-add-headings-2
-unfolding row-bits row-words
-add-headings-2 c = omega (arith, permissions-fit (named c .pre .0), named c .pre .1)
-
-array-share-prefix-user-places-2 : tie.Need-array-share-prefix-user-places-2
-unfolding user-limit
-array-share-prefix-user-places-2 c =
-    let laid = named c .pre .0 in
-    omega (arith, few-users laid, users-placed laid)
-
-slice-aggregate-witness-length : tie.Need-slice-aggregate-witness-length
-unfolding user-limit
-slice-aggregate-witness-length c =
-    let laid = named (c .before) .pre .0 in
-    simp length-take (omega (arith, few-users laid, users-placed laid))
-
-array-share-prefix-permission-places-2 : tie.Need-array-share-prefix-permission-places-2
-unfolding row-bits row-words
-array-share-prefix-permission-places-2 c =
-    let laid = named (c .before) .pre .0 in
-    omega (arith, permissions-fit laid, permissions-placed laid)
-
-slice-aggregate-witness-length-2 : tie.Need-slice-aggregate-witness-length-2
-unfolding row-bits row-words
-slice-aggregate-witness-length-2 c =
-    let laid = named (c .before .before) .pre .0 in
-    simp length-take (omega (arith, permissions-fit laid, permissions-placed laid))
+lines-small s =
+    let fit = permissions-fit (s .pre .0) in
+    let roles = cells-small (layout s .permissions) (s .pre .1) in
+    let users = cells-small (s .args .counts .roles) (few-users (s .pre .0)) in
+    (s .pre .1, fit, omega arith, omega (arith, s .pre .1))
 
 witness-length-requires : tie.Need-witness-length-requires
 unfolding row-words user-limit
 witness-length-requires c κs =
-    let s = named (c .before .before .before) in (
-      users-at (s .args .s .now) (s .args .layout) (s .pre .0),
-      permissions-at (s .args .s .now) (s .args .layout) (s .pre .0),
+    let placed = c .before .before .before .before in
+    let s = begun (placed .before .before .before) in (
+      users-at placed,
+      permissions-at placed,
       omega (arith, accepted-lawful (s .args .s .now) (s .pre .0 .accepts) .few-users),
     )
 
--- the summands, each within its bound
 abbrev role-names : tie.After-counts-length → tie.After-role-names-length
-role-names c = c .before .before .before .before .before
+role-names c = c .before .before .before
 
-add-result : tie.Need-add-result
-unfolding row-bits row-words
-add-result c =
-    let s = named (role-names c) in
-    omega (arith, c .counts-length .ensures .small, permissions-fit (s .pre .0), s .pre .1)
+-- the whole sum within its bound
+abbrev lines : tie.Start → ℕ
+lines s =
+    let roles = s .args .counts .roles in
+    roles * (2 * layout s .permissions + 1) + layout s .users * (2 * roles + 1)
 
-add-result-2 : tie.Need-add-result-2
-unfolding row-bits row-words
-add-result-2 c =
-    let r = role-names c in
+sum-small : (c : tie.After-counts-length)
+    → let r = role-names c in
     let s = named r in
+    let names = r .before .before .bytes-at .result + r .before .bytes-at2 .result + 2 * r .role-names-length .result in
+    c .counts-length .result + (29 + layout s .permissions + s .args .counts .roles) + names + lines s
+    + c .before .witness-length .result < 2 ^ 32
+sum-small c =
+    let r = role-names c in
+    let small = lines-small (named r) in
     omega (
       arith,
+      small .0,
+      small .1,
+      small .2,
+      small .3,
+      roles-small r,
+      names-small (r .before),
       c .counts-length .ensures .small,
-      permissions-fit (s .pre .0),
-      s .pre .1,
-      roles-in r,
-      permissions-in (r .before),
-      users-fit (r .before .before .before),
-    )
-
-add-result-3 : tie.Need-add-result-3
-unfolding row-bits row-words user-limit
-add-result-3 c =
-    let r = role-names c in
-    let s = named r in
-    omega (
-      arith,
-      c .counts-length .ensures .small,
-      permissions-fit (s .pre .0),
-      s .pre .1,
-      roles-in r,
-      permissions-in (r .before),
-      users-fit (r .before .before .before),
-      cells-small (s .args .layout .permissions) (s .pre .1),
-      cells-small (s .args .counts .roles) (few-users (s .pre .0)),
-    )
-
-add-result-4 : tie.Need-add-result-4
-unfolding row-bits row-words user-limit
-add-result-4 c =
-    let r = role-names c in
-    let s = named r in
-    omega (
-      arith,
-      c .counts-length .ensures .small,
-      permissions-fit (s .pre .0),
-      s .pre .1,
-      roles-in r,
-      permissions-in (r .before),
-      users-fit (r .before .before .before),
-      cells-small (s .args .layout .permissions) (s .pre .1),
-      cells-small (s .args .counts .roles) (few-users (s .pre .0)),
       c .before .witness-length .ensures .small,
     )
 
 returns : tie.Need-returns
 returns c =
     let r = role-names c in
+    let placed = r .before .before .before in
     let s = named r in
     let text = s .args .s .now in
     let laid = s .pre .0 in
     λ has gives. book-sum text has gives (s .args .witness .now) (s .args .counts) (laid .user-total)
     (laid .permission-total) (accepted-lawful text (laid .accepts)) (s .pre .2) (c .counts-length .ensures)
-    (r .before .before .before .bytes-at .ensures ∙ users-bytes (users-at text (s .args .layout) laid))
-    (r .before .bytes-at2 .ensures ∙ permissions-bytes (permissions-at text (s .args .layout) laid))
+    (r .before .before .bytes-at .ensures ∙ users-bytes (users-at placed))
+    (r .before .bytes-at2 .ensures ∙ permissions-bytes (permissions-at placed))
     (r .role-names-length .ensures) (c .before .witness-length .ensures)
 
 pub book-length-spec : {M : Type 1} → statement M
 book-length-spec =
-    tie.close (tie.spec array-share-prefix-user-places slice-aggregate-bytes-at bytes-at-requires
-    array-share-prefix-permission-places slice-aggregate-bytes-at-2 bytes-at-requires-2 add-sheet-names
-    role-names-length-requires mul-names add-names mul-lines add-lines mul-lines-2 mul-lines-3 add-lines-2 mul-lines-4
-    add-lines-3 add-headings add-headings-2 array-share-prefix-user-places-2 slice-aggregate-witness-length
-    array-share-prefix-permission-places-2 slice-aggregate-witness-length-2 witness-length-requires
-    (λ c κs. search needs) add-result add-result-2 add-result-3 add-result-4 returns)
+    tie.close (tie.spec first-places-requires first-places-requires-2 (λ c κs. users-short (users-at c))
+    (λ c κs. permissions-short (permissions-at (c .before))) (λ c. omega (arith, names-small c))
+    (λ c κs. counted c .pre .1) (λ c. omega (arith, roles-small c))
+    (λ c. omega (arith, roles-small c, names-small (c .before)))
+    (λ c. omega (arith, lines-small (named c) .1)) (λ c. omega (arith, lines-small (named c) .1))
+    (λ c. omega (arith, lines-small (named c) .2)) (λ c. omega (arith, lines-small (named c) .0))
+    (λ c. omega (arith, lines-small (named c) .0)) (λ c. omega (arith, lines-small (named c) .3))
+    (λ c. omega (arith, lines-small (named c) .2, lines-small (named c) .3))
+    (λ c. omega (arith, lines-small (named c) .1))
+    (λ c. omega (arith, lines-small (named c) .0, lines-small (named c) .1)) witness-length-requires
+    (λ c κs. search needs) (λ c. omega (arith, sum-small c)) (λ c. omega (arith, sum-small c))
+    (λ c. omega (arith, sum-small c)) (λ c. omega (arith, sum-small c)) returns)

@@ -1,6 +1,6 @@
 -- `four_cells::sets_cells`: each position is kept alone, so that their sum fits a word.
 use borrow.Author.Needs.{needs}
-use Prim.Native.Nat.{_^_, _≤_}
+use Prim.Native.Nat.{_+_, _^_, _≤_, _<_}
 use native.Mathlib.Omega.{arith}
 use Rattle.bits.specs.Bit.{bit}
 use Rattle.cell_text.specs.FourCells.{one-if-small}
@@ -21,15 +21,11 @@ fourth-small c =
     let start = c .before .before .before .before in
     rw (c .kept-at4 .ensures) (omega (arith, one-if-small (bit (start .args .n) 56)))
 
-add-result : tie.Need-add-result
-add-result c = omega (arith, first-small (c .before .before .before), second-small (c .before .before))
-
-add-result-2 : tie.Need-add-result-2
-add-result-2 c =
-    omega (arith, first-small (c .before .before .before), second-small (c .before .before), third-small (c .before))
-
-add-result-3 : tie.Need-add-result-3
-add-result-3 c =
+-- the sum of the four
+sum-small : (c : tie.After-kept-at4)
+    → c .before .before .before .kept-at .result + c .before .before .kept-at2 .result + c .before .kept-at3 .result
+    + c .kept-at4 .result < 2 ^ 64
+sum-small c =
     omega (
       arith,
       first-small (c .before .before .before),
@@ -50,4 +46,4 @@ returns c =
 pub sets-cells-spec : {M : Type 1} → statement M
 sets-cells-spec =
     tie.close (tie.spec (λ c κs. search needs) (λ c κs. search needs) (λ c κs. search needs) (λ c κs. search needs)
-    add-result add-result-2 add-result-3 returns)
+    (λ c. omega (arith, sum-small c)) (λ c. omega (arith, sum-small c)) (λ c. omega (arith, sum-small c)) returns)

@@ -21,31 +21,11 @@ fourth-small c =
     let start = c .before .before .before .before in
     rw (c .digit-at4 .ensures) (omega (arith, one-if-small (bit (start .args .n) 56)))
 
-mul-second : tie.Need-mul-second
-mul-second c = omega (arith, second-small c)
-
-mul-third : tie.Need-mul-third
-mul-third c = omega (arith, third-small c)
-
-mul-fourth : tie.Need-mul-fourth
-mul-fourth c = omega (arith, fourth-small c)
-
-add-result : tie.Need-add-result
-add-result c = omega (arith, first-small (c .before .before .before), second-small (c .before .before))
-
-add-result-2 : tie.Need-add-result-2
-add-result-2 c =
-    omega (arith, first-small (c .before .before .before), second-small (c .before .before), third-small (c .before))
-
-add-result-3 : tie.Need-add-result-3
-add-result-3 c =
-    omega (
-      arith,
-      first-small (c .before .before .before),
-      second-small (c .before .before),
-      third-small (c .before),
-      fourth-small c,
-    )
+small : (c : tie.After-digit-at4)
+    → (c .before .before .before .digit-at .result ≤ 1) × (c .before .before .digit-at2 .result ≤ 1)
+    × (c .before .digit-at3 .result ≤ 1) × (c .digit-at4 .result ≤ 1)
+small c =
+    (first-small (c .before .before .before), second-small (c .before .before), third-small (c .before), fourth-small c)
 
 returns : tie.Need-returns
 returns c =
@@ -58,5 +38,7 @@ returns c =
 
 pub side-by-side-spec : {M : Type 1} → statement M
 side-by-side-spec =
-    tie.close (tie.spec (λ c κs. search needs) (λ c κs. search needs) mul-second (λ c κs. search needs) mul-third
-    (λ c κs. search needs) mul-fourth add-result add-result-2 add-result-3 returns)
+    tie.close (tie.spec (λ c κs. search needs) (λ c κs. search needs) (λ c. omega (arith, second-small c))
+    (λ c κs. search needs) (λ c. omega (arith, third-small c)) (λ c κs. search needs)
+    (λ c. omega (arith, fourth-small c)) (λ c. omega (arith, small c)) (λ c. omega (arith, small c))
+    (λ c. omega (arith, small c)) returns)
