@@ -4,7 +4,8 @@ ghost use mathlib.Core.Path.{_≡_};
 ghost use Prim.Native.Nat.{_+_, _-_, _*_, _≤_};
 ghost use Rattle.decimal.specs.Capped.{cap-most, up-to, digits-read, count-read};
 
-// What reading digits finds: the number that they say, or the cap where that is greater.
+// What reading digits finds: the number that they say, or the cap where that is greater; or that other bytes stand
+// among them.
 pub enum CountRead {
     Count(usize),
     Off,
@@ -19,7 +20,7 @@ fn with_digit(n: usize, digit: u8, cap: usize) -> usize
     if m < cap { m } else { cap }
 }
 
-// What digits say, no greater than the cap.
+// What digits say, no greater than the cap; no digits say 0.
 pub fn digits_of(field: &[u8], cap: usize) -> CountRead
     requires { ⌜ cap ≤ cap-most ⌝ }
     ensures { λ r. ⌜ r ≡ digits-read cap 0 (now (field .entry)) ⌝ }
@@ -40,7 +41,7 @@ pub fn digits_of(field: &[u8], cap: usize) -> CountRead
     CountRead::Count(n)
 }
 
-// What a count says: digits without leading zeros.
+// What a count says, no greater than COUNT_CAP: digits without leading zeros.
 pub fn count_of(field: &[u8]) -> CountRead
     ensures { λ r. ⌜ r ≡ count-read (now (field .entry)) ⌝ }
 {

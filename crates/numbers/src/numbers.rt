@@ -6,7 +6,7 @@ pub struct UserNo(pub usize);
 // The number of a permission, from 0 in sheet order.
 pub struct PermissionNo(pub usize);
 
-// The number of a grant, from 0 by user, then permission.
+// The number of a grant of a sheet or of its kernel, from 0 by user, then permission.
 pub struct GrantNo(pub usize);
 
 // The number of a role, from 0 by its lowest grant.

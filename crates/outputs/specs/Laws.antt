@@ -1,4 +1,3 @@
 -- The laws behind what contracts cite.
 pub mod Output
-pub mod Front
 pub mod Printed

@@ -4,3 +4,4 @@ pub mod Text
 pub mod Byte
 pub mod TextBytes
 pub mod Line
+pub mod Front

@@ -31,7 +31,7 @@ pub struct Reader<'a> {
 }
 
 impl Cursor {
-    // The field at the cursor. A cursor past the end reads an empty field there.
+    // The field at the cursor. A cursor past the end reads an empty field at the end of the text.
     pub fn field(self, s: &[u8]) -> FieldRead
         ensures { λ r. ⌜ r ≡ field-read (now (s .entry)) (self .at) ⌝ }
     {

@@ -1,6 +1,6 @@
 -- `main`: the count of what is printed is within the buffer that holds it.
 use borrow.Author.Needs.{needs}
-use Rattle.outputs.specs.Laws.Front.{count-within, front-counted}
+use Rattle.text.specs.Laws.Front.{count-within, front-counted}
 use Rattle.rolebook.proofs.main.Statement.{statement}
 use Rattle.rolebook.proofs.main.Tie as tie
 

@@ -1,6 +1,6 @@
 -- `print_answer`: the count of what is printed is within the buffer that holds it.
 use borrow.Author.Needs.{needs}
-use Rattle.outputs.specs.Laws.Front.{count-within, front-counted}
+use Rattle.text.specs.Laws.Front.{count-within, front-counted}
 use Rattle.rolecheck.proofs.print_answer.Statement.{statement}
 use Rattle.rolecheck.proofs.print_answer.Tie as tie
 

@@ -1,6 +1,6 @@
 -- `say::say`: the count of what was put is within the buffer that holds it.
 use borrow.Author.Needs.{needs}
-use Rattle.outputs.specs.Laws.Front.{count-within, front-counted}
+use Rattle.text.specs.Laws.Front.{count-within, front-counted}
 use Rattle.play.proofs.say.say.Statement.{statement}
 use Rattle.play.proofs.say.say.Tie as tie
 
