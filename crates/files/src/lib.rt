@@ -16,7 +16,8 @@ const UNREADABLE: FileRead = FileRead {
 };
 
 // Reads the file of this name to its end, or until the buffer is full. A folder can be opened, and fails at the first
-// read. Standard error says why a file cannot be read.
+// read. Standard error says why a file cannot be read. What a file has is no value that the contract could name: it
+// says the range of the count.
 pub fn read_file(path: &[u8], buf: &mut [u8]) -> FileRead
     ensures { λ r. ⌜ Counts (r .count) (now (buf .exit)) ⌝ }
     ensures { λ r. ⌜ (r .readable ≡ false → r .count ≡ 0) ⌝ }
