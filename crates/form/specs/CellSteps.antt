@@ -21,7 +21,8 @@ use Rattle.form.specs.declared.cursor.Step.the-variants.{On, Off}
 use Rattle.sheet.specs.Stands.{Stands}
 use Rattle.form.specs.Steps.{Misses}
 use Rattle.form.specs.Pieces.{cell-fields}
-use Rattle.form.specs.RowGrown.{Blank, OthersKept, Grown, grown-none, WordStored, cells-kept, cells-read, grown-more}
+use Rattle.form.specs.RowGrown.{Blank, OthersKept, Grown, grown-none, WordStored, cells-kept, cells-read}
+use Rattle.form.specs.RowGrown.{grown-more}
 
 -- cells were read into a row
 pub record RowRead (text : Bytes) (at row count : ℕ) (words after : List ℕ) (next : ℕ) : Type 0 where

@@ -29,7 +29,9 @@ pub record AllBlank (words : List ℕ) : Type 0 where
 pub zeros-blank : (n : ℕ) → AllBlank (replicate n 0)
 zeros-blank n =
     record {
-      rows = λ row. record { none = λ p l. rw (getD-zeros n (row * row-words + p / word-bits)) (bit-of-zero (p % word-bits)) };
+      rows = λ row. record {
+        none = λ p l. rw (getD-zeros n (row * row-words + p / word-bits)) (bit-of-zero (p % word-bits));
+      };
     }
 
 -- the lines below i have been read: their rows have no cell beyond, and no other row has any

@@ -20,7 +20,8 @@ use Rattle.form.specs.Steps.{Misses}
 use Rattle.sheet.specs.Laws.Stands.{stands-nothing, stands-then}
 use Rattle.form.specs.Laws.Step.{stands-rest, stands-place}
 use Rattle.form.specs.Pieces.{witness-text, witness-texts, witness-part}
-use Rattle.read_fields.specs.WitnessList.{named-grant, no-witness, with-line, Collects, collects-none, collects-more}
+use Rattle.read_fields.specs.WitnessList.{named-grant, no-witness, with-line, Collects, collects-none}
+use Rattle.read_fields.specs.WitnessList.{collects-more}
 use Rattle.read_fields.specs.WitnessLineSteps.{Known, WitnessAt, NoWitness, lines-aligned}
 
 -- ---- what was read

@@ -105,4 +105,5 @@ pub expects-next : (text word : Bytes) (at i : ℕ) → i < length word → at +
 expects-next text word at i h k same r e =
     let later : at + (i + 1) ≡ suc (at + i) = omega arith in
     rw (drop-cons word i 0 h, ← same)
-    (expects-then (drop (suc i) word) (stands-byte text (at + i) (getD text (at + i) 0) k refl) r (rw (later, add-one i) at e))
+    (expects-then (drop (suc i) word) (stands-byte text (at + i) (getD text (at + i) 0) k refl) r
+    (rw (later, add-one i) at e))

@@ -16,7 +16,8 @@ use Rattle.checker.proofs.product.with_given.Tie as tie
 abbrev Inv-loop : tie.InvT-loop
 Inv-loop start gives first some k word₀ left₀ word left =
     GivenWithin gives (first .0) left
-    × ((q : ℕ) → (bit word q || some-given gives (first .0) k q left) ≡ (bit start q || some-given gives (first .0) k q some))
+    × ((q : ℕ) → (bit word q || some-given gives (first .0) k q left) ≡
+    (bit start q || some-given gives (first .0) k q some))
 
 abbrev μ-loop : tie.MeasureT-loop
 μ-loop start gives first some k word₀ left₀ word left = left
