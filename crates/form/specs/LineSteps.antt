@@ -13,7 +13,7 @@ use Rattle.form.specs.declared.cursor.Step.the-variants.{On, Off}
 use Rattle.form.specs.Steps.{Misses, Expects}
 use Rattle.form.specs.Laws.Step.{misses-first, misses-second, misses-after}
 use Rattle.form.specs.Pieces.{cell-fields, named-text}
-use Rattle.form.specs.RowGrown.{OthersKept, Grown}
+use Rattle.form.specs.RowGrown.{RowCleared, Grown}
 use Rattle.form.specs.CellSteps.{RowRead, cell-fields-aligned}
 
 -- a line was read into a row
@@ -22,11 +22,11 @@ pub record LineRead (text : Bytes) (at : ℕ) (name : Bytes) (row count : ℕ) (
     pub reads : Stands text at (named-text name count (cell after row)) next
     pub grown : Grown words after row count
 
--- a step over a line; where it does not stand, only its row has changed
+-- a step over a line; where it does not stand, its row has no cell set and no other has changed
 abbrev pub LineReads : Bytes → ℕ → Bytes → ℕ → ℕ → List ℕ → List ℕ → Step → Type 0
 LineReads text at name row count words after (On next) = LineRead text at name row count words after next
 LineReads text at name row count words after Off =
-    ((cells : ℕ → Bool) → Misses text at (named-text name count cells)) × OthersKept words after row
+    ((cells : ℕ → Bool) → Misses text at (named-text name count cells)) × RowCleared words after row
 
 pub no-name : {text name : Bytes} {at : ℕ} (count : ℕ) → Misses text at name → (cells : ℕ → Bool)
     → Misses text at (named-text name count cells)
@@ -38,15 +38,15 @@ pub no-cells : {text name : Bytes} {at mid : ℕ} (count : ℕ) → Stands text 
 no-cells count p m cells = misses-second (cell-fields count cells ++ line-end) p (misses-first line-end (m cells))
 
 -- with the name and the cells there, the end of the line decides
-pub cells-then-end : {text name : Bytes} {at mid end row count : ℕ} {words after : List ℕ} → Stands text at name mid
-    → RowRead text mid row count words after end → (r : Step) → Expects text end line-end r
-    → LineReads text at name row count words after r
-cells-then-end p q (On next) e = record { reads = stands-then p (stands-then (q .reads) e); grown = q .grown }
-cells-then-end {row = row} {count = count} {after = after} p q Off m = (
-  λ cells. misses-second (cell-fields count cells ++ line-end) p
-      (misses-after line-end (q .reads) (cell-fields-aligned count (cell after row) cells) m),
-  q .grown .others,
-)
+module _ {text name : Bytes} {at mid end row count : ℕ} {words after : List ℕ} (p : Stands text at name mid)
+    (q : RowRead text mid row count words after end) where
+  pub ended : {next : ℕ} → Stands text end line-end next → LineRead text at name row count words after next
+  ended e = record { reads = stands-then p (stands-then (q .reads) e); grown = q .grown }
+
+  pub no-end : Misses text end line-end → (cells : ℕ → Bool) → Misses text at (named-text name count cells)
+  no-end m cells =
+      misses-second (cell-fields count cells ++ line-end) p
+      (misses-after line-end (q .reads) (cell-fields-aligned count (cell after row) cells) m)
 
 -- two lines of one name
 pub named-aligned : (name : Bytes) (count : ℕ) (a b : ℕ → Bool) → Aligned (named-text name count a)

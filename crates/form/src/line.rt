@@ -2,6 +2,7 @@
 use crate::cursor::Step;
 use crate::cursor::expect;
 use crate::cursor::expect_byte;
+use crate::row_cells::clear_row;
 use crate::row_cells::read_cells;
 ghost use Prim.Native.Nat.{_+_, _*_, _≤_};
 ghost use lib.ListN.{length};
@@ -9,7 +10,8 @@ ghost use Rattle.cells.specs.Rows.{row-words, row-bits};
 ghost use Rattle.form.specs.RowGrown.{Blank};
 ghost use Rattle.form.specs.LineSteps.{LineReads};
 
-// Reads the line of this name and so many cells into a row that has none set.
+// Reads the line of this name and so many cells into a row that has none set, and where it does not stand leaves the
+// row so.
 pub fn read_line<'a>(
     book: &'a [u8],
     at: usize,
@@ -27,7 +29,12 @@ pub fn read_line<'a>(
         return Step::Off;
     };
     let Step::On(end) = read_cells(book, cells, rows, row, count) else {
+        clear_row(rows, row);
         return Step::Off;
     };
-    expect_byte(book, end, b'\n')
+    let Step::On(next) = expect_byte(book, end, b'\n') else {
+        clear_row(rows, row);
+        return Step::Off;
+    };
+    Step::On(next)
 }

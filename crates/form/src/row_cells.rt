@@ -6,7 +6,7 @@ ghost use mathlib.Core.Path.{_≡_};
 ghost use Prim.Native.Nat.{_+_, _*_, _≤_, _<_};
 ghost use lib.ListN.{length, replicate};
 ghost use Rattle.cells.specs.Rows.{row-words, row-bits};
-ghost use Rattle.form.specs.RowGrown.{Blank, in-word};
+ghost use Rattle.form.specs.RowGrown.{Blank, RowCleared, in-word};
 ghost use Rattle.form.specs.CellSteps.{CellsRead};
 
 // How many of the first `count` cells of a row stand in word k.
@@ -35,7 +35,19 @@ pub fn clear_rows(rows: &mut [u64])
     }
 }
 
-// Reads so many cells into a row that has none set.
+// Clears a row.
+pub fn clear_row(rows: &mut [u64], row: usize)
+    requires { ⌜ (row + 1) * row-words ≤ length (now rows) ⌝ }
+    ensures { λ r. ⌜ RowCleared (now (rows .entry)) (now (rows .exit)) row ⌝ }
+{
+    let mut k = 0;
+    while k < ROW_WORDS {
+        rows[row * ROW_WORDS + k] = 0;
+        k += 1;
+    }
+}
+
+// Reads so many cells into a row that has none set. Where they do not stand, the row may have some of them.
 pub fn read_cells(book: &[u8], at: usize, rows: &mut [u64], row: usize, count: usize) -> Step
     requires { ⌜ (at ≤ length (now book)) × (count ≤ row-bits) × ((row + 1) * row-words ≤ length (now rows))
         × Blank (now rows) row ⌝ }

@@ -1,9 +1,10 @@
--- `line::read_line`: the name, the cells, then the line feed.
+-- `line::read_line`: the name, the cells, then the line feed; where one of them does not stand the row is cleared.
 use mathlib.Core.Path.{refl}
 use borrow.Author.Needs.{needs}
 use Rattle.sheet.specs.Stands.{Stands}
+use Rattle.form.specs.RowGrown.{cleared-after}
 use Rattle.form.specs.CellSteps.{RowRead}
-use Rattle.form.specs.LineSteps.{no-name, no-cells, cells-then-end}
+use Rattle.form.specs.LineSteps.{no-name, no-cells, ended, no-end}
 use Rattle.form.proofs.line.read_line.Statement.{statement}
 use Rattle.form.proofs.line.read_line.Tie as tie
 
@@ -18,7 +19,7 @@ returns : tie.Need-returns
 returns c =
     let start = c .before .before .before .before .before .before in (
       no-name (start .args .count) (rw (c .enum-told .given .1) at (c .before .before .expect .ensures)),
-      λ u p h l. refl,
+      record { blank = start .pre .3; others = λ u p d l. refl },
     )
 
 name : (c : tie.After-known-told)
@@ -30,15 +31,15 @@ read-cells-requires c κs =
     let start = call (c .before) in
     (name (c .before) .within, start .pre .1, start .pre .2, start .pre .3)
 
-same-length : tie.Need-same-length
-same-length c = c .before .before .before .before .read-cells .kept .1 .1 .0
-
 returns-2 : tie.Need-returns-2
 returns-2 c =
-    let at-read-cells = c .before .before .before .before in
+    let told = c .before .before .before .before in
+    let at-read-cells = told .before .before .before .before in
     let read = at-read-cells .before .before in
-    let none = rw (c .enum-told2 .given .1) at (at-read-cells .read-cells .ensures) in
-    (no-cells (call read .args .count) (name read) (none .0), none .1)
+    let none = rw (told .enum-told2 .given .1) at (at-read-cells .read-cells .ensures) in (
+      no-cells (call read .args .count) (name read) (none .0),
+      cleared-after (none .1) (c .before .before .clear-row .ensures),
+    )
 
 cells : (c : tie.After-known-told2)
     → let start = call (named c) in
@@ -50,16 +51,24 @@ cells c = rw (c .before .end .given .1) at (c .before .before .before .before .b
 expect-byte-requires : tie.Need-expect-byte-requires
 expect-byte-requires c κs = cells c .reads .within
 
-same-length-2 : tie.Need-same-length-2
-same-length-2 c =
-    let at-read-cells = c .before .before .before .before .before .before in
-    at-read-cells .read-cells .kept .1 .1 .0
-
 returns-3 : tie.Need-returns-3
 returns-3 c =
-    cells-then-end (name (named (c .before))) (cells (c .before)) (c .expect-byte .result) (c .expect-byte .ensures)
+    let told = c .before .before .before .before in
+    let read = told .before .before .before in (
+      no-end (name (named read)) (cells read) (rw (told .enum-told3 .given .1) at (told .before .before .expect-byte
+          .ensures)),
+      cleared-after (cells read .grown .others) (c .before .before .clear-row2 .ensures),
+    )
+
+returns-4 : tie.Need-returns-4
+returns-4 c =
+    let read = c .before .before .before .before in
+    ended (name (named read)) (cells read) (rw (c .before .next .given .1) at (c .before .before .before .expect-byte
+    .ensures))
 
 pub read-line-spec : {M : Type 1} → statement M
 read-line-spec =
     tie.close (tie.spec (λ c κs. search needs) (λ c. search needs) (λ c. search needs) returns read-cells-requires
-    (λ c. search needs) (λ c. search needs) same-length returns-2 expect-byte-requires same-length-2 returns-3)
+    (λ c. search needs) (λ c. search needs) (λ c κs. search needs) (λ c. search needs) returns-2 expect-byte-requires
+    (λ c. search needs) (λ c. search needs) (λ c κs. search needs) (λ c. search needs) returns-3 (λ c. search needs)
+    returns-4)
