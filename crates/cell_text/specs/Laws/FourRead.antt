@@ -35,30 +35,10 @@ two-cells : (a b c d n : ℕ) (x y : Bool) → FourBytes a b c d n → n ≡ 808
     → TwoCells a b c d x y
 two-cells a b c d n x y f e =
     record {
-      first-comma = omega (arith, f .first, f .second, f .third, f .fourth, f .sum, e, one-if-small x, one-if-small y);
-      first-cell = rw (byte-is x) (omega (
-        arith,
-        f .first,
-        f .second,
-        f .third,
-        f .fourth,
-        f .sum,
-        e,
-        one-if-small x,
-        one-if-small y,
-      ));
-      second-comma = omega (arith, f .first, f .second, f .third, f .fourth, f .sum, e, one-if-small x, one-if-small y);
-      second-cell = rw (byte-is y) (omega (
-        arith,
-        f .first,
-        f .second,
-        f .third,
-        f .fourth,
-        f .sum,
-        e,
-        one-if-small x,
-        one-if-small y,
-      ));
+      first-comma = omega (arith, one-if-small x, one-if-small y);
+      first-cell = rw (byte-is x) (omega (arith, one-if-small x, one-if-small y));
+      second-comma = omega (arith, one-if-small x, one-if-small y);
+      second-cell = rw (byte-is y) (omega (arith, one-if-small x, one-if-small y));
     }
 
 module _ (text : Bytes) (at low high : ℕ)

@@ -57,7 +57,8 @@ end c = worded c .put-bytes .result + c .put-permission-fields .result
 second : (c : tie.After-put-permission-fields)
     → WrittenSoFar (word ++ fields (start (worded c))) line-end (start (worded c) .args .out .now) (named c) (end c)
 second c =
-    behind-fields (heading-room (room (start (worded c)))) (worded c .put-bytes .ensures) (c .put-permission-fields .ensures)
+    behind-fields (heading-room (room (start (worded c)))) (worded c .put-bytes .ensures)
+    (c .put-permission-fields .ensures)
 
 third : (c : tie.After-put-permission-fields)
     → let s = start (worded c) in

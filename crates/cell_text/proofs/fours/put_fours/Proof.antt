@@ -74,5 +74,6 @@ returns c =
 
 pub put-fours-spec : {M : Type 1} → statement M
 put-fours-spec =
-    tie.close (tie.spec Inv-loop μ-loop loop-holds sub-put-four part-put-four-start (λ c. search needs) (λ c. search needs)
-    mul-put-four shr-put-four put-four-requires add-at (λ c. omega arith) (λ c. omega arith) loop-again same-length returns)
+    tie.close (tie.spec Inv-loop μ-loop loop-holds sub-put-four part-put-four-start (λ c. search needs)
+    (λ c. search needs) mul-put-four shr-put-four put-four-requires add-at (λ c. omega arith) (λ c. omega arith)
+    loop-again same-length returns)
