@@ -2,5 +2,3 @@
 pub mod Parts
 pub mod NextSet
 pub mod CellsWritten
-pub mod CellsWord
-pub mod FourRead

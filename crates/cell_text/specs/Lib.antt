@@ -1,6 +1,4 @@
--- Rows of cells as text, four at a time: read from a line, written to a lent buffer.
+-- Rows of cells as text, four at a time.
 pub mod CellsText
 pub mod FourCells
-pub mod CellsWord
-pub mod FourRead
 pub mod Laws

@@ -1,13 +1,8 @@
-// Rows of cells as text, four at a time: read from a line, written to a lent buffer.
-mod four_cells;
+// Rows of cells as text: written to a lent buffer, four at a time; the set cells of a row one after the other.
 mod fours;
-mod line_cells;
 mod next;
-mod number;
 mod row;
 
-pub use line_cells::CellsWord;
-pub use line_cells::cells_word;
 pub use next::next_set;
 pub use row::cell_at;
 pub use row::put_cells;

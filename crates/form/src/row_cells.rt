@@ -57,7 +57,7 @@ pub fn read_cells(book: &[u8], at: usize, rows: &mut [u64], row: usize, count: u
     let mut k = 0;
     while k < ROW_WORDS {
         let n = cells_in_word(count, k);
-        let read = cell_text::cells_word(book, next, n);
+        let read = cells_read::cells_word(book, next, n);
         if !read.good {
             return Step::Off;
         }

@@ -1,7 +1,7 @@
 // The line of a user: a name, a cell for each permission, and the line feed.
 use crate::spelled::NameRead;
 use crate::spelled::read_name;
-use cell_text::cells_word;
+use cells_read::cells_word;
 use text::LINE_FEED;
 use text::stands_at;
 ghost use Prim.Native.Nat.{_≤_};

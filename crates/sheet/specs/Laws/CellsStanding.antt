@@ -12,7 +12,7 @@ use Rattle.spec.specs.Text.{Bytes, comma}
 use Rattle.spec.specs.Sheet.{cell-text}
 use Rattle.bits.specs.Laws.Below.{last-or-below}
 use Rattle.lists.specs.Listed.{listed, listed-suc, listed-even}
-use Rattle.cell_text.specs.CellsWord.{cell-byte, CellsStand}
+use Rattle.cells_read.specs.CellsWord.{cell-byte, CellsStand}
 use Rattle.sheet.specs.Stands.{Stands}
 use Rattle.sheet.specs.Laws.Stands.{stands-nothing, stands-then, stands-byte}
 

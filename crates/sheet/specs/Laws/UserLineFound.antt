@@ -15,7 +15,7 @@ use Rattle.bits.specs.Truth.{and-intro}
 use Rattle.bits.specs.Bit.{bit}
 use Rattle.names.specs.Places.{part}
 use Rattle.text.specs.Fields.{separator}
-use Rattle.cell_text.specs.CellsWord.{CellsStand, CellsIn}
+use Rattle.cells_read.specs.CellsWord.{CellsStand, CellsIn}
 use Rattle.sheet.specs.Laws.CellsStanding.{cells-text, cells-length, cells-stand, stands-cells}
 use Rattle.text.specs.Laws.Line.{line-parts}
 use Rattle.sheet.specs.Laws.FirstLine.{fields-text}

@@ -5,7 +5,7 @@ use mathlib.Core.Path.{_≡_, refl, _∙_}
 use borrow.Author.Tests.{not-true, not-false}
 use lib.ListN.{length, length-set}
 use Rattle.cells.specs.Rows.{row-words, row-bits}
-use Rattle.cell_text.specs.CellsWord.{CellsIn}
+use Rattle.cells_read.specs.CellsWord.{CellsIn}
 use Rattle.form.specs.Laws.RoleLimit.{word-below}
 use Rattle.form.specs.RowGrown.{before-word, word-stored}
 use Rattle.form.specs.CellSteps.{Reading, reading-starts, reading-more, reading-ends, reading-off}

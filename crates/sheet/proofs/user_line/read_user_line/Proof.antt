@@ -9,7 +9,7 @@ use borrow.Author.Needs.{needs}
 use lib.ListN.{length}
 use Rattle.spec.specs.Text.{Bytes}
 use Rattle.bits.specs.Truth.{not-both}
-use Rattle.cell_text.specs.CellsWord.{CellsIn}
+use Rattle.cells_read.specs.CellsWord.{CellsIn}
 use Rattle.sheet.specs.Spelled.{name-read}
 use Rattle.sheet.specs.UserLine.{Spells}
 use Rattle.sheet.specs.Laws.Spelled.{read-or-not, name-stands}

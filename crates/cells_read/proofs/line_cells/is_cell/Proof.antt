@@ -1,0 +1,17 @@
+-- `line_cells::is_cell`: the three tests in turn.
+use borrow.Author.Tests.{eq-eqb, ne-eqb}
+use Rattle.cells_read.proofs.line_cells.is_cell.Statement.{statement}
+use Rattle.cells_read.proofs.line_cells.is_cell.Tie as tie
+
+returns : tie.Need-returns
+returns c = rw (ne-eqb _ _ (c .if1 .taken))
+
+returns-2 : tie.Need-returns-2
+returns-2 c = rw (eq-eqb _ _ (c .before .if1 .left), eq-eqb _ _ (c .if2 .taken))
+
+returns-3 : tie.Need-returns-3
+returns-3 c = rw (eq-eqb _ _ (c .before .if1 .left), ne-eqb _ _ (c .if2 .left))
+
+pub is-cell-spec : {M : Type 1} → statement M
+is-cell-spec =
+    tie.close (tie.spec returns returns-2 returns-3)

@@ -1,0 +1,118 @@
+-- Four cells, each behind a comma, read from the eight bytes of one number, the lowest byte first. Assumes nothing.
+use Prim.Native.Nat.{ℕ, _+_, _*_, _%_, _^_, _<_}
+use native.Mathlib.Nat.{zero-mul, one-mul}
+use native.Mathlib.Omega.{arith}
+use mathlib.Core.Path.{_≡_, refl, sym, ap, _∙_}
+use mathlib.Core.Logic.{⊎-elim}
+use mathlib.Core.Bool.{Bool, true, false, So, _&&_, and-false}
+use borrow.Author.Tests.{eqb-true, eq-eqb}
+use lib.Bits.{bitAnd, and-lt}
+use lib.Dec.{eqb}
+use lib.Pow.{pow-pos, pow-lt}
+use Rattle.bits.specs.Truth.{not-both, passes-or-fails, and-left, and-right}
+use Rattle.bits.specs.Laws.Bit.{bit-and, bit-ext, bit-of-zero, bit-one-shifted, one-shifted}
+use Rattle.bits.specs.Counting.{one-if}
+use Rattle.bits.specs.Bit.{bit}
+use Rattle.cell_text.specs.FourCells.{four-word, one-if-small}
+use Rattle.cells_read.specs.declared.line_cells.CellsWord.{CellsWord}
+
+-- four cells that are not set: the bytes `,0,0,0,0`
+abbrev pub no-cells : ℕ
+no-cells = 3471202379140706348
+
+-- what cells that are set add to them
+abbrev pub four-set : Bool → Bool → Bool → Bool → ℕ
+four-set a b c d = one-if a * 2 ^ 8 + one-if b * 2 ^ 24 + one-if c * 2 ^ 40 + one-if d * 2 ^ 56
+
+-- four bytes as one number, the first the lowest
+pub record FourBytes (a b c d n : ℕ) : Type 0 where
+  pub first : a < 256
+  pub second : b < 256
+  pub third : c < 256
+  pub fourth : d < 256
+  pub sum : n ≡ a + b * 256 + c * 65536 + d * 16777216
+
+-- what reading a number gives: the word of four cells, or that it says no four cells, and then no position
+pub record FourOf (n : ℕ) (r : CellsWord) : Type 0 where
+  pub small : r .word < 2 ^ 4
+  pub good : So (r .good) → n ≡ no-cells + four-set (bit (r .word) 0) (bit (r .word) 1) (bit (r .word) 2)
+      (bit (r .word) 3)
+  pub off : r .good ≡ false → (a b c d : Bool) → n ≡ no-cells + four-set a b c d → ⊥
+  pub blank : r .good ≡ false → r .word ≡ 0
+
+-- a test that passes in each of the sixteen cases
+abbrev each : (Bool → Bool) → Bool
+each test = test true && test false
+
+in-each : (test : Bool → Bool) → So (each test) → (b : Bool) → So (test b)
+in-each test e true = and-left (test true) (test false) e
+in-each test e false = and-right (test true) (test false) e
+
+each-four : (f g : Bool → Bool → Bool → Bool → ℕ)
+    → So (each (λ a. each (λ b. each (λ c. each (λ d. eqb (f a b c d) (g a b c d)))))) → (a b c d : Bool)
+    → f a b c d ≡ g a b c d
+each-four f g e a b c d =
+    eqb-true (f a b c d) (g a b c d)
+    (in-each (λ d. eqb (f a b c d) (g a b c d))
+    (in-each (λ c. each (λ d. eqb (f a b c d) (g a b c d)))
+    (in-each (λ b. each (λ c. each (λ d. eqb (f a b c d) (g a b c d))))
+    (in-each (λ a. each (λ b. each (λ c. each (λ d. eqb (f a b c d) (g a b c d))))) e a) b) c) d)
+
+-- the positions of four cells say which are set
+abbrev set-read : ℕ → ℕ
+set-read n = four-set (bit n 8) (bit n 24) (bit n 40) (bit n 56)
+
+pub set-digits : (a b c d : Bool) → set-read (four-set a b c d) ≡ four-set a b c d
+unfolding bit
+set-digits = each-four (λ a b c d. set-read (four-set a b c d)) four-set refl
+
+-- so do the positions of their word
+abbrev word-read : ℕ → ℕ
+word-read n = four-set (bit n 0) (bit n 1) (bit n 2) (bit n 3)
+
+pub word-digits : (a b c d : Bool) → word-read (four-word a b c d) ≡ four-set a b c d
+unfolding bit
+word-digits = each-four (λ a b c d. word-read (four-word a b c d)) four-set refl
+
+pub word-small : (a b c d : Bool) → four-word a b c d < 2 ^ 4
+word-small a b c d = omega (arith, one-if-small a, one-if-small b, one-if-small c, one-if-small d)
+
+-- a digit at its place has that position alone
+bit-placed : (b : Bool) (p q : ℕ) → bit (one-if b * 2 ^ p) q ≡ (b && eqb q p)
+bit-placed true p q = rw (one-mul (2 ^ p)) (bit-one-shifted p q)
+bit-placed false p q = rw (zero-mul (2 ^ p)) (bit-of-zero q)
+
+placed-fits : (b : Bool) (p : ℕ) → p < 64 → one-if b * 2 ^ p < 2 ^ 64
+placed-fits true p h = rw (one-mul (2 ^ p)) (pow-lt h)
+placed-fits false p h = rw (zero-mul (2 ^ p)) (pow-pos 64)
+
+same-position : (n p q : ℕ) → (bit n q && eqb q p) ≡ (bit n p && eqb q p)
+same-position n p q =
+    ⊎-elim (λ e. ap (λ (m : ℕ). bit n m && eqb q p) (eqb-true q p e))
+    (λ f. rw f (and-false (bit n q) ∙ sym (and-false (bit n p)))) (passes-or-fails (eqb q p))
+
+-- a number without its other positions
+pub kept-digit : (n p : ℕ) → n < 2 ^ 64 → p < 64 → bitAnd n (1 * 2 ^ p % 2 ^ 64) ≡ one-if (bit n p) * 2 ^ p
+kept-digit n p f h =
+    rw (one-shifted 64 h)
+    (bit-ext 64 (bitAnd n (2 ^ p)) (one-if (bit n p) * 2 ^ p) (and-lt 64 n (2 ^ p) f (pow-lt h))
+    (placed-fits (bit n p) p h)
+    (λ q l. bit-and n (2 ^ p) q ∙ ap (λ (b : Bool). bit n q && b) (bit-one-shifted p q) ∙ same-position n p q
+    ∙ sym (bit-placed (bit n p) p q)))
+
+-- a number that has other positions says no four cells
+pub four-unset : (s : ℕ) → eqb s (four-set (bit s 8) (bit s 24) (bit s 40) (bit s 56)) ≡ false → (a b c d : Bool)
+    → s ≡ four-set a b c d → ⊥
+four-unset s f a b c d e =
+    not-both (eq-eqb s (four-set (bit s 8) (bit s 24) (bit s 40) (bit s 56)) (e ∙ sym (set-digits a b c d)
+    ∙ ap (λ (m : ℕ). four-set (bit m 8) (bit m 24) (bit m 40) (bit m 56)) (sym e))) f
+
+-- one that has none says those of its word
+pub four-good : (n s word : ℕ) → n ≡ no-cells + s → So (eqb s (four-set (bit s 8) (bit s 24) (bit s 40) (bit s 56)))
+    → word ≡ four-word (bit s 8) (bit s 24) (bit s 40) (bit s 56)
+    → n ≡ no-cells + four-set (bit word 0) (bit word 1) (bit word 2) (bit word 3)
+four-good n s word e p w =
+    e ∙ ap (λ (m : ℕ). no-cells + m)
+    (eqb-true s (four-set (bit s 8) (bit s 24) (bit s 40) (bit s 56)) p
+    ∙ sym (word-digits (bit s 8) (bit s 24) (bit s 40) (bit s 56))
+    ∙ ap (λ (m : ℕ). four-set (bit m 0) (bit m 1) (bit m 2) (bit m 3)) (sym w))
