@@ -1,7 +1,7 @@
 -- The line that each answer is. Assumes nothing.
 use Prim.Native.Nat.{ℕ}
 use Rattle.spec.specs.Text.{Bytes}
-use Rattle.checker.specs.BookSays.{answer-of}
+use Rattle.judging.specs.BookSays.{answer-of}
 use Rattle.answers.specs.Said.{load-said, search-said, write-said}
 use Rattle.answer_lines.specs.Answers.{load-line, search-line, digest-line, check-line, no-call-line}
 use Rattle.answer_lines.specs.declared.answer.Answer.{Answer}

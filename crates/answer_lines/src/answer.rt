@@ -6,7 +6,7 @@ use answers::LoadAnswer;
 use answers::Named;
 use answers::SearchAnswer;
 use answers::WriteAnswer;
-use checker::Checked;
+use judging::Checked;
 use roles::Standing;
 ghost use mathlib.Core.Path.{_≡_};
 ghost use Prim.Native.Nat.{_≤_};

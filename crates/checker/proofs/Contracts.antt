@@ -3,7 +3,7 @@
 use denote.Ref.{now}
 use Rattle.checker.specs.Laws.CodeCall.{CodeCall, Kept}
 use Rattle.right.specs.CheckOwed.{CheckOwed, check-owed}
-use Rattle.checker.specs.BookSays.{answer-of}
+use Rattle.judging.specs.BookSays.{answer-of}
 use Rattle.checker.proofs.checking.check.Kinds as check-kinds
 use Rattle.checker.proofs.checking.check.Reads as check-reads
 

@@ -26,7 +26,7 @@ use Rattle.read_rows.specs.RoleSteps.{RolesPart, NoRolesPart, roles-part-once}
 use Rattle.read_rows.specs.UserSteps.{NoUsersPart, users-parts-aligned}
 use Rattle.read_fields.specs.WitnessSteps.{WitnessPart, NoWitnessPart, lines-few}
 use Rattle.right.specs.Judgement.{Unwritten, WrittenAs}
-use Rattle.checker.specs.BookSays.{Says, BookSays}
+use Rattle.judging.specs.BookSays.{Says, BookSays}
 
 -- blocks 1 and 2 were read
 pub record FrontRead (sheet : Sheet) (book : Bytes) (counts : Counts) (gives : List ℕ) (roles next : ℕ) : Type 0 where

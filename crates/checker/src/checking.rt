@@ -1,9 +1,9 @@
 // The check of a book against a sheet.
-use crate::judgement::Checked;
-use crate::judgement::Front;
-use crate::judgement::judge_book;
-use crate::judgement::refused;
 use form::Step;
+use judging::Checked;
+use judging::Front;
+use judging::judge_book;
+use judging::refused;
 use names::Layout;
 use numbers::BOOK_LIMIT;
 use numbers::ROLE_WORDS;
@@ -21,7 +21,7 @@ ghost use Rattle.spec.specs.Calls.{Checks};
 ghost use Rattle.cells.specs.Rows.{row-words};
 ghost use Rattle.cells.specs.RowsRead.{RowsRead};
 ghost use Rattle.names.specs.LaidOut.{LaidOut};
-ghost use Rattle.checker.specs.BookSays.{answer-of};
+ghost use Rattle.judging.specs.BookSays.{answer-of};
 ghost use Rattle.checker.specs.BookRead.{FrontRead};
 
 // Checks a book whose blocks 1 and 2 have been read, from block 3 on.

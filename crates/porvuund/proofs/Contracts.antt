@@ -13,7 +13,7 @@ use Rattle.session.specs.Laws.CodeSequence.{tied-demand-2, tied-demand-3}
 use Rattle.session.proofs.Contracts.{begun-by, loads-by, writes-by}
 use Rattle.porvuund.specs.SearchNumbers.{Numbers, numbers-said, numbers-searched}
 use Rattle.porvuund.specs.Laws.TaskOwed.{TaskOwed, task-owed}
-use Rattle.checker.specs.BookSays.{answer-of}
+use Rattle.judging.specs.BookSays.{answer-of}
 use Rattle.porvuund.proofs.sessions.porvuund_fresh.Reads as fresh-reads
 use Rattle.porvuund.proofs.sessions.porvuund_load.Reads as load-reads
 use Rattle.porvuund.proofs.sessions.porvuund_search.Kinds as search-kinds

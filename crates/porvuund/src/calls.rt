@@ -1,9 +1,9 @@
 // A whole task in one call over bytes, as other languages link it.
 use answers::WriteAnswer;
-use checker::Checked;
+use judging::Checked;
 use session::Session;
 ghost use Rattle.spec.specs.Calls.{Checks};
-ghost use Rattle.checker.specs.BookSays.{answer-of};
+ghost use Rattle.judging.specs.BookSays.{answer-of};
 ghost use Rattle.answers.specs.Said.{write-said};
 ghost use Rattle.porvuund.specs.OneShot.{Books};
 

@@ -24,7 +24,7 @@ use Rattle.sheet.specs.Stands.{Stands}
 use Rattle.form.specs.Pieces.{users-part}
 use Rattle.read_fields.specs.WitnessSteps.{WitnessPart}
 use Rattle.right.specs.Judgement.{refused-by-sheet, too-long-book, Unwritten, unwritten-book, written-book}
-use Rattle.checker.specs.BookSays.{JudgedAs}
+use Rattle.judging.specs.BookSays.{JudgedAs}
 use Rattle.checker.specs.BookRead.{FrontRead, said-read, read-is-written, read-is-said}
 
 -- ---- rows to read into

@@ -1,0 +1,5 @@
+-- What is judged of a book that has the form.
+pub mod ProductWords
+pub mod GivenRoles
+pub mod WitnessWords
+pub mod BookSays
