@@ -38,10 +38,10 @@ use denote.Triple.Spec.{tripleOf}
 use denote.Triple.Statement.{Contract, Triple}
 use denote.Triple.Table.{entered, cited}
 use denote.Triple.Walked.{Stays, gave-ref, stay-dropped, AllGo, goes-gave-ref, goes-dropped, Walks, walk-meets}
+use Rattle.marks.specs.Marks.{mark-limit, table-words}
 use Rattle.search.specs.declared.machine.Cursor.{Cursor}
 use Rattle.search.specs.declared.machine.Sizes.{Sizes}
 use Rattle.search.specs.Lent.{Ready, Moved}
-use Rattle.search.specs.Marks.{mark-limit, table-words}
 use Rattle.search.proofs.machine.Cursor as cursor
 use Rattle.search.proofs.machine.Cursor.Laws as cursor-laws
 use Rattle.search.proofs.machine.Sizes as sizes

@@ -15,7 +15,7 @@ use Rattle.bits.specs.Truth.{same-truth, fails-unless, and-left, and-right, and
 use Rattle.bits.specs.Laws.Below.{below-or-from}
 use Rattle.bits.specs.Bit.{bit, word-bits}
 use Rattle.bits.specs.Laws.Bit.{bit-of-zero}
-use Rattle.search.specs.Marks.{mark-limit, table-words}
+use Rattle.marks.specs.Marks.{mark-limit, table-words}
 
 pub eqb-comm : (a b : ℕ) → eqb a b ≡ eqb b a
 eqb-comm a b =

@@ -10,7 +10,6 @@ pub mod Potential
 pub mod Progress
 pub mod Rising
 pub mod SameFit
-pub mod Mark
 pub mod Placed
 pub mod Trail
 pub mod ClassEnd

@@ -11,10 +11,10 @@ use lib.Seq.{getD-set-same, getD-set-other}
 use Rattle.spec.specs.Vocabulary.{lowest-below}
 use Rattle.spec.specs.Machine.{step}
 use Rattle.bits.specs.Laws.Lowest.{lowest-below-ext}
+use Rattle.marks.specs.Marks.{mark-limit}
 use Rattle.search.specs.declared.machine.Cursor.{Cursor}
 use Rattle.search.specs.declared.machine.Position.{Position}
 use Rattle.search.specs.declared.machine.Sizes.{Sizes}
-use Rattle.search.specs.Marks.{mark-limit}
 use Rattle.search.specs.View.{kernel-given, view, PositionStands, class-end, joinable, CursorPlaced, ended-at}
 use Rattle.search.specs.View.{taken-back}
 use Rattle.search.specs.Gathered.{Gathered, MemberSet, gathered-more, gathered-fewer}

@@ -6,8 +6,8 @@ use lib.Dec.{leb}
 use lib.ListN.{getD}
 use Rattle.spec.specs.Vocabulary.{every-below}
 use Rattle.bits.specs.Truth.{implies}
-use Rattle.search.specs.declared.marks.Marks.{Marks}
-use Rattle.search.specs.Marks.{kernel-words, mark-limit}
+use Rattle.marks.specs.declared.marks.Marks.{Marks}
+use Rattle.marks.specs.Marks.{kernel-words, mark-limit}
 use Rattle.search.specs.View.{fit-in}
 use Rattle.search.specs.Gathered.{member}
 

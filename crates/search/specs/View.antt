@@ -14,12 +14,12 @@ use Rattle.bits.specs.Bit.{bit, word-bits}
 use Rattle.bits.specs.Counting.{one-if}
 use Rattle.lists.specs.Classing.{Grown}
 use Rattle.lists.specs.LatestFirst.{latest-first}
-use Rattle.search.specs.declared.marks.Marks.{Marks}
+use Rattle.marks.specs.declared.marks.Marks.{Marks}
+use Rattle.marks.specs.Marks.{kernel-words, mark-limit, marked}
 use Rattle.search.specs.declared.machine.Cursor.{Cursor}
 use Rattle.search.specs.declared.machine.Position.{Position}
 use Rattle.search.specs.declared.machine.Ran.{Ran}
 use Rattle.search.specs.declared.machine.Sizes.{Sizes}
-use Rattle.search.specs.Marks.{kernel-words, mark-limit, marked}
 
 -- bit j of grant i's words in the fit table: grants i and j fit
 abbrev pub fit-in : List ℕ → ℕ → ℕ → Bool

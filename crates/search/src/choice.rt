@@ -1,6 +1,6 @@
 // The class in which the next grant is placed: the lowest that is not tried already and all of whose members fit it.
-use crate::Marks;
 use crate::members;
+use marks::Marks;
 use numbers::GrantNo;
 use numbers::KERNEL_WORDS;
 use numbers::TABLE_WORDS;
@@ -8,8 +8,8 @@ ghost use mathlib.Core.Path.{_≡_};
 ghost use mathlib.Core.Option.{Option·getD};
 ghost use Prim.Native.Nat.{_<_, _≤_};
 ghost use Rattle.spec.specs.Vocabulary.{lowest-below};
+ghost use Rattle.marks.specs.Marks.{mark-limit};
 ghost use Rattle.search.specs.OpenTo.{open-to, row};
-ghost use Rattle.search.specs.Marks.{mark-limit};
 ghost use Rattle.search.specs.View.{class-end};
 
 // One past the last class that the next grant may be placed in, 0 where there is none.

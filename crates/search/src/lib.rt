@@ -13,7 +13,6 @@
 mod choice;
 mod lent;
 mod machine;
-mod marks;
 mod members;
 mod moves;
 
@@ -21,4 +20,3 @@ pub use machine::Cursor;
 pub use machine::Position;
 pub use machine::Ran;
 pub use machine::Sizes;
-pub use marks::Marks;

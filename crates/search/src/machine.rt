@@ -1,8 +1,8 @@
 // Where the machine stands, one step from there, and a run within a budget.
-use crate::Marks;
 use crate::lent;
 use crate::members;
 use crate::moves;
+use marks::Marks;
 use numbers::KERNEL_LIMIT;
 use numbers::TABLE_WORDS;
 ghost use mathlib.Core.Path.{_≡_};

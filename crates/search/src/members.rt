@@ -1,8 +1,8 @@
 // The members of each class as a table of words: for the first WORD_BITS grants a word of each class, then for the
 // others. A bit says that its grant is in the class. So the classes that are looked through for one grant stand side
 // by side.
-use crate::Marks;
 use bits::WORD_BITS;
+use marks::Marks;
 use numbers::GrantNo;
 use numbers::KERNEL_LIMIT;
 use numbers::TABLE_WORDS;
@@ -12,7 +12,7 @@ ghost use Prim.Native.Nat.{ℕ, _<_, _≤_};
 ghost use lib.Dec.{eqb};
 ghost use lib.ListN.{getD, length};
 ghost use Rattle.bits.specs.Bit.{bit, word-bits};
-ghost use Rattle.search.specs.Marks.{mark-limit, table-words};
+ghost use Rattle.marks.specs.Marks.{mark-limit, table-words};
 ghost use Rattle.search.specs.OpenTo.{class-row};
 ghost use Rattle.search.specs.Gathered.{Gathered, MemberSet};
 

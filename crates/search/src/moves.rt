@@ -10,8 +10,8 @@ use numbers::TABLE_WORDS;
 ghost use mathlib.Core.Path.{_≡_};
 ghost use Prim.Native.Nat.{_+_, _<_, _≤_};
 ghost use lib.Dec.{eqb};
+ghost use Rattle.marks.specs.Marks.{mark-limit};
 ghost use Rattle.search.specs.Lent.{Ready, Moved};
-ghost use Rattle.search.specs.Marks.{mark-limit};
 ghost use Rattle.search.specs.View.{CursorPlaced, taken-back};
 
 // Whether a number of classes plus singles equals w, with no sum that could wrap.

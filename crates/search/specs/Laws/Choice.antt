@@ -17,9 +17,9 @@ use Rattle.bits.specs.Truth.{implies}
 use Rattle.bits.specs.Laws.Below.{below-or-from, last-or-below, every-below-ext, every-below-not}
 use Rattle.bits.specs.Laws.Lowest.{lowest-below-intro, lowest-below-none-intro}
 use Rattle.bits.specs.Bit.{bit, word-bits}
-use Rattle.search.specs.declared.marks.Marks.{Marks}
-use Rattle.search.specs.Marks.{kernel-words, mark-limit, marked}
-use Rattle.search.specs.Laws.Mark.{marked-low, marked-high}
+use Rattle.marks.specs.declared.marks.Marks.{Marks}
+use Rattle.marks.specs.Marks.{kernel-words, mark-limit, marked}
+use Rattle.marks.specs.Laws.Mark.{marked-low, marked-high}
 use Rattle.search.specs.View.{fit-in, joinable}
 use Rattle.search.specs.Gathered.{member, Gathered}
 use Rattle.bits.specs.Laws.Cut.{some-below-cut}

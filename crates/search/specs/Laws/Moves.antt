@@ -15,10 +15,10 @@ use Rattle.spec.specs.Vocabulary.{lowest-below}
 use Rattle.spec.specs.Limits.{search-limit}
 use Rattle.spec.specs.Cover.{used}
 use Rattle.spec.specs.Machine.{State, choice, place, take-back-or-close, move, step}
+use Rattle.marks.specs.Marks.{mark-limit}
 use Rattle.search.specs.declared.machine.Cursor.{Cursor}
 use Rattle.search.specs.declared.machine.Position.{Position}
 use Rattle.search.specs.declared.machine.Sizes.{Sizes}
-use Rattle.search.specs.Marks.{mark-limit}
 use Rattle.search.specs.View.{kernel-given, view, Trail, PositionStands, class-end, joinable, CursorPlaced}
 use Rattle.search.specs.View.{ended-at, taken-back}
 use Rattle.search.specs.Laws.Placed.{grown-class-le}

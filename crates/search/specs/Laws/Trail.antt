@@ -17,8 +17,8 @@ use Rattle.bits.specs.Counting.{one-if}
 use Rattle.bits.specs.Laws.Below.{last-or-below}
 use Rattle.lists.specs.GrownLaws.{grown-used-le}
 use Rattle.lists.specs.LatestFirst.{latest-first, latest-first-length, latest-first-later}
-use Rattle.search.specs.declared.marks.Marks.{Marks}
-use Rattle.search.specs.Marks.{marked}
+use Rattle.marks.specs.declared.marks.Marks.{Marks}
+use Rattle.marks.specs.Marks.{marked}
 use Rattle.search.specs.View.{Trail}
 
 -- no grant is placed

@@ -3,7 +3,7 @@ use mathlib.Core.Path.{_∙_}
 use borrow.Author.Needs.{needs}
 use lib.Dec.{eqb}
 use Rattle.bits.specs.Bit.{bit}
-use Rattle.search.specs.Laws.Mark.{put-in, taken-out}
+use Rattle.marks.specs.Laws.Mark.{put-in, taken-out}
 use Rattle.search.proofs.members.changed.Statement.{statement}
 use Rattle.search.proofs.members.changed.Tie as tie
 

@@ -5,7 +5,7 @@ use mathlib.Core.Path.{_≡_, refl}
 use native.Mathlib.Numerals.{add-one}
 use native.Mathlib.Omega.{arith}
 use lib.ListN.{getD}
-use Rattle.search.specs.Marks.{mark-limit}
+use Rattle.marks.specs.Marks.{mark-limit}
 use Rattle.search.specs.Gathered.{Gathered, gathered-none, gathered-more}
 use Rattle.search.proofs.members.gathered.Statement.{statement}
 use Rattle.search.proofs.members.gathered.Tie as tie

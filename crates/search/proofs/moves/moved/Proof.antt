@@ -6,7 +6,7 @@ use native.Mathlib.Numerals.{add-one}
 use native.Mathlib.Omega.{arith}
 use borrow.Author.Needs.{needs}
 use lib.ListN.{getD}
-use Rattle.search.specs.Marks.{mark-limit}
+use Rattle.marks.specs.Marks.{mark-limit}
 use Rattle.search.specs.Lent.{closed, took-back, put, put-last}
 use Rattle.search.specs.Laws.Moves.{depth-le-limit, class-below-limit, tried, end-within-limit, room-below-limit}
 use Rattle.search.specs.Laws.Trail.{trail-used-pos}

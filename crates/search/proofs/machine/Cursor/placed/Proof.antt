@@ -8,11 +8,11 @@ use native.Mathlib.Omega.{arith}
 use borrow.Author.Needs.{needs}
 use borrow.Author.Tests.{eq-eqb, ne-eqb}
 use lib.Dec.{eqb}
+use Rattle.marks.specs.declared.marks.Marks.{Marks}
+use Rattle.marks.specs.Marks.{marked}
+use Rattle.marks.specs.Laws.Mark.{put-in, taken-out}
 use Rattle.search.specs.declared.machine.Cursor.{Cursor}
-use Rattle.search.specs.declared.marks.Marks.{Marks}
-use Rattle.search.specs.Marks.{marked}
 use Rattle.search.specs.View.{CursorPlaced}
-use Rattle.search.specs.Laws.Mark.{put-in, taken-out}
 use Rattle.search.proofs.machine.Cursor.placed.Statement.{statement}
 use Rattle.search.proofs.machine.Cursor.placed.Tie as tie
 

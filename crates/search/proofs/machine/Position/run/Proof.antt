@@ -8,7 +8,7 @@ use native.Mathlib.Omega.{arith}
 use borrow.Author.Needs.{needs}
 use borrow.Author.Tests.{not-true, not-false}
 use lib.ListN.{length}
-use Rattle.search.specs.Marks.{mark-limit}
+use Rattle.marks.specs.Marks.{mark-limit}
 use Rattle.search.specs.View.{kernel-given, view}
 use Rattle.search.specs.Lent.{at-position, Ready}
 use Rattle.search.specs.Laws.Moves.{depth-le-limit, class-below-limit}

@@ -1,5 +1,4 @@
-// A set of numbers below KERNEL_LIMIT in two words: number p is position p of the low word, or position p - 64 of the
-// high one.
+// A set of numbers in two words: number p is position p of the low word, or position p - 64 of the high one.
 use bits::WORD_BITS;
 ghost use mathlib.Core.Path.{_≡_};
 ghost use mathlib.Core.Bool.{not, _&&_, _||_};
@@ -7,7 +6,7 @@ ghost use Prim.Native.Nat.{ℕ, _<_};
 ghost use lib.Dec.{eqb};
 ghost use Rattle.spec.specs.Vocabulary.{every-below};
 ghost use Rattle.bits.specs.Truth.{implies};
-ghost use Rattle.search.specs.Marks.{mark-limit, marked};
+ghost use Rattle.marks.specs.Marks.{mark-limit, marked};
 
 #[repr(C)]
 pub struct Marks {

@@ -3,7 +3,7 @@ use Prim.Native.Nat.{ℕ, _*_, _-_}
 use mathlib.Core.Bool.{Bool, cond}
 use lib.Dec.{ltb}
 use Rattle.bits.specs.Bit.{bit, word-bits}
-use Rattle.search.specs.declared.marks.Marks.{Marks}
+use Rattle.marks.specs.declared.marks.Marks.{Marks}
 
 -- how many words a kernel grant has in the fit table
 abbrev pub kernel-words : ℕ

@@ -1,9 +1,9 @@
 -- `Marks::has`: the word that has the position tells.
 use mathlib.Core.Path.{sym, _∙_}
 use borrow.Author.Needs.{needs}
-use Rattle.search.specs.Laws.Mark.{marked-low, marked-high}
-use Rattle.search.proofs.marks.Marks.has.Statement.{statement}
-use Rattle.search.proofs.marks.Marks.has.Tie as tie
+use Rattle.marks.specs.Laws.Mark.{marked-low, marked-high}
+use Rattle.marks.proofs.marks.Marks.has.Statement.{statement}
+use Rattle.marks.proofs.marks.Marks.has.Tie as tie
 
 returns : tie.Need-returns
 returns c = c .has .ensures ∙ sym (marked-low (c .before .before .args .self) (c .before .if1 .taken))

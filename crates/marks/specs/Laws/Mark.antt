@@ -12,8 +12,8 @@ use Rattle.spec.specs.Vocabulary.{every-below}
 use Rattle.bits.specs.Truth.{implies, same-truth}
 use Rattle.bits.specs.Laws.Below.{below-or-from, every-below-add, every-below-ext}
 use Rattle.bits.specs.Bit.{bit, word-bits}
-use Rattle.search.specs.declared.marks.Marks.{Marks}
-use Rattle.search.specs.Marks.{mark-limit, marked}
+use Rattle.marks.specs.declared.marks.Marks.{Marks}
+use Rattle.marks.specs.Marks.{mark-limit, marked}
 
 pub marked-low : (m : Marks) {p : ℕ} → p < word-bits → marked m p ≡ bit (m .low) p
 marked-low m {p} l = rw (lt-ltb p word-bits l)

@@ -3,9 +3,9 @@
 use mathlib.Core.Path.{sym, _∙_}
 use borrow.Author.Needs.{needs}
 use borrow.Author.Tests.{not-true, not-false}
-use Rattle.search.specs.Laws.Mark.{within-words}
-use Rattle.search.proofs.marks.Marks.within.Statement.{statement}
-use Rattle.search.proofs.marks.Marks.within.Tie as tie
+use Rattle.marks.specs.Laws.Mark.{within-words}
+use Rattle.marks.proofs.marks.Marks.within.Statement.{statement}
+use Rattle.marks.proofs.marks.Marks.within.Tie as tie
 
 returns : tie.Need-returns
 returns c =

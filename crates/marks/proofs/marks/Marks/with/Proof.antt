@@ -2,9 +2,9 @@
 use mathlib.Core.Path.{refl}
 use mathlib.Core.Bool.{_||_, or-false}
 use borrow.Author.Needs.{needs}
-use Rattle.search.specs.Laws.Mark.{changed-low, changed-high}
-use Rattle.search.proofs.marks.Marks.with.Statement.{statement}
-use Rattle.search.proofs.marks.Marks.with.Tie as tie
+use Rattle.marks.specs.Laws.Mark.{changed-low, changed-high}
+use Rattle.marks.proofs.marks.Marks.with.Statement.{statement}
+use Rattle.marks.proofs.marks.Marks.with.Tie as tie
 
 returns : tie.Need-returns
 returns c =
