@@ -5,7 +5,7 @@ use lib.ListN.{length}
 use Rattle.spec.specs.Limits.{user-limit, name-limit}
 use Rattle.spec.specs.Book.{role-name}
 use Rattle.bits.specs.Counting.{sum-below}
-use Rattle.names.specs.Places.{from-at, to-at}
+use Rattle.places.specs.Places.{from-at, to-at}
 
 -- the places of names that are short, no more than a sheet has users
 pub record PlacesShort (places : List ℕ) : Type 0 where

@@ -1,6 +1,6 @@
 // The whole book: four blocks, one empty line between each two. Each block is written where the one before ended,
 // plus that empty line.
-use crate::places::first_places;
+use crate::first_places::first_places;
 use blocks::Counts;
 use blocks::put_counts;
 use blocks::put_roles;

@@ -1,17 +1,17 @@
 // How long a book is, before anything of it is written: one sum of the bytes of its counts, its names, its cells and
 // its headings, whatever the cells are, and of its witness.
-use crate::places::first_places;
+use crate::first_places::first_places;
 use blocks::Counts;
 use cell_text::next_set;
 use decimal::decimal_length;
 use names::Layout;
-use names::from_of;
 use names::permission_name_in;
-use names::to_of;
 use names::user_name_in;
 use numbers::CELL_WORDS;
 use numbers::PermissionNo;
 use numbers::UserNo;
+use places::from_of;
+use places::to_of;
 use roles::Standing;
 ghost use mathlib.Core.Path.{_≡_};
 ghost use mathlib.Core.List.{List};

@@ -1,7 +1,7 @@
 // Writing a role book into a lent buffer, if there is room for it.
 mod book;
+mod first_places;
 mod length;
-mod places;
 mod writing;
 
 pub use book::write_book;

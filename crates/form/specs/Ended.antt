@@ -15,7 +15,7 @@ use Rattle.spec.specs.Text.{Bytes}
 use Rattle.bits.specs.Truth.{not-both}
 use Rattle.lists.specs.CutLaws.{Free}
 use Rattle.form.specs.Laws.Aligned.{ended-same}
-use Rattle.names.specs.Places.{part}
+use Rattle.places.specs.Places.{part}
 use Rattle.form.specs.declared.cursor.Step.{Step}
 use Rattle.form.specs.declared.cursor.Step.the-variants.{On, Off}
 use Rattle.sheet.specs.Stands.{Stands}

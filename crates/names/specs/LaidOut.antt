@@ -9,7 +9,7 @@ use lib.ListN.{length, take, drop}
 use Rattle.spec.specs.Text.{Bytes, lines-of}
 use Rattle.spec.specs.Sheet.{sheet-of, user-count, permission-count, grants}
 use Rattle.spec.specs.Refusal.{accepted}
-use Rattle.names.specs.Places.{from-at, NamesPlaced}
+use Rattle.places.specs.Places.{from-at, NamesPlaced}
 use Rattle.names.specs.NamesAt.{found-as}
 use Rattle.names.specs.declared.layout.Layout.{Layout}
 use Rattle.names.specs.declared.layout.FoundUser.{FoundUser}

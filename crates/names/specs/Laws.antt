@@ -1,5 +1,4 @@
 -- The laws behind what contracts cite.
-pub mod Places
 pub mod NamesAt
 pub mod Repeats
 pub mod FoundBetween

@@ -8,7 +8,7 @@ use mathlib.Core.Bool.{false}
 use Rattle.spec.specs.Vocabulary.{lowest-below, list-of}
 use Rattle.spec.specs.Limits.{user-limit}
 use Rattle.spec.specs.Text.{Bytes, same-name}
-use Rattle.names.specs.Places.{from-at, to-at, part}
+use Rattle.places.specs.Places.{from-at, to-at, part}
 use Rattle.names.specs.declared.lookup.Found.{Found}
 use Rattle.names.specs.declared.lookup.Found.the-variants.{At, Nothing}
 

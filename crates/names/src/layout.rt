@@ -2,9 +2,9 @@
 use crate::lookup::Found;
 use crate::lookup::find_from;
 use crate::lookup::part_at;
-use crate::places::Places;
 use numbers::PermissionNo;
 use numbers::UserNo;
+use places::Places;
 ghost use mathlib.Core.Path.{_≡_};
 ghost use mathlib.Core.List.{[]};
 ghost use Prim.Native.Nat.{_<_};

@@ -3,7 +3,6 @@
 mod buckets;
 mod layout;
 mod lookup;
-mod places;
 
 pub use buckets::repeated_in;
 pub use layout::FoundPermission;
@@ -13,7 +12,3 @@ pub use layout::find_permission_in;
 pub use layout::find_user_in;
 pub use layout::permission_name_in;
 pub use layout::user_name_in;
-pub use places::Places;
-pub use places::from_of;
-pub use places::place_of;
-pub use places::to_of;

@@ -1,7 +1,7 @@
 // Names at their places in a sheet: one by its number, and the number of one. The names are those of the users or
 // those of the permissions, and so are the numbers: one search serves both.
-use crate::places::from_of;
-use crate::places::to_of;
+use places::from_of;
+use places::to_of;
 use text::same_name;
 ghost use mathlib.Core.Path.{_≡_};
 ghost use Prim.Native.Nat.{_≤_};

@@ -3,11 +3,11 @@
 use cells::Kernel;
 use cover::Placement;
 use names::Layout;
-use names::Places;
 use numbers::CELL_WORDS;
 use numbers::GRANT_LIMIT;
 use numbers::TABLE_WORDS;
 use numbers::USER_LIMIT;
+use places::Places;
 use reduction::Reduced;
 use witness::Witness;
 ghost use mathlib.Core.Path.{_≡_};

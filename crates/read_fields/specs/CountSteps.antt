@@ -11,7 +11,7 @@ use Rattle.spec.specs.Roles.{Standing, witnessed, searched, unsettled}
 use Rattle.spec.specs.Decimal.{is-count}
 use Rattle.spec.specs.Book.{standing-word}
 use Rattle.form.specs.Laws.Aligned.{Aligned, aligned-same, aligned-then, ended-aligned}
-use Rattle.names.specs.Places.{part}
+use Rattle.places.specs.Places.{part}
 use Rattle.roles.specs.StandingCases.{standing-case}
 use Rattle.right.specs.WordLaws.{count-field, standing-word-field}
 use Rattle.text.specs.Line.{line-end}

@@ -10,7 +10,7 @@ use lib.ListN.{drop}
 use Rattle.spec.specs.Text.{Bytes, comma, line-feed}
 use Rattle.spec.specs.Sheet.{Sheet, Grant, user-count, permission-count, user-name, permission-name}
 use Rattle.form.specs.Laws.Aligned.{Aligned, aligned-then, ended-aligned}
-use Rattle.names.specs.Places.{part}
+use Rattle.places.specs.Places.{part}
 use Rattle.rules.specs.AcceptedFacts.{Lawful, name-field}
 use Rattle.read_fields.specs.declared.witness_block.WitnessLine.{WitnessLine}
 use Rattle.read_fields.specs.declared.witness_block.WitnessRead.{WitnessRead}

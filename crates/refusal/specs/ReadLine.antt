@@ -6,7 +6,7 @@ use mathlib.Core.List.{tail}
 use lib.ListN.{length, drop}
 use Rattle.spec.specs.Text.{Bytes}
 use Rattle.spec.specs.Sheet.{first-field}
-use Rattle.names.specs.Places.{Part}
+use Rattle.places.specs.Places.{Part}
 use Rattle.refusal.specs.FirstLine.{line-fields, after-line}
 use Rattle.refusal.specs.Cells.{cells-of}
 use Rattle.refusal.specs.declared.line.LineRead.{LineRead}

@@ -5,7 +5,7 @@ use mathlib.Core.List.{List, map}
 use lib.ListN.{length, drop}
 use Rattle.spec.specs.Text.{Bytes, lines-of}
 use Rattle.spec.specs.Sheet.{first-field}
-use Rattle.names.specs.Places.{from-at, PlacedBelow}
+use Rattle.places.specs.Places.{from-at, PlacedBelow}
 
 -- the names of the first n of those lines stand at these places, and the lines start there
 pub record UserPlacesBelow (n : ℕ) (text : Bytes) (at : ℕ) (places : List ℕ) : Type 0 where

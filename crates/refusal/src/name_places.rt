@@ -1,14 +1,14 @@
 // Where the names of a sheet stand, noted line after line and field after field.
 use crate::line::read_line;
-use names::place_of;
 use numbers::USER_LIMIT;
+use places::place_of;
 use text::Cursor;
 ghost use Prim.Native.Nat.{suc, _≤_, _<_};
 ghost use mathlib.Core.List.{tail};
 ghost use lib.ListN.{length, drop};
 ghost use Rattle.spec.specs.Limits.{user-limit};
 ghost use Rattle.spec.specs.Text.{lines-of};
-ghost use Rattle.names.specs.Places.{place-base, PlacedBelow};
+ghost use Rattle.places.specs.Places.{place-base, PlacedBelow};
 ghost use Rattle.refusal.specs.FirstLine.{line-fields};
 ghost use Rattle.refusal.specs.UserPlaces.{UserPlaces};
 

@@ -25,7 +25,7 @@ ghost use Rattle.spec.specs.Limits.{sheet-limit, permission-limit, user-limit};
 ghost use Rattle.spec.specs.Text.{ascii, same-bytes, between, lines-of, same-name};
 ghost use Rattle.spec.specs.Sheet.{first-field};
 ghost use Rattle.spec.specs.Refusal.{bad-bytes, refusal};
-ghost use Rattle.names.specs.Places.{part};
+ghost use Rattle.places.specs.Places.{part};
 ghost use Rattle.refusal.specs.FirstLine.{line-fields};
 ghost use Rattle.refusal.specs.ReadLine.{ReadLine};
 

@@ -9,7 +9,7 @@ use lib.ListN.{length, drop}
 use Rattle.spec.specs.Limits.{permission-limit, user-limit}
 use Rattle.spec.specs.Text.{ascii, same-bytes, Bytes, line-text}
 use Rattle.spec.specs.Rules.{Name}
-use Rattle.names.specs.Places.{from-at, to-at, part, BlankPast}
+use Rattle.places.specs.Places.{from-at, to-at, part, BlankPast}
 use Rattle.names.specs.NamesAt.{names-at}
 use Rattle.sheet.specs.Stands.{Stands}
 use Rattle.sheet.specs.Spelled.{NameAt}

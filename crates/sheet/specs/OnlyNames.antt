@@ -4,7 +4,7 @@ use Prim.Native.Nat.{ℕ, _*_}
 use lib.ListN.{replicate}
 use Rattle.spec.specs.Limits.{user-limit}
 use Rattle.cells.specs.Rows.{row-words}
-use Rattle.names.specs.Places.{BlankPast, no-places}
+use Rattle.places.specs.Places.{BlankPast, no-places}
 use Rattle.sheet.specs.FirstLine.{Run}
 use Rattle.names.specs.declared.layout.Layout.{Layout}
 use Rattle.sheet.specs.declared.reading.SheetRead.{SheetRead}

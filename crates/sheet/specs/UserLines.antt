@@ -11,7 +11,7 @@ use Rattle.spec.specs.Rules.{Name, user-lines}
 use Rattle.bits.specs.Counting.{count-below, sum-below}
 use Rattle.bits.specs.Bit.{bit, word-bits}
 use Rattle.cells.specs.Rows.{row-words}
-use Rattle.names.specs.Places.{from-at, to-at, BlankPast}
+use Rattle.places.specs.Places.{from-at, to-at, BlankPast}
 use Rattle.sheet.specs.Stands.{Stands}
 use Rattle.sheet.specs.UserLine.{UserAt, line-of}
 use Rattle.sheet.specs.declared.user_lines.UserLinesRead.{UserLinesRead}

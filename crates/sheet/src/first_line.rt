@@ -1,9 +1,9 @@
 // The first line of a sheet: `user` and the names of the permissions.
 use crate::spelled::NameRead;
 use crate::spelled::read_name;
-use names::place_of;
 use numbers::PERMISSION_LIMIT;
 use numbers::USER_LIMIT;
+use places::place_of;
 use refusal::is_user;
 use text::COMMA;
 use text::LINE_FEED;

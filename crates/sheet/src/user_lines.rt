@@ -1,9 +1,9 @@
 // The lines of the users, up to the end of the sheet.
 use crate::user_line::UserLineRead;
 use crate::user_line::read_user_line;
-use names::place_of;
 use numbers::CELL_WORDS;
 use numbers::USER_LIMIT;
+use places::place_of;
 ghost use Prim.Native.Nat.{_≤_};
 ghost use lib.ListN.{length};
 ghost use Rattle.spec.specs.Limits.{sheet-limit};

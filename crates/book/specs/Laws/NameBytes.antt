@@ -14,7 +14,7 @@ use Rattle.bits.specs.Counting.{sum-below}
 use Rattle.bits.specs.Laws.Sum.{sum-below-ext, sum-below-le}
 use Rattle.rules.specs.AcceptedFacts.{Lawful, accepted-lawful}
 use Rattle.names.specs.LaidOut.{UsersAt, PermissionsAt}
-use Rattle.names.specs.Places.{from-at, to-at, Part, NamesPlaced}
+use Rattle.places.specs.Places.{from-at, to-at, Part, NamesPlaced}
 use Rattle.decimal.specs.Laws.Digit.{one-digit, digit-more}
 use Rattle.cells.specs.Rows.{row-bits, row-words}
 use Rattle.blocks.specs.Laws.Name.{role-name-parts, role-name-short}

@@ -5,7 +5,7 @@ use mathlib.Core.Path.{_≡_}
 use mathlib.Core.List.{List}
 use lib.ListN.{length, take, length-take}
 use Rattle.spec.specs.Text.{Bytes}
-use Rattle.names.specs.Places.{NamesPlaced}
+use Rattle.places.specs.Places.{NamesPlaced}
 use Rattle.names.specs.LaidOut.{LaidOut}
 use Rattle.names.specs.declared.layout.Layout.{Layout}
 

@@ -18,7 +18,7 @@ use Rattle.bits.specs.Bit.{bit, word-bits}
 use Rattle.bits.specs.Laws.Bit.{bit-of-zero}
 use Rattle.lists.specs.TestLaws.{same-bytes-equal}
 use Rattle.names.specs.NamesAt.{Inside, name-there}
-use Rattle.names.specs.Laws.Places.{zero-there}
+use Rattle.places.specs.Laws.Places.{zero-there}
 use Rattle.names.specs.Laws.NamesAt.{inside-part}
 use Rattle.names.specs.Buckets.{bucket-count, bucket-words, spread, bucket-after, bucket-of, Noted, BitsNamed}
 

@@ -11,7 +11,7 @@ use Rattle.spec.specs.Limits.{user-limit}
 use Rattle.spec.specs.Text.{Bytes, same-name}
 use Rattle.bits.specs.Laws.Lowest.{lowest-below-intro, lowest-below-none-intro}
 use Rattle.lists.specs.ListOfLaws.{length-list-of, getD-list-of, list-of-same, list-of-places}
-use Rattle.names.specs.Places.{NamesPlaced}
+use Rattle.places.specs.Places.{NamesPlaced}
 use Rattle.names.specs.NamesAt.{Inside, PartThere, name-there, names-at, all-names, name-number}
 
 pub names-total : (text : Bytes) (places : List ℕ) (count : ℕ) → length (names-at text places count) ≡ count

@@ -11,7 +11,7 @@ use Rattle.spec.specs.Rules.{Names}
 use Rattle.bits.specs.Truth.{fails-unless}
 use Rattle.lists.specs.TestLaws.{same-bytes-equal}
 use Rattle.rules.specs.AcceptedFacts.{accepted-lawful}
-use Rattle.names.specs.Places.{NamesPlaced}
+use Rattle.places.specs.Places.{NamesPlaced}
 use Rattle.names.specs.NamesAt.{Inside, PartThere, name-there, all-names, Apart}
 use Rattle.names.specs.Laws.NamesAt.{placed-names, placed-inside}
 use Rattle.names.specs.LaidOut.{UsersAt, PermissionsAt}

@@ -20,7 +20,7 @@ use Rattle.text.specs.Laws.Text.{Field, Fields, line-without-feed}
 use Rattle.rules.specs.SheetLines.{sheet-text-lines}
 use Rattle.rules.specs.Accepted.{accepted-keeps}
 use Rattle.rules.specs.AcceptedFacts.{name-field}
-use Rattle.names.specs.Places.{part}
+use Rattle.places.specs.Places.{part}
 use Rattle.form.specs.Laws.Step.{stands-place}
 use Rattle.form.specs.Ended.{Ended, Unended, ended-once, ended-stands}
 use Rattle.form.specs.Pieces.{name-fields}

@@ -13,7 +13,7 @@ use Rattle.spec.specs.Vocabulary.{all}
 use Rattle.spec.specs.Text.{Bytes, Line, lines-of}
 use Rattle.spec.specs.Sheet.{first-field, is-bit}
 use Rattle.spec.specs.Refusal.{has-name-length}
-use Rattle.names.specs.Places.{part}
+use Rattle.places.specs.Places.{part}
 use Rattle.refusal.specs.FirstLine.{line-fields}
 use Rattle.refusal.specs.Laws.Fields.{first-line-read}
 use Rattle.refusal.specs.ReadLine.{ReadLine}

@@ -17,7 +17,7 @@ use Rattle.bits.specs.Truth.{passes-or-fails, not-both}
 use Rattle.bits.specs.Laws.Below.{below-or-from}
 use Rattle.lists.specs.Span.{span, span-within, ended-first}
 use Rattle.text.specs.Fields.{separator, field-from, field-read}
-use Rattle.names.specs.Places.{part}
+use Rattle.places.specs.Places.{part}
 use Rattle.refusal.specs.FirstLine.{line-fields, after-line}
 use Rattle.text.specs.declared.cursor.FieldRead.{FieldRead}
 

@@ -11,7 +11,7 @@ use Rattle.lists.specs.DropLaws.{left-below, left-first, left-rest, none-left}
 use Rattle.text.specs.Fields.{field-read}
 use Rattle.refusal.specs.FirstLine.{line-fields}
 use Rattle.refusal.specs.Laws.Fields.{later-fields, FieldStep, field-step}
-use Rattle.names.specs.Places.{part, Part}
+use Rattle.places.specs.Places.{part, Part}
 use Rattle.text.specs.declared.cursor.FieldRead.{FieldRead}
 
 -- the fields after the first of the line that starts at a place

@@ -19,7 +19,7 @@ use Rattle.bits.specs.Truth.{same-truth}
 use Rattle.lists.specs.Span.{span}
 use Rattle.lists.specs.CutLaws.{parted-some}
 use Rattle.lists.specs.TailLaws.{length-tail}
-use Rattle.names.specs.Places.{part}
+use Rattle.places.specs.Places.{part}
 use Rattle.refusal.specs.FirstLine.{line-fields}
 use Rattle.refusal.specs.Laws.Fields.{first-line-read}
 use Rattle.refusal.specs.ReadLine.{ReadLine}

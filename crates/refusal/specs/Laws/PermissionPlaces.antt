@@ -9,8 +9,8 @@ use Rattle.spec.specs.Text.{Bytes}
 use Rattle.text.specs.Fields.{field-read}
 use Rattle.refusal.specs.Laws.FieldsLeft.{fields-after, FieldsLeft, fields-start, field-below, field-there}
 use Rattle.refusal.specs.Laws.FieldsLeft.{fields-go-on, fields-end}
-use Rattle.names.specs.Places.{place-base, place-of, PlacedBelow}
-use Rattle.names.specs.Laws.Places.{note-place, name-noted, none-noted}
+use Rattle.places.specs.Places.{place-base, place-of, PlacedBelow}
+use Rattle.places.specs.Laws.Places.{note-place, name-noted, none-noted}
 
 -- the first n fields after the first are noted, and the line is read up to a cursor
 pub record FieldsNoted (room : ℕ) (text : Bytes) (places : List ℕ) (n : ℕ) (last : Bool) (next : ℕ) : Type 0 where

@@ -9,7 +9,7 @@ use lib.ListN.{length, drop}
 use Rattle.spec.specs.Text.{Bytes}
 use Rattle.spec.specs.Sheet.{first-field, is-one}
 use Rattle.text.specs.Fields.{field-read}
-use Rattle.names.specs.Places.{part, Part}
+use Rattle.places.specs.Places.{part, Part}
 use Rattle.refusal.specs.FirstLine.{line-fields, after-line}
 use Rattle.refusal.specs.Laws.Fields.{later-fields, after-field, field-step}
 use Rattle.refusal.specs.Cells.{no-cells, add-cell, add-cells, cells-of}

@@ -14,8 +14,8 @@ use Rattle.lists.specs.DropLaws.{left-below, left-first, left-rest, none-left}
 use Rattle.refusal.specs.FirstLine.{line-fields}
 use Rattle.refusal.specs.ReadLine.{ReadLine}
 use Rattle.refusal.specs.Laws.Body.{line-read}
-use Rattle.names.specs.Places.{place-base, place-of, from-at}
-use Rattle.names.specs.Laws.Places.{note-place, place-stays, noted-from, name-noted, none-noted}
+use Rattle.places.specs.Places.{place-base, place-of, from-at}
+use Rattle.places.specs.Laws.Places.{note-place, place-stays, noted-from, name-noted, none-noted}
 use Rattle.refusal.specs.UserPlaces.{UserPlacesBelow, UserPlaces}
 use Rattle.refusal.specs.declared.line.LineRead.{LineRead}
 

@@ -18,9 +18,9 @@ use Rattle.bits.specs.Laws.Below.{last-or-below}
 use Rattle.lists.specs.TestLaws.{same-bytes-equal}
 use Rattle.lists.specs.Listed.{listed, listed-suc, listed-same}
 use Rattle.text.specs.Laws.Line.{line-parts}
-use Rattle.names.specs.Places.{place-base, place-of, from-at, to-at, to-of, part, BlankPast}
+use Rattle.places.specs.Places.{place-base, place-of, from-at, to-at, to-of, part, BlankPast}
 use Rattle.names.specs.NamesAt.{name-there}
-use Rattle.names.specs.Laws.Places.{note-place, place-stays, noted-from, noted-to, blank-kept}
+use Rattle.places.specs.Laws.Places.{note-place, place-stays, noted-from, noted-to, blank-kept}
 use Rattle.sheet.specs.Stands.{Stands}
 use Rattle.sheet.specs.Laws.Stands.{stands-then, stands-found, stands-part}
 use Rattle.sheet.specs.Spelled.{NameAt}

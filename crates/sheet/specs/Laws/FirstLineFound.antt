@@ -15,7 +15,7 @@ use Rattle.spec.specs.Text.{ascii, same-bytes, Bytes, comma, line-feed, line-te
 use Rattle.bits.specs.Truth.{not-both, and-intro, and-right}
 use Rattle.bits.specs.Laws.Below.{below-or-from}
 use Rattle.lists.specs.TestLaws.{member-at}
-use Rattle.names.specs.Places.{part}
+use Rattle.places.specs.Places.{part}
 use Rattle.text.specs.Laws.Line.{joined-parts}
 use Rattle.sheet.specs.Spelled.{name-read}
 use Rattle.sheet.specs.Laws.Spelled.{behind, name-found}

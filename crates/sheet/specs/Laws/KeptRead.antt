@@ -14,7 +14,7 @@ use Rattle.spec.specs.Sheet.{sheet-of}
 use Rattle.spec.specs.Rules.{Keeps}
 use Rattle.spec.specs.Refusal.{refusal, accepted}
 use Rattle.bits.specs.Truth.{and-left, and-right}
-use Rattle.names.specs.Places.{from-at}
+use Rattle.places.specs.Places.{from-at}
 use Rattle.text.specs.Laws.Text.{Lines, read-as-written, read-lines}
 use Rattle.rules.specs.WrittenLaws.{written-lines}
 use Rattle.rules.specs.Accepted.{accepts-sheets}

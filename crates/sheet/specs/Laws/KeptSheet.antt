@@ -18,9 +18,9 @@ use Rattle.lists.specs.SameLaws.{distinct-places}
 use Rattle.lists.specs.ListOfLaws.{length-list-of, list-of-element}
 use Rattle.cells.specs.Rows.{row-words}
 use Rattle.cells.specs.Laws.WordRows.{word-row, word-rows, word-lines, word-grants}
-use Rattle.names.specs.Places.{from-at, to-at, Part, NamesPlaced}
+use Rattle.places.specs.Places.{from-at, to-at, Part, NamesPlaced}
 use Rattle.names.specs.NamesAt.{name-there, names-at}
-use Rattle.names.specs.Laws.Places.{first-placed, zero-there}
+use Rattle.places.specs.Laws.Places.{first-placed, zero-there}
 use Rattle.names.specs.Laws.NamesAt.{names-total, name-of}
 use Rattle.rules.specs.SheetLines.{sheet-text-lines}
 use Rattle.rules.specs.WrittenLaws.{SheetWritten, written-sheet}

@@ -17,7 +17,7 @@ use Rattle.spec.specs.Refusal.{has-name-length}
 use Rattle.bits.specs.Truth.{and-intro, and-left, and-right, or-fails}
 use Rattle.lists.specs.Span.{further, span, span-within}
 use Rattle.lists.specs.TestLaws.{all-intro, all-elim}
-use Rattle.names.specs.Places.{part}
+use Rattle.places.specs.Places.{part}
 use Rattle.rules.specs.NameCauses.{sized-name}
 use Rattle.text.specs.Fields.{separator, field-from, field-read}
 use Rattle.text.specs.Laws.Byte.{name-byte-no-comma, name-byte-no-line-feed}

@@ -11,7 +11,7 @@ use lib.ListN.{length, getD, drop, take-append-drop}
 use lib.Seq.{drop-cons, drop-drop}
 use Rattle.spec.specs.Text.{Bytes}
 use Rattle.bits.specs.Truth.{and-left, and-right}
-use Rattle.names.specs.Places.{part}
+use Rattle.places.specs.Places.{part}
 use Rattle.sheet.specs.Stands.{Stands}
 
 pub stands-nothing : (text : Bytes) (at : ℕ) → at ≤ length text → Stands text at [] at

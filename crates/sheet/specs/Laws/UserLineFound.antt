@@ -13,7 +13,7 @@ use Rattle.spec.specs.Text.{Bytes, comma, line-feed}
 use Rattle.spec.specs.Sheet.{cell-text}
 use Rattle.bits.specs.Truth.{and-intro}
 use Rattle.bits.specs.Bit.{bit}
-use Rattle.names.specs.Places.{part}
+use Rattle.places.specs.Places.{part}
 use Rattle.text.specs.Fields.{separator}
 use Rattle.cells_read.specs.CellsWord.{CellsStand, CellsIn}
 use Rattle.sheet.specs.Laws.CellsStanding.{cells-text, cells-length, cells-stand, stands-cells}

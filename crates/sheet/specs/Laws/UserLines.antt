@@ -20,8 +20,8 @@ use Rattle.bits.specs.Bit.{bit, word-bits}
 use Rattle.text.specs.Laws.Line.{text-append}
 use Rattle.lists.specs.ListOfLaws.{list-of-last, list-of-same, length-list-of}
 use Rattle.cells.specs.Rows.{row-words}
-use Rattle.names.specs.Places.{place-base, place-of, from-at, to-at}
-use Rattle.names.specs.Laws.Places.{note-place, place-stays, noted-from, noted-to, zero-there, blank-kept}
+use Rattle.places.specs.Places.{place-base, place-of, from-at, to-at}
+use Rattle.places.specs.Laws.Places.{note-place, place-stays, noted-from, noted-to, zero-there, blank-kept}
 use Rattle.sheet.specs.Stands.{Stands}
 use Rattle.sheet.specs.Laws.Stands.{stands-nothing, stands-then}
 use Rattle.sheet.specs.UserLine.{UserAt, line-of, LineStands}

@@ -7,7 +7,7 @@ use mathlib.Core.Path.{_≡_}
 use lib.ListN.{length}
 use Rattle.spec.specs.Limits.{user-limit, name-limit}
 use Rattle.bits.specs.Counting.{sum-below}
-use Rattle.names.specs.Places.{from-at, to-at}
+use Rattle.places.specs.Places.{from-at, to-at}
 use Rattle.book.specs.Laws.NameBytes.{bytes-below}
 use Rattle.book.proofs.length.bytes_at.Statement.{statement}
 use Rattle.book.proofs.length.bytes_at.Tie as tie

@@ -8,8 +8,8 @@ use Rattle.spec.specs.Limits.{sheet-limit, permission-limit, user-limit}
 use Rattle.spec.specs.Vocabulary.{repeats}
 use Rattle.spec.specs.Text.{Bytes, lines-of, same-name}
 use Rattle.spec.specs.Sheet.{first-field}
-use Rattle.names.specs.Places.{NamesPlaced}
-use Rattle.names.specs.Laws.Places.{first-placed}
+use Rattle.places.specs.Places.{NamesPlaced}
+use Rattle.places.specs.Laws.Places.{first-placed}
 use Rattle.names.specs.Laws.NamesAt.{placed-names, placed-inside}
 use Rattle.refusal.specs.FirstLine.{line-fields}
 use Rattle.refusal.proofs.refusal.has_name_twice.Statement.{statement}

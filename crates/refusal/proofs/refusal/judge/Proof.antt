@@ -12,7 +12,7 @@ use Rattle.spec.specs.Sheet.{sheet-of}
 use Rattle.spec.specs.Refusal.{too-long, bad-first-line, bad-line-count, bad-name, name-twice}
 use Rattle.spec.specs.Refusal.{refusal}
 use Rattle.bits.specs.Truth.{and-right}
-use Rattle.names.specs.Places.{part}
+use Rattle.places.specs.Places.{part}
 use Rattle.text.specs.Laws.Byte.{between-high}
 use Rattle.refusal.specs.Laws.Judge.{causes-from-2, causes-from-3, causes-from-4, causes-from-5}
 use Rattle.refusal.specs.Laws.Judge.{causes-from-6, causes-from-7, causes-from-8, causes-from-9}

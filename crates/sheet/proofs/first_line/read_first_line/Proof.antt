@@ -13,7 +13,7 @@ use lib.ListN.{length, getD, drop}
 use Rattle.spec.specs.Limits.{sheet-limit, permission-limit}
 use Rattle.spec.specs.Text.{ascii, Bytes, comma, line-feed, line-text}
 use Rattle.bits.specs.Truth.{not-both}
-use Rattle.names.specs.Places.{place-base}
+use Rattle.places.specs.Places.{place-base}
 use Rattle.sheet.specs.Spelled.{name-read, NameAt}
 use Rattle.sheet.specs.FirstLine.{NamesFit}
 use Rattle.sheet.specs.Laws.Stands.{stands-found}

@@ -9,7 +9,7 @@ use lib.ListN.{length}
 use Rattle.spec.specs.Limits.{sheet-limit, user-limit}
 use Rattle.bits.specs.Laws.Count.{count-below-le}
 use Rattle.bits.specs.Bit.{bit, word-bits}
-use Rattle.names.specs.Places.{place-base}
+use Rattle.places.specs.Places.{place-base}
 use Rattle.sheet.specs.UserLine.{LineStands}
 use Rattle.sheet.specs.UserLines.{LinesNoted}
 use Rattle.sheet.specs.Laws.UserLinesFound.{LinesLeft, few-left, left-next, no-line-left}

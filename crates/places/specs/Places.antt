@@ -6,7 +6,7 @@ use mathlib.Core.List.{List, []}
 use lib.ListN.{length, getD, take, drop, replicate}
 use Rattle.spec.specs.Limits.{user-limit}
 use Rattle.spec.specs.Text.{Bytes}
-use Rattle.names.specs.declared.places.Places.{Places}
+use Rattle.places.specs.declared.places.Places.{Places}
 
 -- more than the number of any byte of a text
 abbrev pub place-base : ℕ

@@ -2,7 +2,7 @@
 use numbers::USER_LIMIT;
 ghost use mathlib.Core.Path.{_≡_};
 ghost use Prim.Native.Nat.{_<_};
-ghost use Rattle.names.specs.Places.{place-base, place-of, from-of, to-of, no-places};
+ghost use Rattle.places.specs.Places.{place-base, place-of, from-of, to-of, no-places};
 
 // A place is the number of its first byte times this, and the number of the byte after its last.
 const PLACE_BASE: u64 = 4_294_967_296;

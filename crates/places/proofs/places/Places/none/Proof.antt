@@ -1,8 +1,8 @@
 -- `Places::none`: the array is as long as it is written.
 use mathlib.Core.Path.{refl}
 use Rattle.spec.specs.Limits.{user-limit}
-use Rattle.names.proofs.places.Places.none.Statement.{statement}
-use Rattle.names.proofs.places.Places.none.Tie as tie
+use Rattle.places.proofs.places.Places.none.Statement.{statement}
+use Rattle.places.proofs.places.Places.none.Tie as tie
 
 returns : tie.Need-returns
 unfolding user-limit

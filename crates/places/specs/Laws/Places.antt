@@ -10,8 +10,8 @@ use lib.ListN.{length, getD, set, take, replicate, length-replicate, getD-replic
 use lib.Seq.{getD-set-same, getD-set-other, getD-take, length-take-le}
 use Rattle.spec.specs.Text.{Bytes}
 use Rattle.bits.specs.Laws.Below.{below-or-from, last-or-below}
-use Rattle.names.specs.Places.{place-base, place-of, from-of, to-of, from-at, to-at, Part, PlacedBelow}
-use Rattle.names.specs.Places.{NamesPlaced, BlankPast}
+use Rattle.places.specs.Places.{place-base, place-of, from-of, to-of, from-at, to-at, Part, PlacedBelow}
+use Rattle.places.specs.Places.{NamesPlaced, BlankPast}
 
 -- ---- one number for both ends
 
