@@ -1,6 +1,5 @@
 -- The judgement of a sheet cause by cause: the lowest number that applies.
 pub mod FirstLine
-pub mod Spelling
 pub mod Cells
 pub mod ReadLine
 pub mod Body

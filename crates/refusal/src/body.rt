@@ -2,7 +2,7 @@
 use crate::fields::Cells;
 use crate::fields::both;
 use crate::line::read_line;
-use crate::spelling::name_length;
+use spelling::name_length;
 ghost use mathlib.Core.Path.{_≡_};
 ghost use Prim.Native.Nat.{suc, _+_, _≤_, _<_, _^_};
 ghost use lib.ListN.{length, drop};

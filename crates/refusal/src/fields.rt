@@ -1,5 +1,5 @@
 // What the fields after the first of a line say, taken together.
-use crate::spelling::name_length;
+use spelling::name_length;
 use text::same_bytes;
 ghost use mathlib.Core.Path.{_≡_};
 ghost use mathlib.Core.Bool.{_&&_};

@@ -4,7 +4,7 @@ use crate::spelled::read_name;
 use numbers::PERMISSION_LIMIT;
 use numbers::USER_LIMIT;
 use places::place_of;
-use refusal::is_user;
+use spelling::is_user;
 use text::COMMA;
 use text::LINE_FEED;
 use text::stands_at;

@@ -1,7 +1,7 @@
 // Names of a sheet: fields, as the reader finds them, that are names.
-use refusal::Kind;
-use refusal::all_of;
-use refusal::name_length;
+use spelling::Kind;
+use spelling::all_of;
+use spelling::name_length;
 use text::Cursor;
 ghost use mathlib.Core.Path.{_≡_};
 ghost use Prim.Native.Nat.{_≤_};

@@ -7,7 +7,7 @@ ghost use mathlib.Core.Path.{_≡_};
 ghost use Rattle.spec.specs.Vocabulary.{all};
 ghost use Rattle.spec.specs.Text.{ascii, same-bytes, between};
 ghost use Rattle.spec.specs.Refusal.{has-name-length};
-ghost use Rattle.refusal.specs.Spelling.{byte-of};
+ghost use Rattle.spelling.specs.Kinds.{byte-of};
 
 // A kind of bytes: those that a sheet may have, or those of names.
 pub enum Kind {

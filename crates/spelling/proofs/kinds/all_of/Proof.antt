@@ -1,4 +1,4 @@
--- `spelling::all_of`: with the bytes before i of the kind, the bytes from i on decide.
+-- `kinds::all_of`: with the bytes before i of the kind, the bytes from i on decide.
 use Prim.Native.Nat.{_-_, _≤_}
 use native.Mathlib.Omega.{arith}
 use native.Mathlib.Numerals.{add-one}
@@ -7,9 +7,9 @@ use borrow.Author.Tests.{not-true, not-false}
 use lib.ListN.{length, drop, drop-of-length-le}
 use Rattle.spec.specs.Vocabulary.{all}
 use Rattle.lists.specs.DropLaws.{all-left}
-use Rattle.refusal.specs.Spelling.{byte-of}
-use Rattle.refusal.proofs.spelling.all_of.Statement.{statement}
-use Rattle.refusal.proofs.spelling.all_of.Tie as tie
+use Rattle.spelling.specs.Kinds.{byte-of}
+use Rattle.spelling.proofs.kinds.all_of.Statement.{statement}
+use Rattle.spelling.proofs.kinds.all_of.Tie as tie
 
 abbrev Inv-loop : tie.InvT-loop
 Inv-loop s kind i₀ i = all (byte-of kind) (drop i s) ≡ all (byte-of kind) s

@@ -1,7 +1,7 @@
--- `spelling::is_within`: a number below the low end is not within, and any other is where it is at most the high end.
+-- `kinds::is_within`: a number below the low end is not within, and any other is where it is at most the high end.
 use borrow.Author.Tests.{lt-leb, le-leb}
-use Rattle.refusal.proofs.spelling.is_within.Statement.{statement}
-use Rattle.refusal.proofs.spelling.is_within.Tie as tie
+use Rattle.spelling.proofs.kinds.is_within.Statement.{statement}
+use Rattle.spelling.proofs.kinds.is_within.Tie as tie
 
 returns : tie.Need-returns
 returns c = rw (lt-leb _ _ (c .if1 .taken))

@@ -1,8 +1,8 @@
--- `spelling::name_length`: the length is within its limits.
+-- `kinds::name_length`: the length is within its limits.
 use borrow.Author.Needs.{needs}
 use Rattle.spec.specs.Refusal.{has-name-length}
-use Rattle.refusal.proofs.spelling.name_length.Statement.{statement}
-use Rattle.refusal.proofs.spelling.name_length.Tie as tie
+use Rattle.spelling.proofs.kinds.name_length.Statement.{statement}
+use Rattle.spelling.proofs.kinds.name_length.Tie as tie
 
 returns : tie.Need-returns
 unfolding has-name-length

@@ -1,7 +1,7 @@
--- `spelling::is_of`: each kind by its own test.
+-- `kinds::is_of`: each kind by its own test.
 use borrow.Author.Needs.{needs}
-use Rattle.refusal.proofs.spelling.is_of.Statement.{statement}
-use Rattle.refusal.proofs.spelling.is_of.Tie as tie
+use Rattle.spelling.proofs.kinds.is_of.Statement.{statement}
+use Rattle.spelling.proofs.kinds.is_of.Tie as tie
 
 returns : tie.Need-returns
 returns c = rw (c .before .enum-told .given .1) (c .is-allowed .ensures)

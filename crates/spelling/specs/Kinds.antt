@@ -2,8 +2,8 @@
 use Prim.Native.Nat.{ℕ}
 use mathlib.Core.Bool.{Bool}
 use Rattle.spec.specs.Text.{allowed-byte, name-byte}
-use Rattle.refusal.specs.declared.spelling.Kind.{Kind}
-use Rattle.refusal.specs.declared.spelling.Kind.the-variants as kind
+use Rattle.spelling.specs.declared.kinds.Kind.{Kind}
+use Rattle.spelling.specs.declared.kinds.Kind.the-variants as kind
 
 -- a byte is of a kind
 abbrev pub byte-of : Kind → ℕ → Bool
