@@ -17,7 +17,7 @@ use Rattle.spec.specs.Book.{blocks-saying, book-text, said-in, book}
 use Rattle.lists.specs.ListOfLaws.{list-of-same}
 use Rattle.cells.specs.Rows.{row-bits}
 use Rattle.cells.specs.CellSets.{cell-grants}
-use Rattle.roles.specs.Laws.RoleRows.{RoleRows}
+use Rattle.roles.specs.RoleRows.{RoleRows}
 use Rattle.roles.specs.RolesShown.{RolesAt}
 use Rattle.roles.specs.StandingCases.{standing-case}
 use Rattle.blocks.specs.CountsText.{counts-text}

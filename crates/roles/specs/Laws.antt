@@ -1,7 +1,6 @@
 -- The laws behind what contracts cite.
 pub mod Paired
 pub mod Role
-pub mod RoleRows
 pub mod CellClass
 pub mod GoingBack
 pub mod RoleNumber

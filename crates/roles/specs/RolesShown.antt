@@ -19,7 +19,7 @@ use Rattle.lists.specs.KeyLaws.{by-key}
 use Rattle.cells.specs.Rows.{row-bits, cell}
 use Rattle.cells.specs.CellPlaces.{grant-of}
 use Rattle.cover.specs.CoverPlaced.{Placed}
-use Rattle.roles.specs.Laws.RoleRows.{RoleRows}
+use Rattle.roles.specs.RoleRows.{RoleRows}
 use Rattle.roles.specs.CellClasses.{ClassAt, CellsBelow, UsersBelow, listed, paired-in}
 use Rattle.roles.specs.Laws.Role.{has-role-elim, gives-permission-elim}
 use Rattle.roles.specs.RoleNumbers.{class-key}
