@@ -105,8 +105,9 @@ written c classes at =
     let within = removed-below in-loop in
     ⊎-elim (λ w. single-written cell tied-to within at (w .0 .taken) (w .1) (w .2))
     (⊎-elim (λ w. tied-written cell tied-to within at (w .0 .left) (partner-below in-loop) (w .3) (w .4))
-    (λ w. tied-written cell tied-to within at (w .0 .left) (partner-below in-loop) (w .2)
-    (rw (w .1 .left) (w .3 ∙ at-loop .loop .inv .2)))) (c .if1 .came)
+    (λ w. let to-last : tied-to ≡ at-loop .loop .last = w .1 .left in
+    tied-written cell tied-to within at (w .0 .left) (partner-below in-loop) (w .2)
+    (rw to-last (w .3 ∙ at-loop .loop .inv .2)))) (c .if1 .came)
 
 loop-again : tie.Need-loop-again Inv-loop μ-loop
 loop-again c =
