@@ -1,16 +1,12 @@
 // The classes of all grants, by cell: the kernel's placement, and the removals gone back over.
 use numbers::CELL_LIMIT;
-use numbers::CellNo;
 ghost use mathlib.Core.Path.{_≡_};
 ghost use mathlib.Core.List.{[]};
-ghost use Prim.Native.Nat.{_+_, _<_, _≤_, _^_};
+ghost use Prim.Native.Nat.{_≤_};
 ghost use lib.ListN.{length};
 ghost use Rattle.spec.specs.Limits.{grant-limit};
 ghost use Rattle.spec.specs.Cover.{used};
-ghost use Rattle.spec.specs.Roles.{Classes, put-back};
 ghost use Rattle.lists.specs.LatestFirst.{latest-first};
-ghost use Rattle.cells.specs.CellPlaces.{cell-limit};
-ghost use Rattle.verdict.specs.Log.{removal-of};
 ghost use Rattle.roles.specs.CellClasses.{ClassAt, ClassesAt, CellsBelow, classes-in, paired-in};
 
 // A class number of one byte in two.
@@ -35,25 +31,9 @@ fn place_kernel<'a>(class: &mut [u16; CELL_LIMIT], kernel: &'a [u16], placed: &'
     }
 }
 
-// One removal gone back over: a single opens a class, a tied grant joins its partner's. The number of classes then.
-fn put_back(class: &mut [u16; CELL_LIMIT], count: usize, cell: CellNo, partner: CellNo) -> usize
-    requires { ⌜ (count < 2 ^ 16) × (cell .0 < cell-limit) × (partner .0 < cell-limit) ⌝ }
-    ensures { λ r. ⌜ ((classes : Classes) → ClassesAt (now (class .entry)) count classes
-        → ClassesAt (now (class .exit)) r (put-back (removal-of (cell .0) (partner .0)) classes)) ⌝ }
-{
-    let at = cell.0;
-    let tie = partner.0;
-    if at == tie {
-        class[at] = count as u16;
-        return count + 1;
-    }
-    let joined = class[tie];
-    class[at] = joined;
-    count
-}
-
 // Puts the classes of all grants into an array that has no class yet, from a placement of the kernel and the
-// removals, the latest gone back over first. How many classes there are.
+// removals, the latest gone back over first: a single opens a class, a tied grant joins its partner's. The class put
+// back last is kept at hand, as the next grant is often tied to that one. How many classes there are.
 pub fn all_classes<'a>(
     class: &mut [u16; CELL_LIMIT],
     kernel: &'a [u16],
@@ -72,12 +52,21 @@ pub fn all_classes<'a>(
 {
     place_kernel(class, kernel, placed);
     let mut opened = total;
+    let mut last = 0;
+    let mut known = class[0];
     let mut i = removed.len();
     while 0 < i {
         i -= 1;
         let cell = removed[i] as usize;
         let tie = partner[i] as usize;
-        opened = put_back(class, opened, CellNo(cell), CellNo(tie));
+        if cell == tie {
+            known = opened as u16;
+            opened += 1;
+        } else if tie != last {
+            known = class[tie];
+        }
+        class[cell] = known;
+        last = cell;
     }
     opened
 }

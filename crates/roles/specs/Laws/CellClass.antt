@@ -74,24 +74,24 @@ kernel-grant-written cells placed i within at =
 
 -- ---- a removal gone back over
 
-module _ {class : List ℕ} {count : ℕ} {classes : Classes} (it partner : ℕ) (within : it < cell-limit)
+module _ {class : List ℕ} {count more c : ℕ} {classes : Classes} (it partner : ℕ) (within : it < cell-limit)
     (at : ClassesAt class count classes) where
-  pub single-written : it ≡ partner → ClassesAt (set class it count) (count + 1) (put-back (removal-of it partner)
-      classes)
-  single-written e =
+  pub single-written : it ≡ partner → more ≡ count + 1 → c ≡ count
+      → ClassesAt (set class it c) more (put-back (removal-of it partner) classes)
+  single-written e opened written =
       rw (eq-eqb it partner e)
       (record {
-        each = rw (at .total) (class-written it (classes .count) within (at .each));
+        each = rw (written, at .total) (class-written it (classes .count) within (at .each));
         total = omega
             (arith, at .total);
       })
 
-  pub tied-written : it ≢ partner → partner < cell-limit
-      → ClassesAt (set class it (getD class partner 0)) count (put-back (removal-of it partner) classes)
-  tied-written e l =
+  pub tied-written : it ≢ partner → partner < cell-limit → more ≡ count → c ≡ getD class partner 0
+      → ClassesAt (set class it c) more (put-back (removal-of it partner) classes)
+  tied-written e l same written =
       rw (ne-eqb it partner e)
       (record {
-        each = rw (at .each .shown partner l) (class-written it (class-of (classes .members) (grant-of partner))
-            within (at .each));
-        total = at .total;
+        each = rw (written, at .each .shown partner l) (class-written it
+            (class-of (classes .members) (grant-of partner)) within (at .each));
+        total = same ∙ at .total;
       })
