@@ -1,4 +1,3 @@
 -- The laws behind what contracts cite.
 pub mod Preparing
-pub mod ClassesCopied
 pub mod TableKernel

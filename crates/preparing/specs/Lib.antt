@@ -1,5 +1,4 @@
--- What is found of an accepted sheet, what there is without one, and the classes of the best placement.
+-- What is found of an accepted sheet, and what there is without one.
 pub mod Prepared
 pub mod NothingPrepared
-pub mod BestOf
 pub mod Laws

@@ -55,9 +55,9 @@ impl Session {
         ensures { λ r. ⌜ view r ≡ loaded (now (s .entry)) (start-of (sheet-of (now (s .entry)))) ⌝ }
         ensures { λ r. ⌜ Holds r ⌝ }
     {
-        let text = preparing::copied(s);
+        let text = kept::copied(s);
         let prepared = preparing::prepare(layout, rows);
-        let first = preparing::first_classes(&prepared.first.classes);
+        let first = kept::first_classes(&prepared.first.classes);
         let sizes = Sizes {
             kernel: prepared.kernel.size,
             singles: prepared.reduced.singles,

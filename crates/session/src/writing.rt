@@ -18,7 +18,7 @@ impl Session {
         }
         let size = self.prepared.kernel.size;
         let removals = self.prepared.reduced.count;
-        let best = preparing::best_of(&self.prepared.first.classes, &self.position.best, size);
+        let best = kept::best_of(&self.prepared.first.classes, &self.position.best, size);
         let kernel: &[u16] = &self.prepared.kernel.cells;
         let removed: &[u16] = &self.prepared.reduced.removed;
         let partner: &[u16] = &self.prepared.reduced.partner;

@@ -23,7 +23,7 @@ use Rattle.roles.specs.Laws.ReducedBelongs.{reduced-belongs}
 use Rattle.blocks.specs.Laws.Laid.{few-users}
 use Rattle.form.specs.Laws.RoleLimit.{permissions-fit-a-row}
 use Rattle.session.specs.CodeSession.{text-in, size-in, state-in, Holds}
-use Rattle.preparing.specs.BestOf.{best-classes}
+use Rattle.kept.specs.BestOf.{best-classes}
 use Rattle.session.specs.Laws.MovedOn.{state-within}
 use Rattle.session.specs.Laws.CountsHeld.{roles-held, few-roles-held}
 use Rattle.session.specs.declared.Session.{Session as CodeSession}

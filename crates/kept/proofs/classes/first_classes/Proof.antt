@@ -6,9 +6,9 @@ use native.Mathlib.Numerals.{add-one}
 use mathlib.Core.Path.{_≡_, refl}
 use lib.ListN.{length, length-set}
 use Rattle.spec.specs.Limits.{grant-limit, search-limit}
-use Rattle.preparing.specs.Laws.ClassesCopied.{ClassesCopied, none-copied, one-copied, copied-placement}
-use Rattle.preparing.proofs.classes.first_classes.Statement.{statement}
-use Rattle.preparing.proofs.classes.first_classes.Tie as tie
+use Rattle.kept.specs.Laws.ClassesCopied.{ClassesCopied, none-copied, one-copied, copied-placement}
+use Rattle.kept.proofs.classes.first_classes.Statement.{statement}
+use Rattle.kept.proofs.classes.first_classes.Tie as tie
 
 abbrev Inv-loop : tie.InvT-loop
 Inv-loop classes first₀ i₀ first i =

@@ -8,8 +8,8 @@ use lib.ListN.{length, take, length-set}
 use lib.Seq.{take-suc, take-suc-set, take-length}
 use Rattle.spec.specs.Limits.{sheet-limit}
 use Rattle.cells.specs.Blank.{BlankFrom, zeros-blank, set-blank}
-use Rattle.preparing.proofs.sheet_text.copied.Statement.{statement}
-use Rattle.preparing.proofs.sheet_text.copied.Tie as tie
+use Rattle.kept.proofs.sheet_text.copied.Statement.{statement}
+use Rattle.kept.proofs.sheet_text.copied.Tie as tie
 
 abbrev Inv-loop : tie.InvT-loop
 Inv-loop s text₀ i₀ text i =

@@ -6,7 +6,7 @@ ghost use Prim.Native.Nat.{ℕ, _≤_};
 ghost use lib.ListN.{length, take};
 ghost use Rattle.spec.specs.Limits.{search-limit};
 ghost use Rattle.lists.specs.LatestFirst.{latest-first};
-ghost use Rattle.preparing.specs.BestOf.{best-classes};
+ghost use Rattle.kept.specs.BestOf.{best-classes};
 
 // The classes of as many grants as are searched.
 pub fn first_classes(classes: &[u8; GRANT_LIMIT]) -> [u8; KERNEL_LIMIT]

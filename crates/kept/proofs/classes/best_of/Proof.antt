@@ -4,8 +4,8 @@ use mathlib.Core.Path.{sym}
 use borrow.Author.Tests.{lt-ltb, le-ltb}
 use lib.Seq.{length-take-le}
 use Rattle.spec.specs.Limits.{search-limit}
-use Rattle.preparing.proofs.classes.best_of.Statement.{statement}
-use Rattle.preparing.proofs.classes.best_of.Tie as tie
+use Rattle.kept.proofs.classes.best_of.Statement.{statement}
+use Rattle.kept.proofs.classes.best_of.Tie as tie
 
 above : (c : tie.Then1) → search-limit < c .before .args .size
 unfolding search-limit

@@ -1,0 +1,3 @@
+-- The classes of the best placement.
+pub mod BestOf
+pub mod Laws
