@@ -1,4 +1,4 @@
-// Steps over a book: bytes that are known, a part up to a byte, the cells of a row, a line of a name and cells.
+// Steps over a book: bytes that are known, a part up to a byte, a line of a name and cells read into a row.
 mod cursor;
 mod line;
 mod row_cells;
