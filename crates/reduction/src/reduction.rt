@@ -20,7 +20,7 @@ ghost use Rattle.cells.specs.CellPlaces.{marked, Shows, cells-of};
 ghost use Rattle.fit.specs.Columns.{Columns};
 ghost use Rattle.reduction.specs.CarriedOut.{Carriable, CarriedOut};
 ghost use Rattle.reduction.specs.ReductionResult.{ReducedFrom};
-ghost use Rattle.verdict.specs.ReductionWork.{work-of, word-cells, WorkReady, Visited, Settled, Removable, Removed};
+ghost use Rattle.verdict.specs.ReductionWork.{work-of, word-cells, WorkReady, Visited, Removable, Removed};
 
 // The cells of the kernel, and the removals in order: the cell of each, and its partner's, which is its own where it
 // was removed as single.
@@ -141,30 +141,6 @@ fn sweep<'a>(
     count
 }
 
-// Sweeps repeat until one removes nothing.
-fn sweeps<'a>(
-    rows: &'a [u64; CELL_WORDS],
-    columns: &'a [u64; PLACE_WORDS],
-    left: &'a mut [u64; CELL_WORDS],
-    removed: &'a mut [u16; GRANT_LIMIT],
-    partner: &'a mut [u16; GRANT_LIMIT],
-    users: usize,
-) -> usize
-    requires { ⌜ WorkReady (now rows) users (work-of (now left) (now removed) (now partner) 0)
-        × Columns (now rows) (now columns) × (now left ≡ now rows) ⌝ }
-    ensures { λ r. ⌜ Settled (now (rows .entry)) users (work-of (now (left .exit)) (now (removed .exit))
-        (now (partner .exit)) r) ⌝ }
-{
-    let mut count = 0;
-    loop {
-        let after = sweep(rows, columns, left, removed, partner, users, count);
-        if after == count {
-            return after;
-        }
-        count = after;
-    }
-}
-
 // How many of the removals are singles.
 fn count_singles<'a>(
     removed: &'a [u16; GRANT_LIMIT],
@@ -185,7 +161,8 @@ fn count_singles<'a>(
     singles
 }
 
-// The reduction of the sheet that the rows show, by their columns. Past the removals the log is 0.
+// The reduction of the sheet that the rows show, by their columns: sweeps repeat until one removes nothing. Past the
+// removals the log is 0.
 pub fn reduce<'a>(
     rows: &'a [u64; CELL_WORDS],
     columns: &'a [u64; PLACE_WORDS],
@@ -197,7 +174,22 @@ pub fn reduce<'a>(
     let mut left = *rows;
     let mut removed = [0; GRANT_LIMIT];
     let mut partner = [0; GRANT_LIMIT];
-    let count = sweeps(rows, columns, &mut left, &mut removed, &mut partner, users);
+    let mut count = 0;
+    loop {
+        let before = count;
+        count = sweep(
+            rows,
+            columns,
+            &mut left,
+            &mut removed,
+            &mut partner,
+            users,
+            before,
+        );
+        if count == before {
+            break;
+        }
+    }
     let singles = count_singles(&removed, &partner, count);
     Reduced {
         left,
