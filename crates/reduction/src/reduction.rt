@@ -9,18 +9,17 @@ use verdict::Verdict;
 use verdict::insides;
 use verdict::judge;
 ghost use mathlib.Core.Path.{_≡_};
-ghost use Prim.Native.Nat.{_*_, _<_, _≤_};
-ghost use lib.ListN.{length, getD};
+ghost use Prim.Native.Nat.{_≤_};
+ghost use lib.ListN.{length};
 ghost use Rattle.spec.specs.Limits.{grant-limit};
 ghost use Rattle.spec.specs.Reduction.{singles-of};
 ghost use Rattle.lists.specs.PassingBelow.{passing-below};
-ghost use Rattle.cells.specs.Rows.{row-words};
 ghost use Rattle.verdict.specs.Log.{log-of};
 ghost use Rattle.cells.specs.CellPlaces.{marked, Shows, cells-of};
 ghost use Rattle.fit.specs.Columns.{Columns};
 ghost use Rattle.reduction.specs.CarriedOut.{Carriable, CarriedOut};
 ghost use Rattle.reduction.specs.ReductionResult.{ReducedFrom};
-ghost use Rattle.verdict.specs.ReductionWork.{work-of, word-cells, WorkReady, Visited, Removable, Removed};
+ghost use Rattle.verdict.specs.ReductionWork.{work-of, WorkReady, Visited, Removable, Removed};
 
 // The cells of the kernel, and the removals in order: the cell of each, and its partner's, which is its own where it
 // was removed as single.
@@ -76,46 +75,7 @@ fn carry_out<'a>(
     }
 }
 
-// Where a sweep stands: the word whose grants are visited next, and how many removals there are.
-struct Standing {
-    word: usize,
-    count: usize,
-}
-
-// The grants of a word are visited, in rising number, and each is judged against those remaining at that moment.
-fn sweep_word<'a>(
-    rows: &'a [u64; CELL_WORDS],
-    columns: &'a [u64; PLACE_WORDS],
-    left: &'a mut [u64; CELL_WORDS],
-    removed: &'a mut [u16; GRANT_LIMIT],
-    partner: &'a mut [u16; GRANT_LIMIT],
-    users: usize,
-    at: Standing,
-) -> usize
-    requires { ⌜ WorkReady (now rows) users (work-of (now left) (now removed) (now partner) (at .count))
-        × Columns (now rows) (now columns)
-        × (at .word < users * row-words) ⌝ }
-    ensures { λ r. ⌜ Visited (now (rows .entry)) users (word-cells (at .word) (getD (now (left .entry)) (at .word) 0))
-        (work-of (now (left .entry)) (now (removed .entry)) (now (partner .entry)) (at .count))
-        (work-of (now (left .exit)) (now (removed .exit)) (now (partner .exit)) r) ⌝ }
-{
-    let i = at.word;
-    let mut w = left[i];
-    let mut count = at.count;
-    if w == 0 {
-        return count;
-    }
-    let inside = insides(rows, left, users, i);
-    while w != 0 {
-        let n = i * WORD_BITS + bits::lowest(w);
-        let verdict = judge(rows, columns, &inside, left, users, CellNo(n));
-        count = carry_out(left, removed, partner, count, CellNo(n), verdict);
-        w = bits::without_lowest(w);
-    }
-    count
-}
-
-// All remaining grants are visited, in rising number.
+// All remaining grants are visited, in rising number, and each is judged against those remaining at that moment.
 fn sweep<'a>(
     rows: &'a [u64; CELL_WORDS],
     columns: &'a [u64; PLACE_WORDS],
@@ -134,8 +94,16 @@ fn sweep<'a>(
     let mut count = count;
     let mut i = 0;
     while i < users * ROW_WORDS {
-        let at = Standing { word: i, count };
-        count = sweep_word(rows, columns, left, removed, partner, users, at);
+        let mut w = left[i];
+        if w != 0 {
+            let inside = insides(rows, left, users, i);
+            while w != 0 {
+                let n = i * WORD_BITS + bits::lowest(w);
+                let verdict = judge(rows, columns, &inside, left, users, CellNo(n));
+                count = carry_out(left, removed, partner, count, CellNo(n), verdict);
+                w = bits::without_lowest(w);
+            }
+        }
         i += 1;
     }
     count

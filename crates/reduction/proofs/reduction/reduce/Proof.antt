@@ -1,5 +1,5 @@
--- `reduction::reduction::reduce`: the sweeps start from all cells of the rows and an empty log. Each sweep but the last
--- removes a grant, so the removals rise, and there is room for no more of them than grants.
+-- `reduction::reduction::reduce`: the sweeps start from all cells of the rows and an empty log. Each sweep but the
+-- last removes a grant, so the removals rise, and there is room for no more of them than grants.
 use Prim.Native.Nat.{_-_}
 use native.Mathlib.Omega.{arith}
 use lib.ListN.{replicate}
@@ -27,7 +27,9 @@ loop-holds c =
     }
 
 sweep-requires : tie.Need-sweep-requires Inv-loop μ-loop
-sweep-requires c κs = (c .before .before .before .loop .inv .ready, c .before .before .before .before .before .pre .1)
+sweep-requires c κs =
+    let at-loop = c .before .before .before in
+    (at-loop .loop .inv .ready, at-loop .before .before .pre .1)
 
 loop-less : tie.Need-loop-less Inv-loop μ-loop
 loop-less c =
@@ -36,8 +38,7 @@ loop-less c =
       arith,
       c .if1 .left,
       visited-grows (c .before .sweep .ensures),
-      visited-ready (at-loop .loop .inv .ready)
-          (c .before .sweep .ensures) .room,
+      visited-ready (at-loop .loop .inv .ready) (c .before .sweep .ensures) .room,
     )
 
 loop-again : tie.Need-loop-again Inv-loop μ-loop
@@ -48,7 +49,8 @@ loop-again c =
 count-singles-requires : tie.Need-count-singles-requires Inv-loop μ-loop
 count-singles-requires c κs =
     let swept = c .before .before .before in
-    omega (arith, visited-ready (swept .before .before .before .before .loop .inv .ready) (swept .sweep .ensures) .room)
+    let at-loop = swept .before .before .before .before in
+    omega (arith, visited-ready (at-loop .loop .inv .ready) (swept .sweep .ensures) .room)
 
 returns : tie.Need-returns Inv-loop μ-loop
 returns c =

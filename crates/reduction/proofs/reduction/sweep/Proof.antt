@@ -1,50 +1,159 @@
 -- `reduction::reduction::sweep`: after i words the cells below word i were visited, of those that remained at first.
-use Prim.Native.Nat.{_*_, _-_, _≤_}
+-- Within a word, the cells still to be visited are at the positions of w, and remain. The lowest is visited next, and
+-- dropped. The words that they can be tied to stay the same.
+use Prim.Native.Nat.{_+_, _*_, _-_, _≤_, _<_}
 use native.Mathlib.Omega.{arith}
 use mathlib.Core.Path.{_≡_}
+use mathlib.Core.Logic.{⊎-elim}
+use mathlib.Core.Bool.{So}
+use lib.Arith.{digits-lt, digits-div}
+use lib.ListN.{getD}
 use Rattle.spec.specs.Limits.{user-limit}
+use Rattle.bits.specs.Bit.{word-bits}
 use Rattle.cells.specs.Rows.{row-words}
-use Rattle.verdict.specs.ReductionWork.{work-of}
+use Rattle.cells.specs.CellPlaces.{cells-of, marked}
+use Rattle.verdict.specs.Insides.{Insides}
+use Rattle.verdict.specs.Laws.Inside.{insides-found, insides-kept}
+use Rattle.verdict.specs.ReductionWork.{work-of, word-cells}
 use Rattle.verdict.specs.Laws.ReductionWork.{visited-ready}
-use Rattle.reduction.specs.Laws.ReductionSweep.{Swept, swept-none, swept-next}
+use Rattle.reduction.specs.Laws.CarryOut.{carriable, visited}
+use Rattle.reduction.specs.Laws.ReductionSweep.{Sweeping, sweeping-at-first, sweeping-next, sweeping-done}
+use Rattle.reduction.specs.Laws.ReductionSweep.{swept-empty, Swept, swept-none, swept-next}
 use Rattle.reduction.proofs.reduction.sweep.Statement.{statement}
 use Rattle.reduction.proofs.reduction.sweep.Tie as tie
 
+-- within a word
+abbrev Inv-loop2 : tie.InvT-loop2
+Inv-loop2 rows columns left₀ removed₀ partner₀ users count count₀ i w₀ inside left removed partner count' w =
+    Sweeping rows users i (word-cells i (getD left₀ i 0)) (work-of left₀ removed₀ partner₀ count₀)
+    (work-of left removed partner count') w
+    × Insides rows left users i inside
+
+abbrev μ-loop2 : tie.MeasureT-loop2
+μ-loop2 rows columns left₀ removed₀ partner₀ users count count₀ i w₀ inside left removed partner count' w = w
+
+-- from word to word
 abbrev Inv-loop : tie.InvT-loop
 Inv-loop rows columns left₀ removed₀ partner₀ users count count₀ i₀ left removed partner count' i =
     (i ≤ users * row-words) × Swept rows users i (work-of left₀ removed₀ partner₀ count)
     (work-of left removed partner count')
 
 abbrev μ-loop : tie.MeasureT-loop
-μ-loop rows columns left₀ removed₀ partner₀ users count count₀ i₀ left removed partner count' i = users * row-words - i
+μ-loop rows columns left₀ removed₀ partner₀ users count count₀ i₀ left removed partner count' i =
+    users * row-words - i
 
-loop-holds : tie.Need-loop-holds Inv-loop μ-loop
+loop-holds : tie.Need-loop-holds Inv-loop2 μ-loop2 Inv-loop μ-loop
 loop-holds c = (omega arith, swept-none (c .pre .0))
 
-mul-loop : tie.Need-mul-loop Inv-loop μ-loop
+mul-loop : tie.Need-mul-loop Inv-loop2 μ-loop2 Inv-loop μ-loop
 unfolding user-limit
 mul-loop c = omega (arith, c .before .pre .0 .shows .few-users)
 
-sweep-word-requires : tie.Need-sweep-word-requires Inv-loop μ-loop
+mul-w : tie.Need-mul-w Inv-loop2 μ-loop2 Inv-loop μ-loop
+unfolding user-limit row-words
+mul-w c = omega (arith, c .before .before .pre .0 .shows .few-users)
+
+element-copy-out-w : tie.Need-element-copy-out-w Inv-loop2 μ-loop2 Inv-loop μ-loop
+unfolding user-limit row-words
+element-copy-out-w c = omega (arith, c .before .before .pre .0 .shows .few-users)
+
+insides-requires : tie.Need-insides-requires Inv-loop2 μ-loop2 Inv-loop μ-loop
+unfolding user-limit row-words
+insides-requires c κs =
+    let at-loop = c .before .before .before .before in
+    let few = at-loop .before .pre .0 .shows .few-users in
+    (few, omega (arith, few))
+
+loop2-holds : tie.Need-loop2-holds Inv-loop2 μ-loop2 Inv-loop μ-loop
 unfolding row-words
-sweep-word-requires c κs =
-    let given = c .before .before .before .before .before .pre in
-    (visited-ready (given .0) (c .before .before .before .before .loop .inv .1), given .1, omega arith)
+loop2-holds c =
+    let at-loop = c .before .before .before .before .before in
+    let ready = visited-ready (at-loop .before .pre .0) (at-loop .loop .inv .1) in (
+      sweeping-at-first ready,
+      insides-found (at-loop .before .args .users) (at-loop .loop .i) (c .insides .result) (ready .part)
+          (omega arith) (c .insides .ensures),
+    )
 
-add-i : tie.Need-add-i Inv-loop μ-loop
-unfolding user-limit
+mul-n : tie.Need-mul-n Inv-loop2 μ-loop2 Inv-loop μ-loop
+unfolding user-limit row-words
+mul-n c =
+    let at-loop = c .before .before .before .before .before .before .before in
+    omega (arith, at-loop .before .pre .0 .shows .few-users)
+
+-- from the position found back to its word
+abbrev word : tie.After-lowest Inv-loop2 μ-loop2 Inv-loop μ-loop → tie.In-loop Inv-loop2 μ-loop2 Inv-loop μ-loop
+word c = let at-loop2 = c .before .before in at-loop2 .before .before .before .before .before
+
+add-n : tie.Need-add-n Inv-loop2 μ-loop2 Inv-loop μ-loop
+unfolding user-limit row-words
+add-n c = omega (arith, word c .before .before .pre .0 .shows .few-users, c .lowest .ensures .within)
+
+-- the cell at the position found is one of these users' cells, and remains
+below : (c : tie.After-lowest Inv-loop2 μ-loop2 Inv-loop μ-loop)
+    → word c .before .loop .i * word-bits + c .lowest .result < cells-of (word c .before .before .args .users)
+unfolding row-words
+below c = digits-lt (omega arith) (c .lowest .ensures .within)
+
+remains : (c : tie.After-lowest Inv-loop2 μ-loop2 Inv-loop μ-loop)
+    → So (marked (c .before .before .loop2 .left) (word c .before .loop .i * word-bits + c .lowest .result))
+remains c =
+    c .before .before .loop2 .inv .0 .set (c .lowest .result) (c .lowest .ensures .within) (c .lowest .ensures .holds)
+
+judge-requires : tie.Need-judge-requires Inv-loop2 μ-loop2 Inv-loop μ-loop
+judge-requires c κs =
+    let found = c .before .before in
+    let at = found .before .before .loop2 .inv in (
+      record {
+        shows = at .0 .ready .shows;
+        part = at .0 .ready .part;
+        within = below found;
+        set = remains found;
+      },
+      word found .before .before .pre .1,
+      rw (digits-div (word found .before .loop .i) (found .lowest .ensures .within)) (at .1),
+    )
+
+carry-out-requires : tie.Need-carry-out-requires Inv-loop2 μ-loop2 Inv-loop μ-loop
+carry-out-requires c κs =
+    let judged = c .before .before .before in
+    let found = judged .before .before .before in
+    carriable (found .before .before .loop2 .inv .0 .ready) (below found) (remains found) (judged .judge .result)
+    (judged .judge .ensures)
+
+loop2-less : tie.Need-loop2-less Inv-loop2 μ-loop2 Inv-loop μ-loop
+loop2-less c = c .without-lowest .ensures .less
+
+loop2-again : tie.Need-loop2-again Inv-loop2 μ-loop2 Inv-loop μ-loop
+loop2-again c =
+    let judged = c .before .before .before .before .before in
+    let found = judged .before .before .before in
+    let at = found .before .before .loop2 .inv in
+    let low = found .lowest .ensures in
+    let seen = visited (at .0 .ready) (below found) (remains found) (judged .judge .result) (judged .judge .ensures)
+    (c .before .carry-out .ensures) in
+    (sweeping-next (at .0) low seen (c .without-lowest .ensures), insides-kept (low .within) (at .1) seen)
+
+add-i : tie.Need-add-i Inv-loop2 μ-loop2 Inv-loop μ-loop
+unfolding user-limit row-words
 add-i c =
-    let start = c .before .before .before .before .before .before in
-    omega (arith, start .pre .0 .shows .few-users)
+    let at-loop = c .before .before .before in
+    omega (arith, at-loop .before .pre .0 .shows .few-users)
 
-loop-again : tie.Need-loop-again Inv-loop μ-loop
+-- the word had grants left, or none
+loop-again : tie.Need-loop-again Inv-loop2 μ-loop2 Inv-loop μ-loop
 unfolding row-words
 loop-again c =
-    let at-loop = c .before .before .before .before .before in
+    let at-loop = c .before .before .before in
     let at = at-loop .loop in
-    (omega arith, swept-next (at .i) (at .inv .1) (c .sweep-word .ensures))
+    let ready = visited-ready (at-loop .before .pre .0) (at .inv .1) in (
+      omega arith,
+      swept-next (at .i) (at .inv .1) (⊎-elim
+          (λ w. rw (w .5, w .6, w .7, w .8) (sweeping-done (rw (w .4 .left) at (w .3 .inv .0))))
+          (λ w. rw (w .1, w .2, w .3, w .4) (swept-empty (at .i) ready (w .0 .left)))
+          (c .if1 .came)),
+    )
 
-returns : tie.Need-returns Inv-loop μ-loop
+returns : tie.Need-returns Inv-loop2 μ-loop2 Inv-loop μ-loop
 unfolding row-words
 returns c =
     let at = c .before .loop in
@@ -54,5 +163,6 @@ returns c =
 pub sweep-spec : {M : Type 1} → statement M
 unfolding row-words
 sweep-spec =
-    tie.close (tie.spec Inv-loop μ-loop loop-holds mul-loop sweep-word-requires add-i (λ c. omega arith) loop-again
-    returns)
+    tie.close (tie.spec Inv-loop2 μ-loop2 Inv-loop μ-loop loop-holds mul-loop mul-w element-copy-out-w
+    insides-requires loop2-holds mul-n (λ c κs. omega arith) add-n judge-requires carry-out-requires
+    (λ c κs. omega arith) loop2-less loop2-again add-i (λ c. omega arith) loop-again returns)
