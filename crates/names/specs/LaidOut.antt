@@ -1,21 +1,15 @@
--- The layout of an accepted sheet: its counts, where its names stand, and where its user lines start; and what
--- looking for a name finds. Assumes nothing.
+-- The layout of an accepted sheet: its counts, where its names stand, and where its user lines start. Assumes
+-- nothing.
 use Prim.Native.Nat.{ℕ, suc, _<_}
 use mathlib.Core.Path.{_≡_}
 use mathlib.Core.Bool.{So}
-use mathlib.Core.Option.{Option}
 use mathlib.Core.List.{List}
 use lib.ListN.{length, take, drop}
 use Rattle.spec.specs.Text.{Bytes, lines-of}
 use Rattle.spec.specs.Sheet.{sheet-of, user-count, permission-count, grants}
 use Rattle.spec.specs.Refusal.{accepted}
 use Rattle.places.specs.Places.{from-at, NamesPlaced}
-use Rattle.names.specs.NamesAt.{found-as}
 use Rattle.names.specs.declared.layout.Layout.{Layout}
-use Rattle.names.specs.declared.layout.FoundUser.{FoundUser}
-use Rattle.names.specs.declared.layout.FoundUser.the-variants as user
-use Rattle.names.specs.declared.layout.FoundPermission.{FoundPermission}
-use Rattle.names.specs.declared.layout.FoundPermission.the-variants as permission
 
 -- the text is an accepted sheet, and this is its layout
 pub record LaidOut (text : Bytes) (layout : Layout) : Type 0 where
@@ -38,15 +32,3 @@ pub record UsersAt (text : Bytes) (places : List ℕ) : Type 0 where
 pub record PermissionsAt (text : Bytes) (places : List ℕ) : Type 0 where
   pub accepts : So (accepted text)
   pub names : NamesPlaced text places (sheet-of text .permissions)
-
-abbrev pub user-numbered : ℕ → FoundUser
-user-numbered number = user.At (record { 0 = number })
-
-abbrev pub found-user : Option ℕ → FoundUser
-found-user = found-as user-numbered user.Nothing
-
-abbrev pub permission-numbered : ℕ → FoundPermission
-permission-numbered number = permission.At (record { 0 = number })
-
-abbrev pub found-permission : Option ℕ → FoundPermission
-found-permission = found-as permission-numbered permission.Nothing

@@ -6,4 +6,3 @@ pub mod Bucket
 pub mod Meet
 pub mod LaidOut
 pub mod NamesThere
-pub mod Found

@@ -43,10 +43,7 @@ Apart text places n =
 abbrev pub name-number : List Bytes → Bytes → Option ℕ
 name-number names name = lowest-below (length names) (λ i. same-name name (getD names i []))
 
--- the number of a name, where it has one, as an answer with these two cases
-abbrev pub found-as : {R : Type 0} → (ℕ → R) → R → Option ℕ → R
-found-as at nothing none = nothing
-found-as at nothing (some i) = at i
-
+-- the number of a name, where it has one, as what looking for it finds
 abbrev pub found : Option ℕ → Found
-found = found-as At Nothing
+found none = Nothing
+found (some i) = At i

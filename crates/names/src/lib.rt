@@ -5,10 +5,8 @@ mod layout;
 mod lookup;
 
 pub use buckets::repeated_in;
-pub use layout::FoundPermission;
-pub use layout::FoundUser;
 pub use layout::Layout;
-pub use layout::find_permission_in;
-pub use layout::find_user_in;
 pub use layout::permission_name_in;
 pub use layout::user_name_in;
+pub use lookup::Found;
+pub use lookup::find_from;

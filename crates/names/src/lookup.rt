@@ -47,10 +47,12 @@ fn find_between<'a, 'b>(
     Found::Nothing
 }
 
-// The number of a name among names no two of which are equal: those from `first` on are looked at first.
+// The number of a name among names no two of which are equal. Those from number `first` on are looked at first: a
+// caller whose names rise says the last number, and the answer is the same whatever it says.
 pub fn find_from<'a, 'b>(s: &'a [u8], places: &'b [u64], first: usize, name: &'a [u8]) -> Found
     requires { ⌜ Inside (now s) (now places) × Apart (now s) (now places) (length (now places)) ⌝ }
-    ensures { λ r. ⌜ r ≡ found (name-number (all-names (now (s .entry)) (now (places .entry))) (now (name .entry))) ⌝ }
+    ensures { λ r. ⌜ r ≡ found (name-number (all-names (now (s .entry)) (now (places .entry)))
+        (now (name .entry))) ⌝ }
 {
     let count = places.len();
     let late = find_between(s, places, first, count, name);

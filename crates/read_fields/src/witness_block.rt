@@ -2,9 +2,9 @@
 use form::Step;
 use form::expect;
 use form::part_end;
-use names::FoundPermission;
-use names::FoundUser;
+use names::Found;
 use names::Layout;
+use names::find_from;
 use numbers::PermissionNo;
 use numbers::ROLE_LIMIT;
 use numbers::UserNo;
@@ -12,7 +12,9 @@ ghost use mathlib.Core.Path.{_≡_};
 ghost use Prim.Native.Nat.{_≤_};
 ghost use lib.ListN.{length};
 ghost use Rattle.spec.specs.Sheet.{sheet-of};
+ghost use Rattle.names.specs.NamesAt.{Inside, Apart, all-names};
 ghost use Rattle.names.specs.LaidOut.{LaidOut, UsersAt, PermissionsAt};
+ghost use Rattle.read_fields.specs.NameSteps.{NameReads};
 ghost use Rattle.read_fields.specs.WitnessList.{no-witness};
 ghost use Rattle.read_fields.specs.WitnessLineSteps.{WitnessReads};
 ghost use Rattle.read_fields.specs.WitnessSteps.{WitnessLinesRead, WitnessPartReads};
@@ -21,6 +23,12 @@ ghost use Rattle.read_fields.specs.WitnessSteps.{WitnessLinesRead, Witne
 pub struct WitnessLine {
     pub user: UserNo,
     pub permission: PermissionNo,
+}
+
+// What reading a name and the byte behind it finds: its number, and where to go on.
+pub enum NameField {
+    Name(usize, usize),
+    Off,
 }
 
 // What reading a witness line finds: its grant, and where to go on.
@@ -57,6 +65,29 @@ impl Witness {
     }
 }
 
+// The number of the name that the byte `end` ends, among the names at these places of the sheet: the users' or the
+// permissions'. Those from number `first` on are looked at first.
+fn name_field<'a, 'b>(
+    book: &'a [u8],
+    at: usize,
+    end: u8,
+    sheet: &'a [u8],
+    places: &'b [u64],
+    first: usize,
+) -> NameField
+    requires { ⌜ (at ≤ length (now book)) × Inside (now sheet) (now places)
+        × Apart (now sheet) (now places) (length (now places)) ⌝ }
+    ensures { λ r. ⌜ NameReads (all-names (now (sheet .entry)) (now (places .entry))) (now (book .entry)) at end r ⌝ }
+{
+    let Step::On(to) = part_end(book, at, end) else {
+        return NameField::Off;
+    };
+    let Found::At(i) = find_from(sheet, places, first, &book[at..to]) else {
+        return NameField::Off;
+    };
+    NameField::Name(i, to + 1)
+}
+
 // Reads a witness line: a user's name, a comma, a permission's name and a line feed. The users from number `first` on
 // are looked at first.
 fn witness_line<'a, 'b>(
@@ -71,28 +102,18 @@ fn witness_line<'a, 'b>(
         × PermissionsAt (now sheet) (now permissions) ⌝ }
     ensures { λ r. ⌜ WitnessReads (sheet-of (now (sheet .entry))) (now (book .entry)) at r ⌝ }
 {
-    let Step::On(comma) = part_end(book, at, b',') else {
+    let NameField::Name(user, start) = name_field(book, at, b',', sheet, users, first.0) else {
         return WitnessRead::Off;
     };
-    let user_name = &book[at..comma];
-    let FoundUser::At(user) = names::find_user_in(sheet, users, first, user_name) else {
+    let NameField::Name(permission, next) = name_field(book, start, b'\n', sheet, permissions, 0)
+    else {
         return WitnessRead::Off;
     };
-    let start = comma + 1;
-    let Step::On(end) = part_end(book, start, b'\n') else {
-        return WitnessRead::Off;
+    let line = WitnessLine {
+        user: UserNo(user),
+        permission: PermissionNo(permission),
     };
-    let permission_name = &book[start..end];
-    let FoundPermission::At(permission) = names::find_permission_in(
-        sheet,
-        permissions,
-        PermissionNo(0),
-        permission_name,
-    ) else {
-        return WitnessRead::Off;
-    };
-    let next = end + 1;
-    WitnessRead::Line(WitnessLine { user, permission }, next)
+    WitnessRead::Line(line, next)
 }
 
 // Reads witness lines up to the end of the book. The grants of a witness are mostly in order, so a user is looked for

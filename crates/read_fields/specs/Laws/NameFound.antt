@@ -1,68 +1,59 @@
--- What looking a name up among the names of a sheet finds: a place where it stands, or that it stands at none. The
--- answers differ where the places do, and none of them is that there is no such place.
-use Prim.Native.Nat.{ℕ, _<_}
+-- What stands before the first byte that ends a name, looked up in a list of names: it is the name of the number
+-- found, and where none is found no name of the list stands there. Assumes nothing.
+use Prim.Native.Nat.{ℕ, _+_, _<_}
+use native.Mathlib.Numerals.{add-one}
 use native.Mathlib.Omega.{arith}
-use mathlib.Core.Path.{_≡_, refl, sym, ap}
-use mathlib.Core.List.{List, []}
+use mathlib.Core.Path.{_≡_, refl, sym, _∙_}
+use mathlib.Core.List.{List, [], _∷_, append-assoc}
 use mathlib.Core.Option.{Option, none, some}
 use lib.ListN.{length, getD}
 use Rattle.spec.specs.Text.{Bytes, same-name}
 use Rattle.bits.specs.Truth.{not-both}
 use Rattle.bits.specs.Laws.Lowest.{lowest-below-elim, lowest-below-none-elim}
 use Rattle.lists.specs.TestLaws.{same-bytes-equal, equal-same-bytes}
-use Rattle.names.specs.NamesAt.{name-number, found-as}
-use Rattle.names.specs.LaidOut.{user-numbered, permission-numbered}
-use Rattle.numbers.specs.declared.numbers.UserNo.{UserNo}
-use Rattle.numbers.specs.declared.numbers.PermissionNo.{PermissionNo}
-use Rattle.names.specs.declared.layout.FoundUser.the-variants as user
-use Rattle.names.specs.declared.layout.FoundPermission.the-variants as permission
+use Rattle.places.specs.Places.{part}
+use Rattle.names.specs.NamesAt.{name-number, found}
+use Rattle.names.specs.declared.lookup.Found.the-variants.{At, Nothing}
+use Rattle.form.specs.Ended.{Ended, Unended, ended-once, ended-stands}
+use Rattle.read_fields.specs.NameSteps.{NameAt, NoName}
 
--- a name that was looked up
-pub record Named (names : List Bytes) (name : Bytes) (i : ℕ) : Type 0 where
-  pub within : i < length names
-  pub there : getD names i [] ≡ name
+module _ (names : List Bytes) (name : Bytes) where
+  -- a name that was looked up
+  record Named (i : ℕ) : Type 0 where
+    within : i < length names
+    there : getD names i [] ≡ name
 
--- answers that tell their numbers, and no number from one
-pub record Telling {R : Type 0} (at : ℕ → R) (nothing : R) : Type 0 where
-  pub one : (i j : ℕ) → at i ≡ at j → i ≡ j
-  pub other : (i : ℕ) → at i ≡ nothing → ⊥
+  named : (n : ℕ) (o : Option ℕ) → name-number names name ≡ o → At n ≡ found o → Named n
+  named n none p q = absurd (let z : _≡_ {A = ℕ} 0 1 = cc in omega arith)
+  named n (some i) p q =
+      let l = lowest-below-elim (length names) (λ j. same-name name (getD names j [])) p in
+      let same : n ≡ i = cc in
+      rw same (record { within = l .within; there = sym (same-bytes-equal name (getD names i []) (l .holds)) })
 
-pub users-told : Telling user-numbered user.Nothing
-users-told =
-    record {
-      one = λ i j e.
-          (let same : _≡_ {A = UserNo} (record { 0 = i }) (record { 0 = j }) = cc in ap (λ (n : UserNo). n .0) same);
-      other = λ i e. (let z : _≡_ {A = ℕ} 0 1 = cc in omega arith);
-    }
+  unnamed : (o : Option ℕ) → name-number names name ≡ o → Nothing ≡ found o → (i : ℕ) → i < length names
+      → getD names i [] ≡ name → ⊥
+  unnamed none p q i h same =
+      not-both (equal-same-bytes (sym same)) (lowest-below-none-elim (length names)
+      (λ j. same-name name (getD names j [])) p h)
+  unnamed (some j) p q i h same = absurd (let z : _≡_ {A = ℕ} 0 1 = cc in omega arith)
 
-pub permissions-told : Telling permission-numbered permission.Nothing
-permissions-told =
-    record {
-      one = λ i j e.
-          (let same : _≡_ {A = PermissionNo} (record { 0 = i }) (record { 0 = j }) = cc in
-          ap (λ (n : PermissionNo). n .0) same);
-      other = λ i e. (let z : _≡_ {A = ℕ} 0 1 = cc in omega arith);
-    }
+module _ (names : List Bytes) {text : Bytes} {at end : ℕ} where
+  pub no-name-ended : Unended text at end → NoName names text at end
+  no-name-ended u i h free =
+      let name = getD names i [] in
+      record { misses = λ rest e. u .none name rest (e ∙ append-assoc name (end ∷ []) rest) }
 
-module _ {R : Type 0} {at : ℕ → R} {nothing : R} (told : Telling at nothing) (names : List Bytes) (name : Bytes) where
-  pub found : (n : ℕ) → at n ≡ found-as at nothing (name-number names name) → Named names name n
-  found n e = choose (name-number names name) refl e
-    where
-      choose : (o : Option ℕ) → name-number names name ≡ o → at n ≡ found-as at nothing o → Named names name n
-      choose none p q = absurd (told .other n q)
-      choose (some i) p q =
-          let l = lowest-below-elim (length names) (λ j. same-name name (getD names j [])) p in
-          rw (told .one n i q)
-          (record { within = l .within; there = sym (same-bytes-equal name (getD names i []) (l .holds)) })
+  module _ {to : ℕ} (p : Ended text at end to) where
+    pub no-name-known : Nothing ≡ found (name-number names (part at to text)) → NoName names text at end
+    no-name-known e i h free =
+        let name = getD names i [] in
+        record {
+          misses = λ rest f.
+              unnamed names (part at to text) (name-number names (part at to text)) refl e i h
+              (ended-once p name rest free (f ∙ append-assoc name (end ∷ []) rest) .0);
+        }
 
-  pub unknown : nothing ≡ found-as at nothing (name-number names name) → (i : ℕ) → i < length names
-      → name ≡ getD names i [] → ⊥
-  unknown e = choose (name-number names name) refl e
-    where
-      choose : (o : Option ℕ) → name-number names name ≡ o → nothing ≡ found-as at nothing o → (i : ℕ)
-          → i < length names
-          → name ≡ getD names i [] → ⊥
-      choose none p q i h same =
-          not-both (equal-same-bytes same) (lowest-below-none-elim (length names)
-          (λ j. same-name name (getD names j [])) p h)
-      choose (some j) p q i h same = absurd (told .other j (sym q))
+    pub name-at : {n : ℕ} → At n ≡ found (name-number names (part at to text)) → NameAt names text at end n (to + 1)
+    name-at {n} e =
+        let known = named names (part at to text) n (name-number names (part at to text)) refl e in
+        record { within = known .within; reads = rw (known .there, add-one to) (ended-stands p) }

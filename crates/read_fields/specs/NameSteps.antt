@@ -1,0 +1,30 @@
+-- Reading a name up to the byte that ends it, where the name is to be one of a list. Assumes nothing.
+use Prim.Native.Nat.{ℕ, _<_}
+use mathlib.Core.List.{List, [], _∷_, _++_}
+use lib.Dec.{eqb}
+use lib.ListN.{length, getD}
+use Rattle.spec.specs.Text.{Bytes}
+use Rattle.lists.specs.CutLaws.{Free}
+use Rattle.sheet.specs.Stands.{Stands}
+use Rattle.form.specs.Steps.{Misses}
+use Rattle.read_fields.specs.declared.witness_block.NameField.{NameField}
+use Rattle.read_fields.specs.declared.witness_block.NameField.the-variants.{Name, Off}
+
+-- a name of the list and the byte that ends it
+abbrev pub name-text : List Bytes → ℕ → ℕ → Bytes
+name-text names end i = getD names i [] ++ end ∷ []
+
+-- a name that was read
+pub record NameAt (names : List Bytes) (text : Bytes) (at end i next : ℕ) : Type 0 where
+  pub within : i < length names
+  pub reads : Stands text at (name-text names end i) next
+
+-- no name without that byte stands at a place
+abbrev pub NoName : List Bytes → Bytes → ℕ → ℕ → Type 0
+NoName names text at end =
+    (i : ℕ) → i < length names → Free (eqb end) (getD names i []) → Misses text at (name-text names end i)
+
+-- a step over a name
+abbrev pub NameReads : List Bytes → Bytes → ℕ → ℕ → NameField → Type 0
+NameReads names text at end (Name i next) = NameAt names text at end i next
+NameReads names text at end Off = NoName names text at end
