@@ -9,16 +9,16 @@ use lib.Dec.{eqb}
 use lib.ListN.{drop}
 use Rattle.spec.specs.Text.{Bytes, comma, line-feed}
 use Rattle.spec.specs.Sheet.{Sheet, Grant, user-count, permission-count, user-name, permission-name}
-use Rattle.form.specs.Laws.Aligned.{Aligned, aligned-then, ended-aligned}
+use Rattle.steps.specs.Laws.Aligned.{Aligned, aligned-then, ended-aligned}
 use Rattle.places.specs.Places.{part}
 use Rattle.rules.specs.AcceptedFacts.{Lawful, name-field}
 use Rattle.read_fields.specs.declared.witness_block.WitnessLine.{WitnessLine}
 use Rattle.read_fields.specs.declared.witness_block.WitnessRead.{WitnessRead}
 use Rattle.read_fields.specs.declared.witness_block.WitnessRead.the-variants as found
-use Rattle.sheet.specs.Stands.{Stands}
-use Rattle.form.specs.Steps.{Misses}
-use Rattle.sheet.specs.Laws.Stands.{stands-then}
-use Rattle.form.specs.Ended.{Ended, Unended, ended-once, ended-stands}
+use Rattle.steps.specs.Stands.{Stands}
+use Rattle.steps.specs.Steps.{Misses}
+use Rattle.steps.specs.Laws.Stands.{stands-then}
+use Rattle.steps.specs.Ended.{Ended, Unended, ended-once, ended-stands}
 use Rattle.form.specs.Pieces.{witness-text}
 use Rattle.read_fields.specs.Laws.NameFound.{Named}
 use Rattle.read_fields.specs.WitnessList.{named-grant}

@@ -1,14 +1,14 @@
 // Block 2: the permissions of each role.
 use blocks::put_role_name;
-use form::Step;
 use form::clear_rows;
-use form::expect;
-use form::expect_byte;
-use form::part_end;
 use form::read_line;
 use names::Layout;
 use numbers::ROLE_LIMIT;
 use numbers::RoleNo;
+use steps::Step;
+use steps::expect;
+use steps::expect_byte;
+use steps::part_end;
 ghost use Prim.Native.Nat.{_*_, _≤_};
 ghost use lib.ListN.{length};
 ghost use mathlib.Core.Bool.{So};
@@ -17,7 +17,7 @@ ghost use Rattle.spec.specs.Sheet.{sheet-of};
 ghost use Rattle.spec.specs.Refusal.{accepted};
 ghost use Rattle.cells.specs.Rows.{row-words, row-bits};
 ghost use Rattle.names.specs.LaidOut.{LaidOut};
-ghost use Rattle.form.specs.Steps.{Expects};
+ghost use Rattle.steps.specs.Steps.{Expects};
 ghost use Rattle.form.specs.Pieces.{roles-heading};
 ghost use Rattle.form.specs.RowSteps.{AllBlank};
 ghost use Rattle.read_rows.specs.RoleSteps.{RoleLinesRead, RolesReads};

@@ -21,8 +21,8 @@ use Rattle.rules.specs.SheetLines.{sheet-text-lines}
 use Rattle.rules.specs.Accepted.{accepted-keeps}
 use Rattle.rules.specs.AcceptedFacts.{name-field}
 use Rattle.places.specs.Places.{part}
-use Rattle.form.specs.Laws.Step.{stands-place}
-use Rattle.form.specs.Ended.{Ended, Unended, ended-once, ended-stands}
+use Rattle.steps.specs.Laws.Step.{stands-place}
+use Rattle.steps.specs.Ended.{Ended, Unended, ended-once, ended-stands}
 use Rattle.form.specs.Pieces.{name-fields}
 
 module _ (text : Bytes) (p : So (accepted text)) where

@@ -7,7 +7,7 @@ use borrow.Author.Needs.{needs}
 use Rattle.spec.specs.Text.{comma, line-feed}
 use Rattle.spec.specs.Sheet.{sheet-of}
 use Rattle.rules.specs.AcceptedFacts.{Lawful, accepted-lawful}
-use Rattle.form.specs.Ended.{Ended}
+use Rattle.steps.specs.Ended.{Ended}
 use Rattle.read_fields.specs.Laws.NameFound.{users-told, permissions-told, found, unknown}
 use Rattle.read_fields.specs.WitnessLineSteps.{no-comma-in-line, no-user, no-line-feed-in-line, no-permission}
 use Rattle.read_fields.specs.WitnessLineSteps.{witness-at}

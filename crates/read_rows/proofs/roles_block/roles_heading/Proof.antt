@@ -5,9 +5,9 @@ use borrow.Author.Needs.{needs}
 use Rattle.spec.specs.Text.{ascii, line-feed}
 use Rattle.spec.specs.Sheet.{sheet-of}
 use Rattle.text.specs.Line.{line-end}
-use Rattle.sheet.specs.Stands.{Stands}
-use Rattle.form.specs.Ended.{Ended}
-use Rattle.form.specs.Laws.Step.{expects-then, misses-first}
+use Rattle.steps.specs.Stands.{Stands}
+use Rattle.steps.specs.Ended.{Ended}
+use Rattle.steps.specs.Laws.Step.{expects-then, misses-first}
 use Rattle.read_rows.specs.Laws.FirstLine.{user-there, some-feed, names-there}
 use Rattle.form.specs.Pieces.{name-fields}
 use Rattle.read_rows.proofs.roles_block.roles_heading.Statement.{statement}

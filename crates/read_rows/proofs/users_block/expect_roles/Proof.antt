@@ -11,10 +11,10 @@ use Rattle.spec.specs.Limits.{role-limit}
 use Rattle.spec.specs.Text.{Bytes, comma}
 use Rattle.spec.specs.Book.{role-name}
 use Rattle.text.specs.Line.{behind-comma}
-use Rattle.sheet.specs.Stands.{Stands}
-use Rattle.sheet.specs.Laws.Stands.{stands-nothing, stands-then}
-use Rattle.form.specs.Steps.{Misses}
-use Rattle.form.specs.Laws.Step.{stands-more, misses-first, misses-second, misses-known}
+use Rattle.steps.specs.Stands.{Stands}
+use Rattle.steps.specs.Laws.Stands.{stands-nothing, stands-then}
+use Rattle.steps.specs.Steps.{Misses}
+use Rattle.steps.specs.Laws.Step.{stands-more, misses-first, misses-second, misses-known}
 use Rattle.form.specs.Laws.RoleLimit.{roles-fit-a-row}
 use Rattle.form.specs.Pieces.{role-fields}
 use Rattle.read_rows.specs.Laws.RoleNames.{role-name-short, name-within, name-taken}

@@ -14,11 +14,11 @@ use lib.Seq.{drop-cons, take-suc, getD-drop, drop-drop}
 use Rattle.spec.specs.Text.{Bytes}
 use Rattle.bits.specs.Truth.{not-both}
 use Rattle.lists.specs.CutLaws.{Free}
-use Rattle.form.specs.Laws.Aligned.{ended-same}
+use Rattle.steps.specs.Laws.Aligned.{ended-same}
 use Rattle.places.specs.Places.{part}
-use Rattle.form.specs.declared.cursor.Step.{Step}
-use Rattle.form.specs.declared.cursor.Step.the-variants.{On, Off}
-use Rattle.sheet.specs.Stands.{Stands}
+use Rattle.steps.specs.declared.step.Step.{Step}
+use Rattle.steps.specs.declared.step.Step.the-variants.{On, Off}
+use Rattle.steps.specs.Stands.{Stands}
 
 -- a part from one place up to another, where the byte that ends it stands
 pub record Ended (text : Bytes) (at : ℕ) (end : ℕ) (to : ℕ) : Type 0 where

@@ -9,12 +9,12 @@ use lib.ListN.{length, drop, getD, length-append, length-drop, drop-of-length-le
 use lib.Seq.{drop-cons}
 use Rattle.spec.specs.Text.{Bytes}
 use Rattle.lists.specs.Listed.{listed, listed-more}
-use Rattle.form.specs.Laws.Aligned.{Aligned, aligned-same, listed-next}
-use Rattle.form.specs.declared.cursor.Step.{Step}
-use Rattle.form.specs.declared.cursor.Step.the-variants.{On, Off}
-use Rattle.sheet.specs.Stands.{Stands}
-use Rattle.sheet.specs.Laws.Stands.{stands-then, stands-byte}
-use Rattle.form.specs.Steps.{Misses, Expects}
+use Rattle.steps.specs.Laws.Aligned.{Aligned, aligned-same, listed-next}
+use Rattle.steps.specs.declared.step.Step.{Step}
+use Rattle.steps.specs.declared.step.Step.the-variants.{On, Off}
+use Rattle.steps.specs.Stands.{Stands}
+use Rattle.steps.specs.Laws.Stands.{stands-then, stands-byte}
+use Rattle.steps.specs.Steps.{Misses, Expects}
 
 -- what follows bytes that stand there is what the text goes on with
 pub stands-rest : {text a : Bytes} {at next : ℕ} → Stands text at a next → (rest : Bytes) → drop at text ≡ a ++ rest

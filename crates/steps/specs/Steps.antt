@@ -4,9 +4,9 @@ use mathlib.Core.Path.{_≡_}
 use mathlib.Core.List.{_++_}
 use lib.ListN.{drop}
 use Rattle.spec.specs.Text.{Bytes}
-use Rattle.sheet.specs.Stands.{Stands}
-use Rattle.form.specs.declared.cursor.Step.{Step}
-use Rattle.form.specs.declared.cursor.Step.the-variants.{On, Off}
+use Rattle.steps.specs.Stands.{Stands}
+use Rattle.steps.specs.declared.step.Step.{Step}
+use Rattle.steps.specs.declared.step.Step.the-variants.{On, Off}
 
 -- these bytes do not stand in the text at a place
 pub record Misses (text : Bytes) (at : ℕ) (bytes : Bytes) : Type 0 where

@@ -12,7 +12,7 @@ use lib.Seq.{drop-cons, drop-drop}
 use Rattle.spec.specs.Text.{Bytes}
 use Rattle.bits.specs.Truth.{and-left, and-right}
 use Rattle.places.specs.Places.{part}
-use Rattle.sheet.specs.Stands.{Stands}
+use Rattle.steps.specs.Stands.{Stands}
 
 pub stands-nothing : (text : Bytes) (at : ℕ) → at ≤ length text → Stands text at [] at
 stands-nothing text at h = record { forward = omega arith; within = h; reads = refl }

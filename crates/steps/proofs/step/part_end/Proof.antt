@@ -1,19 +1,19 @@
--- `cursor::part_end`: with no such byte up to i, the first one from i on is the first.
+-- `step::part_end`: with no such byte up to i, the first one from i on is the first.
 use Prim.Native.Nat.{_-_, _≤_}
 use native.Mathlib.Omega.{arith}
 use lib.ListN.{length}
-use Rattle.form.specs.Ended.{Passed, nothing-passed, byte-passed, end-found, no-end}
-use Rattle.form.proofs.cursor.part_end.Statement.{statement}
-use Rattle.form.proofs.cursor.part_end.Tie as tie
+use Rattle.steps.specs.Ended.{Passed, nothing-passed, byte-passed, end-found, no-end}
+use Rattle.steps.proofs.step.part_end.Statement.{statement}
+use Rattle.steps.proofs.step.part_end.Tie as tie
 
 abbrev Inv-loop : tie.InvT-loop
-Inv-loop book at end i₀ i = (i ≤ length book) × Passed book at end i
+Inv-loop text at end i₀ i = (i ≤ length text) × Passed text at end i
 
 abbrev μ-loop : tie.MeasureT-loop
-μ-loop book at end i₀ i = length book - i
+μ-loop text at end i₀ i = length text - i
 
 loop-holds : tie.Need-loop-holds Inv-loop μ-loop
-loop-holds c = (omega (arith, c .pre), nothing-passed (c .args .book .now) (c .args .at) (c .args .end))
+loop-holds c = (omega (arith, c .pre), nothing-passed (c .args .text .now) (c .args .at) (c .args .end))
 
 returns : tie.Need-returns Inv-loop μ-loop
 returns c = end-found (c .before .before .before .loop .inv .1) (omega arith) (c .if1 .taken)
