@@ -1,6 +1,6 @@
 // Block 2: the permissions of each role.
-use crate::lines::put_named_line;
-use crate::role_names::put_role_name;
+use book_lines::put_named_line;
+use book_lines::put_role_name;
 use names::permission_name_in;
 use numbers::PermissionNo;
 use numbers::RoleNo;
@@ -13,7 +13,7 @@ ghost use Rattle.spec.specs.Sheet.{sheet-of, permission-count, permission-name}
 ghost use Rattle.lists.specs.Listed.{listed};
 ghost use Rattle.names.specs.LaidOut.{PermissionsAt};
 ghost use Rattle.cells.specs.Rows.{row-words, row-bits};
-ghost use Rattle.blocks.specs.RowsSaid.{role-line, shown-roles};
+ghost use Rattle.book_lines.specs.RowsSaid.{role-line, shown-roles};
 ghost use Rattle.text.specs.Line.{behind-comma};
 ghost use Rattle.text.specs.Written.{Written};
 

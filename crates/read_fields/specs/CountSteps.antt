@@ -20,7 +20,7 @@ use Rattle.read_fields.specs.declared.counts_block.CountField.{CountFiel
 use Rattle.read_fields.specs.declared.counts_block.CountField.the-variants as count
 use Rattle.read_fields.specs.declared.counts_block.StandingField.{StandingField}
 use Rattle.read_fields.specs.declared.counts_block.StandingField.the-variants as state
-use Rattle.blocks.specs.declared.counts.Counts.{Counts}
+use Rattle.book_lines.specs.declared.counts.Counts.{Counts}
 use Rattle.read_fields.specs.declared.counts_block.CountsRead.{CountsRead}
 use Rattle.read_fields.specs.declared.counts_block.CountsRead.the-variants as counts
 use Rattle.steps.specs.Stands.{Stands}

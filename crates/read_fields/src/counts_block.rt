@@ -1,5 +1,5 @@
 // Block 1: the two counts and the state.
-use blocks::Counts;
+use book_lines::Counts;
 use decimal::CountRead;
 use decimal::count_of;
 use roles::Standing;

@@ -1,5 +1,5 @@
 // Block 2: the permissions of each role.
-use blocks::put_role_name;
+use book_lines::put_role_name;
 use form::clear_rows;
 use form::read_line;
 use names::Layout;

@@ -1,6 +1,6 @@
 // Block 3: the roles of each user.
 use crate::roles_block::ROLE_NAME_BYTES;
-use blocks::put_role_name;
+use book_lines::put_role_name;
 use form::clear_rows;
 use form::read_line;
 use names::Layout;

@@ -8,8 +8,8 @@ use Rattle.spec.specs.Sheet.{Sheet, user-count, permission-count, cell-text, us
 use Rattle.spec.specs.Book.{role-name}
 use Rattle.lists.specs.Listed.{listed}
 use Rattle.cells.specs.Rows.{cell}
-use Rattle.blocks.specs.Lines.{named-line}
-use Rattle.blocks.specs.RowsSaid.{role-line, shown-roles, user-line, shown-users}
+use Rattle.book_lines.specs.Lines.{named-line}
+use Rattle.book_lines.specs.RowsSaid.{role-line, shown-roles, user-line, shown-users}
 use Rattle.text.specs.Line.{behind-comma, line-end}
 use Rattle.text.specs.Laws.Line.{line-parts, line-parts-of, block-parts}
 

@@ -18,13 +18,13 @@ use Rattle.decimal.specs.Measured.{Measured, line-most, block-most}
 use Rattle.cell_text.specs.CellsText.{cell-field, cells-text}
 use Rattle.cell_text.specs.Laws.CellsWritten.{cell-field-length}
 use Rattle.text.specs.Line.{behind-comma, line-end}
-use Rattle.blocks.specs.CountsText.{counts-text}
-use Rattle.blocks.specs.Lines.{named-line}
-use Rattle.blocks.specs.RowsSaid.{GrantCells, role-line, user-line, shown-roles, shown-users}
+use Rattle.book_lines.specs.CountsText.{counts-text}
+use Rattle.book_lines.specs.Lines.{named-line}
+use Rattle.book_lines.specs.RowsSaid.{GrantCells, role-line, user-line, shown-roles, shown-users}
 use Rattle.blocks.specs.Laws.Shown.{permission-fields, role-fields, role-lines, user-lines, roles-parts, users-parts}
 use Rattle.blocks.specs.Laws.Shown.{role-line-parts, user-line-parts}
 use Rattle.blocks.specs.WitnessText.{witness-row, witness-parts}
-use Rattle.blocks.specs.declared.counts.Counts.{Counts}
+use Rattle.book_lines.specs.declared.counts.Counts.{Counts}
 use Rattle.book.specs.BookRows.{rows-book, book-parts}
 use Rattle.book.specs.NameBytes.{role-name-bytes}
 use Rattle.book.specs.Laws.SumOfParts.{listed-sum}

@@ -9,9 +9,9 @@ use Rattle.spec.specs.Text.{ascii, Bytes, text-of}
 use Rattle.spec.specs.Sheet.{sheet-of, permission-count}
 use Rattle.text.specs.Line.{line-end}
 use Rattle.blocks.specs.Laws.Laid.{permissions-in-row}
-use Rattle.blocks.specs.Laws.LineWritten.{BlockRoom, behind-fields, behind-heading, behind-name, heading-room}
-use Rattle.blocks.specs.Laws.LineWritten.{name-fits}
-use Rattle.blocks.specs.RowsSaid.{shown-roles}
+use Rattle.book_lines.specs.Laws.LineWritten.{BlockRoom, behind-fields, behind-heading, behind-name, heading-room}
+use Rattle.book_lines.specs.Laws.LineWritten.{name-fits}
+use Rattle.book_lines.specs.RowsSaid.{shown-roles}
 use Rattle.blocks.specs.Laws.Shown.{permission-fields, role-lines, roles-parts}
 use Rattle.text.specs.Written.{Written, WrittenSoFar, byte-within, end-within, fits-as, place-within, rest-from}
 use Rattle.text.specs.Written.{room-behind, then-same-length, then-written, with-rest, within-buffer, written-as}

@@ -6,7 +6,7 @@ ghost use Prim.Native.Nat.{_+_, _*_, _≤_};
 ghost use lib.ListN.{length};
 ghost use Rattle.cells.specs.Rows.{row-words, row-bits};
 ghost use Rattle.text.specs.Written.{Written};
-ghost use Rattle.blocks.specs.Lines.{named-line, pair-line};
+ghost use Rattle.book_lines.specs.Lines.{named-line, pair-line};
 
 // Writes a line of a name and so many cells of a row.
 pub fn put_named_line<'a>(

@@ -5,7 +5,7 @@ use text::put_bytes;
 ghost use Prim.Native.Nat.{_≤_};
 ghost use lib.ListN.{length};
 ghost use Rattle.roles.specs.StandingCases.{standing-case};
-ghost use Rattle.blocks.specs.CountsText.{standing-text, counts-text};
+ghost use Rattle.book_lines.specs.CountsText.{standing-text, counts-text};
 ghost use Rattle.text.specs.Written.{Written};
 
 // What block 1 says.

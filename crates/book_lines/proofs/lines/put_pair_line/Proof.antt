@@ -5,11 +5,11 @@ use native.Mathlib.Omega.{arith}
 use mathlib.Core.List.{_++_}
 use Rattle.spec.specs.Text.{Bytes}
 use Rattle.text.specs.Line.{behind-comma, line-end}
-use Rattle.blocks.specs.Laws.LineWritten.{LineRoom, behind-fields, behind-name, name-fits}
+use Rattle.book_lines.specs.Laws.LineWritten.{LineRoom, behind-fields, behind-name, name-fits}
 use Rattle.text.specs.Written.{WrittenSoFar, byte-same-length, byte-within, place-within, room-behind, then-byte}
 use Rattle.text.specs.Written.{with-rest, within-buffer}
-use Rattle.blocks.proofs.lines.put_pair_line.Statement.{statement}
-use Rattle.blocks.proofs.lines.put_pair_line.Tie as tie
+use Rattle.book_lines.proofs.lines.put_pair_line.Statement.{statement}
+use Rattle.book_lines.proofs.lines.put_pair_line.Tie as tie
 
 abbrev name : tie.Start → Bytes
 name s = s .args .user .now

@@ -4,10 +4,10 @@ use mathlib.Core.Path.{ap, sym}
 use Rattle.spec.specs.Text.{Bytes}
 use Rattle.roles.specs.StandingCases.{standing-case}
 use Rattle.roles.specs.declared.standing.Standing.{Standing as StandingValue}
-use Rattle.blocks.specs.CountsText.{standing-text}
+use Rattle.book_lines.specs.CountsText.{standing-text}
 use Rattle.text.specs.Written.{fits-as, written-as}
-use Rattle.blocks.proofs.counts.put_standing.Statement.{statement}
-use Rattle.blocks.proofs.counts.put_standing.Tie as tie
+use Rattle.book_lines.proofs.counts.put_standing.Statement.{statement}
+use Rattle.book_lines.proofs.counts.put_standing.Tie as tie
 
 abbrev text : StandingValue → Bytes
 text standing = standing-text (standing-case standing)

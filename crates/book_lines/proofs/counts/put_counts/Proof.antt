@@ -8,12 +8,12 @@ use lib.ListN.{length}
 use Rattle.spec.specs.Text.{ascii, Bytes}
 use Rattle.spec.specs.Decimal.{decimal}
 use Rattle.roles.specs.StandingCases.{standing-case}
-use Rattle.blocks.specs.Laws.Counts.{counts-parts}
-use Rattle.blocks.specs.CountsText.{standing-text}
+use Rattle.book_lines.specs.Laws.Counts.{counts-parts}
+use Rattle.book_lines.specs.CountsText.{standing-text}
 use Rattle.text.specs.Written.{WrittenSoFar, end-within, fits-as, front-fits, place-within, room-behind}
 use Rattle.text.specs.Written.{then-same-length, then-written, with-rest, within-buffer, written-as}
-use Rattle.blocks.proofs.counts.put_counts.Statement.{statement}
-use Rattle.blocks.proofs.counts.put_counts.Tie as tie
+use Rattle.book_lines.proofs.counts.put_counts.Statement.{statement}
+use Rattle.book_lines.proofs.counts.put_counts.Tie as tie
 
 abbrev front : tie.Start → Bytes
 front s = ascii "roles,bound,state\n" ++ decimal (s .args .counts .roles)

@@ -8,9 +8,9 @@ use Rattle.cell_text.specs.Laws.Parts.{Listing, listing-ends, listing-starts, p
 use Rattle.text.specs.Line.{behind-comma}
 use Rattle.text.specs.Written.{fits-as, room-behind, within-buffer, written-as}
 use Rattle.cells.specs.Rows.{row-bits, row-words}
-use Rattle.blocks.specs.Laws.Name.{role-field-parts}
-use Rattle.blocks.proofs.role_names.put_role_fields.Statement.{statement}
-use Rattle.blocks.proofs.role_names.put_role_fields.Tie as tie
+use Rattle.book_lines.specs.Laws.Name.{role-field-parts}
+use Rattle.book_lines.proofs.role_names.put_role_fields.Statement.{statement}
+use Rattle.book_lines.proofs.role_names.put_role_fields.Tie as tie
 
 abbrev Inv-loop : tie.InvT-loop
 Inv-loop out₀ roles at₀ i₀ mark out at i = Listing roles (λ r. behind-comma (role-name r)) i out₀ out at

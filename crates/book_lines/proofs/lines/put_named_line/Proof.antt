@@ -6,11 +6,11 @@ use mathlib.Core.List.{_++_}
 use Rattle.spec.specs.Text.{Bytes}
 use Rattle.cell_text.specs.CellsText.{cells-text}
 use Rattle.text.specs.Line.{line-end}
-use Rattle.blocks.specs.Laws.LineWritten.{LineRoom, behind-fields, behind-name, name-fits}
+use Rattle.book_lines.specs.Laws.LineWritten.{LineRoom, behind-fields, behind-name, name-fits}
 use Rattle.text.specs.Written.{WrittenSoFar, byte-same-length, byte-within, place-within, room-behind, then-byte}
 use Rattle.text.specs.Written.{with-rest, within-buffer}
-use Rattle.blocks.proofs.lines.put_named_line.Statement.{statement}
-use Rattle.blocks.proofs.lines.put_named_line.Tie as tie
+use Rattle.book_lines.proofs.lines.put_named_line.Statement.{statement}
+use Rattle.book_lines.proofs.lines.put_named_line.Tie as tie
 
 abbrev name : tie.Start → Bytes
 name s = s .args .name .now

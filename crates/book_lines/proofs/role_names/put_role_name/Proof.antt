@@ -3,10 +3,10 @@ use borrow.Author.Needs.{needs}
 use native.Mathlib.Omega.{arith}
 use mathlib.Core.Path.{sym}
 use Rattle.cells.specs.Rows.{row-bits, row-words}
-use Rattle.blocks.specs.Laws.Name.{role-name-parts}
+use Rattle.book_lines.specs.Laws.Name.{role-name-parts}
 use Rattle.text.specs.Written.{fits-as, written-as}
-use Rattle.blocks.proofs.role_names.put_role_name.Statement.{statement}
-use Rattle.blocks.proofs.role_names.put_role_name.Tie as tie
+use Rattle.book_lines.proofs.role_names.put_role_name.Statement.{statement}
+use Rattle.book_lines.proofs.role_names.put_role_name.Tie as tie
 
 put-counted-requires : tie.Need-put-counted-requires
 put-counted-requires c κs =

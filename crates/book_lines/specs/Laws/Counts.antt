@@ -5,8 +5,8 @@ use mathlib.Core.List.{_++_, append-assoc, append-nil}
 use Rattle.spec.specs.Text.{ascii}
 use Rattle.spec.specs.Decimal.{decimal}
 use Rattle.roles.specs.StandingCases.{standing-case}
-use Rattle.blocks.specs.CountsText.{standing-text, counts-text}
-use Rattle.blocks.specs.declared.counts.Counts.{Counts}
+use Rattle.book_lines.specs.CountsText.{standing-text, counts-text}
+use Rattle.book_lines.specs.declared.counts.Counts.{Counts}
 
 pub counts-parts : (counts : Counts)
     → counts-text counts

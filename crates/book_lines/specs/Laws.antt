@@ -1,0 +1,4 @@
+-- The laws behind what contracts cite.
+pub mod LineWritten
+pub mod Name
+pub mod Counts
