@@ -1,4 +1,5 @@
--- The lines of a role book: a name and cells, two names, the names of roles, the counts; and what rows of words say.
+-- The lines of a role book: a name and cells, two names, the names of roles, the permissions, the counts; and what
+-- rows of words say.
 pub mod CountsText
 pub mod Lines
 pub mod RowsSaid

@@ -28,13 +28,16 @@ said-by sheet has gives witness count bound standing =
       witness = cell-grants sheet witness;
     }
 
--- a role's line, and block 2
+-- the line of names of block 2, a role's line, and block 2
+abbrev pub role-heading : Sheet → Line
+role-heading sheet = ascii "role" ∷ sheet .permissions
+
 abbrev pub role-line : List ℕ → ℕ → ℕ → Line
 role-line gives permissions r = role-name r ∷ list-of permissions (λ p. cell-text (cell gives r p))
 
 abbrev pub shown-roles : Sheet → List ℕ → ℕ → Block
 shown-roles sheet gives count =
-    (ascii "role" ∷ sheet .permissions) ∷ list-of count (role-line gives (permission-count sheet))
+    role-heading sheet ∷ list-of count (role-line gives (permission-count sheet))
 
 -- a user's line, and block 3
 abbrev pub user-line : Sheet → List ℕ → ℕ → ℕ → Line

@@ -9,6 +9,9 @@ ghost use Rattle.cells.specs.Rows.{row-bits};
 ghost use Rattle.text.specs.Line.{behind-comma};
 ghost use Rattle.text.specs.Written.{Written};
 
+// The bytes of the longest name of a role, `R64`.
+pub const ROLE_NAME_BYTES: usize = 3;
+
 // Writes the name of a role.
 pub fn put_role_name(out: &mut [u8], role: RoleNo) -> usize
     requires { ⌜ (role .0 < row-bits) × (length (role-name (role .0)) ≤ length (now out)) ⌝ }

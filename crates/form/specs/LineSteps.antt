@@ -10,7 +10,7 @@ use Rattle.steps.specs.Laws.Stands.{stands-then}
 use Rattle.steps.specs.Laws.Aligned.{Aligned, aligned-same, aligned-then}
 use Rattle.steps.specs.declared.step.Step.{Step}
 use Rattle.steps.specs.declared.step.Step.the-variants.{On, Off}
-use Rattle.steps.specs.Steps.{Misses, Expects}
+use Rattle.steps.specs.Steps.{Misses}
 use Rattle.steps.specs.Laws.Step.{misses-first, misses-second, misses-after}
 use Rattle.form.specs.Pieces.{cell-fields, named-text}
 use Rattle.form.specs.RowGrown.{RowCleared, Grown}

@@ -1,5 +1,5 @@
 // Block 3: the roles of each user.
-use crate::roles_block::ROLE_NAME_BYTES;
+use book_lines::ROLE_NAME_BYTES;
 use book_lines::put_role_name;
 use form::clear_rows;
 use form::read_line;

@@ -4,7 +4,7 @@ use Prim.Native.Nat.{ℕ, suc, _+_, _≤_, _<_}
 use native.Mathlib.Numerals.{add-one}
 use native.Mathlib.Omega.{arith}
 use mathlib.Core.Path.{_≡_, refl, sym, ap, _∙_}
-use mathlib.Core.List.{[], _∷_, _++_, append-assoc, append-cancel-left, nil≢cons, head-eq-of-cons-eq}
+use mathlib.Core.List.{_∷_, _++_, append-assoc, append-cancel-left, nil≢cons, head-eq-of-cons-eq}
 use lib.ListN.{length, drop, getD, length-append, length-drop, drop-of-length-le}
 use lib.Seq.{drop-cons}
 use Rattle.spec.specs.Text.{Bytes}
