@@ -17,7 +17,7 @@ ghost use Rattle.cells.specs.Rows.{row-words, row-bits};
 ghost use Rattle.book_lines.specs.RowsSaid.{role-heading, role-line, shown-roles};
 ghost use Rattle.text.specs.Written.{Written};
 
-// Writes the line of names: `role`, and the sheet's own first line from behind its `user` on, which has the permissions.
+// Writes the line of names: `role`, and the permissions as they stand behind `user` in the sheet's own first line.
 fn put_role_heading(out: &mut [u8], s: &[u8]) -> usize
     requires { ⌜ So (accepted (now s)) ⌝ }
     requires { ⌜ length (line-text (role-heading (sheet-of (now s)))) ≤ length (now out) ⌝ }

@@ -27,7 +27,8 @@ use Rattle.steps.specs.Ended.{Ended, Unended, ended-once, ended-stands}
 use Rattle.book_lines.specs.Lines.{permissions-line}
 
 -- the permissions behind a first word
-pub heading-parts : (word : Bytes) (sheet : Sheet) → line-text (word ∷ sheet .permissions) ≡ word ++ permissions-line sheet
+pub heading-parts : (word : Bytes) (sheet : Sheet)
+    → line-text (word ∷ sheet .permissions) ≡ word ++ permissions-line sheet
 heading-parts word sheet =
     let each = listed (length (sheet .permissions)) (λ i. behind-comma (getD (sheet .permissions) i [])) in
     line-parts-of word (sheet .permissions) ∙ append-assoc word each line-end
