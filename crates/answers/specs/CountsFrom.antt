@@ -4,7 +4,7 @@ use mathlib.Core.Path.{_≡_}
 use mathlib.Core.Bool.{Bool}
 use Rattle.spec.specs.Roles.{standing-of, bound-of}
 use Rattle.roles.specs.StandingCases.{standing-case}
-use Rattle.blocks.specs.declared.counts.Counts.{Counts}
+use Rattle.book_lines.specs.declared.counts.Counts.{Counts}
 
 -- state and bound beside so many roles and so many witness grants
 pub record CountsFrom (n w : ℕ) (finished : Bool) (counts : Counts) : Type 0 where

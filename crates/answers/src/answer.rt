@@ -1,7 +1,7 @@
 // What the calls of a session answer: a result comes with the number 0, a refusal with document 01's number and
 // counts 0.
-use blocks::Counts;
 use book::Writing;
+use book_lines::Counts;
 use roles::Standing;
 ghost use mathlib.Core.Path.{_≡_};
 ghost use mathlib.Core.Option.{some};

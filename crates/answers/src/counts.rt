@@ -1,5 +1,5 @@
 // The counts where a search stands: they are in a search's answer and in the book.
-use blocks::Counts;
+use book_lines::Counts;
 ghost use Prim.Native.Nat.{_+_, _≤_};
 ghost use Rattle.spec.specs.Limits.{permission-limit};
 ghost use Rattle.answers.specs.CountsFrom.{CountsFrom};

@@ -1,6 +1,3 @@
--- The blocks of a role book: a writer for each.
-pub mod CountsText
-pub mod RowsSaid
-pub mod Lines
+-- Blocks 2, 3 and 4 of a role book: a writer for each.
 pub mod WitnessText
 pub mod Laws

@@ -20,8 +20,8 @@ use Rattle.lists.specs.Listed.{listed, listed-same}
 use Rattle.cells.specs.Rows.{cell}
 use Rattle.rules.specs.AcceptedFacts.{Lawful}
 use Rattle.cells.specs.CellSets.{in-cells, cell-grants}
-use Rattle.blocks.specs.Lines.{pair-line}
-use Rattle.blocks.specs.RowsSaid.{GrantCells}
+use Rattle.book_lines.specs.Lines.{pair-line}
+use Rattle.book_lines.specs.RowsSaid.{GrantCells}
 use Rattle.text.specs.Laws.Line.{text-append}
 
 -- the line of a cell

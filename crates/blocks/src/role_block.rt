@@ -1,42 +1,31 @@
 // Block 2: the permissions of each role.
-use crate::lines::put_named_line;
-use crate::role_names::put_role_name;
-use names::permission_name_in;
-use numbers::PermissionNo;
+use book_lines::ROLE_NAME_BYTES;
+use book_lines::permissions_line;
+use book_lines::put_named_line;
+use book_lines::put_role_name;
 use numbers::RoleNo;
 use text::put_bytes;
-use text::put_field;
 ghost use Prim.Native.Nat.{_+_, _*_, _≤_, _<_};
+ghost use mathlib.Core.Bool.{So};
 ghost use lib.ListN.{length};
 ghost use Rattle.spec.specs.Text.{line-text, text-of};
-ghost use Rattle.spec.specs.Sheet.{sheet-of, permission-count, permission-name};
+ghost use Rattle.spec.specs.Sheet.{sheet-of};
+ghost use Rattle.spec.specs.Refusal.{accepted};
 ghost use Rattle.lists.specs.Listed.{listed};
 ghost use Rattle.names.specs.LaidOut.{PermissionsAt};
 ghost use Rattle.cells.specs.Rows.{row-words, row-bits};
-ghost use Rattle.blocks.specs.RowsSaid.{role-line, shown-roles};
-ghost use Rattle.text.specs.Line.{behind-comma};
+ghost use Rattle.book_lines.specs.RowsSaid.{role-heading, role-line, shown-roles};
 ghost use Rattle.text.specs.Written.{Written};
 
-// The bytes of the longest name of a role, `R64`.
-const ROLE_NAME_LIMIT: usize = 3;
-
-// Writes the permission names, a comma before each.
-fn put_permission_fields<'a, 'b>(out: &mut [u8], s: &'a [u8], places: &'b [u64]) -> usize
-    requires { ⌜ PermissionsAt (now s) (now places) ⌝ }
-    requires { ⌜ length (listed (permission-count (sheet-of (now s)))
-        (λ p. behind-comma (permission-name (sheet-of (now s)) p))) ≤ length (now out) ⌝ }
-    ensures { λ r. ⌜ Written (listed (permission-count (sheet-of (now (s .entry))))
-        (λ p. behind-comma (permission-name (sheet-of (now (s .entry))) p)))
-        (now (out .entry)) (now (out .exit)) r ⌝ }
+// Writes the line of names: `role`, and the permissions as they stand behind `user` in the sheet's own first line.
+fn put_role_heading(out: &mut [u8], s: &[u8]) -> usize
+    requires { ⌜ So (accepted (now s)) ⌝ }
+    requires { ⌜ length (line-text (role-heading (sheet-of (now s)))) ≤ length (now out) ⌝ }
+    ensures { λ r. ⌜ Written (line-text (role-heading (sheet-of (now (s .entry))))) (now (out .entry))
+        (now (out .exit)) r ⌝ }
 {
-    let mut at = 0;
-    let mut i = 0;
-    while i < places.len() {
-        let name = permission_name_in(s, places, PermissionNo(i));
-        at += put_field(&mut out[at..], name);
-        i += 1;
-    }
-    at
+    let names = put_bytes(out, b"role");
+    names + put_bytes(&mut out[names..], permissions_line(s))
 }
 
 // Writes the line of a role.
@@ -46,7 +35,7 @@ fn put_role_line(out: &mut [u8], gives: &[u64], role: RoleNo, permissions: usize
     ensures { λ r. ⌜ Written (line-text (role-line (now (gives .entry)) permissions (role .0))) (now (out .entry))
         (now (out .exit)) r ⌝ }
 {
-    let mut name = [0u8; ROLE_NAME_LIMIT];
+    let mut name = [0u8; ROLE_NAME_BYTES];
     let end = put_role_name(&mut name, role);
     put_named_line(out, &name[..end], gives, role.0, permissions)
 }
@@ -80,9 +69,6 @@ pub fn put_roles<'a, 'b>(
     ensures { λ r. ⌜ Written (text-of (shown-roles (sheet-of (now (s .entry))) (now (gives .entry)) roles))
         (now (out .entry)) (now (out .exit)) r ⌝ }
 {
-    let names = put_bytes(out, b"role");
-    let end = names + put_permission_fields(&mut out[names..], s, places);
-    out[end] = b'\n';
-    let lines = end + 1;
+    let lines = put_role_heading(out, s);
     lines + put_role_lines(&mut out[lines..], gives, roles, places.len())
 }

@@ -1,6 +1,6 @@
 // Block 3: the roles of each user.
-use crate::lines::put_named_line;
-use crate::role_names::put_role_fields;
+use book_lines::put_named_line;
+use book_lines::put_role_fields;
 use names::user_name_in;
 use numbers::UserNo;
 use text::put_bytes;
@@ -11,7 +11,7 @@ ghost use Rattle.spec.specs.Sheet.{sheet-of, user-count};
 ghost use Rattle.lists.specs.Listed.{listed};
 ghost use Rattle.cells.specs.Rows.{row-words, row-bits};
 ghost use Rattle.names.specs.LaidOut.{UsersAt};
-ghost use Rattle.blocks.specs.RowsSaid.{user-line, shown-users};
+ghost use Rattle.book_lines.specs.RowsSaid.{user-line, shown-users};
 ghost use Rattle.text.specs.Written.{Written};
 
 // Writes the lines of all users.

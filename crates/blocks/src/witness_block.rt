@@ -1,5 +1,5 @@
 // Block 4: the witness, in grant order.
-use crate::lines::put_pair_line;
+use book_lines::put_pair_line;
 use cell_text::next_set;
 use names::permission_name_in;
 use names::user_name_in;
@@ -15,7 +15,7 @@ ghost use Rattle.lists.specs.Listed.{listed};
 ghost use Rattle.cells.specs.Rows.{row-words};
 ghost use Rattle.names.specs.LaidOut.{UsersAt, PermissionsAt};
 ghost use Rattle.cells.specs.CellSets.{cell-grants};
-ghost use Rattle.blocks.specs.RowsSaid.{GrantCells};
+ghost use Rattle.book_lines.specs.RowsSaid.{GrantCells};
 ghost use Rattle.blocks.specs.WitnessText.{witness-row};
 ghost use Rattle.text.specs.Written.{Written};
 

@@ -20,11 +20,11 @@ use Rattle.cells.specs.CellSets.{cell-grants}
 use Rattle.roles.specs.RoleRows.{RoleRows}
 use Rattle.roles.specs.RolesShown.{RolesAt}
 use Rattle.roles.specs.StandingCases.{standing-case}
-use Rattle.blocks.specs.CountsText.{counts-text}
-use Rattle.blocks.specs.RowsSaid.{said-by, shown-roles, shown-users}
+use Rattle.book_lines.specs.CountsText.{counts-text}
+use Rattle.book_lines.specs.RowsSaid.{said-by, shown-roles, shown-users}
 use Rattle.text.specs.Line.{line-end}
 use Rattle.text.specs.Laws.Line.{four-blocks}
-use Rattle.blocks.specs.declared.counts.Counts.{Counts}
+use Rattle.book_lines.specs.declared.counts.Counts.{Counts}
 
 -- the book of a sheet's bytes
 abbrev pub rows-book : Bytes → List ℕ → List ℕ → List ℕ → Counts → Bytes

@@ -1,11 +1,11 @@
 // The whole book: four blocks, one empty line between each two. Each block is written where the one before ended,
 // plus that empty line.
 use crate::first_places::first_places;
-use blocks::Counts;
-use blocks::put_counts;
 use blocks::put_roles;
 use blocks::put_users;
 use blocks::put_witness;
+use book_lines::Counts;
+use book_lines::put_counts;
 use names::Layout;
 use numbers::CELL_WORDS;
 use numbers::ROLE_WORDS;
@@ -14,7 +14,7 @@ ghost use lib.ListN.{length};
 ghost use Rattle.spec.specs.Sheet.{sheet-of};
 ghost use Rattle.cells.specs.Rows.{row-bits};
 ghost use Rattle.names.specs.LaidOut.{LaidOut};
-ghost use Rattle.blocks.specs.RowsSaid.{GrantCells};
+ghost use Rattle.book_lines.specs.RowsSaid.{GrantCells};
 ghost use Rattle.book.specs.BookRows.{rows-book};
 ghost use Rattle.text.specs.Written.{Written};
 

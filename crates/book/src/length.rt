@@ -1,7 +1,7 @@
 // How long a book is, before anything of it is written: one sum of the bytes of its counts, its names, its cells and
 // its headings, whatever the cells are, and of its witness.
 use crate::first_places::first_places;
-use blocks::Counts;
+use book_lines::Counts;
 use cell_text::next_set;
 use decimal::decimal_length;
 use names::Layout;
@@ -23,8 +23,8 @@ ghost use Rattle.cells.specs.Rows.{row-words, row-bits};
 ghost use Rattle.names.specs.LaidOut.{LaidOut, UsersAt, PermissionsAt};
 ghost use Rattle.roles.specs.StandingCases.{standing-case};
 ghost use Rattle.decimal.specs.Measured.{Measured, piece-most, line-most, block-most};
-ghost use Rattle.blocks.specs.CountsText.{standing-text, counts-text};
-ghost use Rattle.blocks.specs.RowsSaid.{GrantCells};
+ghost use Rattle.book_lines.specs.CountsText.{standing-text, counts-text};
+ghost use Rattle.book_lines.specs.RowsSaid.{GrantCells};
 ghost use Rattle.blocks.specs.WitnessText.{witness-row};
 ghost use Rattle.book.specs.BookRows.{rows-book};
 ghost use Rattle.book.specs.NameBytes.{PlacesShort, bytes-at, role-name-bytes};

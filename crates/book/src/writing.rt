@@ -1,7 +1,7 @@
 // A book into a buffer that may be too short for it.
 use crate::book::write_book;
 use crate::length::book_length;
-use blocks::Counts;
+use book_lines::Counts;
 use names::Layout;
 use numbers::CELL_WORDS;
 use numbers::ROLE_WORDS;
@@ -9,7 +9,7 @@ ghost use Prim.Native.Nat.{_≤_};
 ghost use Rattle.spec.specs.Sheet.{sheet-of};
 ghost use Rattle.cells.specs.Rows.{row-bits};
 ghost use Rattle.names.specs.LaidOut.{LaidOut};
-ghost use Rattle.blocks.specs.RowsSaid.{GrantCells};
+ghost use Rattle.book_lines.specs.RowsSaid.{GrantCells};
 ghost use Rattle.book.specs.BookRows.{rows-book};
 ghost use Rattle.book.specs.Writing.{writing-said, Writes};
 

@@ -14,11 +14,11 @@ use Rattle.spec.specs.Book.{Said, book-text}
 use Rattle.cells.specs.Rows.{cell}
 use Rattle.roles.specs.StandingCases.{standing-case}
 use Rattle.decimal.specs.Laws.Count.{decimal-is-count, count-is-decimal}
-use Rattle.blocks.specs.RowsSaid.{roles-in}
-use Rattle.blocks.specs.declared.counts.Counts.{Counts}
+use Rattle.book_lines.specs.RowsSaid.{roles-in}
+use Rattle.book_lines.specs.declared.counts.Counts.{Counts}
 use Rattle.read_fields.specs.declared.witness_block.Witness.{Witness}
 use Rattle.right.specs.WrittenLines.{Sayable}
-use Rattle.sheet.specs.Stands.{Stands}
+use Rattle.steps.specs.Stands.{Stands}
 use Rattle.form.specs.Pieces.{counts-part, roles-part, users-part, witness-texts, witness-part, book-in-parts}
 use Rattle.decimal.specs.Capped.{count-cap}
 use Rattle.read_fields.specs.CountSteps.{CountsAt, NoCounts, counts-parts-aligned}

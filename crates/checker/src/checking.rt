@@ -1,5 +1,4 @@
 // The check of a book against a sheet.
-use form::Step;
 use judging::Checked;
 use judging::Front;
 use judging::judge_book;
@@ -13,6 +12,7 @@ use read_fields::read_witness;
 use read_rows::RolesRead;
 use read_rows::read_roles;
 use read_rows::read_users;
+use steps::Step;
 ghost use Prim.Native.Nat.{_*_, _≤_};
 ghost use lib.ListN.{length};
 ghost use Rattle.spec.specs.Limits.{book-limit, role-limit};

@@ -15,11 +15,11 @@ use Rattle.cells_read.specs.CellsWord.{cell-byte, CellsStand, CellsIn}
 use Rattle.sheet.specs.Laws.CellsStanding.{stands-cells, cells-stand}
 use Rattle.cell_text.specs.CellsText.{cell-field}
 use Rattle.cell_text.specs.Laws.CellsWritten.{cell-field-length}
-use Rattle.form.specs.Laws.Aligned.{Aligned, aligned-length, aligned-listed}
-use Rattle.form.specs.declared.cursor.Step.{Step}
-use Rattle.form.specs.declared.cursor.Step.the-variants.{On, Off}
-use Rattle.sheet.specs.Stands.{Stands}
-use Rattle.form.specs.Steps.{Misses}
+use Rattle.steps.specs.Laws.Aligned.{Aligned, aligned-length, aligned-listed}
+use Rattle.steps.specs.declared.step.Step.{Step}
+use Rattle.steps.specs.declared.step.Step.the-variants.{On, Off}
+use Rattle.steps.specs.Stands.{Stands}
+use Rattle.steps.specs.Steps.{Misses}
 use Rattle.form.specs.Pieces.{cell-fields}
 use Rattle.form.specs.RowGrown.{Blank, OthersKept, Grown, grown-none, WordStored, cells-kept, cells-read}
 use Rattle.form.specs.RowGrown.{grown-more}

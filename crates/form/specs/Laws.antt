@@ -1,5 +1,3 @@
 -- The laws behind what contracts cite.
 pub mod RoleLimit
 pub mod Placed
-pub mod Step
-pub mod Aligned

@@ -1,6 +1,4 @@
--- Steps over a book: bytes that are known, a part up to a byte, the cells of a row, a line of a name and cells.
-pub mod Steps
-pub mod Ended
+-- Lines of a book: the cells of a row, a line of a name and cells, and the parts of which a book is made.
 pub mod Pieces
 pub mod RowGrown
 pub mod CellSteps

@@ -5,13 +5,13 @@ use mathlib.Core.List.{List, _++_}
 use Rattle.spec.specs.Text.{Bytes}
 use Rattle.cells.specs.Rows.{cell}
 use Rattle.text.specs.Line.{line-end}
-use Rattle.sheet.specs.Stands.{Stands}
-use Rattle.sheet.specs.Laws.Stands.{stands-then}
-use Rattle.form.specs.Laws.Aligned.{Aligned, aligned-same, aligned-then}
-use Rattle.form.specs.declared.cursor.Step.{Step}
-use Rattle.form.specs.declared.cursor.Step.the-variants.{On, Off}
-use Rattle.form.specs.Steps.{Misses, Expects}
-use Rattle.form.specs.Laws.Step.{misses-first, misses-second, misses-after}
+use Rattle.steps.specs.Stands.{Stands}
+use Rattle.steps.specs.Laws.Stands.{stands-then}
+use Rattle.steps.specs.Laws.Aligned.{Aligned, aligned-same, aligned-then}
+use Rattle.steps.specs.declared.step.Step.{Step}
+use Rattle.steps.specs.declared.step.Step.the-variants.{On, Off}
+use Rattle.steps.specs.Steps.{Misses}
+use Rattle.steps.specs.Laws.Step.{misses-first, misses-second, misses-after}
 use Rattle.form.specs.Pieces.{cell-fields, named-text}
 use Rattle.form.specs.RowGrown.{RowCleared, Grown}
 use Rattle.form.specs.CellSteps.{RowRead, cell-fields-aligned}

@@ -4,7 +4,6 @@ use Prim.Native.Nat.{ℕ}
 use mathlib.Core.Path.{_≡_, ap, _∙_}
 use mathlib.Core.Bool.{Bool}
 use mathlib.Core.List.{List, [], _∷_, _++_, map, map-map, append-assoc}
-use lib.ListN.{length, getD}
 use Rattle.spec.specs.Vocabulary.{list-of, concat}
 use Rattle.spec.specs.Text.{ascii, Bytes, Line, comma, line-feed, line-text, text-of}
 use Rattle.spec.specs.Sheet.{Sheet, Grant, cell-text, user-count, permission-count, user-name}
@@ -16,7 +15,7 @@ use Rattle.spec.specs.Book.{witness-line, witness-block, blocks-saying, book-te
 use Rattle.lists.specs.Listed.{listed, listed-same}
 use Rattle.cell_text.specs.CellsText.{cell-field}
 use Rattle.text.specs.Line.{behind-comma, line-end}
-use Rattle.text.specs.Laws.Line.{line-parts, line-parts-of, block-parts, four-blocks}
+use Rattle.text.specs.Laws.Line.{line-parts, block-parts, four-blocks}
 
 -- ---- lines
 
@@ -24,10 +23,7 @@ use Rattle.text.specs.Laws.Line.{line-parts, line-parts-of, block-parts, four-b
 abbrev pub cell-fields : ℕ → (ℕ → Bool) → Bytes
 cell-fields count cell = listed count (λ i. cell-field (cell i))
 
--- names behind a word
-abbrev pub name-fields : List Bytes → Bytes
-name-fields names = listed (length names) (λ i. behind-comma (getD names i []))
-
+-- names of roles behind a word
 abbrev pub role-fields : ℕ → Bytes
 role-fields count = listed count (λ r. behind-comma (role-name r))
 
@@ -50,7 +46,7 @@ counts-part role-digits bound-digits standing =
 
 -- block 2: its line of names, and a line for each role
 abbrev pub roles-heading : Sheet → Bytes
-roles-heading sheet = (ascii "role" ++ name-fields (sheet .permissions)) ++ line-end
+roles-heading sheet = line-text (ascii "role" ∷ sheet .permissions)
 
 abbrev pub roles-part : Sheet → ℕ → (ℕ → ℕ → Bool) → Bytes
 roles-part sheet count gives =
@@ -102,7 +98,6 @@ roles-in-parts : (sheet : Sheet) (roles : RoleSet)
     → text-of (roles-block sheet roles) ++ line-end ≡ roles-part sheet (roles .count) (roles .gives)
 roles-in-parts sheet roles =
     block-in-parts (ascii "role" ∷ sheet .permissions) role-name (permission-count sheet) (roles .gives) (roles .count)
-    ∙ rw (line-parts-of (ascii "role") (sheet .permissions))
 
 users-in-parts : (sheet : Sheet) (roles : RoleSet)
     → text-of (users-block sheet roles) ++ line-end ≡ users-part sheet (roles .count) (roles .has)

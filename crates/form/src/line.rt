@@ -1,9 +1,9 @@
 // A line of a name and cells.
-use crate::cursor::Step;
-use crate::cursor::expect;
-use crate::cursor::expect_byte;
 use crate::row_cells::clear_row;
 use crate::row_cells::read_cells;
+use steps::Step;
+use steps::expect;
+use steps::expect_byte;
 ghost use Prim.Native.Nat.{_+_, _*_, _≤_};
 ghost use lib.ListN.{length};
 ghost use Rattle.cells.specs.Rows.{row-words, row-bits};

@@ -1,7 +1,7 @@
 // Cells of a line: a comma and `0` or `1` for each.
-use crate::cursor::Step;
 use bits::WORD_BITS;
 use numbers::ROW_WORDS;
+use steps::Step;
 ghost use mathlib.Core.Path.{_≡_};
 ghost use Prim.Native.Nat.{_+_, _*_, _≤_, _<_};
 ghost use lib.ListN.{length, replicate};

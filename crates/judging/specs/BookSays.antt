@@ -21,9 +21,9 @@ use Rattle.lists.specs.EachLaws.{Each}
 use Rattle.cells.specs.Rows.{row-words, row-bits, cell, RowsOf}
 use Rattle.rules.specs.AcceptedFacts.{Lawful}
 use Rattle.roles.specs.StandingCases.{standing-case}
-use Rattle.blocks.specs.RowsSaid.{roles-in}
+use Rattle.book_lines.specs.RowsSaid.{roles-in}
 use Rattle.right.specs.CheckParts.{counts-agree-elim}
-use Rattle.blocks.specs.declared.counts.Counts.{Counts}
+use Rattle.book_lines.specs.declared.counts.Counts.{Counts}
 use Rattle.read_fields.specs.declared.witness_block.Witness.{Witness}
 use Rattle.judging.specs.declared.judgement.Checked.{Checked}
 use Rattle.decimal.specs.Capped.{count-cap, capped, capped-test}

@@ -20,7 +20,7 @@ use Rattle.bits.specs.Bit.{bit, word-bits}
 use Rattle.bits.specs.Laws.Bit.{bit-ext}
 use Rattle.cells.specs.Rows.{row-words, row-bits, cell, RowsOf}
 use Rattle.rules.specs.AcceptedFacts.{Lawful}
-use Rattle.blocks.specs.RowsSaid.{roles-in}
+use Rattle.book_lines.specs.RowsSaid.{roles-in}
 use Rattle.right.specs.CheckParts.{same-cell, cell-same}
 
 -- a cell of a row agrees with the product

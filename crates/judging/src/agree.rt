@@ -1,5 +1,5 @@
 // Whether the counts of a book agree with its lines.
-use blocks::Counts;
+use book_lines::Counts;
 use roles::Standing;
 ghost use mathlib.Core.Path.{_≡_};
 ghost use mathlib.Core.Bool.{_&&_};

@@ -2,7 +2,7 @@
 use crate::agree::counts_agree;
 use crate::product::rows_agree;
 use crate::witness_lines::witness_stands;
-use blocks::Counts;
+use book_lines::Counts;
 use read_fields::Witness;
 ghost use mathlib.Core.Path.{_≡_};
 ghost use mathlib.Core.Bool.{So};

@@ -11,7 +11,7 @@ ghost use lib.ListN.{length};
 ghost use Rattle.spec.specs.Vocabulary.{every-below};
 ghost use Rattle.bits.specs.Bit.{bit};
 ghost use Rattle.cells.specs.Rows.{row-words, row-bits};
-ghost use Rattle.blocks.specs.RowsSaid.{roles-in};
+ghost use Rattle.book_lines.specs.RowsSaid.{roles-in};
 ghost use Rattle.judging.specs.ProductWords.{GivenWord, row-agrees};
 ghost use Rattle.judging.specs.GivenRoles.{RolesWord, GivenWithin, some-given};
 

@@ -10,7 +10,7 @@ use Rattle.spec.specs.Text.{ascii, Bytes, comma, line-feed}
 use Rattle.spec.specs.Roles.{Standing, witnessed, searched, unsettled}
 use Rattle.spec.specs.Decimal.{is-count}
 use Rattle.spec.specs.Book.{standing-word}
-use Rattle.form.specs.Laws.Aligned.{Aligned, aligned-same, aligned-then, ended-aligned}
+use Rattle.steps.specs.Laws.Aligned.{Aligned, aligned-same, aligned-then, ended-aligned}
 use Rattle.places.specs.Places.{part}
 use Rattle.roles.specs.StandingCases.{standing-case}
 use Rattle.right.specs.WordLaws.{count-field, standing-word-field}
@@ -20,14 +20,14 @@ use Rattle.read_fields.specs.declared.counts_block.CountField.{CountFiel
 use Rattle.read_fields.specs.declared.counts_block.CountField.the-variants as count
 use Rattle.read_fields.specs.declared.counts_block.StandingField.{StandingField}
 use Rattle.read_fields.specs.declared.counts_block.StandingField.the-variants as state
-use Rattle.blocks.specs.declared.counts.Counts.{Counts}
+use Rattle.book_lines.specs.declared.counts.Counts.{Counts}
 use Rattle.read_fields.specs.declared.counts_block.CountsRead.{CountsRead}
 use Rattle.read_fields.specs.declared.counts_block.CountsRead.the-variants as counts
-use Rattle.sheet.specs.Stands.{Stands}
-use Rattle.form.specs.Steps.{Misses}
-use Rattle.sheet.specs.Laws.Stands.{stands-then}
-use Rattle.form.specs.Laws.Step.{misses-first, misses-second, misses-after}
-use Rattle.form.specs.Ended.{Ended, Unended, ended-once, ended-stands}
+use Rattle.steps.specs.Stands.{Stands}
+use Rattle.steps.specs.Steps.{Misses}
+use Rattle.steps.specs.Laws.Stands.{stands-then}
+use Rattle.steps.specs.Laws.Step.{misses-first, misses-second, misses-after}
+use Rattle.steps.specs.Ended.{Ended, Unended, ended-once, ended-stands}
 use Rattle.form.specs.Pieces.{counts-part}
 use Rattle.decimal.specs.Capped.{count-read, CountSaid, count-said, count-refused}
 

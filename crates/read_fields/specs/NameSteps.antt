@@ -5,8 +5,8 @@ use lib.Dec.{eqb}
 use lib.ListN.{length, getD}
 use Rattle.spec.specs.Text.{Bytes}
 use Rattle.lists.specs.CutLaws.{Free}
-use Rattle.sheet.specs.Stands.{Stands}
-use Rattle.form.specs.Steps.{Misses}
+use Rattle.steps.specs.Stands.{Stands}
+use Rattle.steps.specs.Steps.{Misses}
 use Rattle.read_fields.specs.declared.witness_block.NameField.{NameField}
 use Rattle.read_fields.specs.declared.witness_block.NameField.the-variants.{Name, Off}
 

@@ -7,15 +7,15 @@ use lib.Dec.{eqb}
 use Rattle.spec.specs.Text.{Bytes, comma, line-feed}
 use Rattle.spec.specs.Sheet.{Sheet, Grant, user-count, permission-count, user-name, permission-name}
 use Rattle.lists.specs.CutLaws.{Free}
-use Rattle.form.specs.Laws.Aligned.{Aligned, aligned-then, ended-aligned}
+use Rattle.steps.specs.Laws.Aligned.{Aligned, aligned-then, ended-aligned}
 use Rattle.rules.specs.AcceptedFacts.{Lawful, name-field}
 use Rattle.read_fields.specs.declared.witness_block.WitnessLine.{WitnessLine}
 use Rattle.read_fields.specs.declared.witness_block.WitnessRead.{WitnessRead}
 use Rattle.read_fields.specs.declared.witness_block.WitnessRead.the-variants as found
-use Rattle.sheet.specs.Stands.{Stands}
-use Rattle.form.specs.Steps.{Misses}
-use Rattle.form.specs.Laws.Step.{misses-first, misses-after}
-use Rattle.sheet.specs.Laws.Stands.{stands-then}
+use Rattle.steps.specs.Stands.{Stands}
+use Rattle.steps.specs.Steps.{Misses}
+use Rattle.steps.specs.Laws.Step.{misses-first, misses-after}
+use Rattle.steps.specs.Laws.Stands.{stands-then}
 use Rattle.form.specs.Pieces.{witness-text}
 use Rattle.read_fields.specs.NameSteps.{name-text, NameAt, NoName}
 use Rattle.read_fields.specs.WitnessList.{named-grant}

@@ -15,10 +15,10 @@ use Rattle.rules.specs.AcceptedFacts.{Lawful}
 use Rattle.read_fields.specs.declared.witness_block.WitnessLine.{WitnessLine}
 use Rattle.read_fields.specs.declared.witness_block.Witness.{Witness}
 use Rattle.read_fields.specs.declared.witness_block.WitnessesRead.{WitnessesRead}
-use Rattle.sheet.specs.Stands.{Stands}
-use Rattle.form.specs.Steps.{Misses}
-use Rattle.sheet.specs.Laws.Stands.{stands-nothing, stands-then}
-use Rattle.form.specs.Laws.Step.{stands-rest, stands-place}
+use Rattle.steps.specs.Stands.{Stands}
+use Rattle.steps.specs.Steps.{Misses}
+use Rattle.steps.specs.Laws.Stands.{stands-nothing, stands-then}
+use Rattle.steps.specs.Laws.Step.{stands-rest, stands-place}
 use Rattle.form.specs.Pieces.{witness-text, witness-texts, witness-part}
 use Rattle.read_fields.specs.WitnessList.{named-grant, no-witness, with-line, Collects, collects-none}
 use Rattle.read_fields.specs.WitnessList.{collects-more}

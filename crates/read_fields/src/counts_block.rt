@@ -1,12 +1,12 @@
 // Block 1: the two counts and the state.
-use blocks::Counts;
+use book_lines::Counts;
 use decimal::CountRead;
 use decimal::count_of;
-use form::Step;
-use form::expect;
-use form::expect_byte;
-use form::part_end;
 use roles::Standing;
+use steps::Step;
+use steps::expect;
+use steps::expect_byte;
+use steps::part_end;
 ghost use Prim.Native.Nat.{_≤_};
 ghost use lib.ListN.{length};
 ghost use Rattle.read_fields.specs.CountSteps.{CountReads, StandingReads, CountsReads};

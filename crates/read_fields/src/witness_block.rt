@@ -1,13 +1,13 @@
 // Block 4: the witness.
-use form::Step;
-use form::expect;
-use form::part_end;
 use names::Found;
 use names::Layout;
 use names::find_from;
 use numbers::PermissionNo;
 use numbers::ROLE_LIMIT;
 use numbers::UserNo;
+use steps::Step;
+use steps::expect;
+use steps::part_end;
 ghost use mathlib.Core.Path.{_≡_};
 ghost use Prim.Native.Nat.{_≤_};
 ghost use lib.ListN.{length};

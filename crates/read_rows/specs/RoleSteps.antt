@@ -12,16 +12,16 @@ use Rattle.spec.specs.Limits.{role-limit}
 use Rattle.spec.specs.Text.{Bytes, line-feed}
 use Rattle.spec.specs.Sheet.{Sheet, permission-count}
 use Rattle.spec.specs.Book.{role-name}
-use Rattle.form.specs.Laws.Aligned.{Begins, listed-ended}
+use Rattle.steps.specs.Laws.Aligned.{Begins, listed-ended}
 use Rattle.cells.specs.Rows.{row-bits, cell}
 use Rattle.right.specs.WordLaws.{role-name-parts}
 use Rattle.text.specs.Line.{line-end}
 use Rattle.read_rows.specs.declared.roles_block.RolesRead.{RolesRead}
 use Rattle.read_rows.specs.declared.roles_block.RolesRead.the-variants as found
-use Rattle.sheet.specs.Stands.{Stands}
-use Rattle.form.specs.Steps.{Misses}
-use Rattle.sheet.specs.Laws.Stands.{stands-then}
-use Rattle.form.specs.Laws.Step.{misses-first, misses-second}
+use Rattle.steps.specs.Stands.{Stands}
+use Rattle.steps.specs.Steps.{Misses}
+use Rattle.steps.specs.Laws.Stands.{stands-then}
+use Rattle.steps.specs.Laws.Step.{misses-first, misses-second}
 use Rattle.form.specs.Pieces.{named-text, named-texts, roles-heading, roles-part}
 use Rattle.form.specs.LineSteps.{named-aligned}
 use Rattle.form.specs.RowGrown.{Blank}

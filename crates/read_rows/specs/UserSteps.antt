@@ -6,15 +6,15 @@ use mathlib.Core.Bool.{Bool, false}
 use mathlib.Core.List.{List, _++_}
 use Rattle.spec.specs.Text.{Bytes}
 use Rattle.spec.specs.Sheet.{Sheet, user-count, user-name}
-use Rattle.form.specs.Laws.Aligned.{Aligned, aligned-same, aligned-then, aligned-listed}
+use Rattle.steps.specs.Laws.Aligned.{Aligned, aligned-same, aligned-then, aligned-listed}
 use Rattle.cells.specs.Rows.{row-bits, cell}
 use Rattle.text.specs.Line.{line-end}
-use Rattle.form.specs.declared.cursor.Step.{Step}
-use Rattle.form.specs.declared.cursor.Step.the-variants.{On, Off}
-use Rattle.sheet.specs.Stands.{Stands}
-use Rattle.form.specs.Steps.{Misses}
-use Rattle.sheet.specs.Laws.Stands.{stands-then}
-use Rattle.form.specs.Laws.Step.{misses-first, misses-second, misses-after, misses-next}
+use Rattle.steps.specs.declared.step.Step.{Step}
+use Rattle.steps.specs.declared.step.Step.the-variants.{On, Off}
+use Rattle.steps.specs.Stands.{Stands}
+use Rattle.steps.specs.Steps.{Misses}
+use Rattle.steps.specs.Laws.Stands.{stands-then}
+use Rattle.steps.specs.Laws.Step.{misses-first, misses-second, misses-after, misses-next}
 use Rattle.form.specs.Pieces.{named-text, named-texts, users-heading, users-part}
 use Rattle.form.specs.LineSteps.{named-aligned}
 use Rattle.form.specs.RowGrown.{Blank}

@@ -1,14 +1,15 @@
 // Block 2: the permissions of each role.
-use blocks::put_role_name;
-use form::Step;
+use book_lines::ROLE_NAME_BYTES;
+use book_lines::permissions_line;
+use book_lines::put_role_name;
 use form::clear_rows;
-use form::expect;
-use form::expect_byte;
-use form::part_end;
 use form::read_line;
 use names::Layout;
 use numbers::ROLE_LIMIT;
 use numbers::RoleNo;
+use steps::Step;
+use steps::expect;
+use steps::expect_byte;
 ghost use Prim.Native.Nat.{_*_, _≤_};
 ghost use lib.ListN.{length};
 ghost use mathlib.Core.Bool.{So};
@@ -17,16 +18,10 @@ ghost use Rattle.spec.specs.Sheet.{sheet-of};
 ghost use Rattle.spec.specs.Refusal.{accepted};
 ghost use Rattle.cells.specs.Rows.{row-words, row-bits};
 ghost use Rattle.names.specs.LaidOut.{LaidOut};
-ghost use Rattle.form.specs.Steps.{Expects};
+ghost use Rattle.steps.specs.Steps.{Expects};
 ghost use Rattle.form.specs.Pieces.{roles-heading};
 ghost use Rattle.form.specs.RowSteps.{AllBlank};
 ghost use Rattle.read_rows.specs.RoleSteps.{RoleLinesRead, RolesReads};
-
-// The bytes of `user`, the first field of a sheet.
-const USER_BYTES: usize = 4;
-
-// The bytes of the longest name of a role.
-pub const ROLE_NAME_BYTES: usize = 3;
 
 // What reading the lines of roles finds: how many there are, and where to go on.
 pub enum RolesRead {
@@ -69,11 +64,7 @@ fn roles_heading<'a>(book: &'a [u8], at: usize, sheet: &'a [u8]) -> Step
     let Step::On(names) = expect(book, at, b"role") else {
         return Step::Off;
     };
-    let Step::On(end) = part_end(sheet, USER_BYTES, b'\n') else {
-        return Step::Off;
-    };
-    let next_line = end + 1;
-    expect(book, names, &sheet[USER_BYTES..next_line])
+    expect(book, names, permissions_line(sheet))
 }
 
 // Reads block 2 and the empty line behind it into rows that have none set, and leaves none set where there is no

@@ -1,21 +1,21 @@
 // Block 3: the roles of each user.
-use crate::roles_block::ROLE_NAME_BYTES;
-use blocks::put_role_name;
-use form::Step;
+use book_lines::ROLE_NAME_BYTES;
+use book_lines::put_role_name;
 use form::clear_rows;
-use form::expect;
-use form::expect_byte;
 use form::read_line;
 use names::Layout;
 use numbers::RoleNo;
 use numbers::UserNo;
+use steps::Step;
+use steps::expect;
+use steps::expect_byte;
 ghost use Prim.Native.Nat.{_*_, _≤_};
 ghost use lib.ListN.{length};
 ghost use Rattle.spec.specs.Limits.{role-limit};
 ghost use Rattle.spec.specs.Sheet.{sheet-of, user-count};
 ghost use Rattle.cells.specs.Rows.{row-words, row-bits};
 ghost use Rattle.names.specs.LaidOut.{LaidOut, UsersAt};
-ghost use Rattle.form.specs.Steps.{Expects};
+ghost use Rattle.steps.specs.Steps.{Expects};
 ghost use Rattle.form.specs.Pieces.{role-fields, users-heading};
 ghost use Rattle.form.specs.RowSteps.{AllBlank};
 ghost use Rattle.read_rows.specs.UserSteps.{UserLinesRead, UsersReads};

@@ -7,7 +7,7 @@ use Rattle.spec.specs.Roles.{kernel-of, role-count, standing, bound}
 use Rattle.search.specs.declared.machine.Position.{Position}
 use Rattle.search.specs.declared.machine.Ran.{Ran}
 use Rattle.roles.specs.StandingCases.{standing-case}
-use Rattle.blocks.specs.declared.counts.Counts.{Counts}
+use Rattle.book_lines.specs.declared.counts.Counts.{Counts}
 use Rattle.session.specs.CodeSession.{text-in, state-in, Holds}
 use Rattle.session.specs.declared.Session.{Session as CodeSession}
 

@@ -11,7 +11,7 @@ use Rattle.spec.specs.Text.{ascii, same-bytes, Bytes, line-text}
 use Rattle.spec.specs.Rules.{Name}
 use Rattle.places.specs.Places.{from-at, to-at, part, BlankPast}
 use Rattle.names.specs.NamesAt.{names-at}
-use Rattle.sheet.specs.Stands.{Stands}
+use Rattle.steps.specs.Stands.{Stands}
 use Rattle.sheet.specs.Spelled.{NameAt}
 use Rattle.sheet.specs.declared.first_line.FirstLine.{FirstLine}
 use Rattle.sheet.specs.declared.first_line.FirstLineRead.{FirstLineRead}

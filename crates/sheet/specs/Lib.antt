@@ -1,5 +1,4 @@
 -- Reading a grant sheet in one pass: its refusal, where its names stand, and its cells as rows of words.
-pub mod Stands
 pub mod Spelled
 pub mod UserLine
 pub mod UserLines

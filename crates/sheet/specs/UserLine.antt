@@ -10,7 +10,7 @@ use Rattle.spec.specs.Sheet.{cell-text}
 use Rattle.spec.specs.Rules.{Name}
 use Rattle.bits.specs.Bit.{bit}
 use Rattle.places.specs.Places.{part}
-use Rattle.sheet.specs.Stands.{Stands}
+use Rattle.steps.specs.Stands.{Stands}
 use Rattle.sheet.specs.Spelled.{NameAt}
 use Rattle.sheet.specs.declared.user_line.UserLine.{UserLine}
 use Rattle.sheet.specs.declared.user_line.UserLineRead.{UserLineRead}

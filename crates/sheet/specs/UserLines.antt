@@ -12,7 +12,7 @@ use Rattle.bits.specs.Counting.{count-below, sum-below}
 use Rattle.bits.specs.Bit.{bit, word-bits}
 use Rattle.cells.specs.Rows.{row-words}
 use Rattle.places.specs.Places.{from-at, to-at, BlankPast}
-use Rattle.sheet.specs.Stands.{Stands}
+use Rattle.steps.specs.Stands.{Stands}
 use Rattle.sheet.specs.UserLine.{UserAt, line-of}
 use Rattle.sheet.specs.declared.user_lines.UserLinesRead.{UserLinesRead}
 use Rattle.sheet.specs.declared.user_lines.UserLinesRead.the-variants as read

@@ -1,6 +1,6 @@
 // Prints the book of the paper's sheet, and the book of a sheet without grants.
-use blocks::Counts;
 use book::Writing;
+use book_lines::Counts;
 use libc::STDOUT_FILENO;
 use numbers::CELL_WORDS;
 use numbers::ROLE_WORDS;
@@ -8,7 +8,7 @@ use roles::Standing;
 ghost use Prim.Native.Nat.{_≤_};
 ghost use Rattle.spec.specs.Sheet.{sheet-of};
 ghost use Rattle.cells.specs.Rows.{row-bits};
-ghost use Rattle.blocks.specs.RowsSaid.{GrantCells};
+ghost use Rattle.book_lines.specs.RowsSaid.{GrantCells};
 
 // Prints the book of a sheet, from its two matrices, its witness and its counts.
 fn print<'a>(

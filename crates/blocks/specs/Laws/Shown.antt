@@ -4,14 +4,14 @@ use mathlib.Core.Path.{_≡_, sym, ap, _∙_}
 use mathlib.Core.List.{List, _∷_, _++_}
 use Rattle.spec.specs.Vocabulary.{list-of}
 use Rattle.spec.specs.Text.{ascii, Bytes, line-text, text-of}
-use Rattle.spec.specs.Sheet.{Sheet, user-count, permission-count, cell-text, user-name, permission-name}
+use Rattle.spec.specs.Sheet.{Sheet, user-count, permission-count, cell-text, user-name}
 use Rattle.spec.specs.Book.{role-name}
 use Rattle.lists.specs.Listed.{listed}
 use Rattle.cells.specs.Rows.{cell}
-use Rattle.blocks.specs.Lines.{named-line}
-use Rattle.blocks.specs.RowsSaid.{role-line, shown-roles, user-line, shown-users}
+use Rattle.book_lines.specs.Lines.{named-line}
+use Rattle.book_lines.specs.RowsSaid.{role-heading, role-line, shown-roles, user-line, shown-users}
 use Rattle.text.specs.Line.{behind-comma, line-end}
-use Rattle.text.specs.Laws.Line.{line-parts, line-parts-of, block-parts}
+use Rattle.text.specs.Laws.Line.{line-parts, block-parts}
 
 pub role-line-parts : (gives : List ℕ) (permissions r : ℕ)
     → line-text (role-line gives permissions r) ≡ named-line (role-name r) gives r permissions
@@ -28,10 +28,7 @@ user-line-named sheet has count u e =
     ap (λ (n : Bytes). named-line n has u count) e
     ∙ sym (user-line-parts sheet has count u)
 
--- the names of a heading behind its first word
-abbrev pub permission-fields : Sheet → Bytes
-permission-fields sheet = listed (permission-count sheet) (λ p. behind-comma (permission-name sheet p))
-
+-- the names of the heading of block 3 behind its first word
 abbrev pub role-fields : ℕ → Bytes
 role-fields count = listed count (λ r. behind-comma (role-name r))
 
@@ -44,11 +41,8 @@ user-lines sheet has count = listed (user-count sheet) (λ u. line-text (user-li
 
 pub roles-parts : (sheet : Sheet) (gives : List ℕ) (count : ℕ)
     → text-of (shown-roles sheet gives count)
-    ≡ ((ascii "role" ++ permission-fields sheet) ++ line-end) ++ role-lines gives (permission-count sheet) count
-roles-parts sheet gives count =
-    block-parts (ascii "role" ∷ sheet .permissions) count (role-line gives (permission-count sheet))
-    ∙ ap (λ (l : Bytes). l ++ role-lines gives (permission-count sheet) count)
-    (line-parts-of (ascii "role") (sheet .permissions))
+    ≡ line-text (role-heading sheet) ++ role-lines gives (permission-count sheet) count
+roles-parts sheet gives count = block-parts (role-heading sheet) count (role-line gives (permission-count sheet))
 
 pub users-parts : (sheet : Sheet) (has : List ℕ) (count : ℕ)
     → text-of (shown-users sheet has count)

@@ -18,13 +18,14 @@ use Rattle.decimal.specs.Measured.{Measured, line-most, block-most}
 use Rattle.cell_text.specs.CellsText.{cell-field, cells-text}
 use Rattle.cell_text.specs.Laws.CellsWritten.{cell-field-length}
 use Rattle.text.specs.Line.{behind-comma, line-end}
-use Rattle.blocks.specs.CountsText.{counts-text}
-use Rattle.blocks.specs.Lines.{named-line}
-use Rattle.blocks.specs.RowsSaid.{GrantCells, role-line, user-line, shown-roles, shown-users}
-use Rattle.blocks.specs.Laws.Shown.{permission-fields, role-fields, role-lines, user-lines, roles-parts, users-parts}
+use Rattle.text.specs.Laws.Line.{line-parts-of}
+use Rattle.book_lines.specs.CountsText.{counts-text}
+use Rattle.book_lines.specs.Lines.{named-line}
+use Rattle.book_lines.specs.RowsSaid.{GrantCells, role-heading, role-line, user-line, shown-roles, shown-users}
+use Rattle.blocks.specs.Laws.Shown.{role-fields, role-lines, user-lines, roles-parts, users-parts}
 use Rattle.blocks.specs.Laws.Shown.{role-line-parts, user-line-parts}
 use Rattle.blocks.specs.WitnessText.{witness-row, witness-parts}
-use Rattle.blocks.specs.declared.counts.Counts.{Counts}
+use Rattle.book_lines.specs.declared.counts.Counts.{Counts}
 use Rattle.book.specs.BookRows.{rows-book, book-parts}
 use Rattle.book.specs.NameBytes.{role-name-bytes}
 use Rattle.book.specs.Laws.SumOfParts.{listed-sum}
@@ -62,7 +63,9 @@ module _ (sheet : Sheet) (count : ℕ) where
       omega (
         arith,
         ap length (roles-parts sheet gives count),
-        block-length (ascii "role") (permission-fields sheet) (role-lines gives (permission-count sheet) count),
+        length-append (line-text (role-heading sheet)) (role-lines gives (permission-count sheet) count),
+        ap length (line-parts-of (ascii "role") (sheet .permissions)),
+        ended-length (ascii "role") (listed (permission-count sheet) (λ p. behind-comma (permission-name sheet p))),
         listed-sum (permission-count sheet) 1 (λ p. behind-comma (permission-name sheet p))
             (λ p. length (permission-name sheet p)) (λ p h. omega arith),
         listed-sum count (2 * permission-count sheet + 1)

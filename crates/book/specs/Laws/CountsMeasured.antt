@@ -9,9 +9,9 @@ use Rattle.spec.specs.Decimal.{decimal}
 use Rattle.roles.specs.StandingCases.{standing-case}
 use Rattle.decimal.specs.WordDigits.{word-digits}
 use Rattle.decimal.specs.Measured.{piece-most, line-most, Measured}
-use Rattle.blocks.specs.CountsText.{standing-text, counts-text}
-use Rattle.blocks.specs.Laws.Counts.{counts-parts}
-use Rattle.blocks.specs.declared.counts.Counts.{Counts}
+use Rattle.book_lines.specs.CountsText.{standing-text, counts-text}
+use Rattle.book_lines.specs.Laws.Counts.{counts-parts}
+use Rattle.book_lines.specs.declared.counts.Counts.{Counts}
 
 pub counts-measured : (counts : Counts) (roles bound state : ℕ) → Measured (decimal (counts .roles)) word-digits roles
     → Measured (decimal (counts .bound)) word-digits bound

@@ -17,7 +17,7 @@ use Rattle.names.specs.LaidOut.{UsersAt, PermissionsAt}
 use Rattle.places.specs.Places.{from-at, to-at, Part, NamesPlaced}
 use Rattle.decimal.specs.Laws.Digit.{one-digit, digit-more}
 use Rattle.cells.specs.Rows.{row-bits, row-words}
-use Rattle.blocks.specs.Laws.Name.{role-name-parts, role-name-short}
+use Rattle.book_lines.specs.Laws.Name.{role-name-parts, role-name-short}
 use Rattle.book.specs.NameBytes.{PlacesShort, bytes-at, role-name-bytes}
 
 -- ---- the names of a sheet

@@ -18,9 +18,9 @@ use Rattle.cells.specs.Rows.{row-words, cell}
 use Rattle.names.specs.LaidOut.{LaidOut}
 use Rattle.names.specs.declared.layout.Layout.{Layout}
 use Rattle.rules.specs.AcceptedFacts.{accepted-lawful}
-use Rattle.blocks.specs.declared.counts.Counts.{Counts}
+use Rattle.book_lines.specs.declared.counts.Counts.{Counts}
 use Rattle.read_fields.specs.declared.witness_block.Witness.{Witness}
-use Rattle.sheet.specs.Stands.{Stands}
+use Rattle.steps.specs.Stands.{Stands}
 use Rattle.form.specs.Pieces.{users-part}
 use Rattle.read_fields.specs.WitnessSteps.{WitnessPart}
 use Rattle.right.specs.Judgement.{refused-by-sheet, too-long-book, Unwritten, unwritten-book, written-book}

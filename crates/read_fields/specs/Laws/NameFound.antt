@@ -14,7 +14,7 @@ use Rattle.lists.specs.TestLaws.{same-bytes-equal, equal-same-bytes}
 use Rattle.places.specs.Places.{part}
 use Rattle.names.specs.NamesAt.{name-number, found}
 use Rattle.names.specs.declared.lookup.Found.the-variants.{At, Nothing}
-use Rattle.form.specs.Ended.{Ended, Unended, ended-once, ended-stands}
+use Rattle.steps.specs.Ended.{Ended, Unended, ended-once, ended-stands}
 use Rattle.read_fields.specs.NameSteps.{NameAt, NoName}
 
 module _ (names : List Bytes) (name : Bytes) where

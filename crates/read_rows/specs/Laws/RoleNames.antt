@@ -1,9 +1,8 @@
--- A role's name has three bytes at most, so it is written to a buffer of three and is what stands at its front.
+-- A role's name has three bytes at most, so it is written to a buffer of three.
 use Prim.Native.Nat.{ℕ, _≤_, _<_}
 use native.Mathlib.Omega.{arith}
-use mathlib.Core.Path.{_≡_, sym}
-use lib.ListN.{length, take}
-use lib.Seq.{take-at}
+use mathlib.Core.Path.{_≡_}
+use lib.ListN.{length}
 use Rattle.spec.specs.Limits.{role-limit}
 use Rattle.spec.specs.Text.{Bytes}
 use Rattle.spec.specs.Book.{role-name}
@@ -18,7 +17,3 @@ role-name-short r h = role-name-length 1 r (omega arith)
 pub name-within : (r : ℕ) {before after : Bytes} {n : ℕ} → r < role-limit → Written (role-name r) before after n
     → length after ≡ 3 → n ≤ length after
 name-within r h w e = omega (arith, w .counted, e, role-name-short r h)
-
-pub name-taken : (r : ℕ) {before after : Bytes} {n : ℕ} → Written (role-name r) before after n
-    → take n after ≡ role-name r
-name-taken r {before} {after} {n} w = rw (w .buffer) (take-at (role-name r) _ n (sym (w .counted)))

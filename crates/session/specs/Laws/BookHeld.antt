@@ -17,8 +17,8 @@ use Rattle.cells.specs.Laws.CellList.{cell-of, grant-of-cell}
 use Rattle.roles.specs.RolesShown.{RolesAt}
 use Rattle.book.specs.BookRows.{rows-book, rows-book-in}
 use Rattle.blocks.specs.Laws.Laid.{permissions-fit}
-use Rattle.blocks.specs.RowsSaid.{GrantCells}
-use Rattle.blocks.specs.declared.counts.Counts.{Counts}
+use Rattle.book_lines.specs.RowsSaid.{GrantCells}
+use Rattle.book_lines.specs.declared.counts.Counts.{Counts}
 use Rattle.form.specs.Laws.RoleLimit.{permissions-fit-a-row}
 use Rattle.session.specs.CodeSession.{text-in, state-in, Holds}
 use Rattle.session.specs.Counted.{CountsIn}

@@ -11,7 +11,7 @@ use Rattle.spec.specs.Sheet.{sheet-of}
 use Rattle.spec.specs.Witness.{witness}
 use Rattle.spec.specs.Roles.{standing-of, bound-of, role-count, standing, bound}
 use Rattle.rules.specs.AcceptedFacts.{accepted-lawful}
-use Rattle.blocks.specs.declared.counts.Counts.{Counts}
+use Rattle.book_lines.specs.declared.counts.Counts.{Counts}
 use Rattle.minimality.specs.StateBound.{state-counted, state-le-permissions}
 use Rattle.demands.specs.Believed.{accepted-even}
 use Rattle.session.specs.CodeSession.{text-in, state-in, Holds}

@@ -10,7 +10,7 @@ use Rattle.spec.specs.Session.{no-sheet, loaded}
 use Rattle.spec.specs.Calls.{SearchAnswer, search-refused, searched-on, search-answer, after-search, Searches}
 use Rattle.search.specs.declared.machine.Ran.{Ran}
 use Rattle.roles.specs.StandingCases.{standing-case}
-use Rattle.blocks.specs.declared.counts.Counts.{Counts}
+use Rattle.book_lines.specs.declared.counts.Counts.{Counts}
 use Rattle.session.specs.CodeSession.{text-in, state-in, view}
 use Rattle.session.specs.Counted.{CountsIn, moved-to, RanIn}
 use Rattle.session.specs.declared.Session.{Session as CodeSession}

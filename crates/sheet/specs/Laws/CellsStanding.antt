@@ -13,8 +13,8 @@ use Rattle.spec.specs.Sheet.{cell-text}
 use Rattle.bits.specs.Laws.Below.{last-or-below}
 use Rattle.lists.specs.Listed.{listed, listed-suc, listed-even}
 use Rattle.cells_read.specs.CellsWord.{cell-byte, CellsStand}
-use Rattle.sheet.specs.Stands.{Stands}
-use Rattle.sheet.specs.Laws.Stands.{stands-nothing, stands-then, stands-byte}
+use Rattle.steps.specs.Stands.{Stands}
+use Rattle.steps.specs.Laws.Stands.{stands-nothing, stands-then, stands-byte}
 
 -- so many cells, each behind a comma
 abbrev pub cells-text : ℕ → (ℕ → Bool) → Bytes

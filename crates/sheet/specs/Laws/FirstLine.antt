@@ -21,8 +21,8 @@ use Rattle.text.specs.Laws.Line.{line-parts}
 use Rattle.places.specs.Places.{place-base, place-of, from-at, to-at, to-of, part, BlankPast}
 use Rattle.names.specs.NamesAt.{name-there}
 use Rattle.places.specs.Laws.Places.{note-place, place-stays, noted-from, noted-to, blank-kept}
-use Rattle.sheet.specs.Stands.{Stands}
-use Rattle.sheet.specs.Laws.Stands.{stands-then, stands-found, stands-part}
+use Rattle.steps.specs.Stands.{Stands}
+use Rattle.steps.specs.Laws.Stands.{stands-then, stands-found, stands-part}
 use Rattle.sheet.specs.Spelled.{NameAt}
 use Rattle.sheet.specs.FirstLine.{says-user, NamesRoom, end-before, Run, FirstLineStands}
 

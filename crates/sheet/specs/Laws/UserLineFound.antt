@@ -21,7 +21,7 @@ use Rattle.text.specs.Laws.Line.{line-parts}
 use Rattle.sheet.specs.Laws.FirstLine.{fields-text}
 use Rattle.sheet.specs.Spelled.{name-read}
 use Rattle.sheet.specs.UserLine.{Spells, LineStands}
-use Rattle.sheet.specs.Laws.Stands.{stands-then, stands-found, stands-part}
+use Rattle.steps.specs.Laws.Stands.{stands-then, stands-found, stands-part}
 use Rattle.sheet.specs.Laws.Spelled.{behind, name-stands, name-found}
 use Rattle.sheet.specs.declared.spelled.NameRead.the-variants.{Name}
 

@@ -22,8 +22,8 @@ use Rattle.lists.specs.ListOfLaws.{list-of-last, list-of-same, length-list-of}
 use Rattle.cells.specs.Rows.{row-words}
 use Rattle.places.specs.Places.{place-base, place-of, from-at, to-at}
 use Rattle.places.specs.Laws.Places.{note-place, place-stays, noted-from, noted-to, zero-there, blank-kept}
-use Rattle.sheet.specs.Stands.{Stands}
-use Rattle.sheet.specs.Laws.Stands.{stands-nothing, stands-then}
+use Rattle.steps.specs.Stands.{Stands}
+use Rattle.steps.specs.Laws.Stands.{stands-nothing, stands-then}
 use Rattle.sheet.specs.UserLine.{UserAt, line-of, LineStands}
 use Rattle.sheet.specs.UserLines.{Room, line-at, lines-at, ones-at, LinesNoted}
 use Rattle.sheet.specs.declared.user_line.UserLine.{UserLine}

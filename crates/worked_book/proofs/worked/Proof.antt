@@ -6,7 +6,7 @@ use Rattle.spec.specs.Vocabulary.{every-below}
 use Rattle.spec.specs.Sheet.{sheet-of, sheet-of-lines}
 use Rattle.bits.specs.Bit.{bit}
 use Rattle.cells.specs.Rows.{row-bits, row-words}
-use Rattle.blocks.specs.RowsSaid.{grant-cells-elim}
+use Rattle.book_lines.specs.RowsSaid.{grant-cells-elim}
 use Rattle.worked_book.proofs.worked.Statement.{statement}
 use Rattle.worked_book.proofs.worked.Tie as tie
 

@@ -7,10 +7,10 @@ use lib.ListN.{length, take}
 use lib.Seq.{length-take-le}
 use Rattle.spec.specs.Text.{Bytes, line-text}
 use Rattle.text.specs.Written.{fits-as, written-as}
-use Rattle.blocks.specs.Laws.LineWritten.{front-written}
-use Rattle.blocks.specs.Laws.Name.{role-name-short}
-use Rattle.blocks.specs.Lines.{named-line}
-use Rattle.blocks.specs.RowsSaid.{role-line}
+use Rattle.book_lines.specs.Laws.LineWritten.{front-written}
+use Rattle.book_lines.specs.Laws.Name.{role-name-short}
+use Rattle.book_lines.specs.Lines.{named-line}
+use Rattle.book_lines.specs.RowsSaid.{role-line}
 use Rattle.blocks.specs.Laws.Shown.{role-line-parts}
 use Rattle.blocks.proofs.role_block.put_role_line.Statement.{statement}
 use Rattle.blocks.proofs.role_block.put_role_line.Tie as tie

@@ -5,7 +5,7 @@ use native.Mathlib.Omega.{arith}
 use Rattle.spec.specs.Text.{line-text}
 use Rattle.cells.specs.Rows.{row-words}
 use Rattle.cell_text.specs.Laws.Parts.{Listing, listing-ends, listing-starts, part-ready, part-within, part-written}
-use Rattle.blocks.specs.RowsSaid.{role-line}
+use Rattle.book_lines.specs.RowsSaid.{role-line}
 use Rattle.text.specs.Written.{room-behind, within-buffer}
 use Rattle.blocks.proofs.role_block.put_role_lines.Statement.{statement}
 use Rattle.blocks.proofs.role_block.put_role_lines.Tie as tie

@@ -1,110 +1,78 @@
--- `role_block::put_roles`: the word, the names behind it, the line feed behind them, and then the lines.
+-- `role_block::put_roles`: the lines are written where the line of names ended, for as many permissions as there are
+-- places.
 use borrow.Author.Needs.{needs}
-use Prim.Native.Nat.{ℕ, _+_}
+use Prim.Native.Nat.{ℕ, _≤_}
 use native.Mathlib.Omega.{arith}
 use mathlib.Core.List.{_++_}
 use mathlib.Core.Path.{_≡_, sym, ap}
-use lib.ListN.{set}
-use Rattle.spec.specs.Text.{ascii, Bytes, text-of}
+use lib.ListN.{length}
+use Rattle.spec.specs.Text.{Bytes, line-text}
 use Rattle.spec.specs.Sheet.{sheet-of, permission-count}
-use Rattle.text.specs.Line.{line-end}
+use Rattle.text.specs.Written.{Written, WrittenSoFar, end-within, fits-as, front-fits, rest-from, room-behind}
+use Rattle.text.specs.Written.{then-same-length, then-written, within-buffer, written-as}
+use Rattle.book_lines.specs.RowsSaid.{role-heading}
 use Rattle.blocks.specs.Laws.Laid.{permissions-in-row}
-use Rattle.blocks.specs.Laws.LineWritten.{BlockRoom, behind-fields, behind-heading, behind-name, heading-room}
-use Rattle.blocks.specs.Laws.LineWritten.{name-fits}
-use Rattle.blocks.specs.RowsSaid.{shown-roles}
-use Rattle.blocks.specs.Laws.Shown.{permission-fields, role-lines, roles-parts}
-use Rattle.text.specs.Written.{Written, WrittenSoFar, byte-within, end-within, fits-as, place-within, rest-from}
-use Rattle.text.specs.Written.{room-behind, then-same-length, then-written, with-rest, within-buffer, written-as}
+use Rattle.blocks.specs.Laws.Shown.{role-lines, roles-parts}
 use Rattle.blocks.proofs.role_block.put_roles.Statement.{statement}
 use Rattle.blocks.proofs.role_block.put_roles.Tie as tie
 
-abbrev word : Bytes
-word = ascii "role"
+abbrev heading : tie.Start → Bytes
+heading s = line-text (role-heading (sheet-of (s .args .s .now)))
 
-abbrev fields : tie.Start → Bytes
-fields s = permission-fields (sheet-of (s .args .s .now))
+abbrev lines : tie.Start → ℕ → Bytes
+lines s permissions = role-lines (s .args .gives .now) permissions (s .args .roles)
 
-abbrev lines : tie.Start → Bytes
-lines s = role-lines (s .args .gives .now) (permission-count (sheet-of (s .args .s .now))) (s .args .roles)
+abbrev all : tie.Start → ℕ
+all s = permission-count (sheet-of (s .args .s .now))
 
-parts : (s : tie.Start)
-    → text-of (shown-roles (sheet-of (s .args .s .now)) (s .args .gives .now) (s .args .roles))
-    ≡ ((word ++ fields s) ++ line-end) ++ lines s
-parts s = roles-parts (sheet-of (s .args .s .now)) (s .args .gives .now) (s .args .roles)
+fits : (s : tie.Start) → length (heading s ++ lines s (all s)) ≤ length (s .args .out .now)
+fits s = fits-as (roles-parts (sheet-of (s .args .s .now)) (s .args .gives .now) (s .args .roles)) (s .pre .1)
 
-room : (s : tie.Start) → BlockRoom word (fields s) (lines s) (s .args .out .now)
-room s = record { fits = fits-as (parts s) (s .pre .1) }
+-- there is a place for each permission
+each-placed : (s : tie.Start) → lines s (length (s .args .places .now)) ≡ lines s (all s)
+each-placed s = ap (lines s) (s .pre .0 .0 .names .total)
 
--- behind the word, behind the names, and behind the heading
-abbrev start : tie.After-put-bytes → tie.Start
-start c =
-    let lent = c .before .before .before .before in
-    lent .before .before .before
+abbrev start : tie.After-put-role-heading → tie.Start
+start c = c .before .before .before .before .before .before
 
-first : (c : tie.After-put-bytes)
-    → WrittenSoFar word (fields (start c)) (start c .args .out .now) (c .put-bytes .last .0) (c .put-bytes .result)
-first c = behind-name (heading-room (room (start c))) (c .put-bytes .ensures)
+behind-heading : (c : tie.After-put-role-heading)
+    → WrittenSoFar (heading (start c)) (lines (start c) (all (start c))) (start c .args .out .now)
+    (c .put-role-heading .last .0) (c .put-role-heading .result)
+behind-heading c = record { written = c .put-role-heading .ensures; fits = fits (start c) }
 
-abbrev worded : tie.After-put-permission-fields → tie.After-put-bytes
-worded c = c .before .before .before .before
-
-abbrev named : tie.After-put-permission-fields → Bytes
-named c = with-rest (worded c .put-bytes .result) (worded c .put-bytes .last .0) (c .put-permission-fields .last .0)
-
-abbrev end : tie.After-put-permission-fields → ℕ
-end c = worded c .put-bytes .result + c .put-permission-fields .result
-
-second : (c : tie.After-put-permission-fields)
-    → WrittenSoFar (word ++ fields (start (worded c))) line-end (start (worded c) .args .out .now) (named c) (end c)
-second c =
-    behind-fields (heading-room (room (start (worded c)))) (worded c .put-bytes .ensures)
-    (c .put-permission-fields .ensures)
-
-third : (c : tie.After-put-permission-fields)
-    → let s = start (worded c) in
-    WrittenSoFar ((word ++ fields s) ++ line-end) (lines s) (s .args .out .now) (set (named c) (end c) 10) (end c + 1)
-third c = behind-heading (room (start (worded c))) (second c)
-
--- the lines, for as many permissions as there are places
-abbrev before-lines : tie.After-put-role-lines → tie.After-put-permission-fields
-before-lines c = c .before .before .before .before
-
-written : (c : tie.After-put-role-lines)
-    → let b = before-lines c in
-    Written (lines (start (worded b))) (rest-from (end b + 1) (set (named b) (end b) 10)) (c .put-role-lines .last .0)
-    (c .put-role-lines .result)
-written c =
-    let s = start (worded (before-lines c)) in
-    written-as (ap (λ (n : ℕ). role-lines (s .args .gives .now) n (s .args .roles)) (s .pre .0 .0 .names .total))
-    (c .put-role-lines .ensures)
+put-role-heading-requires : tie.Need-put-role-heading-requires
+put-role-heading-requires c κs =
+    let s = c .before .before .before .before .before in
+    (s .pre .0 .0 .accepts, front-fits (heading s) (lines s (all s)) (fits s))
 
 put-role-lines-requires : tie.Need-put-role-lines-requires
 put-role-lines-requires c κs =
     let b = c .before .before .before in
-    let s = start (worded b) in
-    let total = s .pre .0 .0 .names .total in (
+    let s = start b in (
       (s .pre .0 .1, permissions-in-row (s .pre .0 .0), s .pre .0 .2),
-      fits-as (ap (λ (n : ℕ). role-lines (s .args .gives .now) n (s .args .roles)) (sym total))
-          (room-behind (third b)),
+      fits-as (sym (each-placed s)) (room-behind (behind-heading b)),
     )
+
+-- the place behind the heading, from where the lines have been written
+abbrev headed : tie.After-put-role-lines → tie.After-put-role-heading
+headed c = c .before .before .before .before
+
+written : (c : tie.After-put-role-lines)
+    → let b = headed c in
+    Written (lines (start b) (all (start b))) (rest-from (b .put-role-heading .result) (b .put-role-heading .last .0))
+    (c .put-role-lines .last .0) (c .put-role-lines .result)
+written c = written-as (each-placed (start (headed c))) (c .put-role-lines .ensures)
 
 returns : tie.Need-returns
 returns c =
     let put = c .before .before in
-    let b = before-lines put in
-    written-as (sym (parts (start (worded b)))) (then-written (third b) (written put))
+    let a = start (headed put) .args in
+    written-as (sym (roles-parts (sheet-of (a .s .now)) (a .gives .now) (a .roles)))
+    (then-written (behind-heading (headed put)) (written put))
 
 pub put-roles-spec : {M : Type 1} → statement M
 put-roles-spec =
-    tie.close (tie.spec (λ c. search needs)
-    (λ c κs. name-fits (heading-room (room (c .before .before .before .before .before .before))))
-    (λ c. within-buffer (first (c .before .before))) (λ c. within-buffer (first (c .before .before)))
-    (λ c. search needs)
-    (λ c κs. (start (c .before .before .before) .pre .0 .0, room-behind (first (c .before .before .before))))
-    (λ c. omega (arith, place-within (second (c .before .before))))
-    (λ c. byte-within (second (c .before .before)))
-    (λ c. omega (arith, place-within (third (c .before .before))))
-    (λ c. within-buffer (third (c .before .before))) (λ c. within-buffer (third (c .before .before)))
-    (λ c. search needs) put-role-lines-requires
-    (λ c. omega (arith, end-within (third (before-lines (c .before .before))) (written (c .before .before))))
-    (λ c. then-same-length (third (before-lines (c .before .before))) (written (c .before .before))) returns)
+    tie.close (tie.spec put-role-heading-requires (λ c. within-buffer (behind-heading (c .before .before)))
+    (λ c. within-buffer (behind-heading (c .before .before))) (λ c. search needs) put-role-lines-requires
+    (λ c. omega (arith, end-within (behind-heading (headed (c .before .before))) (written (c .before .before))))
+    (λ c. then-same-length (behind-heading (headed (c .before .before))) (written (c .before .before))) returns)

@@ -9,7 +9,7 @@ use Rattle.spec.specs.Sheet.{sheet-of, user-count}
 use Rattle.cells.specs.Rows.{row-words}
 use Rattle.blocks.specs.Laws.Laid.{user-counted, users-all}
 use Rattle.cell_text.specs.Laws.Parts.{Listing, listing-ends, listing-starts, part-ready, part-within, part-written}
-use Rattle.blocks.specs.RowsSaid.{user-line}
+use Rattle.book_lines.specs.RowsSaid.{user-line}
 use Rattle.blocks.specs.Laws.Shown.{user-line-named}
 use Rattle.text.specs.Written.{fits-as, room-behind, within-buffer, written-as}
 use Rattle.blocks.proofs.user_block.put_user_lines.Statement.{statement}

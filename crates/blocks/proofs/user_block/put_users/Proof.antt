@@ -8,9 +8,9 @@ use lib.ListN.{set}
 use Rattle.spec.specs.Text.{ascii, Bytes, text-of}
 use Rattle.spec.specs.Sheet.{sheet-of}
 use Rattle.text.specs.Line.{line-end}
-use Rattle.blocks.specs.Laws.LineWritten.{BlockRoom, behind-fields, behind-heading, behind-name, heading-room}
-use Rattle.blocks.specs.Laws.LineWritten.{name-fits}
-use Rattle.blocks.specs.RowsSaid.{shown-users}
+use Rattle.book_lines.specs.Laws.LineWritten.{BlockRoom, behind-fields, behind-heading, behind-name, heading-room}
+use Rattle.book_lines.specs.Laws.LineWritten.{name-fits}
+use Rattle.book_lines.specs.RowsSaid.{shown-users}
 use Rattle.blocks.specs.Laws.Shown.{role-fields, user-lines, users-parts}
 use Rattle.text.specs.Written.{WrittenSoFar, byte-within, end-within, fits-as, place-within, room-behind}
 use Rattle.text.specs.Written.{then-same-length, then-written, with-rest, within-buffer, written-as}

@@ -10,7 +10,7 @@ use Rattle.cells.specs.Rows.{cell, row-words}
 use Rattle.blocks.specs.Laws.Laid.{permission-counted, permissions-all, permissions-in-row}
 use Rattle.cell_text.specs.Laws.Parts.{Listing, listing-ends, listing-starts, part-ready, part-within, part-written}
 use Rattle.blocks.specs.Laws.SkippedParts.{listing-past, none-said}
-use Rattle.blocks.specs.Lines.{pair-line}
+use Rattle.book_lines.specs.Lines.{pair-line}
 use Rattle.blocks.specs.WitnessText.{cell-line, line-if, cell-said}
 use Rattle.text.specs.Written.{fits-as, room-behind, within-buffer, written-as}
 use Rattle.blocks.proofs.witness_block.put_witness_row.Statement.{statement}

@@ -12,12 +12,12 @@ use Rattle.spec.specs.Book.{witness-block}
 use Rattle.cells.specs.Rows.{row-bits, row-words}
 use Rattle.cells.specs.CellSets.{cell-grants}
 use Rattle.book.specs.BookRows.{book-parts, rows-book}
-use Rattle.blocks.specs.CountsText.{counts-text}
+use Rattle.book_lines.specs.CountsText.{counts-text}
 use Rattle.names.specs.LaidOut.{UsersAt, PermissionsAt}
 use Rattle.blocks.specs.Laws.Laid.{few-users}
 use Rattle.book.specs.Laws.Placed.{users-placed, permissions-placed, users-lent, permissions-lent}
 use Rattle.text.specs.Line.{line-end}
-use Rattle.blocks.specs.RowsSaid.{shown-roles, shown-users}
+use Rattle.book_lines.specs.RowsSaid.{shown-roles, shown-users}
 use Rattle.text.specs.Written.{WrittenSoFar, byte-within, end-within, fits-as, front-fits, place-within, room-behind}
 use Rattle.text.specs.Written.{then-same-length, then-written, with-rest, within-buffer, written-as}
 use Rattle.book.specs.Laws.BlockBehind.{empty-line, block-behind}

@@ -5,7 +5,7 @@ use mathlib.Core.Path.{ap, refl, sym}
 use Rattle.spec.specs.Text.{Bytes}
 use Rattle.roles.specs.StandingCases.{standing-case}
 use Rattle.roles.specs.declared.standing.Standing.{Standing as StandingValue}
-use Rattle.blocks.specs.CountsText.{standing-text}
+use Rattle.book_lines.specs.CountsText.{standing-text}
 use Rattle.decimal.specs.Measured.{measured-as}
 use Rattle.book.proofs.length.standing_length.Statement.{statement}
 use Rattle.book.proofs.length.standing_length.Tie as tie

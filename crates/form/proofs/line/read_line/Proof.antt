@@ -1,7 +1,7 @@
 -- `line::read_line`: the name, the cells, then the line feed; where one of them does not stand the row is cleared.
 use mathlib.Core.Path.{refl}
 use borrow.Author.Needs.{needs}
-use Rattle.sheet.specs.Stands.{Stands}
+use Rattle.steps.specs.Stands.{Stands}
 use Rattle.form.specs.RowGrown.{cleared-after}
 use Rattle.form.specs.CellSteps.{RowRead}
 use Rattle.form.specs.LineSteps.{no-name, no-cells, ended, no-end}

@@ -8,7 +8,7 @@ use Rattle.spec.specs.Vocabulary.{every-below}
 use Rattle.bits.specs.Laws.Below.{missed-below-intro}
 use Rattle.bits.specs.Laws.Step.{every-below-step}
 use Rattle.bits.specs.Truth.{and-intro}
-use Rattle.blocks.specs.RowsSaid.{roles-in}
+use Rattle.book_lines.specs.RowsSaid.{roles-in}
 use Rattle.form.specs.Laws.RoleLimit.{row-within}
 use Rattle.judging.specs.ProductWords.{row-agrees}
 use Rattle.judging.proofs.product.rows_agree.Statement.{statement}

@@ -3,7 +3,7 @@ use native.Mathlib.Omega.{arith}
 use mathlib.Core.Path.{sym, _∙_}
 use borrow.Author.Needs.{needs}
 use Rattle.spec.specs.Text.{comma}
-use Rattle.form.specs.Ended.{Ended}
+use Rattle.steps.specs.Ended.{Ended}
 use Rattle.read_fields.specs.CountSteps.{count-at, no-comma-behind, no-count}
 use Rattle.read_fields.proofs.counts_block.count_field.Statement.{statement}
 use Rattle.read_fields.proofs.counts_block.count_field.Tie as tie

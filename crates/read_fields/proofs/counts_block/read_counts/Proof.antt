@@ -2,8 +2,8 @@
 use borrow.Author.Needs.{needs}
 use Rattle.spec.specs.Text.{ascii}
 use Rattle.roles.specs.StandingCases.{standing-case}
-use Rattle.sheet.specs.Stands.{Stands}
-use Rattle.form.specs.Laws.Step.{misses-first}
+use Rattle.steps.specs.Stands.{Stands}
+use Rattle.steps.specs.Laws.Step.{misses-first}
 use Rattle.read_fields.specs.CountSteps.{CountAt, standing-text, after-heading, no-roles, no-bound, no-state}
 use Rattle.read_fields.specs.CountSteps.{no-empty-line, counts-reads}
 use Rattle.read_fields.proofs.counts_block.read_counts.Statement.{statement}

@@ -5,7 +5,7 @@ use mathlib.Core.List.{List}
 use borrow.Author.Needs.{needs}
 use Rattle.spec.specs.Text.{Bytes}
 use Rattle.names.specs.NamesAt.{all-names}
-use Rattle.form.specs.Ended.{Ended}
+use Rattle.steps.specs.Ended.{Ended}
 use Rattle.read_fields.specs.Laws.NameFound.{no-name-ended, no-name-known, name-at}
 use Rattle.read_fields.proofs.witness_block.name_field.Statement.{statement}
 use Rattle.read_fields.proofs.witness_block.name_field.Tie as tie

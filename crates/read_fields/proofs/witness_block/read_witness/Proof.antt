@@ -5,7 +5,7 @@ use lib.Seq.{length-take-le}
 use Rattle.spec.specs.Text.{ascii}
 use Rattle.spec.specs.Sheet.{sheet-of}
 use Rattle.names.specs.Laws.LaidOut.{users-at, permissions-at}
-use Rattle.sheet.specs.Stands.{Stands}
+use Rattle.steps.specs.Stands.{Stands}
 use Rattle.form.specs.Laws.Placed.{users-placed, permissions-placed}
 use Rattle.read_fields.specs.WitnessSteps.{no-witness-heading, heading-then-lines}
 use Rattle.read_fields.proofs.witness_block.read_witness.Statement.{statement}

@@ -8,7 +8,7 @@ use lib.ListN.{length}
 use Rattle.spec.specs.Limits.{role-limit}
 use Rattle.spec.specs.Sheet.{sheet-of}
 use Rattle.rules.specs.AcceptedFacts.{accepted-lawful}
-use Rattle.form.specs.Laws.Step.{stands-place}
+use Rattle.steps.specs.Laws.Step.{stands-place}
 use Rattle.read_fields.specs.WitnessList.{named-grant}
 use Rattle.read_fields.specs.WitnessLineSteps.{WitnessAt}
 use Rattle.read_fields.specs.WitnessSteps.{LinesRead, lines-start, lines-bound, line-read, lines-end, lines-off}

@@ -5,7 +5,7 @@ use borrow.Author.Needs.{needs}
 use lib.ListN.{length}
 use Rattle.spec.specs.Sheet.{sheet-of}
 use Rattle.rules.specs.AcceptedFacts.{accepted-lawful}
-use Rattle.sheet.specs.Stands.{Stands}
+use Rattle.steps.specs.Stands.{Stands}
 use Rattle.form.specs.Pieces.{roles-heading}
 use Rattle.form.specs.Laws.RoleLimit.{permissions-fit-a-row}
 use Rattle.form.specs.RowSteps.{zeros-blank}

@@ -10,7 +10,8 @@ use Rattle.spec.specs.Limits.{role-limit}
 use Rattle.spec.specs.Book.{role-name}
 use Rattle.form.specs.Laws.RoleLimit.{roles-fit-a-row, row-within}
 use Rattle.form.specs.RowSteps.{LinesBelow, lines-start, lines-more}
-use Rattle.read_rows.specs.Laws.RoleNames.{role-name-short, name-within, name-taken}
+use Rattle.book_lines.specs.Laws.LineWritten.{front-written}
+use Rattle.read_rows.specs.Laws.RoleNames.{role-name-short, name-within}
 use Rattle.read_rows.specs.RoleSteps.{roles-end, roles-full, roles-off}
 use Rattle.read_rows.proofs.roles_block.role_lines.Statement.{statement}
 use Rattle.read_rows.proofs.roles_block.role_lines.Tie as tie
@@ -94,7 +95,7 @@ read-line-requires c κs =
 named : (c : tie.After-read-line Inv-loop μ-loop)
     → let w = c .before .before .before .before .put-role-name in
     take (w .result) (w .last .0) ≡ role-name (head (turn c) .loop .r)
-named c = name-taken (head (turn c) .loop .r) (c .before .before .before .before .put-role-name .ensures)
+named c = front-written (c .before .before .before .before .put-role-name .ensures)
 
 kept : (c : tie.After-read-line Inv-loop μ-loop)
     → length (c .read-line .last .1 .1 .1 .0) ≡ length (call (head (turn c)) .args .gives .now)

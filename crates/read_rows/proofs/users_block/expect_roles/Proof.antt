@@ -11,13 +11,14 @@ use Rattle.spec.specs.Limits.{role-limit}
 use Rattle.spec.specs.Text.{Bytes, comma}
 use Rattle.spec.specs.Book.{role-name}
 use Rattle.text.specs.Line.{behind-comma}
-use Rattle.sheet.specs.Stands.{Stands}
-use Rattle.sheet.specs.Laws.Stands.{stands-nothing, stands-then}
-use Rattle.form.specs.Steps.{Misses}
-use Rattle.form.specs.Laws.Step.{stands-more, misses-first, misses-second, misses-known}
+use Rattle.steps.specs.Stands.{Stands}
+use Rattle.steps.specs.Laws.Stands.{stands-nothing, stands-then}
+use Rattle.steps.specs.Steps.{Misses}
+use Rattle.steps.specs.Laws.Step.{stands-more, misses-first, misses-second, misses-known}
 use Rattle.form.specs.Laws.RoleLimit.{roles-fit-a-row}
 use Rattle.form.specs.Pieces.{role-fields}
-use Rattle.read_rows.specs.Laws.RoleNames.{role-name-short, name-within, name-taken}
+use Rattle.book_lines.specs.Laws.LineWritten.{front-written}
+use Rattle.read_rows.specs.Laws.RoleNames.{role-name-short, name-within}
 use Rattle.read_rows.proofs.users_block.expect_roles.Statement.{statement}
 use Rattle.read_rows.proofs.users_block.expect_roles.Tie as tie
 
@@ -91,7 +92,7 @@ expect-requires c κs = comma-there (c .before .before .before .before) .within
 named : (c : tie.After-expect Inv-loop μ-loop)
     → let w = c .before .before .before .put-role-name in
     take (w .result) (w .last .0) ≡ role-name (turn (begun c) .before .loop .r)
-named c = name-taken (turn (begun c) .before .loop .r) (c .before .before .before .put-role-name .ensures)
+named c = front-written (c .before .before .before .put-role-name .ensures)
 
 returns-2 : tie.Need-returns-2 Inv-loop μ-loop
 unfolding field

@@ -7,7 +7,7 @@ use lib.ListN.{length}
 use lib.Seq.{length-take-le}
 use Rattle.spec.specs.Sheet.{sheet-of, user-count, user-name}
 use Rattle.names.specs.Laws.LaidOut.{users-at}
-use Rattle.sheet.specs.Stands.{Stands}
+use Rattle.steps.specs.Stands.{Stands}
 use Rattle.form.specs.Pieces.{users-heading}
 use Rattle.form.specs.Laws.RoleLimit.{roles-fit-a-row}
 use Rattle.form.specs.Laws.Placed.{users-placed}

@@ -3,9 +3,9 @@ use mathlib.Core.List.{_++_}
 use borrow.Author.Needs.{needs}
 use Rattle.spec.specs.Text.{ascii}
 use Rattle.text.specs.Line.{line-end}
-use Rattle.sheet.specs.Stands.{Stands}
-use Rattle.sheet.specs.Laws.Stands.{stands-then}
-use Rattle.form.specs.Laws.Step.{expects-then, misses-first, misses-second}
+use Rattle.steps.specs.Stands.{Stands}
+use Rattle.steps.specs.Laws.Stands.{stands-then}
+use Rattle.steps.specs.Laws.Step.{expects-then, misses-first, misses-second}
 use Rattle.form.specs.Pieces.{role-fields}
 use Rattle.read_rows.proofs.users_block.users_heading.Statement.{statement}
 use Rattle.read_rows.proofs.users_block.users_heading.Tie as tie

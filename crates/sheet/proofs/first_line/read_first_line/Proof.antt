@@ -16,7 +16,7 @@ use Rattle.bits.specs.Truth.{not-both}
 use Rattle.places.specs.Places.{place-base}
 use Rattle.sheet.specs.Spelled.{name-read, NameAt}
 use Rattle.sheet.specs.FirstLine.{NamesFit}
-use Rattle.sheet.specs.Laws.Stands.{stands-found}
+use Rattle.steps.specs.Laws.Stands.{stands-found}
 use Rattle.sheet.specs.Laws.Spelled.{behind, read-or-not, name-stands}
 use Rattle.sheet.specs.Laws.UserLineFound.{byte-found}
 use Rattle.sheet.specs.Laws.FirstLine.{NamesNoted, names-start, names-more, first-line-stands}

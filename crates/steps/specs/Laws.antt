@@ -1,0 +1,4 @@
+-- The laws behind what contracts cite.
+pub mod Stands
+pub mod Aligned
+pub mod Step
