@@ -13,7 +13,7 @@ use Rattle.spec.specs.Book.{standing-word}
 use Rattle.spec.specs.Calls.{LoadAnswer, SearchAnswer, WriteAnswer, CheckAnswer}
 use Rattle.io.specs.Digits.{digits}
 use Rattle.lists.specs.Listed.{listed}
-use Rattle.answer_lines.specs.Adler.{adler-32}
+use Rattle.adler.specs.Adler.{adler-32}
 
 abbrev pub blank : ℕ
 blank = code " "

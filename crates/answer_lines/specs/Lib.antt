@@ -1,5 +1,4 @@
 -- The lines that answer a script's calls.
-pub mod Adler
 pub mod Answers
 pub mod LineOf
 pub mod Laws

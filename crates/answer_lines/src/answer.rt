@@ -1,13 +1,13 @@
 // What a script's line is answered with, and the answer as a line in a lent buffer.
-use crate::adler::adler_32;
 use crate::lines::put_digest_line;
 use crate::lines::put_line;
+use adler::adler_32;
 use answers::LoadAnswer;
 use answers::Named;
 use answers::SearchAnswer;
 use answers::WriteAnswer;
 use judging::Checked;
-use roles::Standing;
+use standing::Standing;
 ghost use mathlib.Core.Path.{_≡_};
 ghost use Prim.Native.Nat.{_≤_};
 ghost use lib.ListN.{length};

@@ -2,7 +2,7 @@
 use mathlib.Core.Option.{Option, none, some}
 use Rattle.spec.specs.Roles.{Standing}
 use Rattle.spec.specs.Calls.{LoadAnswer, SearchAnswer, WriteAnswer}
-use Rattle.roles.specs.StandingCases.{standing-case}
+use Rattle.standing.specs.StandingCases.{standing-case}
 use Rattle.answers.specs.declared.answer.LoadAnswer.{LoadAnswer as LoadValue}
 use Rattle.answers.specs.declared.answer.SearchAnswer.{SearchAnswer as SearchValue}
 use Rattle.answers.specs.declared.answer.WriteAnswer.{WriteAnswer as WriteValue}

@@ -2,11 +2,11 @@
 // counts 0.
 use book::Writing;
 use book_lines::Counts;
-use roles::Standing;
+use standing::Standing;
 ghost use mathlib.Core.Path.{_≡_};
 ghost use mathlib.Core.Option.{some};
 ghost use Rattle.spec.specs.Calls.{load-refused, search-refused, write-refused};
-ghost use Rattle.roles.specs.StandingCases.{standing-case};
+ghost use Rattle.standing.specs.StandingCases.{standing-case};
 ghost use Rattle.book.specs.Writing.{writing-said};
 ghost use Rattle.answers.specs.Said.{load-said, search-said, write-said};
 

@@ -11,10 +11,10 @@ pub fn counts_at(classes: usize, singles: usize, w: usize, finished: bool) -> Co
     ensures { λ r. ⌜ CountsFrom (classes + singles) w finished r ⌝ }
 {
     let roles = classes + singles;
-    let standing = roles::standing_of(roles, w, finished);
+    let standing = standing::standing_of(roles, w, finished);
     Counts {
         roles,
-        bound: roles::bound_of(standing, roles, w),
+        bound: standing::bound_of(standing, roles, w),
         standing,
     }
 }

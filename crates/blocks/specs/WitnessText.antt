@@ -17,7 +17,7 @@ use Rattle.spec.specs.Book.{witness-line, witness-block}
 use Rattle.bits.specs.Truth.{passes-or-fails}
 use Rattle.lists.specs.AppendLaws.{filter-append}
 use Rattle.lists.specs.Listed.{listed, listed-same}
-use Rattle.cells.specs.Rows.{cell}
+use Rattle.cell_rows.specs.Rows.{cell}
 use Rattle.rules.specs.AcceptedFacts.{Lawful}
 use Rattle.cells.specs.CellSets.{in-cells, cell-grants}
 use Rattle.book_lines.specs.Lines.{pair-line}

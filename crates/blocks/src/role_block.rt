@@ -13,7 +13,7 @@ ghost use Rattle.spec.specs.Sheet.{sheet-of};
 ghost use Rattle.spec.specs.Refusal.{accepted};
 ghost use Rattle.lists.specs.Listed.{listed};
 ghost use Rattle.names.specs.LaidOut.{PermissionsAt};
-ghost use Rattle.cells.specs.Rows.{row-words, row-bits};
+ghost use Rattle.cell_rows.specs.Rows.{row-words, row-bits};
 ghost use Rattle.book_lines.specs.RowsSaid.{role-heading, role-line, shown-roles};
 ghost use Rattle.text.specs.Written.{Written};
 

@@ -9,7 +9,7 @@ ghost use lib.ListN.{length};
 ghost use Rattle.spec.specs.Text.{line-text, text-of};
 ghost use Rattle.spec.specs.Sheet.{sheet-of, user-count};
 ghost use Rattle.lists.specs.Listed.{listed};
-ghost use Rattle.cells.specs.Rows.{row-words, row-bits};
+ghost use Rattle.cell_rows.specs.Rows.{row-words, row-bits};
 ghost use Rattle.names.specs.LaidOut.{UsersAt};
 ghost use Rattle.book_lines.specs.RowsSaid.{user-line, shown-users};
 ghost use Rattle.text.specs.Written.{Written};

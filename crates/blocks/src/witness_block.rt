@@ -12,7 +12,7 @@ ghost use Rattle.spec.specs.Text.{text-of};
 ghost use Rattle.spec.specs.Sheet.{sheet-of, user-count};
 ghost use Rattle.spec.specs.Book.{witness-block};
 ghost use Rattle.lists.specs.Listed.{listed};
-ghost use Rattle.cells.specs.Rows.{row-words};
+ghost use Rattle.cell_rows.specs.Rows.{row-words};
 ghost use Rattle.names.specs.LaidOut.{UsersAt, PermissionsAt};
 ghost use Rattle.cells.specs.CellSets.{cell-grants};
 ghost use Rattle.book_lines.specs.RowsSaid.{GrantCells};

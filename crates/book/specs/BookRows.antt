@@ -15,11 +15,11 @@ use Rattle.spec.specs.Roles.{Standing, roles-of, role-count, standing, bound}
 use Rattle.spec.specs.Book.{role-name, Block, text-of-blocks, counts-block, roles-block, users-block, witness-block}
 use Rattle.spec.specs.Book.{blocks-saying, book-text, said-in, book}
 use Rattle.lists.specs.ListOfLaws.{list-of-same}
-use Rattle.cells.specs.Rows.{row-bits}
+use Rattle.cell_rows.specs.Rows.{row-bits}
 use Rattle.cells.specs.CellSets.{cell-grants}
 use Rattle.roles.specs.RoleRows.{RoleRows}
 use Rattle.roles.specs.RolesShown.{RolesAt}
-use Rattle.roles.specs.StandingCases.{standing-case}
+use Rattle.standing.specs.StandingCases.{standing-case}
 use Rattle.book_lines.specs.CountsText.{counts-text}
 use Rattle.book_lines.specs.RowsSaid.{said-by, shown-roles, shown-users}
 use Rattle.text.specs.Line.{line-end}

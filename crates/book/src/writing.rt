@@ -7,7 +7,7 @@ use numbers::CELL_WORDS;
 use numbers::ROLE_WORDS;
 ghost use Prim.Native.Nat.{_≤_};
 ghost use Rattle.spec.specs.Sheet.{sheet-of};
-ghost use Rattle.cells.specs.Rows.{row-bits};
+ghost use Rattle.cell_rows.specs.Rows.{row-bits};
 ghost use Rattle.names.specs.LaidOut.{LaidOut};
 ghost use Rattle.book_lines.specs.RowsSaid.{GrantCells};
 ghost use Rattle.book.specs.BookRows.{rows-book};

@@ -3,7 +3,7 @@ use mathlib.Core.List.{[], _∷_, _++_}
 use Rattle.spec.specs.Text.{Bytes, comma, line-feed, text-of}
 use Rattle.spec.specs.Roles.{Standing}
 use Rattle.spec.specs.Book.{standing-word, counts-block}
-use Rattle.roles.specs.StandingCases.{standing-case}
+use Rattle.standing.specs.StandingCases.{standing-case}
 use Rattle.book_lines.specs.declared.counts.Counts.{Counts}
 
 -- the state as the last field of a line

@@ -10,7 +10,7 @@ use Rattle.spec.specs.Roles.{Standing}
 use Rattle.spec.specs.Book.{role-name, Block, Said}
 use Rattle.bits.specs.Truth.{implies, implies-elim}
 use Rattle.bits.specs.Laws.Below.{every-below-elim}
-use Rattle.cells.specs.Rows.{cell}
+use Rattle.cell_rows.specs.Rows.{cell}
 use Rattle.cells.specs.CellSets.{cell-grants}
 
 -- the role set of two matrices

@@ -1,10 +1,10 @@
 // Block 1: roles, bound and state.
 use decimal::put_counted;
-use roles::Standing;
+use standing::Standing;
 use text::put_bytes;
 ghost use Prim.Native.Nat.{_≤_};
 ghost use lib.ListN.{length};
-ghost use Rattle.roles.specs.StandingCases.{standing-case};
+ghost use Rattle.standing.specs.StandingCases.{standing-case};
 ghost use Rattle.book_lines.specs.CountsText.{standing-text, counts-text};
 ghost use Rattle.text.specs.Written.{Written};
 

@@ -4,7 +4,7 @@ use text::put_bytes;
 use text::put_field;
 ghost use Prim.Native.Nat.{_+_, _*_, _≤_};
 ghost use lib.ListN.{length};
-ghost use Rattle.cells.specs.Rows.{row-words, row-bits};
+ghost use Rattle.cell_rows.specs.Rows.{row-words, row-bits};
 ghost use Rattle.text.specs.Written.{Written};
 ghost use Rattle.book_lines.specs.Lines.{named-line, pair-line};
 

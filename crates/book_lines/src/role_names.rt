@@ -5,7 +5,7 @@ ghost use Prim.Native.Nat.{_≤_, _<_};
 ghost use lib.ListN.{length};
 ghost use Rattle.spec.specs.Book.{role-name};
 ghost use Rattle.lists.specs.Listed.{listed};
-ghost use Rattle.cells.specs.Rows.{row-bits};
+ghost use Rattle.cell_rows.specs.Rows.{row-bits};
 ghost use Rattle.text.specs.Line.{behind-comma};
 ghost use Rattle.text.specs.Written.{Written};
 

@@ -5,7 +5,7 @@ use mathlib.Core.List.{List, _∷_}
 use Rattle.spec.specs.Text.{Bytes, comma}
 use Rattle.spec.specs.Sheet.{cell-text}
 use Rattle.lists.specs.Listed.{listed}
-use Rattle.cells.specs.Rows.{cell}
+use Rattle.cell_rows.specs.Rows.{cell}
 
 -- a cell behind what stands before it
 abbrev pub cell-field : Bool → Bytes

@@ -3,7 +3,7 @@ use numbers::ROW_WORDS;
 ghost use Prim.Native.Nat.{_+_, _*_, _≤_, _<_};
 ghost use lib.ListN.{length};
 ghost use Rattle.bits.specs.Counting.{NextFrom};
-ghost use Rattle.cells.specs.Rows.{row-words, row-bits, cell};
+ghost use Rattle.cell_rows.specs.Rows.{row-words, row-bits, cell};
 
 // The lowest cell of a row from a place on that is set, of its first `count` cells, else `count`. A row is one word.
 pub fn next_set(words: &[u64], row: usize, from: usize, count: usize) -> usize

@@ -7,7 +7,7 @@ ghost use mathlib.Core.List.{_∷_, []};
 ghost use Prim.Native.Nat.{_+_, _*_, _≤_, _<_};
 ghost use lib.ListN.{length};
 ghost use Rattle.spec.specs.Sheet.{cell-text};
-ghost use Rattle.cells.specs.Rows.{row-words, row-bits, cell};
+ghost use Rattle.cell_rows.specs.Rows.{row-words, row-bits, cell};
 ghost use Rattle.cell_text.specs.CellsText.{cell-field, cells-text};
 ghost use Rattle.text.specs.Written.{Written};
 

@@ -4,7 +4,7 @@ use mathlib.Core.Bool.{Bool}
 use mathlib.Core.List.{List}
 use Rattle.spec.specs.Vocabulary.{filter}
 use Rattle.spec.specs.Sheet.{Sheet, Grant, grants}
-use Rattle.cells.specs.Rows.{cell}
+use Rattle.cell_rows.specs.Rows.{cell}
 
 -- the grant's cell is set
 abbrev pub in-cells : List ℕ → Grant → Bool

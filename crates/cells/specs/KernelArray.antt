@@ -12,10 +12,10 @@ use Rattle.spec.specs.Sheet.{Sheet, grants}
 use Rattle.spec.specs.Reduction.{kernel}
 use Rattle.spec.specs.Cover.{grant-at}
 use Rattle.lists.specs.PassingBelow.{passing-below}
-use Rattle.cells.specs.Rows.{row-bits}
+use Rattle.cell_rows.specs.Rows.{row-bits}
 use Rattle.cells.specs.Blank.{BlankFrom}
 use Rattle.cells.specs.CellSets.{in-cells, cell-grants}
-use Rattle.cells.specs.CellPlaces.{grant-of, marked, Shown, Part}
+use Rattle.cell_rows.specs.CellPlaces.{grant-of, marked, Shown, Part}
 use Rattle.cells.specs.Laws.CellList.{cell-grants-by-cell}
 
 pub grant-at-cell : (cells : List ℕ) (i : ℕ) → i < length cells → grant-at (map grant-of cells) i ≡ grant-of

@@ -22,9 +22,9 @@ use Rattle.bits.specs.Laws.Count.{count-below-more}
 use Rattle.bits.specs.Word.{LowestDropped}
 use Rattle.bits.specs.Laws.Word.{lowest-trailing}
 use Rattle.lists.specs.PassingBelow.{passing-below, passing-until, passing-next, passing-length}
-use Rattle.cells.specs.Rows.{row-bits}
+use Rattle.cell_rows.specs.Rows.{row-bits}
 use Rattle.cells.specs.Blank.{BlankFrom, zeros-blank, set-blank}
-use Rattle.cells.specs.CellPlaces.{marked}
+use Rattle.cell_rows.specs.CellPlaces.{marked}
 use Rattle.cells.specs.KernelArray.{Roomy, Listed}
 
 fewer-roomy : (left : List ℕ) (m n : ℕ) → m ≤ n → Roomy left n → Roomy left m

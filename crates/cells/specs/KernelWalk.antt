@@ -10,7 +10,7 @@ use lib.ListN.{getD}
 use Rattle.bits.specs.Counting.{Skipped, NextFrom}
 use Rattle.bits.specs.Laws.Below.{below-or-from}
 use Rattle.bits.specs.Bit.{bit, word-bits}
-use Rattle.cells.specs.CellPlaces.{marked}
+use Rattle.cell_rows.specs.CellPlaces.{marked}
 
 module _ (words : List ℕ) (from n p : ℕ) (next : NextFrom (bit (getD words (n / word-bits) 0)) (n % word-bits)
     word-bits p) where

@@ -8,7 +8,6 @@ pub mod Grant
 pub mod GrantOrder
 pub mod WordRows
 pub mod CellAdded
-pub mod PositionSet
 pub mod MadeCells
 pub mod NextBelow
 pub mod FirstAt

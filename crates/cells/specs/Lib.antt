@@ -4,9 +4,6 @@ pub mod KernelArray
 pub mod KernelWalk
 pub mod KernelList
 pub mod CellSets
-pub mod CellPlaces
 pub mod MadeCells
-pub mod Rows
 pub mod RowsRead
-pub mod CellAdded
 pub mod Laws

@@ -4,7 +4,7 @@ use mathlib.Core.Path.{_≡_}
 use mathlib.Core.List.{List}
 use lib.ListN.{getD}
 use Rattle.spec.specs.Sheet.{Sheet, user-count}
-use Rattle.cells.specs.Rows.{row-words, RowsOf}
+use Rattle.cell_rows.specs.Rows.{row-words, RowsOf}
 
 -- the words hold the sheet's cells, and the words past the users' rows are 0
 pub record RowsRead (words : List ℕ) (sheet : Sheet) : Type 0 where

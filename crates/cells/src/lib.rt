@@ -1,6 +1,5 @@
 // Cells as rows of words: cells by number, sets of cells, and the cells of a set in order.
 mod listing;
-mod rows;
 
 pub use listing::Kernel;
 pub use listing::holds;
@@ -8,5 +7,3 @@ pub use listing::listed;
 pub use listing::next_cell;
 pub use listing::permission_of;
 pub use listing::user_of;
-pub use rows::mark;
-pub use rows::no_rows;

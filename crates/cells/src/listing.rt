@@ -14,8 +14,8 @@ ghost use lib.ListN.{getD};
 ghost use Rattle.spec.specs.Limits.{user-limit};
 ghost use Rattle.bits.specs.Bit.{word-bits};
 ghost use Rattle.bits.specs.Counting.{NextFrom};
-ghost use Rattle.cells.specs.Rows.{row-words, row-bits, cell};
-ghost use Rattle.cells.specs.CellPlaces.{cell-words, marked};
+ghost use Rattle.cell_rows.specs.Rows.{row-words, row-bits, cell};
+ghost use Rattle.cell_rows.specs.CellPlaces.{cell-words, marked};
 ghost use Rattle.cells.specs.KernelArray.{Roomy, Listed};
 ghost use Rattle.cells.specs.KernelList.{ListedTo};
 

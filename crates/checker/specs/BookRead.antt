@@ -11,8 +11,8 @@ use Rattle.spec.specs.Text.{ascii, Bytes}
 use Rattle.spec.specs.Sheet.{Sheet}
 use Rattle.spec.specs.Decimal.{decimal, number-of}
 use Rattle.spec.specs.Book.{Said, book-text}
-use Rattle.cells.specs.Rows.{cell}
-use Rattle.roles.specs.StandingCases.{standing-case}
+use Rattle.cell_rows.specs.Rows.{cell}
+use Rattle.standing.specs.StandingCases.{standing-case}
 use Rattle.decimal.specs.Laws.Count.{decimal-is-count, count-is-decimal}
 use Rattle.book_lines.specs.RowsSaid.{roles-in}
 use Rattle.book_lines.specs.declared.counts.Counts.{Counts}
@@ -20,7 +20,7 @@ use Rattle.read_fields.specs.declared.witness_block.Witness.{Witness}
 use Rattle.right.specs.WrittenLines.{Sayable}
 use Rattle.steps.specs.Stands.{Stands}
 use Rattle.form.specs.Pieces.{counts-part, roles-part, users-part, witness-texts, witness-part, book-in-parts}
-use Rattle.decimal.specs.Capped.{count-cap}
+use Rattle.digits.specs.Capped.{count-cap}
 use Rattle.read_fields.specs.CountSteps.{CountsAt, NoCounts, counts-parts-aligned}
 use Rattle.read_rows.specs.RoleSteps.{RolesPart, NoRolesPart, roles-part-once}
 use Rattle.read_rows.specs.UserSteps.{NoUsersPart, users-parts-aligned}

@@ -18,7 +18,7 @@ ghost use lib.ListN.{length};
 ghost use Rattle.spec.specs.Limits.{book-limit, role-limit};
 ghost use Rattle.spec.specs.Sheet.{sheet-of};
 ghost use Rattle.spec.specs.Calls.{Checks};
-ghost use Rattle.cells.specs.Rows.{row-words};
+ghost use Rattle.cell_rows.specs.Rows.{row-words};
 ghost use Rattle.cells.specs.RowsRead.{RowsRead};
 ghost use Rattle.names.specs.LaidOut.{LaidOut};
 ghost use Rattle.judging.specs.BookSays.{answer-of};
@@ -40,7 +40,7 @@ fn check_from_users<'a>(
         (front .next) ⌝ }
     ensures { λ r. ⌜ Checks (now (sheet .entry)) (now (book .entry)) (answer-of r) ⌝ }
 {
-    let mut has = cells::no_rows();
+    let mut has = cell_rows::no_rows();
     let Step::On(last) = read_users(book, front.next, sheet, layout, &mut has, front.roles) else {
         return refused(12);
     };

@@ -15,8 +15,8 @@ use Rattle.bits.specs.Truth.{passes-or-fails, implies}
 use Rattle.bits.specs.Laws.Below.{every-below-intro, every-below-ext}
 use Rattle.bits.specs.Bit.{word-bits}
 use Rattle.bits.specs.Laws.Bit.{bit-of-zero, bit-full}
-use Rattle.cells.specs.Rows.{row-words, row-bits, cell}
-use Rattle.cells.specs.CellAdded.{CellAdded, word-of}
+use Rattle.cell_rows.specs.Rows.{row-words, row-bits, cell}
+use Rattle.cell_rows.specs.CellAdded.{CellAdded, word-of}
 use Rattle.cells.specs.Laws.CellAdded.{word-below}
 use Rattle.cells.specs.Laws.NextBelow.{next-below}
 use Rattle.cover.specs.CoverMembers.{class-words, joinable}

@@ -12,7 +12,7 @@ use lib.ListN.{getD}
 use Rattle.bits.specs.Counting.{NextFrom}
 use Rattle.bits.specs.Laws.Below.{below-or-from}
 use Rattle.bits.specs.Bit.{bit, word-bits}
-use Rattle.cells.specs.Rows.{row-words, row-bits, cell}
+use Rattle.cell_rows.specs.Rows.{row-words, row-bits, cell}
 
 -- class c is one of the allowed ones, and none of its members lacks permission p
 abbrev pub free : List ℕ → List ℕ → ℕ → ℕ → Bool

@@ -24,10 +24,10 @@ use Rattle.bits.specs.Bit.{word-bits}
 use Rattle.bits.specs.Laws.Bit.{bit-of-zero}
 use Rattle.lists.specs.PlacementLaws.{joins-intro, joins-elim}
 use Rattle.lists.specs.LatestFirst.{latest-first, latest-first-length, latest-first-class}
-use Rattle.cells.specs.Rows.{row-words, row-bits, cell}
-use Rattle.cells.specs.CellAdded.{CellAdded, word-of}
+use Rattle.cell_rows.specs.Rows.{row-words, row-bits, cell}
+use Rattle.cell_rows.specs.CellAdded.{CellAdded, word-of}
 use Rattle.cells.specs.Laws.CellAdded.{word-below}
-use Rattle.cells.specs.CellPlaces.{grant-of, fit-in}
+use Rattle.cell_rows.specs.CellPlaces.{grant-of, fit-in}
 use Rattle.cells.specs.Laws.CellPlace.{row-bits-pos}
 use Rattle.cover.specs.CoverRelation.{fit-at-cells}
 

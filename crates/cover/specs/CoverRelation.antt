@@ -5,8 +5,8 @@ use native.Mathlib.Omega.{arith}
 use mathlib.Core.Bool.{Bool, So}
 use mathlib.Core.List.{List}
 use lib.ListN.{length, getD}
-use Rattle.cells.specs.Rows.{row-words, row-bits, cell}
-use Rattle.cells.specs.CellPlaces.{grant-of, fit-in}
+use Rattle.cell_rows.specs.Rows.{row-words, row-bits, cell}
+use Rattle.cell_rows.specs.CellPlaces.{grant-of, fit-in}
 
 -- two numbers of the kernel fit
 abbrev pub fit-at-cells : List ℕ → List ℕ → ℕ → ℕ → Bool

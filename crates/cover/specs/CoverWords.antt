@@ -18,8 +18,8 @@ use Rattle.bits.specs.Truth.{passes-or-fails, same-truth, implies}
 use Rattle.bits.specs.Laws.Below.{every-below-ext}
 use Rattle.bits.specs.Bit.{bit, word-bits}
 use Rattle.bits.specs.Laws.Bit.{bit-or, bit-not}
-use Rattle.cells.specs.Rows.{row-words, row-bits, cell}
-use Rattle.cells.specs.CellAdded.{word-of}
+use Rattle.cell_rows.specs.Rows.{row-words, row-bits, cell}
+use Rattle.cell_rows.specs.CellAdded.{word-of}
 use Rattle.cells.specs.Laws.CellAdded.{one-user}
 use Rattle.verdict.specs.Laws.NearWord.{every-in-word}
 

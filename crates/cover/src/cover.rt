@@ -1,7 +1,7 @@
 // The first cover: the first best of the groupings of the kernel in grant order.
 use bits::WORD_BITS;
+use cell_rows::mark;
 use cells::Kernel;
-use cells::mark;
 use cells::permission_of;
 use cells::user_of;
 use numbers::CELL_WORDS;
@@ -24,10 +24,10 @@ ghost use Rattle.spec.specs.Cover.{grouping, fewer, first-best};
 ghost use Rattle.bits.specs.Bit.{word-bits};
 ghost use Rattle.bits.specs.Counting.{NextFrom};
 ghost use Rattle.lists.specs.KeyLaws.{by-key};
-ghost use Rattle.cells.specs.Rows.{row-words, row-bits, cell};
-ghost use Rattle.cells.specs.CellAdded.{CellAdded};
+ghost use Rattle.cell_rows.specs.Rows.{row-words, row-bits, cell};
+ghost use Rattle.cell_rows.specs.CellAdded.{CellAdded};
 ghost use Rattle.cells.specs.Blank.{BlankFrom};
-ghost use Rattle.cells.specs.CellPlaces.{grant-of, Shown};
+ghost use Rattle.cell_rows.specs.CellPlaces.{grant-of, Shown};
 ghost use Rattle.cells.specs.KernelArray.{KernelListed};
 ghost use Rattle.cover.specs.CoverRelation.{fit-at-cells, permission-at-cell, HeldCells, user-room};
 ghost use Rattle.cover.specs.CoverKeys.{class-from};

@@ -6,8 +6,8 @@ use mathlib.Core.Bool.{Bool, cond}
 use mathlib.Core.List.{List}
 use Rattle.bits.specs.Bit.{word-bits}
 use Rattle.bits.specs.Counting.{count-below}
-use Rattle.cells.specs.Rows.{row-words, row-bits, cell}
-use Rattle.cells.specs.CellPlaces.{cell-words, near}
+use Rattle.cell_rows.specs.Rows.{row-words, row-bits, cell}
+use Rattle.cell_rows.specs.CellPlaces.{cell-words, near}
 use Rattle.cells.specs.MadeCells.{MadeCells}
 
 -- the words of a permission

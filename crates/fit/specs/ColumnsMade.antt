@@ -15,8 +15,8 @@ use Rattle.bits.specs.Counting.{Lowest}
 use Rattle.bits.specs.Bit.{bit, word-bits}
 use Rattle.bits.specs.Laws.Bit.{bit-of-zero}
 use Rattle.bits.specs.Word.{LowestDropped}
-use Rattle.cells.specs.Rows.{row-words, row-bits}
-use Rattle.cells.specs.CellPlaces.{cell-words, marked}
+use Rattle.cell_rows.specs.Rows.{row-words, row-bits}
+use Rattle.cell_rows.specs.CellPlaces.{cell-words, marked}
 use Rattle.cells.specs.Laws.MadeCells.{no-cells}
 use Rattle.cells.specs.Laws.NextBelow.{next-below}
 use Rattle.fit.specs.Columns.{column-words, place-limit, place-held, Columns}

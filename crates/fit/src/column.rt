@@ -1,7 +1,7 @@
 // The words in which grants can fit one: those of the users who hold its permission.
 use crate::fit::fitting;
 use bits::WORD_BITS;
-use cells::mark;
+use cell_rows::mark;
 use numbers::CELL_WORDS;
 use numbers::CellNo;
 use numbers::ROW_BITS;
@@ -10,8 +10,8 @@ ghost use Prim.Native.Nat.{ℕ, min, _+_, _*_, _≤_, _<_};
 ghost use lib.ListN.{length};
 ghost use Rattle.bits.specs.Counting.{count-below, sum-below};
 ghost use Rattle.bits.specs.Bit.{bit, word-bits};
-ghost use Rattle.cells.specs.Rows.{row-bits};
-ghost use Rattle.cells.specs.CellPlaces.{cell-words, cell-limit, near, CountedBelow};
+ghost use Rattle.cell_rows.specs.Rows.{row-bits};
+ghost use Rattle.cell_rows.specs.CellPlaces.{cell-words, cell-limit, near, CountedBelow};
 ghost use Rattle.fit.specs.Columns.{column-words, near-if, Columns};
 ghost use Rattle.fit.specs.ColumnsMade.{PutIn};
 ghost use Rattle.fit.specs.ColumnUnion.{in-union};

@@ -5,7 +5,7 @@ use numbers::CellNo;
 use numbers::ROW_BITS;
 use numbers::ROW_WORDS;
 ghost use Prim.Native.Nat.{_<_};
-ghost use Rattle.cells.specs.CellPlaces.{cell-words, cell-limit, FittingWord};
+ghost use Rattle.cell_rows.specs.CellPlaces.{cell-words, cell-limit, FittingWord};
 
 // Word i of the cells that fit the grant at a cell.
 pub fn fitting(rows: &[u64; CELL_WORDS], it: CellNo, i: usize) -> u64

@@ -10,7 +10,7 @@ use lib.ListN.{length, getD}
 use Rattle.spec.specs.Text.{Bytes, comma}
 use Rattle.bits.specs.Laws.Below.{below-or-from}
 use Rattle.bits.specs.Bit.{word-bits}
-use Rattle.cells.specs.Rows.{row-words, cell}
+use Rattle.cell_rows.specs.Rows.{row-words, cell}
 use Rattle.cells_read.specs.CellsWord.{cell-byte, CellsStand, CellsIn}
 use Rattle.sheet.specs.Laws.CellsStanding.{stands-cells, cells-stand}
 use Rattle.cell_text.specs.CellsText.{cell-field}

@@ -3,7 +3,7 @@ use Prim.Native.Nat.{ℕ}
 use mathlib.Core.Bool.{Bool}
 use mathlib.Core.List.{List, _++_}
 use Rattle.spec.specs.Text.{Bytes}
-use Rattle.cells.specs.Rows.{cell}
+use Rattle.cell_rows.specs.Rows.{cell}
 use Rattle.text.specs.Line.{line-end}
 use Rattle.steps.specs.Stands.{Stands}
 use Rattle.steps.specs.Laws.Stands.{stands-then}

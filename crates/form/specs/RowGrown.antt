@@ -15,7 +15,7 @@ use Rattle.bits.specs.Truth.{passes-or-fails}
 use Rattle.bits.specs.Laws.Below.{below-or-from}
 use Rattle.bits.specs.Laws.Bit.{bit-of-zero}
 use Rattle.bits.specs.Bit.{bit, word-bits}
-use Rattle.cells.specs.Rows.{row-words, row-bits, cell}
+use Rattle.cell_rows.specs.Rows.{row-words, row-bits, cell}
 use Rattle.cells.specs.Laws.CellAdded.{one-user}
 
 -- a row without any cell set

@@ -11,7 +11,7 @@ use Rattle.bits.specs.Laws.Below.{below-or-from}
 use Rattle.lists.specs.Listed.{listed-same}
 use Rattle.bits.specs.Bit.{word-bits}
 use Rattle.bits.specs.Laws.Bit.{bit-of-zero}
-use Rattle.cells.specs.Rows.{row-words, row-bits, cell}
+use Rattle.cell_rows.specs.Rows.{row-words, row-bits, cell}
 use Rattle.cells.specs.Laws.MadeCells.{getD-zeros}
 use Rattle.text.specs.Line.{line-end}
 use Rattle.cell_text.specs.CellsText.{cell-field}

@@ -6,7 +6,7 @@ use steps::expect;
 use steps::expect_byte;
 ghost use Prim.Native.Nat.{_+_, _*_, _≤_};
 ghost use lib.ListN.{length};
-ghost use Rattle.cells.specs.Rows.{row-words, row-bits};
+ghost use Rattle.cell_rows.specs.Rows.{row-words, row-bits};
 ghost use Rattle.form.specs.RowGrown.{Blank};
 ghost use Rattle.form.specs.LineSteps.{LineReads};
 

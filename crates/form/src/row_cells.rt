@@ -5,7 +5,7 @@ use steps::Step;
 ghost use mathlib.Core.Path.{_≡_};
 ghost use Prim.Native.Nat.{_+_, _*_, _≤_, _<_};
 ghost use lib.ListN.{length, replicate};
-ghost use Rattle.cells.specs.Rows.{row-words, row-bits};
+ghost use Rattle.cell_rows.specs.Rows.{row-words, row-bits};
 ghost use Rattle.form.specs.RowGrown.{Blank, RowCleared, in-word};
 ghost use Rattle.form.specs.CellSteps.{CellsRead};
 

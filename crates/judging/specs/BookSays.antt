@@ -18,15 +18,15 @@ use Rattle.spec.specs.Right.{BoundAgrees}
 use Rattle.spec.specs.Refusal.{bound-agrees, counts-agree, product-agrees, witness-agrees}
 use Rattle.spec.specs.Calls.{CheckAnswer, check-refused, check-counts}
 use Rattle.lists.specs.EachLaws.{Each}
-use Rattle.cells.specs.Rows.{row-words, row-bits, cell, RowsOf}
+use Rattle.cell_rows.specs.Rows.{row-words, row-bits, cell, RowsOf}
 use Rattle.rules.specs.AcceptedFacts.{Lawful}
-use Rattle.roles.specs.StandingCases.{standing-case}
+use Rattle.standing.specs.StandingCases.{standing-case}
 use Rattle.book_lines.specs.RowsSaid.{roles-in}
 use Rattle.right.specs.CheckParts.{counts-agree-elim}
 use Rattle.book_lines.specs.declared.counts.Counts.{Counts}
 use Rattle.read_fields.specs.declared.witness_block.Witness.{Witness}
 use Rattle.judging.specs.declared.judgement.Checked.{Checked}
-use Rattle.decimal.specs.Capped.{count-cap, capped, capped-test}
+use Rattle.digits.specs.Capped.{count-cap, capped, capped-test}
 use Rattle.judging.specs.ProductWords.{row-agrees, rows-are-sheet}
 use Rattle.read_fields.specs.WitnessList.{Collects}
 use Rattle.read_fields.specs.WitnessLineSteps.{Known}

@@ -19,7 +19,7 @@ use Rattle.bits.specs.Laws.Cut.{some-below-apart}
 use Rattle.bits.specs.Bit.{bit, word-bits}
 use Rattle.bits.specs.Laws.Bit.{bit-of-zero, bit-and}
 use Rattle.bits.specs.Word.{LowestDropped}
-use Rattle.cells.specs.Rows.{row-words, row-bits, cell}
+use Rattle.cell_rows.specs.Rows.{row-words, row-bits, cell}
 use Rattle.form.specs.Laws.RoleLimit.{row-within}
 use Rattle.form.specs.RowGrown.{in-word}
 use Rattle.judging.specs.ProductWords.{gives-bit, GivenWord}

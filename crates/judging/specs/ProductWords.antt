@@ -18,7 +18,7 @@ use Rattle.bits.specs.Laws.Below.{below-or-from, some-below-ext, none-below-int
 use Rattle.bits.specs.Laws.Below.{every-below-elim, every-below-ext, every-below-add}
 use Rattle.bits.specs.Bit.{bit, word-bits}
 use Rattle.bits.specs.Laws.Bit.{bit-ext}
-use Rattle.cells.specs.Rows.{row-words, row-bits, cell, RowsOf}
+use Rattle.cell_rows.specs.Rows.{row-words, row-bits, cell, RowsOf}
 use Rattle.rules.specs.AcceptedFacts.{Lawful}
 use Rattle.book_lines.specs.RowsSaid.{roles-in}
 use Rattle.right.specs.CheckParts.{same-cell, cell-same}

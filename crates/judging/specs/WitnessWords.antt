@@ -16,7 +16,7 @@ use Rattle.bits.specs.Truth.{same-truth, and-intro, and-left, and-right, not-pa
 use Rattle.bits.specs.Laws.Below.{none-below-intro, none-below-elim, every-below-intro, every-below-elim}
 use Rattle.lists.specs.TestLaws.{member-at, place-of}
 use Rattle.lists.specs.EachLaws.{Each}
-use Rattle.cells.specs.Rows.{row-words, row-bits, cell, RowsOf}
+use Rattle.cell_rows.specs.Rows.{row-words, row-bits, cell, RowsOf}
 use Rattle.right.specs.CheckParts.{witness-stands-elim, witness-stands-intro}
 use Rattle.read_fields.specs.declared.witness_block.WitnessLine.{WitnessLine}
 use Rattle.read_fields.specs.declared.witness_block.Witness.{Witness}

@@ -1,11 +1,11 @@
 // Whether the counts of a book agree with its lines.
 use book_lines::Counts;
-use roles::Standing;
+use standing::Standing;
 ghost use mathlib.Core.Path.{_≡_};
 ghost use mathlib.Core.Bool.{_&&_};
 ghost use lib.Dec.{eqb};
 ghost use Rattle.spec.specs.Refusal.{bound-agrees};
-ghost use Rattle.roles.specs.StandingCases.{standing-case};
+ghost use Rattle.standing.specs.StandingCases.{standing-case};
 
 // Whether the bound agrees with the state, the roles and the witness lines.
 fn bound_agrees(standing: Standing, bound: usize, roles: usize, lines: usize) -> bool

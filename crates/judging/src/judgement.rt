@@ -11,7 +11,7 @@ ghost use lib.ListN.{length};
 ghost use Rattle.spec.specs.Sheet.{sheet-of, user-count};
 ghost use Rattle.spec.specs.Refusal.{accepted};
 ghost use Rattle.spec.specs.Calls.{check-refused};
-ghost use Rattle.cells.specs.Rows.{row-words};
+ghost use Rattle.cell_rows.specs.Rows.{row-words};
 ghost use Rattle.cells.specs.RowsRead.{RowsRead};
 ghost use Rattle.judging.specs.BookSays.{BookSays, answer-of, JudgedAs};
 

@@ -10,7 +10,7 @@ ghost use Prim.Native.Nat.{ℕ, _+_, _*_, _≤_, _<_};
 ghost use lib.ListN.{length};
 ghost use Rattle.spec.specs.Vocabulary.{every-below};
 ghost use Rattle.bits.specs.Bit.{bit};
-ghost use Rattle.cells.specs.Rows.{row-words, row-bits};
+ghost use Rattle.cell_rows.specs.Rows.{row-words, row-bits};
 ghost use Rattle.book_lines.specs.RowsSaid.{roles-in};
 ghost use Rattle.judging.specs.ProductWords.{GivenWord, row-agrees};
 ghost use Rattle.judging.specs.GivenRoles.{RolesWord, GivenWithin, some-given};

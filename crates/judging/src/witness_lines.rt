@@ -7,7 +7,7 @@ use read_fields::WitnessLine;
 ghost use mathlib.Core.Path.{_≡_};
 ghost use Prim.Native.Nat.{_+_, _*_, _≤_, _<_};
 ghost use lib.ListN.{length};
-ghost use Rattle.cells.specs.Rows.{row-words, row-bits, cell};
+ghost use Rattle.cell_rows.specs.Rows.{row-words, row-bits, cell};
 ghost use Rattle.judging.specs.WitnessWords.{LineWithin, LinesWithin, line-held, lines-fit, fits-earlier};
 ghost use Rattle.judging.specs.WitnessWords.{lines-stand};
 

@@ -2,6 +2,5 @@
 -- twice.
 pub mod NamesAt
 pub mod FoundBetween
-pub mod Buckets
 pub mod LaidOut
 pub mod Laws

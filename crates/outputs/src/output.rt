@@ -1,7 +1,7 @@
 // What the book program and the check program print.
 use crate::lines::put_number_line;
 use crate::lines::put_pair_line;
-use decimal::budget_of;
+use digits::budget_of;
 use numbers::BOOK_LIMIT;
 use porvuund::porvuund_book;
 use porvuund::porvuund_check;

@@ -5,7 +5,7 @@ use crate::space::SPACE_LIMIT;
 use crate::space::patterned;
 use answer_lines::Answer;
 use answer_lines::written;
-use decimal::BudgetRead;
+use digits::BudgetRead;
 use numbers::BOOK_LIMIT;
 use numbers::SHEET_LIMIT;
 use session::Session;
@@ -37,7 +37,7 @@ pub fn search(session: Session, word: &[u8]) -> Session
     requires { ⌜ Sound session ⌝ }
     ensures { λ r. ⌜ Sound r ⌝ }
 {
-    let BudgetRead::Number(budget) = decimal::read_budget(word) else {
+    let BudgetRead::Number(budget) = digits::read_budget(word) else {
         say(Answer::NoCall);
         return session;
     };
@@ -59,7 +59,7 @@ pub fn write(session: Session, word: &[u8]) -> Session
     requires { ⌜ Sound session ⌝ }
     ensures { λ r. ⌜ Sound r ⌝ }
 {
-    let BudgetRead::Number(n) = decimal::read_budget(word) else {
+    let BudgetRead::Number(n) = digits::read_budget(word) else {
         say(Answer::NoCall);
         return session;
     };

@@ -3,9 +3,9 @@
 // handed in is the one after it.
 use answers::Named;
 use answers::WriteAnswer;
-use roles::Standing;
 use session::Loaded;
 use session::Session;
+use standing::Standing;
 ghost use mathlib.Core.Path.{_≡_};
 ghost use mathlib.Core.Logic.{_≢_};
 ghost use Rattle.spec.specs.Session.{fresh};

@@ -3,7 +3,7 @@ use Prim.Native.Nat.{_*_}
 use lib.ListN.{replicate}
 use Rattle.spec.specs.Limits.{grant-limit}
 use Rattle.sheet.specs.OnlyNames.{no-layout}
-use Rattle.cells.specs.CellPlaces.{cell-words}
+use Rattle.cell_rows.specs.CellPlaces.{cell-words}
 use Rattle.table.specs.TableWords.{table-row, table-limit}
 use Rattle.preparing.specs.declared.prepared.Prepared.{Prepared}
 

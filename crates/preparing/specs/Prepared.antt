@@ -13,7 +13,7 @@ use Rattle.names.specs.LaidOut.{LaidOut}
 use Rattle.cells.specs.RowsRead.{RowsRead}
 use Rattle.names.specs.declared.layout.Layout.{Layout}
 use Rattle.cells.specs.Blank.{BlankFrom}
-use Rattle.cells.specs.CellPlaces.{Shown}
+use Rattle.cell_rows.specs.CellPlaces.{Shown}
 use Rattle.reduction.specs.ReductionResult.{ReducedFrom}
 use Rattle.cells.specs.KernelArray.{Listed}
 use Rattle.witness.specs.WitnessRows.{Witnessed}

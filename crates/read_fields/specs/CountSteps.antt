@@ -12,10 +12,10 @@ use Rattle.spec.specs.Decimal.{is-count}
 use Rattle.spec.specs.Book.{standing-word}
 use Rattle.steps.specs.Laws.Aligned.{Aligned, aligned-same, aligned-then, ended-aligned}
 use Rattle.places.specs.Places.{part}
-use Rattle.roles.specs.StandingCases.{standing-case}
+use Rattle.standing.specs.StandingCases.{standing-case}
 use Rattle.right.specs.WordLaws.{count-field, standing-word-field}
 use Rattle.text.specs.Line.{line-end}
-use Rattle.decimal.specs.declared.digits.CountRead.the-variants as digits
+use Rattle.digits.specs.declared.digits.CountRead.the-variants as digits
 use Rattle.read_fields.specs.declared.counts_block.CountField.{CountField}
 use Rattle.read_fields.specs.declared.counts_block.CountField.the-variants as count
 use Rattle.read_fields.specs.declared.counts_block.StandingField.{StandingField}
@@ -29,7 +29,7 @@ use Rattle.steps.specs.Laws.Stands.{stands-then}
 use Rattle.steps.specs.Laws.Step.{misses-first, misses-second, misses-after}
 use Rattle.steps.specs.Ended.{Ended, Unended, ended-once, ended-stands}
 use Rattle.form.specs.Pieces.{counts-part}
-use Rattle.decimal.specs.Capped.{count-read, CountSaid, count-said, count-refused}
+use Rattle.digits.specs.Capped.{count-read, CountSaid, count-said, count-refused}
 
 -- ---- a count
 

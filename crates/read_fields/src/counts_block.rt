@@ -1,8 +1,8 @@
 // Block 1: the two counts and the state.
 use book_lines::Counts;
-use decimal::CountRead;
-use decimal::count_of;
-use roles::Standing;
+use digits::CountRead;
+use digits::count_of;
+use standing::Standing;
 use steps::Step;
 use steps::expect;
 use steps::expect_byte;

@@ -13,7 +13,7 @@ use Rattle.spec.specs.Text.{Bytes, line-feed}
 use Rattle.spec.specs.Sheet.{Sheet, permission-count}
 use Rattle.spec.specs.Book.{role-name}
 use Rattle.steps.specs.Laws.Aligned.{Begins, listed-ended}
-use Rattle.cells.specs.Rows.{row-bits, cell}
+use Rattle.cell_rows.specs.Rows.{row-bits, cell}
 use Rattle.right.specs.WordLaws.{role-name-parts}
 use Rattle.text.specs.Line.{line-end}
 use Rattle.read_rows.specs.declared.roles_block.RolesRead.{RolesRead}

@@ -7,7 +7,7 @@ use mathlib.Core.List.{List, _++_}
 use Rattle.spec.specs.Text.{Bytes}
 use Rattle.spec.specs.Sheet.{Sheet, user-count, user-name}
 use Rattle.steps.specs.Laws.Aligned.{Aligned, aligned-same, aligned-then, aligned-listed}
-use Rattle.cells.specs.Rows.{row-bits, cell}
+use Rattle.cell_rows.specs.Rows.{row-bits, cell}
 use Rattle.text.specs.Line.{line-end}
 use Rattle.steps.specs.declared.step.Step.{Step}
 use Rattle.steps.specs.declared.step.Step.the-variants.{On, Off}

@@ -16,7 +16,7 @@ ghost use mathlib.Core.Bool.{So};
 ghost use Rattle.spec.specs.Limits.{role-limit};
 ghost use Rattle.spec.specs.Sheet.{sheet-of};
 ghost use Rattle.spec.specs.Refusal.{accepted};
-ghost use Rattle.cells.specs.Rows.{row-words, row-bits};
+ghost use Rattle.cell_rows.specs.Rows.{row-words, row-bits};
 ghost use Rattle.names.specs.LaidOut.{LaidOut};
 ghost use Rattle.steps.specs.Steps.{Expects};
 ghost use Rattle.form.specs.Pieces.{roles-heading};

@@ -13,7 +13,7 @@ ghost use Prim.Native.Nat.{_*_, _≤_};
 ghost use lib.ListN.{length};
 ghost use Rattle.spec.specs.Limits.{role-limit};
 ghost use Rattle.spec.specs.Sheet.{sheet-of, user-count};
-ghost use Rattle.cells.specs.Rows.{row-words, row-bits};
+ghost use Rattle.cell_rows.specs.Rows.{row-words, row-bits};
 ghost use Rattle.names.specs.LaidOut.{LaidOut, UsersAt};
 ghost use Rattle.steps.specs.Steps.{Expects};
 ghost use Rattle.form.specs.Pieces.{role-fields, users-heading};

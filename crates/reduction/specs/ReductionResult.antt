@@ -11,7 +11,7 @@ use Rattle.spec.specs.Sheet.{Sheet}
 use Rattle.spec.specs.Reduction.{Removal, reduction, kernel, singles-of, singles}
 use Rattle.cells.specs.Blank.{zeros-blank}
 use Rattle.cells.specs.CellSets.{cell-grants}
-use Rattle.cells.specs.CellPlaces.{Shown, Shows, Part}
+use Rattle.cell_rows.specs.CellPlaces.{Shown, Shows, Part}
 use Rattle.verdict.specs.Log.{log-of}
 use Rattle.verdict.specs.ReductionWork.{Work, work-of, remaining-cells, Logged, WorkReady, Settled}
 use Rattle.verdict.specs.Laws.ReductionWork.{part-all}

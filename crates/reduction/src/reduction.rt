@@ -15,7 +15,7 @@ ghost use Rattle.spec.specs.Limits.{grant-limit};
 ghost use Rattle.spec.specs.Reduction.{singles-of};
 ghost use Rattle.lists.specs.PassingBelow.{passing-below};
 ghost use Rattle.verdict.specs.Log.{log-of};
-ghost use Rattle.cells.specs.CellPlaces.{marked, Shows, cells-of};
+ghost use Rattle.cell_rows.specs.CellPlaces.{marked, Shows, cells-of};
 ghost use Rattle.fit.specs.Columns.{Columns};
 ghost use Rattle.reduction.specs.CarriedOut.{Carriable, CarriedOut};
 ghost use Rattle.reduction.specs.ReductionResult.{ReducedFrom};

@@ -1,6 +1,6 @@
 // Reading one line.
 use crate::fields::Cells;
-use text::Cursor;
+use reader::Cursor;
 ghost use Prim.Native.Nat.{_≤_};
 ghost use lib.ListN.{length};
 ghost use Rattle.refusal.specs.ReadLine.{ReadLine};

@@ -2,7 +2,7 @@
 use crate::line::read_line;
 use numbers::USER_LIMIT;
 use places::place_of;
-use text::Cursor;
+use reader::Cursor;
 ghost use Prim.Native.Nat.{suc, _≤_, _<_};
 ghost use mathlib.Core.List.{tail};
 ghost use lib.ListN.{length, drop};

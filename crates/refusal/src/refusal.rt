@@ -5,7 +5,7 @@ use crate::line::LineRead;
 use crate::line::read_line;
 use crate::name_places::permission_places;
 use crate::name_places::user_places;
-use names::repeated_in;
+use buckets::repeated_in;
 use numbers::GRANT_LIMIT;
 use numbers::PERMISSION_LIMIT;
 use numbers::SHEET_LIMIT;

@@ -9,8 +9,8 @@ use Rattle.spec.specs.Sheet.{Grant}
 use Rattle.spec.specs.Reduction.{Reduction}
 use Rattle.spec.specs.Roles.{Classed, Classes, paired, class-of, classes-of}
 use Rattle.lists.specs.LatestFirst.{latest-first}
-use Rattle.cells.specs.Rows.{row-bits}
-use Rattle.cells.specs.CellPlaces.{cell-limit, grant-of}
+use Rattle.cell_rows.specs.Rows.{row-bits}
+use Rattle.cell_rows.specs.CellPlaces.{cell-limit, grant-of}
 use Rattle.verdict.specs.Log.{log-of}
 
 -- the array has the class of each cell

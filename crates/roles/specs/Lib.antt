@@ -1,5 +1,4 @@
 -- Roles: the laws of classes, roles, state and bound, and what the code's words stand for.
-pub mod StandingCases
 pub mod CellClasses
 pub mod RoleNumbers
 pub mod RoleMatrices

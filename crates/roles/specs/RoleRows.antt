@@ -3,7 +3,7 @@ use Prim.Native.Nat.{ℕ, _<_, _≤_}
 use mathlib.Core.Path.{_≡_}
 use mathlib.Core.List.{List}
 use Rattle.spec.specs.RoleSet.{RoleSet}
-use Rattle.cells.specs.Rows.{row-bits, cell}
+use Rattle.cell_rows.specs.Rows.{row-bits, cell}
 
 -- the words hold the two matrices of a role set, for so many users and as many permissions as a row has bits
 pub record RoleRows (has gives : List ℕ) (users : ℕ) (roles : RoleSet) : Type 0 where

@@ -8,8 +8,8 @@ use Rattle.spec.specs.Limits.{user-limit, grant-limit}
 use Rattle.spec.specs.Cover.{used}
 use Rattle.lists.specs.PassingBelow.{passing-below}
 use Rattle.lists.specs.KeyLaws.{by-key}
-use Rattle.cells.specs.Rows.{row-bits}
-use Rattle.cells.specs.CellPlaces.{cell-words, cell-limit, marked}
+use Rattle.cell_rows.specs.Rows.{row-bits}
+use Rattle.cell_rows.specs.CellPlaces.{cell-words, cell-limit, marked}
 use Rattle.cover.specs.CoverKeys.{Keyed}
 use Rattle.roles.specs.CellClasses.{paired-in}
 use Rattle.roles.specs.RoleNumbers.{class-limit, no-role, class-key}

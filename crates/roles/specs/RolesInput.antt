@@ -8,8 +8,8 @@ use Rattle.spec.specs.Limits.{user-limit, grant-limit}
 use Rattle.spec.specs.Sheet.{Sheet, grants}
 use Rattle.spec.specs.Reduction.{reduction, kernel}
 use Rattle.spec.specs.Roles.{roles-of}
-use Rattle.cells.specs.Rows.{row-bits}
-use Rattle.cells.specs.CellPlaces.{grant-of, Shown}
+use Rattle.cell_rows.specs.Rows.{row-bits}
+use Rattle.cell_rows.specs.CellPlaces.{grant-of, Shown}
 use Rattle.cover.specs.CoverPlaced.{Placed}
 use Rattle.verdict.specs.Log.{log-of}
 

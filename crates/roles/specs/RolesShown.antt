@@ -16,8 +16,8 @@ use Rattle.lists.specs.ListOfLaws.{length-list-of, getD-list-of}
 use Rattle.lists.specs.PlacementLaws.{class-below-used}
 use Rattle.lists.specs.LatestFirst.{latest-first, latest-first-length}
 use Rattle.lists.specs.KeyLaws.{by-key}
-use Rattle.cells.specs.Rows.{row-bits, cell}
-use Rattle.cells.specs.CellPlaces.{grant-of}
+use Rattle.cell_rows.specs.Rows.{row-bits, cell}
+use Rattle.cell_rows.specs.CellPlaces.{grant-of}
 use Rattle.cover.specs.CoverPlaced.{Placed}
 use Rattle.roles.specs.RoleRows.{RoleRows}
 use Rattle.roles.specs.CellClasses.{ClassAt, CellsBelow, UsersBelow, listed, paired-in}

@@ -5,10 +5,6 @@ mod limits;
 mod matrices;
 mod numbering;
 mod rows;
-mod standing;
 
 pub use matrices::roles_of;
 pub use rows::RoleMatrices;
-pub use standing::Standing;
-pub use standing::bound_of;
-pub use standing::standing_of;

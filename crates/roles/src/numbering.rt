@@ -6,7 +6,7 @@ ghost use mathlib.Core.Path.{_≡_};
 ghost use Prim.Native.Nat.{suc, _<_, max};
 ghost use lib.ListN.{set};
 ghost use Rattle.spec.specs.Limits.{grant-limit};
-ghost use Rattle.cells.specs.Rows.{row-bits};
+ghost use Rattle.cell_rows.specs.Rows.{row-bits};
 ghost use Rattle.cover.specs.CoverKeys.{class-from};
 ghost use Rattle.roles.specs.RoleNumbers.{class-limit, no-role};
 

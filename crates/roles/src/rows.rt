@@ -11,7 +11,7 @@ use numbers::ROW_BITS;
 use numbers::UserNo;
 ghost use Prim.Native.Nat.{_+_, _*_, _≤_, _<_};
 ghost use Rattle.spec.specs.Limits.{user-limit};
-ghost use Rattle.cells.specs.Rows.{row-bits};
+ghost use Rattle.cell_rows.specs.Rows.{row-bits};
 ghost use Rattle.roles.specs.RoleWalk.{ClassedRows, RolesTo, RolesFound};
 
 // Who has which role, what each role gives, and how many roles there are.

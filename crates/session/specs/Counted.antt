@@ -6,7 +6,7 @@ use Rattle.spec.specs.Machine.{search}
 use Rattle.spec.specs.Roles.{kernel-of, role-count, standing, bound}
 use Rattle.search.specs.declared.machine.Position.{Position}
 use Rattle.search.specs.declared.machine.Ran.{Ran}
-use Rattle.roles.specs.StandingCases.{standing-case}
+use Rattle.standing.specs.StandingCases.{standing-case}
 use Rattle.book_lines.specs.declared.counts.Counts.{Counts}
 use Rattle.session.specs.CodeSession.{text-in, state-in, Holds}
 use Rattle.session.specs.declared.Session.{Session as CodeSession}

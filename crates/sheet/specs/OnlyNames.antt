@@ -3,7 +3,7 @@
 use Prim.Native.Nat.{ℕ, _*_}
 use lib.ListN.{replicate}
 use Rattle.spec.specs.Limits.{user-limit}
-use Rattle.cells.specs.Rows.{row-words}
+use Rattle.cell_rows.specs.Rows.{row-words}
 use Rattle.places.specs.Places.{BlankPast, no-places}
 use Rattle.sheet.specs.FirstLine.{Run}
 use Rattle.names.specs.declared.layout.Layout.{Layout}

@@ -8,7 +8,7 @@ use Rattle.spec.specs.Rules.{Name}
 use Rattle.spec.specs.Refusal.{has-name-length}
 use Rattle.lists.specs.Span.{span}
 use Rattle.places.specs.Places.{part}
-use Rattle.text.specs.Fields.{separator}
+use Rattle.text.specs.Line.{separator}
 use Rattle.sheet.specs.declared.spelled.NameRead.{NameRead}
 use Rattle.sheet.specs.declared.spelled.NameRead.the-variants as read
 

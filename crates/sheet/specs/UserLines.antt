@@ -10,7 +10,7 @@ use Rattle.spec.specs.Text.{Bytes, Line, text-of}
 use Rattle.spec.specs.Rules.{Name, user-lines}
 use Rattle.bits.specs.Counting.{count-below, sum-below}
 use Rattle.bits.specs.Bit.{bit, word-bits}
-use Rattle.cells.specs.Rows.{row-words}
+use Rattle.cell_rows.specs.Rows.{row-words}
 use Rattle.places.specs.Places.{from-at, to-at, BlankPast}
 use Rattle.steps.specs.Stands.{Stands}
 use Rattle.sheet.specs.UserLine.{UserAt, line-of}

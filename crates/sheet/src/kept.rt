@@ -3,7 +3,7 @@ use crate::first_line::FirstLineRead;
 use crate::first_line::read_first_line;
 use crate::user_lines::UserLinesRead;
 use crate::user_lines::read_user_lines;
-use names::repeated_in;
+use buckets::repeated_in;
 use numbers::CELL_WORDS;
 use numbers::GRANT_LIMIT;
 use numbers::SHEET_LIMIT;

@@ -2,7 +2,7 @@
 use crate::kept::LinesRead;
 use crate::kept::are_apart;
 use crate::kept::read_lines;
-use cells::no_rows;
+use cell_rows::no_rows;
 use names::Layout;
 use numbers::CELL_WORDS;
 use numbers::USER_LIMIT;

@@ -1,8 +1,8 @@
 // Names of a sheet: fields, as the reader finds them, that are names.
+use reader::Cursor;
 use spelling::Kind;
 use spelling::all_of;
 use spelling::name_length;
-use text::Cursor;
 ghost use mathlib.Core.Path.{_≡_};
 ghost use Prim.Native.Nat.{_≤_};
 ghost use lib.ListN.{length};

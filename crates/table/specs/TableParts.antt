@@ -7,7 +7,7 @@ use mathlib.Core.List.{List}
 use lib.Dec.{ltb}
 use lib.ListN.{length, getD}
 use Rattle.bits.specs.Bit.{bit, word-bits}
-use Rattle.cells.specs.Rows.{row-bits, cell}
+use Rattle.cell_rows.specs.Rows.{row-bits, cell}
 use Rattle.table.specs.TableWords.{FirstBits}
 use Rattle.table.specs.declared.table.Line.{Line}
 use Rattle.table.specs.declared.table.Line.the-variants.{Column, Row}

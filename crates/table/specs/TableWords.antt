@@ -9,7 +9,7 @@ use lib.ListN.{length, getD}
 use Rattle.spec.specs.Sheet.{Sheet, Grant}
 use Rattle.spec.specs.Cover.{fit-at}
 use Rattle.bits.specs.Bit.{bit, word-bits}
-use Rattle.cells.specs.CellPlaces.{grant-of, fit-in}
+use Rattle.cell_rows.specs.CellPlaces.{grant-of, fit-in}
 
 -- the words of a grant
 unfoldable pub table-row : ℕ

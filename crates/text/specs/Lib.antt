@@ -1,5 +1,4 @@
 -- Bytes as text: fields and lines read from front to back, bytes compared, bytes written to the front of a lent buffer.
 pub mod Written
 pub mod Line
-pub mod Fields
 pub mod Laws

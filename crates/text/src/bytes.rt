@@ -4,7 +4,7 @@ ghost use mathlib.Core.Bool.{_&&_};
 ghost use lib.Dec.{eqb, ltb};
 ghost use lib.ListN.{length, getD};
 ghost use Rattle.spec.specs.Text.{between, name-byte, allowed-byte};
-ghost use Rattle.text.specs.Fields.{separator};
+ghost use Rattle.text.specs.Line.{separator};
 
 pub const COMMA: u8 = b',';
 

@@ -1,6 +1,5 @@
-// Bytes as text: fields and lines read from front to back, bytes compared, bytes written to the front of a lent buffer.
+// Bytes as text: which bytes there are, bytes compared, bytes written to the front of a lent buffer.
 mod bytes;
-mod cursor;
 mod put;
 mod same;
 
@@ -8,9 +7,8 @@ pub use bytes::COMMA;
 pub use bytes::LINE_FEED;
 pub use bytes::is_allowed;
 pub use bytes::is_name_byte;
+pub use bytes::is_separator;
 pub use bytes::stands_at;
-pub use cursor::Cursor;
-pub use cursor::FieldRead;
 pub use put::put_bytes;
 pub use put::put_empty_line;
 pub use put::put_field;

@@ -7,8 +7,8 @@ use mathlib.Core.List.{List}
 use Rattle.spec.specs.Vocabulary.{some-below, every-below}
 use Rattle.bits.specs.Bit.{bit, word-bits}
 use Rattle.bits.specs.Truth.{implies}
-use Rattle.cells.specs.Rows.{row-words}
-use Rattle.cells.specs.CellPlaces.{marked}
+use Rattle.cell_rows.specs.Rows.{row-words}
+use Rattle.cell_rows.specs.CellPlaces.{marked}
 use Rattle.verdict.specs.Misfits.{row-word}
 
 -- word k has cells of left

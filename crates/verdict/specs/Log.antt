@@ -5,7 +5,7 @@ use mathlib.Core.List.{List, [], _∷_}
 use lib.Dec.{eqb}
 use lib.ListN.{getD}
 use Rattle.spec.specs.Reduction.{Removal, single, tied}
-use Rattle.cells.specs.CellPlaces.{grant-of}
+use Rattle.cell_rows.specs.CellPlaces.{grant-of}
 
 -- a removal by its cell and its partner's: a grant whose partner is itself was removed as single
 abbrev pub removal-of : ℕ → ℕ → Removal

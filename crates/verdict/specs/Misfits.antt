@@ -9,8 +9,8 @@ use lib.ListN.{getD}
 use Rattle.spec.specs.Vocabulary.{every-below}
 use Rattle.bits.specs.Bit.{bit, word-bits}
 use Rattle.bits.specs.Truth.{implies}
-use Rattle.cells.specs.Rows.{row-words, row-bits}
-use Rattle.cells.specs.CellPlaces.{grant-of, marked, fit-in}
+use Rattle.cell_rows.specs.Rows.{row-words, row-bits}
+use Rattle.cell_rows.specs.CellPlaces.{grant-of, marked, fit-in}
 use Rattle.fit.specs.Columns.{column-words, held-in}
 
 -- the word of user v's row that the cells of word j are in

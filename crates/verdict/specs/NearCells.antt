@@ -9,7 +9,7 @@ use lib.Dec.{eqb}
 use Rattle.spec.specs.Vocabulary.{every-below}
 use Rattle.bits.specs.Bit.{bit, word-bits}
 use Rattle.bits.specs.Truth.{implies}
-use Rattle.cells.specs.CellPlaces.{cells-of, grant-of, marked, fit-in, near}
+use Rattle.cell_rows.specs.CellPlaces.{cells-of, grant-of, marked, fit-in, near}
 
 -- the cell it dominates the cell g
 abbrev pub dominates-in : List ℕ → List ℕ → ℕ → ℕ → ℕ → Bool

@@ -9,7 +9,7 @@ use Rattle.spec.specs.Sheet.{Sheet}
 use Rattle.spec.specs.Reduction.{stays, is-single, is-tied, verdict}
 use Rattle.spec.specs.Reduction as Reduction
 use Rattle.cells.specs.CellSets.{cell-grants}
-use Rattle.cells.specs.CellPlaces.{grant-of, marked, Shown, Shows, Part, cells-of}
+use Rattle.cell_rows.specs.CellPlaces.{grant-of, marked, Shown, Shows, Part, cells-of}
 use Rattle.verdict.specs.declared.judgement.Found.{Found}
 use Rattle.verdict.specs.declared.judgement.Found.the-variants.{At, Nothing}
 use Rattle.verdict.specs.declared.judgement.Verdict.{Verdict}

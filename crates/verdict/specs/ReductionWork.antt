@@ -16,7 +16,7 @@ use Rattle.bits.specs.Counting.{count-below}
 use Rattle.lists.specs.PassingBelow.{passing-below}
 use Rattle.cells.specs.Blank.{BlankFrom}
 use Rattle.cells.specs.CellSets.{cell-grants}
-use Rattle.cells.specs.CellPlaces.{cell-limit, grant-of, marked, Shown, Shows, Part}
+use Rattle.cell_rows.specs.CellPlaces.{cell-limit, grant-of, marked, Shown, Shows, Part}
 use Rattle.verdict.specs.Log.{log-of}
 
 -- what remains, and so many removals

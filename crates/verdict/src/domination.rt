@@ -17,8 +17,8 @@ ghost use Prim.Native.Nat.{ℕ, _+_, _*_, _≤_, _<_};
 ghost use Rattle.spec.specs.Limits.{user-limit};
 ghost use Rattle.bits.specs.Counting.{NextFrom};
 ghost use Rattle.bits.specs.Bit.{bit, word-bits};
-ghost use Rattle.cells.specs.Rows.{row-words, row-bits};
-ghost use Rattle.cells.specs.CellPlaces.{cell-words, cell-limit};
+ghost use Rattle.cell_rows.specs.Rows.{row-words, row-bits};
+ghost use Rattle.cell_rows.specs.CellPlaces.{cell-words, cell-limit};
 ghost use Rattle.fit.specs.Columns.{Columns};
 ghost use Rattle.verdict.specs.Misfits.{row-fits, misfit-at, is-holder, is-suspect};
 

@@ -1,5 +1,5 @@
 // The words that grants of one user can be tied to: those whose remaining grants are all in that user's row.
-use cells::mark;
+use cell_rows::mark;
 use fit::COLUMN_WORDS;
 use numbers::CELL_WORDS;
 use numbers::ROW_WORDS;
@@ -11,8 +11,8 @@ ghost use Rattle.spec.specs.Vocabulary.{some-below, every-below};
 ghost use Rattle.spec.specs.Limits.{user-limit};
 ghost use Rattle.bits.specs.Bit.{bit, word-bits};
 ghost use Rattle.bits.specs.Truth.{implies};
-ghost use Rattle.cells.specs.Rows.{row-words};
-ghost use Rattle.cells.specs.CellPlaces.{cell-words, marked};
+ghost use Rattle.cell_rows.specs.Rows.{row-words};
+ghost use Rattle.cell_rows.specs.CellPlaces.{cell-words, marked};
 ghost use Rattle.verdict.specs.Insides.{may-tie};
 
 // Whether w has a position, and own all of w's.

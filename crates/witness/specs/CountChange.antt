@@ -8,7 +8,7 @@ use lib.Dec.{eqb, ltb}
 use lib.ListN.{length, getD}
 use Rattle.bits.specs.Counting.{count-below}
 use Rattle.bits.specs.Bit.{bit, word-bits}
-use Rattle.cells.specs.CellPlaces.{cell-limit, grant-of, marked, fit-in}
+use Rattle.cell_rows.specs.CellPlaces.{cell-limit, grant-of, marked, fit-in}
 use Rattle.witness.specs.declared.counts.Change.{Change}
 use Rattle.witness.specs.declared.counts.Change.the-variants.{Added, TakenOff}
 

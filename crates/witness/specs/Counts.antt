@@ -6,8 +6,8 @@ use mathlib.Core.List.{List}
 use lib.ListN.{length, getD}
 use Rattle.bits.specs.Counting.{sum-below}
 use Rattle.bits.specs.Bit.{word-bits}
-use Rattle.cells.specs.Rows.{row-words}
-use Rattle.cells.specs.CellPlaces.{cell-words, cell-limit, marked}
+use Rattle.cell_rows.specs.Rows.{row-words}
+use Rattle.cell_rows.specs.CellPlaces.{cell-words, cell-limit, marked}
 use Rattle.fit.specs.Columns.{near-in-word}
 
 -- how many cells of the first words of a set are near cell n

@@ -6,7 +6,7 @@ use mathlib.Core.List.{List}
 use lib.ListN.{getD}
 use Rattle.bits.specs.Truth.{and-left}
 use Rattle.bits.specs.Bit.{bit, word-bits}
-use Rattle.cells.specs.CellPlaces.{grant-of, marked, fit-in, FittingWord, Part}
+use Rattle.cell_rows.specs.CellPlaces.{grant-of, marked, fit-in, FittingWord, Part}
 use Rattle.fit.specs.Laws.FitWord.{marked-in-word}
 use Rattle.cells.specs.MadeCells.{MadeCells}
 use Rattle.cells.specs.Laws.MadeCells.{made-part}

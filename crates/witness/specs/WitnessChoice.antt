@@ -16,10 +16,10 @@ use Rattle.spec.specs.Fit.{partners}
 use Rattle.spec.specs.Witness.{fewest-partners}
 use Rattle.bits.specs.Truth.{passes-or-fails}
 use Rattle.lists.specs.LeastLast.{or-lesser, least-last}
-use Rattle.cells.specs.Rows.{row-bits}
+use Rattle.cell_rows.specs.Rows.{row-bits}
 use Rattle.witness.specs.declared.choice.Choice.{Choice}
 use Rattle.cells.specs.CellSets.{cell-grants}
-use Rattle.cells.specs.CellPlaces.{grant-of, marked, Shown, Part}
+use Rattle.cell_rows.specs.CellPlaces.{grant-of, marked, Shown, Part}
 
 -- the grant that a choice names
 abbrev pub choice-of : Choice → Option Grant

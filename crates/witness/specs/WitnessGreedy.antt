@@ -15,11 +15,11 @@ use Rattle.spec.specs.Witness.{fewest-partners, left-after, taken}
 use Rattle.bits.specs.Truth.{same-truth, and-left, or-cases}
 use Rattle.lists.specs.AppendLaws.{filter-map}
 use Rattle.lists.specs.PassingBelow.{passing-below, passing-filter, passing-ext}
-use Rattle.cells.specs.Rows.{row-bits}
+use Rattle.cell_rows.specs.Rows.{row-bits}
 use Rattle.cells.specs.Laws.Grant.{same-grant-equal}
 use Rattle.fit.specs.Laws.Fit.{fits-itself}
 use Rattle.cells.specs.CellSets.{cell-grants}
-use Rattle.cells.specs.CellPlaces.{grant-of, marked, fit-in, Shown, Part, cells-of}
+use Rattle.cell_rows.specs.CellPlaces.{grant-of, marked, fit-in, Shown, Part, cells-of}
 use Rattle.cells.specs.Laws.CellList.{marked-holds, cell-grants-by-cell}
 use Rattle.fit.specs.Laws.FitWord.{fits-in-rows}
 use Rattle.verdict.specs.Laws.Near.{same-cell, row-cells}

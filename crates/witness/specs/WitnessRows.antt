@@ -15,10 +15,10 @@ use Rattle.bits.specs.Counting.{count-below}
 use Rattle.lists.specs.FilterLength.{filter-length}
 use Rattle.lists.specs.FilterSame.{filter-same}
 use Rattle.lists.specs.PassingBelow.{passing-below, passing-length}
-use Rattle.cells.specs.Rows.{row-bits}
+use Rattle.cell_rows.specs.Rows.{row-bits}
 use Rattle.cells.specs.Laws.Grant.{grant-held}
 use Rattle.cells.specs.CellSets.{in-cells, cell-grants}
-use Rattle.cells.specs.CellPlaces.{grant-of, marked, Shown, Part, cells-of}
+use Rattle.cell_rows.specs.CellPlaces.{grant-of, marked, Shown, Part, cells-of}
 use Rattle.cells.specs.Laws.CellPlace.{cell-marked}
 use Rattle.cells.specs.Laws.CellList.{cell-of, grant-of-cell, cell-grants-by-cell}
 use Rattle.verdict.specs.Laws.Near.{row-cells}

@@ -13,7 +13,7 @@ use Rattle.spec.specs.Reduction.{singles-of}
 use Rattle.bits.specs.Truth.{same-truth}
 use Rattle.cells.specs.Laws.Grant.{grant-held}
 use Rattle.fit.specs.Laws.Among.{among-member}
-use Rattle.cells.specs.CellPlaces.{grant-of, marked, Shown, Part}
+use Rattle.cell_rows.specs.CellPlaces.{grant-of, marked, Shown, Part}
 use Rattle.cells.specs.Laws.CellList.{marked-holds}
 use Rattle.verdict.specs.Log.{log-of}
 use Rattle.verdict.specs.Laws.Near.{same-cell}

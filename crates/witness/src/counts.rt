@@ -13,7 +13,7 @@ ghost use mathlib.Core.Bool.{So, false};
 ghost use Prim.Native.Nat.{ℕ, _≤_, _<_};
 ghost use lib.ListN.{length, getD};
 ghost use Rattle.spec.specs.Limits.{user-limit};
-ghost use Rattle.cells.specs.CellPlaces.{cell-words, cell-limit, marked};
+ghost use Rattle.cell_rows.specs.CellPlaces.{cell-words, cell-limit, marked};
 ghost use Rattle.witness.specs.CountChange.{changed-by, CanChange, CanChangeAt, ChangedAt};
 ghost use Rattle.witness.specs.CountChange.{at-position, fit-count, of-user, of-users, of-users-below};
 ghost use Rattle.fit.specs.Columns.{column-words, Columns};

@@ -1,5 +1,5 @@
 // Sets of cells as rows of words.
-use cells::mark;
+use cell_rows::mark;
 use numbers::CELL_WORDS;
 use numbers::CellNo;
 use numbers::ROW_WORDS;
@@ -10,7 +10,7 @@ ghost use lib.Dec.{eqb};
 ghost use lib.ListN.{length};
 ghost use Rattle.spec.specs.Limits.{user-limit};
 ghost use Rattle.bits.specs.Counting.{count-below};
-ghost use Rattle.cells.specs.CellPlaces.{cell-words, cell-limit, marked, cells-of};
+ghost use Rattle.cell_rows.specs.CellPlaces.{cell-words, cell-limit, marked, cells-of};
 
 // Puts a cell into a set.
 pub fn put_cell(words: &mut [u64; CELL_WORDS], cell: CellNo)

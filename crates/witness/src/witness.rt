@@ -18,7 +18,7 @@ ghost use Rattle.spec.specs.Limits.{grant-limit, user-limit};
 ghost use Rattle.spec.specs.Sheet.{Sheet};
 ghost use Rattle.spec.specs.Reduction.{singles-of};
 ghost use Rattle.verdict.specs.Log.{log-of};
-ghost use Rattle.cells.specs.CellPlaces.{cell-words, cell-limit, Shown, Part};
+ghost use Rattle.cell_rows.specs.CellPlaces.{cell-words, cell-limit, Shown, Part};
 ghost use Rattle.fit.specs.Columns.{Columns};
 ghost use Rattle.witness.specs.WitnessGreedy.{Chosen};
 ghost use Rattle.witness.specs.WitnessSingles.{CellsOf};

@@ -4,10 +4,10 @@ use book_lines::Counts;
 use libc::STDOUT_FILENO;
 use numbers::CELL_WORDS;
 use numbers::ROLE_WORDS;
-use roles::Standing;
+use standing::Standing;
 ghost use Prim.Native.Nat.{_≤_};
 ghost use Rattle.spec.specs.Sheet.{sheet-of};
-ghost use Rattle.cells.specs.Rows.{row-bits};
+ghost use Rattle.cell_rows.specs.Rows.{row-bits};
 ghost use Rattle.book_lines.specs.RowsSaid.{GrantCells};
 
 // Prints the book of a sheet, from its two matrices, its witness and its counts.

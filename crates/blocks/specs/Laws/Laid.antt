@@ -7,7 +7,7 @@ use lib.ListN.{length}
 use Rattle.spec.specs.Limits.{permission-limit, user-limit}
 use Rattle.spec.specs.Text.{Bytes}
 use Rattle.spec.specs.Sheet.{sheet-of, user-count, permission-count}
-use Rattle.cells.specs.Rows.{row-words, row-bits}
+use Rattle.cell_rows.specs.Rows.{row-words, row-bits}
 use Rattle.rules.specs.AcceptedFacts.{Lawful, accepted-lawful}
 use Rattle.names.specs.LaidOut.{LaidOut, UsersAt, PermissionsAt}
 use Rattle.names.specs.declared.layout.Layout.{Layout}

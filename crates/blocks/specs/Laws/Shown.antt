@@ -7,7 +7,7 @@ use Rattle.spec.specs.Text.{ascii, Bytes, line-text, text-of}
 use Rattle.spec.specs.Sheet.{Sheet, user-count, permission-count, cell-text, user-name}
 use Rattle.spec.specs.Book.{role-name}
 use Rattle.lists.specs.Listed.{listed}
-use Rattle.cells.specs.Rows.{cell}
+use Rattle.cell_rows.specs.Rows.{cell}
 use Rattle.book_lines.specs.Lines.{named-line}
 use Rattle.book_lines.specs.RowsSaid.{role-heading, role-line, shown-roles, user-line, shown-users}
 use Rattle.text.specs.Line.{behind-comma, line-end}

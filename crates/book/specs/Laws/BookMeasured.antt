@@ -12,7 +12,7 @@ use Rattle.spec.specs.Book.{role-name, witness-block}
 use Rattle.bits.specs.Counting.{sum-below}
 use Rattle.lists.specs.Listed.{listed, listed-even}
 use Rattle.rules.specs.AcceptedFacts.{Lawful}
-use Rattle.cells.specs.Rows.{cell}
+use Rattle.cell_rows.specs.Rows.{cell}
 use Rattle.cells.specs.CellSets.{cell-grants}
 use Rattle.decimal.specs.Measured.{Measured, line-most, block-most}
 use Rattle.cell_text.specs.CellsText.{cell-field, cells-text}

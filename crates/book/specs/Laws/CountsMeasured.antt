@@ -6,7 +6,7 @@ use mathlib.Core.List.{_++_}
 use lib.ListN.{length, length-append}
 use Rattle.spec.specs.Text.{ascii, Bytes}
 use Rattle.spec.specs.Decimal.{decimal}
-use Rattle.roles.specs.StandingCases.{standing-case}
+use Rattle.standing.specs.StandingCases.{standing-case}
 use Rattle.decimal.specs.WordDigits.{word-digits}
 use Rattle.decimal.specs.Measured.{piece-most, line-most, Measured}
 use Rattle.book_lines.specs.CountsText.{standing-text, counts-text}

@@ -16,7 +16,7 @@ use Rattle.rules.specs.AcceptedFacts.{Lawful, accepted-lawful}
 use Rattle.names.specs.LaidOut.{UsersAt, PermissionsAt}
 use Rattle.places.specs.Places.{from-at, to-at, Part, NamesPlaced}
 use Rattle.decimal.specs.Laws.Digit.{one-digit, digit-more}
-use Rattle.cells.specs.Rows.{row-bits, row-words}
+use Rattle.cell_rows.specs.Rows.{row-bits, row-words}
 use Rattle.book_lines.specs.Laws.Name.{role-name-parts, role-name-short}
 use Rattle.book.specs.NameBytes.{PlacesShort, bytes-at, role-name-bytes}
 

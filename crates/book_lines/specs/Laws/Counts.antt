@@ -4,7 +4,7 @@ use mathlib.Core.Path.{_≡_}
 use mathlib.Core.List.{_++_, append-assoc, append-nil}
 use Rattle.spec.specs.Text.{ascii}
 use Rattle.spec.specs.Decimal.{decimal}
-use Rattle.roles.specs.StandingCases.{standing-case}
+use Rattle.standing.specs.StandingCases.{standing-case}
 use Rattle.book_lines.specs.CountsText.{standing-text, counts-text}
 use Rattle.book_lines.specs.declared.counts.Counts.{Counts}
 

@@ -8,7 +8,7 @@ use lib.ListN.{length}
 use Rattle.spec.specs.Text.{ascii}
 use Rattle.spec.specs.Decimal.{decimal}
 use Rattle.spec.specs.Book.{role-name}
-use Rattle.cells.specs.Rows.{row-words, row-bits}
+use Rattle.cell_rows.specs.Rows.{row-words, row-bits}
 use Rattle.decimal.specs.Laws.Decimal.{decimal-length-two}
 use Rattle.text.specs.Line.{behind-comma}
 

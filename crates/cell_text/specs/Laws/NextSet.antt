@@ -9,7 +9,7 @@ use mathlib.Core.List.{List}
 use lib.ListN.{getD}
 use Rattle.bits.specs.Bit.{bit, word-bits}
 use Rattle.bits.specs.Counting.{NextFrom}
-use Rattle.cells.specs.Rows.{row-words, row-bits, cell}
+use Rattle.cell_rows.specs.Rows.{row-words, row-bits, cell}
 
 -- the word of a row
 abbrev pub row-word : List ℕ → ℕ → ℕ

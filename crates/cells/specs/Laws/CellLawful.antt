@@ -9,9 +9,9 @@ use lib.ListN.{getD}
 use Rattle.spec.specs.Limits.{permission-limit}
 use Rattle.spec.specs.Sheet.{Sheet, user-count, holds}
 use Rattle.cells.specs.Laws.Grant.{yes-within, held-user-below}
-use Rattle.cells.specs.Rows.{row-words, row-bits, RowsOf}
+use Rattle.cell_rows.specs.Rows.{row-words, row-bits, RowsOf}
 use Rattle.rules.specs.AcceptedFacts.{Lawful}
-use Rattle.cells.specs.CellPlaces.{Shown, Shows}
+use Rattle.cell_rows.specs.CellPlaces.{Shown, Shows}
 
 -- a row has room for every permission
 room-for-permissions : permission-limit ≤ row-bits

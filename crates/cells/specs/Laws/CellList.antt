@@ -19,11 +19,11 @@ use Rattle.lists.specs.OrderedMap.{ordered-map}
 use Rattle.lists.specs.OrderedUnique.{ordered-unique}
 use Rattle.lists.specs.PassingBelow.{passing-below, passing-only, passing-member, passing-rises, passing-filter}
 use Rattle.lists.specs.PassingBelow.{passing-length, passing-ext}
-use Rattle.cells.specs.Rows.{row-bits}
+use Rattle.cell_rows.specs.Rows.{row-bits}
 use Rattle.cells.specs.Laws.Grant.{same-parts, grant-held, held-grant}
 use Rattle.cells.specs.Laws.GrantOrder.{Before, grants-ordered}
 use Rattle.cells.specs.CellSets.{in-cells, cell-grants}
-use Rattle.cells.specs.CellPlaces.{grant-of, marked, Shown, Part}
+use Rattle.cell_rows.specs.CellPlaces.{grant-of, marked, Shown, Part}
 use Rattle.cells.specs.Laws.CellPlace.{row-bits-pos, cell-marked}
 
 -- ---- cells in rising number

@@ -10,9 +10,9 @@ use lib.Dec.{lit<}
 use lib.Arith.{digits-div, digits-mod, mod-mul}
 use lib.ListN.{getD}
 use Rattle.bits.specs.Bit.{bit, word-bits}
-use Rattle.cells.specs.Rows.{row-words, row-bits, cell}
+use Rattle.cell_rows.specs.Rows.{row-words, row-bits, cell}
 use Rattle.cells.specs.CellSets.{in-cells}
-use Rattle.cells.specs.CellPlaces.{grant-of, marked, fit-in}
+use Rattle.cell_rows.specs.CellPlaces.{grant-of, marked, fit-in}
 
 pub row-words-pos : 0 < row-words
 unfolding row-words

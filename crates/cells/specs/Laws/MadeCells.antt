@@ -14,7 +14,7 @@ use Rattle.bits.specs.Truth.{not-both}
 use Rattle.bits.specs.Laws.Below.{below-or-from}
 use Rattle.bits.specs.Bit.{bit, word-bits}
 use Rattle.bits.specs.Laws.Bit.{bit-of-zero}
-use Rattle.cells.specs.CellPlaces.{marked, Part}
+use Rattle.cell_rows.specs.CellPlaces.{marked, Part}
 use Rattle.cells.specs.MadeCells.{MadeCells}
 
 -- the first i words are made

@@ -18,7 +18,7 @@ use Rattle.bits.specs.Laws.Sum.{sum-below-ext, sum-below-first}
 use Rattle.bits.specs.Bit.{bit, word-bits}
 use Rattle.bits.specs.Laws.Bit.{bit-of-zero}
 use Rattle.lists.specs.ListOfLaws.{list-of-first, list-of-same, length-list-of, getD-list-of, map-list-of}
-use Rattle.cells.specs.Rows.{row-words, row-bits, cell}
+use Rattle.cell_rows.specs.Rows.{row-words, row-bits, cell}
 use Rattle.cells.specs.RowsRead.{RowsRead}
 
 -- the row of a word

@@ -14,7 +14,7 @@ use Rattle.spec.specs.Text.{Bytes}
 use Rattle.spec.specs.Sheet.{sheet-of}
 use Rattle.spec.specs.Refusal.{refusal, accepted}
 use Rattle.spec.specs.Calls.{CheckAnswer, check-refused, Checks}
-use Rattle.cells.specs.Rows.{row-words, cell}
+use Rattle.cell_rows.specs.Rows.{row-words, cell}
 use Rattle.names.specs.LaidOut.{LaidOut}
 use Rattle.names.specs.declared.layout.Layout.{Layout}
 use Rattle.rules.specs.AcceptedFacts.{accepted-lawful}

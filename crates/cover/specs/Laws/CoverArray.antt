@@ -13,7 +13,7 @@ use Rattle.spec.specs.Cover.{used, grouping, grant-at, fit-at, permission-at, f
 use Rattle.lists.specs.KeyLaws.{same-key, by-key}
 use Rattle.lists.specs.SameGrouping.{grouping-ext}
 use Rattle.cover.specs.Laws.Cover.{fewer-le-earlier, by-fit, by-permission, by-user}
-use Rattle.cells.specs.CellPlaces.{grant-of, Shown}
+use Rattle.cell_rows.specs.CellPlaces.{grant-of, Shown}
 use Rattle.cells.specs.Laws.CellPlace.{row-bits-pos}
 use Rattle.fit.specs.Laws.Fit.{Held, one-user-fits}
 use Rattle.fit.specs.Laws.FitWord.{fit-at-grants}

@@ -19,8 +19,8 @@ use Rattle.bits.specs.Laws.Lowest.{lowest-below-intro}
 use Rattle.lists.specs.PlacementLaws.{earlier-uses-fewer, latest-below-used}
 use Rattle.lists.specs.GroupingLaws.{class-taken, grouping-length, grouping-valid}
 use Rattle.bits.specs.Bit.{word-bits}
-use Rattle.cells.specs.Rows.{row-words, row-bits}
-use Rattle.cells.specs.CellAdded.{CellAdded}
+use Rattle.cell_rows.specs.Rows.{row-words, row-bits}
+use Rattle.cell_rows.specs.CellAdded.{CellAdded}
 use Rattle.cover.specs.CoverRelation.{fit-at-cells, permission-at-cell, user-at-cell, HeldCells}
 use Rattle.cover.specs.CoverPlaced.{Placed, next-class, none-placed, taken-le, one-placed}
 use Rattle.cover.specs.CoverMembers.{class-words, Members, no-members, one-member, joinable-is-joins}

@@ -22,8 +22,8 @@ use Rattle.bits.specs.Truth.{passes-or-fails}
 use Rattle.bits.specs.Bit.{bit, word-bits}
 use Rattle.bits.specs.Laws.Bit.{bit-of-zero}
 use Rattle.bits.specs.Word.{LowestDropped}
-use Rattle.cells.specs.Rows.{row-words, row-bits}
-use Rattle.cells.specs.CellPlaces.{cell-words, cell-limit, marked, near, FittingWord, CountedBelow}
+use Rattle.cell_rows.specs.Rows.{row-words, row-bits}
+use Rattle.cell_rows.specs.CellPlaces.{cell-words, cell-limit, marked, near, FittingWord, CountedBelow}
 use Rattle.cells.specs.Laws.CellPlace.{fit-by-word}
 use Rattle.fit.specs.Laws.FitWord.{marked-in-word, near-word}
 use Rattle.fit.specs.Columns.{column-words, held-in, near-in-word, near-if, Columns}

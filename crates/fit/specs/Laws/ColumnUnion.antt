@@ -14,7 +14,7 @@ use Rattle.bits.specs.Laws.Below.{some-below-intro, some-below-ext, none-below-
 use Rattle.bits.specs.Laws.Bit.{bit-or, bit-of-zero}
 use Rattle.bits.specs.Laws.Cut.{some-below-apart}
 use Rattle.bits.specs.Word.{LowestDropped}
-use Rattle.cells.specs.Rows.{row-words, row-bits}
+use Rattle.cell_rows.specs.Rows.{row-words, row-bits}
 use Rattle.fit.specs.Columns.{column-words, held-in, Columns}
 use Rattle.fit.specs.ColumnUnion.{in-union}
 use Rattle.fit.specs.Laws.Column.{column-position}

@@ -19,10 +19,10 @@ use Rattle.bits.specs.Laws.Count.{count-below-ext, count-below-add, count-below
 use Rattle.bits.specs.Bit.{bit, word-bits}
 use Rattle.bits.specs.Truth.{fails-unless}
 use Rattle.bits.specs.Laws.Bit.{bit-and}
-use Rattle.cells.specs.Rows.{row-words, row-bits, cell}
+use Rattle.cell_rows.specs.Rows.{row-words, row-bits, cell}
 use Rattle.cells.specs.CellSets.{cell-grants}
 use Rattle.cells.specs.KernelArray.{grant-at-cell}
-use Rattle.cells.specs.CellPlaces.{cell-limit, cells-of, grant-of, marked, fit-in, near, FittingWord, Shown, Part}
+use Rattle.cell_rows.specs.CellPlaces.{cell-limit, cells-of, grant-of, marked, fit-in, near, FittingWord, Shown, Part}
 use Rattle.cells.specs.Laws.CellPlace.{row-bits-pos}
 use Rattle.cells.specs.Laws.CellList.{passing-grants-count}
 

@@ -6,7 +6,7 @@ use native.Mathlib.Numerals.{add-one}
 use native.Mathlib.Omega.{arith}
 use lib.Arith.{digits-lt}
 use Rattle.spec.specs.Limits.{permission-limit, role-limit}
-use Rattle.cells.specs.Rows.{row-words, row-bits}
+use Rattle.cell_rows.specs.Rows.{row-words, row-bits}
 
 pub roles-fit-a-row : role-limit ≤ row-bits
 unfolding role-limit row-bits row-words

@@ -11,10 +11,10 @@ use Rattle.spec.specs.Sheet.{Sheet, sheet-of, grants}
 use Rattle.spec.specs.Reduction.{kernel, singles, singles-of}
 use Rattle.rules.specs.AcceptedFacts.{Lawful, accepted-lawful}
 use Rattle.names.specs.LaidOut.{LaidOut}
-use Rattle.cells.specs.Rows.{row-bits}
+use Rattle.cell_rows.specs.Rows.{row-bits}
 use Rattle.cells.specs.RowsRead.{RowsRead}
 use Rattle.names.specs.declared.layout.Layout.{Layout}
-use Rattle.cells.specs.CellPlaces.{grant-of, Shown, Shows}
+use Rattle.cell_rows.specs.CellPlaces.{grant-of, Shown, Shows}
 use Rattle.cells.specs.Laws.CellLawful.{lawful-shown, lawful-shows}
 use Rattle.reduction.specs.ReductionResult.{ReducedFrom, log-in}
 use Rattle.cells.specs.KernelArray.{Roomy, Listed, KernelListed, shown-roomy, listed-grants}

@@ -2,7 +2,7 @@
 use Prim.Native.Nat.{ℕ, _<_}
 use mathlib.Core.Bool.{So}
 use mathlib.Core.List.{List, [], _∷_}
-use Rattle.cells.specs.CellPlaces.{cells-of, marked}
+use Rattle.cell_rows.specs.CellPlaces.{cells-of, marked}
 use Rattle.verdict.specs.declared.judgement.Verdict.{Verdict}
 use Rattle.verdict.specs.declared.judgement.Verdict.the-variants.{Stays, Single, Tied}
 use Rattle.verdict.specs.ReductionVerdict.{GrantJudged}

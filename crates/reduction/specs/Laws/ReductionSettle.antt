@@ -17,9 +17,9 @@ use Rattle.bits.specs.Truth.{fails-unless}
 use Rattle.bits.specs.Counting.{count-below}
 use Rattle.bits.specs.Laws.Count.{count-below-add, count-below-none-intro}
 use Rattle.lists.specs.PassingBelow.{passing-below, passing-length}
-use Rattle.cells.specs.Rows.{row-bits}
+use Rattle.cell_rows.specs.Rows.{row-bits}
 use Rattle.cells.specs.CellSets.{cell-grants}
-use Rattle.cells.specs.CellPlaces.{cell-limit, grant-of, marked, Shown, Part, cells-of}
+use Rattle.cell_rows.specs.CellPlaces.{cell-limit, grant-of, marked, Shown, Part, cells-of}
 use Rattle.cells.specs.Laws.CellPlace.{row-bits-pos}
 use Rattle.cells.specs.Laws.CellList.{marked-holds, grants-by-cell, cell-grants-by-cell}
 use Rattle.verdict.specs.Laws.Near.{row-cells}

@@ -16,7 +16,7 @@ use Rattle.bits.specs.Counting.{Lowest}
 use Rattle.bits.specs.Word.{LowestDropped}
 use Rattle.lists.specs.PassingBelow.{passing-below, passing-ext, passing-only, passing-none, passing-lowest}
 use Rattle.lists.specs.PassingBelow.{passing-add}
-use Rattle.cells.specs.CellPlaces.{marked}
+use Rattle.cell_rows.specs.CellPlaces.{marked}
 use Rattle.fit.specs.Laws.FitWord.{marked-in-word}
 use Rattle.verdict.specs.ReductionWork.{Work, word-cells, WorkReady, Visited}
 use Rattle.verdict.specs.Laws.ReductionWork.{none-visited, visited-then, visited-ready}

@@ -16,10 +16,11 @@ use Rattle.spec.specs.Text.{Bytes, Line, comma, line-feed, fields, lines-of}
 use Rattle.bits.specs.Truth.{passes-or-fails, not-both}
 use Rattle.bits.specs.Laws.Below.{below-or-from}
 use Rattle.lists.specs.Span.{span, span-within, ended-first}
-use Rattle.text.specs.Fields.{separator, field-from, field-read}
+use Rattle.reader.specs.Fields.{field-from, field-read}
+use Rattle.text.specs.Line.{separator}
 use Rattle.places.specs.Places.{part}
 use Rattle.refusal.specs.FirstLine.{line-fields, after-line}
-use Rattle.text.specs.declared.cursor.FieldRead.{FieldRead}
+use Rattle.reader.specs.declared.cursor.FieldRead.{FieldRead}
 
 -- the fields of a line that follow one that was read: none where it was the last
 abbrev pub later-fields : Bool → Bytes → Line

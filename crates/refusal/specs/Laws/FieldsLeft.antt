@@ -8,11 +8,11 @@ use mathlib.Core.List.{[], _∷_, tail}
 use lib.ListN.{length, getD, drop}
 use Rattle.spec.specs.Text.{Bytes, Line}
 use Rattle.lists.specs.DropLaws.{left-below, left-first, left-rest, none-left}
-use Rattle.text.specs.Fields.{field-read}
+use Rattle.reader.specs.Fields.{field-read}
 use Rattle.refusal.specs.FirstLine.{line-fields}
 use Rattle.refusal.specs.Laws.Fields.{later-fields, FieldStep, field-step}
 use Rattle.places.specs.Places.{part, Part}
-use Rattle.text.specs.declared.cursor.FieldRead.{FieldRead}
+use Rattle.reader.specs.declared.cursor.FieldRead.{FieldRead}
 
 -- the fields after the first of the line that starts at a place
 abbrev pub fields-after : Bytes → ℕ → Line

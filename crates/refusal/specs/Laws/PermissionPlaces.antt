@@ -6,7 +6,7 @@ use mathlib.Core.Path.{_≡_, _∙_}
 use mathlib.Core.List.{List}
 use lib.ListN.{length, length-set}
 use Rattle.spec.specs.Text.{Bytes}
-use Rattle.text.specs.Fields.{field-read}
+use Rattle.reader.specs.Fields.{field-read}
 use Rattle.refusal.specs.Laws.FieldsLeft.{fields-after, FieldsLeft, fields-start, field-below, field-there}
 use Rattle.refusal.specs.Laws.FieldsLeft.{fields-go-on, fields-end}
 use Rattle.places.specs.Places.{place-base, place-of, PlacedBelow}

@@ -8,7 +8,7 @@ use mathlib.Core.List.{tail}
 use lib.ListN.{length, drop}
 use Rattle.spec.specs.Text.{Bytes}
 use Rattle.spec.specs.Sheet.{first-field, is-one}
-use Rattle.text.specs.Fields.{field-read}
+use Rattle.reader.specs.Fields.{field-read}
 use Rattle.places.specs.Places.{part, Part}
 use Rattle.refusal.specs.FirstLine.{line-fields, after-line}
 use Rattle.refusal.specs.Laws.Fields.{later-fields, after-field, field-step}

@@ -17,7 +17,7 @@ use Rattle.spec.specs.Roles.{Classed, Classes, class-of, put-back}
 use Rattle.bits.specs.Truth.{passes-or-fails, same-truth}
 use Rattle.lists.specs.ListOfLaws.{list-of-last}
 use Rattle.cells.specs.Laws.Grant.{same-grant-equal, equal-same-grant}
-use Rattle.cells.specs.CellPlaces.{cell-limit, grant-of}
+use Rattle.cell_rows.specs.CellPlaces.{cell-limit, grant-of}
 use Rattle.cells.specs.Laws.CellList.{cell-of, cell-of-grant}
 use Rattle.verdict.specs.Log.{removal-of}
 use Rattle.roles.specs.CellClasses.{ClassAt, ClassesAt, listed, paired-in}

@@ -11,8 +11,8 @@ use Rattle.spec.specs.Limits.{user-limit, grant-limit}
 use Rattle.spec.specs.Sheet.{Sheet, grants}
 use Rattle.spec.specs.Roles.{roles-of}
 use Rattle.lists.specs.LatestFirst.{latest-first}
-use Rattle.cells.specs.Rows.{row-bits}
-use Rattle.cells.specs.CellPlaces.{Shown}
+use Rattle.cell_rows.specs.Rows.{row-bits}
+use Rattle.cell_rows.specs.CellPlaces.{Shown}
 use Rattle.cover.specs.CoverPlaced.{Placed}
 use Rattle.cells.specs.KernelArray.{Listed, listed-grants}
 use Rattle.reduction.specs.ReductionResult.{ReducedFrom}

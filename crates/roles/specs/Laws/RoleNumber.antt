@@ -9,7 +9,7 @@ use Rattle.spec.specs.Roles.{Classed, class-of, class-at, role-numbers}
 use Rattle.lists.specs.ListOfLaws.{length-list-of, getD-list-of}
 use Rattle.lists.specs.KeyLaws.{same-key, by-key}
 use Rattle.lists.specs.SameGrouping.{grouping-ext}
-use Rattle.cells.specs.CellPlaces.{grant-of}
+use Rattle.cell_rows.specs.CellPlaces.{grant-of}
 use Rattle.roles.specs.CellClasses.{ClassAt, listed, CellsBelow}
 use Rattle.roles.specs.RoleNumbers.{class-key}
 

@@ -25,10 +25,10 @@ use Rattle.lists.specs.PlacementLaws.{earlier-uses-fewer, latest-below-used}
 use Rattle.lists.specs.LatestFirst.{latest-first-later}
 use Rattle.lists.specs.KeyLaws.{by-key}
 use Rattle.lists.specs.KeyStep.{next-class}
-use Rattle.cells.specs.Rows.{row-words, row-bits}
-use Rattle.cells.specs.CellAdded.{CellAdded}
+use Rattle.cell_rows.specs.Rows.{row-words, row-bits}
+use Rattle.cell_rows.specs.CellAdded.{CellAdded}
 use Rattle.cells.specs.Laws.CellAdded.{cell-set}
-use Rattle.cells.specs.CellPlaces.{cell-words, cell-limit, grant-of, marked}
+use Rattle.cell_rows.specs.CellPlaces.{cell-words, cell-limit, grant-of, marked}
 use Rattle.cover.specs.CoverKeys.{class-from, none-keyed, keyed-count-le, class-from-is-next, one-keyed}
 use Rattle.roles.specs.CellClasses.{paired-in}
 use Rattle.roles.specs.RoleNumbers.{class-limit, no-role, class-key}

@@ -21,8 +21,8 @@ use Rattle.bits.specs.Truth.{fails-unless}
 use Rattle.lists.specs.ListOfLaws.{list-of-places, list-of-member, map-list-of}
 use Rattle.lists.specs.LatestFirst.{latest-first}
 use Rattle.cells.specs.Laws.Grant.{grant-held}
-use Rattle.cells.specs.Rows.{row-words, row-bits}
-use Rattle.cells.specs.CellPlaces.{cell-limit, grant-of, marked, Shown}
+use Rattle.cell_rows.specs.Rows.{row-words, row-bits}
+use Rattle.cell_rows.specs.CellPlaces.{cell-limit, grant-of, marked, Shown}
 use Rattle.cells.specs.Laws.CellPlace.{row-bits-pos, cell-marked}
 use Rattle.cells.specs.Laws.CellList.{cell-grants-by-cell}
 use Rattle.cells.specs.KernelArray.{shown-roomy}

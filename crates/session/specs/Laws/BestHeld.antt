@@ -15,7 +15,7 @@ use Rattle.spec.specs.Machine.{State}
 use Rattle.spec.specs.Roles.{roles-of, role-count, start-of}
 use Rattle.bits.specs.Laws.Below.{below-or-from}
 use Rattle.lists.specs.LatestFirst.{latest-first}
-use Rattle.cells.specs.Rows.{row-bits}
+use Rattle.cell_rows.specs.Rows.{row-bits}
 use Rattle.rules.specs.AcceptedFacts.{accepted-lawful}
 use Rattle.cover.specs.CoverPlaced.{Placed}
 use Rattle.roles.specs.RolesInput.{Belongs}

@@ -9,9 +9,9 @@ use mathlib.Core.List.{List}
 use Rattle.spec.specs.Sheet.{Sheet, Grant, sheet-of, permission-count, holds}
 use Rattle.spec.specs.Roles.{roles-of, role-count}
 use Rattle.spec.specs.Book.{book}
-use Rattle.cells.specs.Rows.{row-bits, cell}
+use Rattle.cell_rows.specs.Rows.{row-bits, cell}
 use Rattle.cells.specs.CellSets.{in-cells}
-use Rattle.cells.specs.CellPlaces.{marked, Shown, Part}
+use Rattle.cell_rows.specs.CellPlaces.{marked, Shown, Part}
 use Rattle.cells.specs.Laws.CellPlace.{cell-marked}
 use Rattle.cells.specs.Laws.CellList.{cell-of, grant-of-cell}
 use Rattle.roles.specs.RolesShown.{RolesAt}

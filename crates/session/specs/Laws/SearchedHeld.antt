@@ -9,7 +9,7 @@ use Rattle.spec.specs.Machine.{State}
 use Rattle.spec.specs.Session.{no-sheet, loaded}
 use Rattle.spec.specs.Calls.{SearchAnswer, search-refused, searched-on, search-answer, after-search, Searches}
 use Rattle.search.specs.declared.machine.Ran.{Ran}
-use Rattle.roles.specs.StandingCases.{standing-case}
+use Rattle.standing.specs.StandingCases.{standing-case}
 use Rattle.book_lines.specs.declared.counts.Counts.{Counts}
 use Rattle.session.specs.CodeSession.{text-in, state-in, view}
 use Rattle.session.specs.Counted.{CountsIn, moved-to, RanIn}

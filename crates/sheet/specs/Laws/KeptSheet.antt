@@ -16,7 +16,7 @@ use Rattle.bits.specs.Bit.{bit}
 use Rattle.lists.specs.TestLaws.{same-bytes-refl}
 use Rattle.lists.specs.SameLaws.{distinct-places}
 use Rattle.lists.specs.ListOfLaws.{length-list-of, list-of-element}
-use Rattle.cells.specs.Rows.{row-words}
+use Rattle.cell_rows.specs.Rows.{row-words}
 use Rattle.cells.specs.Laws.WordRows.{word-row, word-rows, word-lines, word-grants}
 use Rattle.places.specs.Places.{from-at, to-at, Part, NamesPlaced}
 use Rattle.names.specs.NamesAt.{name-there, names-at}

@@ -19,7 +19,8 @@ use Rattle.lists.specs.Span.{further, span, span-within}
 use Rattle.lists.specs.TestLaws.{all-intro, all-elim}
 use Rattle.places.specs.Places.{part}
 use Rattle.rules.specs.NameCauses.{sized-name}
-use Rattle.text.specs.Fields.{separator, field-from, field-read}
+use Rattle.reader.specs.Fields.{field-from, field-read}
+use Rattle.text.specs.Line.{separator}
 use Rattle.text.specs.Laws.Byte.{name-byte-no-comma, name-byte-no-line-feed}
 use Rattle.sheet.specs.Spelled.{is-name, field-end, name-said, name-read, NameAt}
 use Rattle.sheet.specs.declared.spelled.NameRead.{NameRead}

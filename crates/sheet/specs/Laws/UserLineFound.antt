@@ -14,7 +14,7 @@ use Rattle.spec.specs.Sheet.{cell-text}
 use Rattle.bits.specs.Truth.{and-intro}
 use Rattle.bits.specs.Bit.{bit}
 use Rattle.places.specs.Places.{part}
-use Rattle.text.specs.Fields.{separator}
+use Rattle.text.specs.Line.{separator}
 use Rattle.cells_read.specs.CellsWord.{CellsStand, CellsIn}
 use Rattle.sheet.specs.Laws.CellsStanding.{cells-text, cells-length, cells-stand, stands-cells}
 use Rattle.text.specs.Laws.Line.{line-parts}

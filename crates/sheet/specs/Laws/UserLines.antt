@@ -19,7 +19,7 @@ use Rattle.bits.specs.Laws.Step.{sum-below-step}
 use Rattle.bits.specs.Bit.{bit, word-bits}
 use Rattle.text.specs.Laws.Line.{text-append}
 use Rattle.lists.specs.ListOfLaws.{list-of-last, list-of-same, length-list-of}
-use Rattle.cells.specs.Rows.{row-words}
+use Rattle.cell_rows.specs.Rows.{row-words}
 use Rattle.places.specs.Places.{place-base, place-of, from-at, to-at}
 use Rattle.places.specs.Laws.Places.{note-place, place-stays, noted-from, noted-to, zero-there, blank-kept}
 use Rattle.steps.specs.Stands.{Stands}

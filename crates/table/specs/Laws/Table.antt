@@ -17,7 +17,7 @@ use Rattle.spec.specs.Sheet.{Sheet}
 use Rattle.bits.specs.Laws.Below.{below-or-from}
 use Rattle.bits.specs.Bit.{bit, word-bits}
 use Rattle.bits.specs.Laws.Bit.{bit-of-zero}
-use Rattle.cells.specs.CellPlaces.{grant-of, Shown}
+use Rattle.cell_rows.specs.CellPlaces.{grant-of, Shown}
 use Rattle.cells.specs.Laws.NextBelow.{next-passes, next-fails}
 use Rattle.fit.specs.Laws.FitWord.{fit-at-grants}
 use Rattle.table.specs.TableWords.{table-row, table-limit, table-bit, fit-among, table-word, FirstBits, Table}

@@ -15,7 +15,7 @@ use lib.Bits.{bitAnd}
 use Rattle.bits.specs.Laws.Below.{below-or-from}
 use Rattle.bits.specs.Bit.{bit, word-bits}
 use Rattle.bits.specs.Laws.Bit.{bit-of-zero, bit-and}
-use Rattle.cells.specs.Rows.{row-bits}
+use Rattle.cell_rows.specs.Rows.{row-bits}
 use Rattle.table.specs.TableWords.{table-row, table-limit, table-word, FirstBits}
 use Rattle.table.specs.TableParts.{CellsFrom, user-holds-at, user-holds, permission-held-at, permission-held}
 use Rattle.table.specs.TableParts.{ColumnsOf}

@@ -10,8 +10,8 @@ use lib.Dec.{eqb}
 use Rattle.bits.specs.Bit.{bit, word-bits}
 use Rattle.bits.specs.Truth.{passes-or-fails, not-both, and-left}
 use Rattle.bits.specs.Counting.{Lowest}
-use Rattle.cells.specs.Rows.{row-words}
-use Rattle.cells.specs.CellPlaces.{marked}
+use Rattle.cell_rows.specs.Rows.{row-words}
+use Rattle.cell_rows.specs.CellPlaces.{marked}
 use Rattle.verdict.specs.NearCells.{tie-at, Untried}
 use Rattle.verdict.specs.Misfits.{row-word, misfit-at}
 use Rattle.verdict.specs.Laws.Misfit.{misfit-fails, misfit-of-others, misfit-held}

@@ -15,8 +15,8 @@ use Rattle.bits.specs.Bit.{bit, word-bits}
 use Rattle.bits.specs.Truth.{implies, implies-intro, passes-or-fails, not-both, and-intro}
 use Rattle.bits.specs.Laws.Below.{some-below-intro, some-below-ext, none-below-elim, every-below-intro}
 use Rattle.bits.specs.Laws.Below.{every-below-ext}
-use Rattle.cells.specs.Rows.{row-words, row-bits}
-use Rattle.cells.specs.CellPlaces.{marked, Part}
+use Rattle.cell_rows.specs.Rows.{row-words, row-bits}
+use Rattle.cell_rows.specs.CellPlaces.{marked, Part}
 use Rattle.cells.specs.Laws.CellPlace.{user-of-cell}
 use Rattle.cells.specs.Laws.NextBelow.{next-passes, next-fails}
 use Rattle.fit.specs.Laws.FitWord.{marked-in-word}

@@ -11,7 +11,7 @@ use Rattle.bits.specs.Counting.{NextFrom}
 use Rattle.bits.specs.Bit.{bit, word-bits}
 use Rattle.bits.specs.Truth.{passes-or-fails, and-intro, and-left, and-right}
 use Rattle.bits.specs.Laws.Below.{below-or-from}
-use Rattle.cells.specs.Rows.{row-words, row-bits}
+use Rattle.cell_rows.specs.Rows.{row-words, row-bits}
 use Rattle.fit.specs.Columns.{held-in}
 use Rattle.verdict.specs.Misfits.{row-fits, misfit-at, words-before}
 use Rattle.verdict.specs.Laws.Misfit.{SuspectsWord}

@@ -23,11 +23,11 @@ use Rattle.bits.specs.Laws.Count.{count-below-ext}
 use Rattle.bits.specs.Laws.CountJoin.{count-below-without}
 use Rattle.lists.specs.AppendLaws.{all-map, found-map, first-map}
 use Rattle.lists.specs.PassingBelow.{passing-below, passing-all, passing-first, passing-first-none}
-use Rattle.cells.specs.Rows.{row-words, row-bits}
+use Rattle.cell_rows.specs.Rows.{row-words, row-bits}
 use Rattle.cells.specs.Laws.Grant.{same-grant-equal, equal-same-grant}
 use Rattle.fit.specs.Laws.Fit.{fits-itself}
 use Rattle.cells.specs.CellSets.{cell-grants}
-use Rattle.cells.specs.CellPlaces.{grant-of, marked, fit-in, near, Shown, Part, cells-of}
+use Rattle.cell_rows.specs.CellPlaces.{grant-of, marked, fit-in, near, Shown, Part, cells-of}
 use Rattle.cells.specs.Laws.CellList.{cell-of, cell-of-grant, marked-holds, cell-grants-by-cell, passing-grants-count}
 use Rattle.fit.specs.Laws.FitWord.{fits-in-rows}
 use Rattle.verdict.specs.NearCells.{dominates-in, tie-at}

@@ -14,7 +14,7 @@ use Rattle.bits.specs.Laws.Bit.{bit-of-zero}
 use Rattle.bits.specs.Truth.{and-intro, and-left, and-right}
 use Rattle.bits.specs.Counting.{Lowest}
 use Rattle.bits.specs.Laws.Below.{below-or-from}
-use Rattle.cells.specs.CellPlaces.{marked}
+use Rattle.cell_rows.specs.CellPlaces.{marked}
 use Rattle.verdict.specs.NearCells.{dominates-in, tie-test, tie-at, Untried}
 use Rattle.verdict.specs.ReductionVerdict.{LowestIn, NoneIn}
 

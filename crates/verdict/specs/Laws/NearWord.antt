@@ -14,9 +14,9 @@ use Rattle.bits.specs.Bit.{bit, word-bits}
 use Rattle.bits.specs.Truth.{implies, implies-intro, implies-elim, fails-unless, not-both, and-intro, and-left}
 use Rattle.bits.specs.Truth.{and-right}
 use Rattle.bits.specs.Laws.Below.{every-below-add, every-below-intro, every-below-elim}
-use Rattle.cells.specs.Rows.{row-words, row-bits, cell}
+use Rattle.cell_rows.specs.Rows.{row-words, row-bits, cell}
 use Rattle.cells.specs.CellSets.{in-cells}
-use Rattle.cells.specs.CellPlaces.{grant-of, marked, fit-in, near, Part, cells-of}
+use Rattle.cell_rows.specs.CellPlaces.{grant-of, marked, fit-in, near, Part, cells-of}
 use Rattle.cells.specs.Laws.CellPlace.{user-of-cell, cell-marked, fit-by-word}
 use Rattle.fit.specs.Laws.FitWord.{marked-in-word}
 use Rattle.fit.specs.Columns.{held-in}

@@ -22,9 +22,9 @@ use Rattle.bits.specs.Laws.CountJoin.{count-below-without}
 use Rattle.bits.specs.Laws.Below.{below-or-from, last-or-below}
 use Rattle.lists.specs.AppendLaws.{filter-map}
 use Rattle.lists.specs.PassingBelow.{passing-below, passing-filter, passing-ext}
-use Rattle.cells.specs.Rows.{row-bits}
+use Rattle.cell_rows.specs.Rows.{row-bits}
 use Rattle.cells.specs.CellSets.{cell-grants}
-use Rattle.cells.specs.CellPlaces.{cell-limit, grant-of, marked, Shown, Part}
+use Rattle.cell_rows.specs.CellPlaces.{cell-limit, grant-of, marked, Shown, Part}
 use Rattle.cells.specs.Laws.CellList.{cell-grants-by-cell}
 use Rattle.verdict.specs.Laws.Near.{same-cell}
 use Rattle.verdict.specs.Log.{removal-of, log-of}

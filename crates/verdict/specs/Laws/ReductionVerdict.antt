@@ -15,7 +15,7 @@ use Rattle.spec.specs.Fit.{fits, partners}
 use Rattle.spec.specs.Reduction.{stays, is-single, is-tied, verdict}
 use Rattle.bits.specs.Truth.{not-both, not-fails, and-left, and-right}
 use Rattle.cells.specs.CellSets.{cell-grants}
-use Rattle.cells.specs.CellPlaces.{grant-of, marked, Shown, Part, cells-of}
+use Rattle.cell_rows.specs.CellPlaces.{grant-of, marked, Shown, Part, cells-of}
 use Rattle.verdict.specs.NearCells.{dominates-in, tie-at}
 use Rattle.verdict.specs.Laws.Near.{row-cells, partners-one-fewer, tied-by-cell, untied-by-cell}
 use Rattle.verdict.specs.ReductionVerdict.{LowestIn, NoneIn}

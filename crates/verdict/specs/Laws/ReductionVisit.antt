@@ -15,9 +15,9 @@ use Rattle.spec.specs.Reduction.{Reduction, carry-out, visit}
 use Rattle.bits.specs.Bit.{word-bits}
 use Rattle.bits.specs.Truth.{and-left}
 use Rattle.bits.specs.Laws.Count.{count-below-pos}
-use Rattle.cells.specs.Rows.{row-words}
+use Rattle.cell_rows.specs.Rows.{row-words}
 use Rattle.cells.specs.CellSets.{cell-grants}
-use Rattle.cells.specs.CellPlaces.{cell-limit, grant-of, marked, Shown, Part, cells-of}
+use Rattle.cell_rows.specs.CellPlaces.{cell-limit, grant-of, marked, Shown, Part, cells-of}
 use Rattle.verdict.specs.Log.{removal-of, log-of}
 use Rattle.verdict.specs.ReductionVerdict.{GrantJudged}
 use Rattle.verdict.specs.ReductionWork.{Work, state-of, WorkReady, Visited, Removable, Removed}

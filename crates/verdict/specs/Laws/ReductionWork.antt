@@ -8,7 +8,7 @@ use Rattle.spec.specs.Sheet.{Sheet, Grant}
 use Rattle.spec.specs.Reduction.{Reduction, visit, visits}
 use Rattle.bits.specs.Laws.Count.{count-below-mono}
 use Rattle.lists.specs.AppendLaws.{map-append}
-use Rattle.cells.specs.CellPlaces.{cell-limit, grant-of, marked, Part}
+use Rattle.cell_rows.specs.CellPlaces.{cell-limit, grant-of, marked, Part}
 use Rattle.verdict.specs.ReductionWork.{Work, state-of, WorkReady, Visited}
 
 pub part-all : (left : List ℕ) → Part left left

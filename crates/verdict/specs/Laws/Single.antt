@@ -19,7 +19,7 @@ use Rattle.bits.specs.Laws.Count.{count-below-pos, count-below-none-intro}
 use Rattle.bits.specs.Laws.CountJoin.{count-below-one-intro, count-below-one-elim}
 use Rattle.bits.specs.Word.{LowestDropped}
 use Rattle.bits.specs.Laws.Word.{some-bit, dropped-count}
-use Rattle.cells.specs.CellPlaces.{cell-limit, grant-of, marked, fit-in, near, Part}
+use Rattle.cell_rows.specs.CellPlaces.{cell-limit, grant-of, marked, fit-in, near, Part}
 use Rattle.fit.specs.Laws.FitWord.{marked-in-word}
 use Rattle.verdict.specs.Laws.NearWord.{one-row-fits}
 

@@ -7,7 +7,7 @@ use mathlib.Core.Path.{_≡_}
 use mathlib.Core.Bool.{Bool}
 use Rattle.bits.specs.Bit.{bit, word-bits}
 use Rattle.bits.specs.Counting.{Lowest}
-use Rattle.cells.specs.Rows.{row-words}
+use Rattle.cell_rows.specs.Rows.{row-words}
 use Rattle.verdict.specs.Laws.NearTie.{none-in-words, none-then-lowest}
 use Rattle.bits.specs.Laws.Walk.{Walk, walk-before, walk-ended}
 use Rattle.verdict.specs.ReductionVerdict.{LowestIn, NoneIn}

@@ -21,9 +21,9 @@ use Rattle.bits.specs.Laws.CountJoin.{count-below-split}
 use Rattle.bits.specs.Laws.Step.{sum-below-step}
 use Rattle.bits.specs.Laws.Sum.{sum-below-more, sum-below-le}
 use Rattle.bits.specs.Bit.{bit, word-bits}
-use Rattle.cells.specs.Rows.{row-words, row-bits}
+use Rattle.cell_rows.specs.Rows.{row-words, row-bits}
 use Rattle.cells.specs.CellSets.{cell-grants}
-use Rattle.cells.specs.CellPlaces.{cell-words, cell-limit, grant-of, marked, fit-in, near, Shown, Part}
+use Rattle.cell_rows.specs.CellPlaces.{cell-words, cell-limit, grant-of, marked, fit-in, near, Shown, Part}
 use Rattle.fit.specs.Laws.FitWord.{marked-in-word, near-count}
 use Rattle.cells.specs.Laws.MadeCells.{getD-zeros}
 use Rattle.fit.specs.Columns.{near-in-word}

@@ -19,8 +19,8 @@ use Rattle.bits.specs.Laws.Count.{count-below-ext, count-below-none-intro}
 use Rattle.bits.specs.Bit.{bit, word-bits}
 use Rattle.bits.specs.Laws.Bit.{bit-and, bit-of-zero}
 use Rattle.bits.specs.Word.{LowestDropped}
-use Rattle.cells.specs.Rows.{row-words, row-bits}
-use Rattle.cells.specs.CellPlaces.{cell-words, grant-of, marked, fit-in}
+use Rattle.cell_rows.specs.Rows.{row-words, row-bits}
+use Rattle.cell_rows.specs.CellPlaces.{cell-words, grant-of, marked, fit-in}
 use Rattle.cells.specs.Laws.CellPlace.{fit-by-word}
 use Rattle.witness.specs.CountChange.{at-position, fit-count, ChangedAt, of-user, of-users, of-users-below}
 use Rattle.witness.specs.Laws.CountChange.{word-of-position, none-at, nothing-changed, then-changed}

@@ -5,7 +5,7 @@ use mathlib.Core.Path.{refl}
 use Rattle.spec.specs.Vocabulary.{every-below}
 use Rattle.spec.specs.Sheet.{sheet-of, sheet-of-lines}
 use Rattle.bits.specs.Bit.{bit}
-use Rattle.cells.specs.Rows.{row-bits, row-words}
+use Rattle.cell_rows.specs.Rows.{row-bits, row-words}
 use Rattle.book_lines.specs.RowsSaid.{grant-cells-elim}
 use Rattle.worked_book.proofs.without_grants.Statement.{statement}
 use Rattle.worked_book.proofs.without_grants.Tie as tie

@@ -7,7 +7,7 @@ use Rattle.spec.specs.Decimal.{decimal}
 use Rattle.answers.specs.Said.{state-said}
 use Rattle.answers.specs.declared.answer.Named.{Named}
 use Rattle.answers.specs.declared.answer.Named.the-variants as named
-use Rattle.roles.specs.declared.standing.Standing.{Standing as StandingValue}
+use Rattle.standing.specs.declared.standing.Standing.{Standing as StandingValue}
 use Rattle.text.specs.Written.{written-as}
 use Rattle.answer_lines.specs.Answers.{answer-line, state-word}
 use Rattle.answer_lines.proofs.answer.put_searched.Statement.{statement}

@@ -6,7 +6,7 @@ use mathlib.Core.Path.{sym}
 use lib.ListN.{length}
 use Rattle.spec.specs.Text.{line-text}
 use Rattle.spec.specs.Sheet.{sheet-of, user-count}
-use Rattle.cells.specs.Rows.{row-words}
+use Rattle.cell_rows.specs.Rows.{row-words}
 use Rattle.blocks.specs.Laws.Laid.{user-counted, users-all}
 use Rattle.cell_text.specs.Laws.Parts.{Listing, listing-ends, listing-starts, part-ready, part-within, part-written}
 use Rattle.book_lines.specs.RowsSaid.{user-line}

@@ -6,7 +6,7 @@ use native.Mathlib.Omega.{arith}
 use mathlib.Core.Bool.{So}
 use mathlib.Core.Path.{_≡_, sym}
 use Rattle.spec.specs.Sheet.{sheet-of, permission-count}
-use Rattle.cells.specs.Rows.{cell, row-words}
+use Rattle.cell_rows.specs.Rows.{cell, row-words}
 use Rattle.blocks.specs.Laws.Laid.{permission-counted, permissions-all, permissions-in-row}
 use Rattle.cell_text.specs.Laws.Parts.{Listing, listing-ends, listing-starts, part-ready, part-within, part-written}
 use Rattle.blocks.specs.Laws.SkippedParts.{listing-past, none-said}

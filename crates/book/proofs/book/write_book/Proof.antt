@@ -9,7 +9,7 @@ use Rattle.spec.specs.Limits.{user-limit}
 use Rattle.spec.specs.Text.{Bytes, text-of}
 use Rattle.spec.specs.Sheet.{sheet-of}
 use Rattle.spec.specs.Book.{witness-block}
-use Rattle.cells.specs.Rows.{row-bits, row-words}
+use Rattle.cell_rows.specs.Rows.{row-bits, row-words}
 use Rattle.cells.specs.CellSets.{cell-grants}
 use Rattle.book.specs.BookRows.{book-parts, rows-book}
 use Rattle.book_lines.specs.CountsText.{counts-text}

@@ -5,7 +5,7 @@ use Prim.Native.Nat.{ℕ, _+_, _*_, _^_, _≤_, _<_}
 use native.Mathlib.Omega.{arith}
 use mathlib.Core.Path.{_∙_}
 use Rattle.spec.specs.Limits.{user-limit}
-use Rattle.cells.specs.Rows.{row-words, row-bits}
+use Rattle.cell_rows.specs.Rows.{row-words, row-bits}
 use Rattle.rules.specs.AcceptedFacts.{accepted-lawful}
 use Rattle.names.specs.LaidOut.{UsersAt, PermissionsAt}
 use Rattle.names.specs.declared.layout.Layout.{Layout}

@@ -2,7 +2,7 @@
 use borrow.Author.Needs.{needs}
 use native.Mathlib.Omega.{arith}
 use mathlib.Core.Path.{sym}
-use Rattle.cells.specs.Rows.{row-bits, row-words}
+use Rattle.cell_rows.specs.Rows.{row-bits, row-words}
 use Rattle.book.specs.Laws.NameBytes.{few-role-bytes, many-role-bytes}
 use Rattle.book.proofs.length.role_names_length.Statement.{statement}
 use Rattle.book.proofs.length.role_names_length.Tie as tie

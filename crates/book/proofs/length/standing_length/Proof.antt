@@ -3,8 +3,8 @@ use borrow.Author.Needs.{needs}
 use native.Mathlib.Omega.{arith}
 use mathlib.Core.Path.{ap, refl, sym}
 use Rattle.spec.specs.Text.{Bytes}
-use Rattle.roles.specs.StandingCases.{standing-case}
-use Rattle.roles.specs.declared.standing.Standing.{Standing as StandingValue}
+use Rattle.standing.specs.StandingCases.{standing-case}
+use Rattle.standing.specs.declared.standing.Standing.{Standing as StandingValue}
 use Rattle.book_lines.specs.CountsText.{standing-text}
 use Rattle.decimal.specs.Measured.{measured-as}
 use Rattle.book.proofs.length.standing_length.Statement.{statement}

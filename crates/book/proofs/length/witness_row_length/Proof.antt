@@ -7,7 +7,7 @@ use mathlib.Core.Path.{ap}
 use lib.ListN.{length}
 use Rattle.spec.specs.Limits.{name-limit}
 use Rattle.spec.specs.Sheet.{sheet-of, permission-count}
-use Rattle.cells.specs.Rows.{cell, row-bits, row-words}
+use Rattle.cell_rows.specs.Rows.{cell, row-bits, row-words}
 use Rattle.decimal.specs.Measured.{Adding, Measured, adding-ends, adding-starts, measured-within, part-added}
 use Rattle.decimal.specs.Measured.{piece-most}
 use Rattle.blocks.specs.Laws.Laid.{permission-counted, permissions-all, permissions-in-row}

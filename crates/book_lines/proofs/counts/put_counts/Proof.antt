@@ -7,7 +7,7 @@ use mathlib.Core.Path.{sym}
 use lib.ListN.{length}
 use Rattle.spec.specs.Text.{ascii, Bytes}
 use Rattle.spec.specs.Decimal.{decimal}
-use Rattle.roles.specs.StandingCases.{standing-case}
+use Rattle.standing.specs.StandingCases.{standing-case}
 use Rattle.book_lines.specs.Laws.Counts.{counts-parts}
 use Rattle.book_lines.specs.CountsText.{standing-text}
 use Rattle.text.specs.Written.{WrittenSoFar, end-within, fits-as, front-fits, place-within, room-behind}

@@ -2,8 +2,8 @@
 use borrow.Author.Needs.{needs}
 use mathlib.Core.Path.{ap, sym}
 use Rattle.spec.specs.Text.{Bytes}
-use Rattle.roles.specs.StandingCases.{standing-case}
-use Rattle.roles.specs.declared.standing.Standing.{Standing as StandingValue}
+use Rattle.standing.specs.StandingCases.{standing-case}
+use Rattle.standing.specs.declared.standing.Standing.{Standing as StandingValue}
 use Rattle.book_lines.specs.CountsText.{standing-text}
 use Rattle.text.specs.Written.{fits-as, written-as}
 use Rattle.book_lines.proofs.counts.put_standing.Statement.{statement}

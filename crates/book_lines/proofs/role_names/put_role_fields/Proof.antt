@@ -7,7 +7,7 @@ use Rattle.spec.specs.Book.{role-name}
 use Rattle.cell_text.specs.Laws.Parts.{Listing, listing-ends, listing-starts, part-ready, part-within, part-written}
 use Rattle.text.specs.Line.{behind-comma}
 use Rattle.text.specs.Written.{fits-as, room-behind, within-buffer, written-as}
-use Rattle.cells.specs.Rows.{row-bits, row-words}
+use Rattle.cell_rows.specs.Rows.{row-bits, row-words}
 use Rattle.book_lines.specs.Laws.Name.{role-field-parts}
 use Rattle.book_lines.proofs.role_names.put_role_fields.Statement.{statement}
 use Rattle.book_lines.proofs.role_names.put_role_fields.Tie as tie

@@ -2,7 +2,7 @@
 use borrow.Author.Needs.{needs}
 use native.Mathlib.Omega.{arith}
 use mathlib.Core.Path.{sym}
-use Rattle.cells.specs.Rows.{row-bits, row-words}
+use Rattle.cell_rows.specs.Rows.{row-bits, row-words}
 use Rattle.book_lines.specs.Laws.Name.{role-name-parts}
 use Rattle.text.specs.Written.{fits-as, written-as}
 use Rattle.book_lines.proofs.role_names.put_role_name.Statement.{statement}

@@ -1,6 +1,6 @@
 -- `next::next_set`: the next bit of the row's word, where it is one of the cells that are looked at.
 use native.Mathlib.Omega.{arith}
-use Rattle.cells.specs.Rows.{row-words, row-bits}
+use Rattle.cell_rows.specs.Rows.{row-words, row-bits}
 use Rattle.cell_text.specs.Laws.NextSet.{next-at-end, next-past, next-within}
 use Rattle.cell_text.proofs.next.next_set.Statement.{statement}
 use Rattle.cell_text.proofs.next.next_set.Tie as tie

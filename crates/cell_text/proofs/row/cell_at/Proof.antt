@@ -1,7 +1,7 @@
 -- `cells::cell_at`: the bit of the word in which the cell stands.
 use borrow.Author.Needs.{needs}
 use native.Mathlib.Omega.{arith}
-use Rattle.cells.specs.Rows.{row-words, row-bits}
+use Rattle.cell_rows.specs.Rows.{row-words, row-bits}
 use Rattle.cell_text.proofs.row.cell_at.Statement.{statement}
 use Rattle.cell_text.proofs.row.cell_at.Tie as tie
 

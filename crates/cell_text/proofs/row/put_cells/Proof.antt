@@ -9,7 +9,7 @@ use lib.ListN.{length}
 use Rattle.spec.specs.Text.{Bytes}
 use Rattle.bits.specs.Bit.{bit}
 use Rattle.lists.specs.Listed.{listed, listed-same, listed-even}
-use Rattle.cells.specs.Rows.{cell, row-bits, row-words}
+use Rattle.cell_rows.specs.Rows.{cell, row-bits, row-words}
 use Rattle.cell_text.specs.CellsText.{cell-field}
 use Rattle.cell_text.specs.Laws.CellsWritten.{cell-field-length}
 use Rattle.cell_text.specs.Laws.Parts.{Listing, listing-ends, part-ready, part-within, part-written}

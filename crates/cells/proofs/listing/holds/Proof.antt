@@ -2,7 +2,7 @@
 use borrow.Author.Needs.{needs}
 use native.Mathlib.Omega.{arith}
 use mathlib.Core.Path.{sym}
-use Rattle.cells.specs.Rows.{row-words}
+use Rattle.cell_rows.specs.Rows.{row-words}
 use Rattle.cells.specs.Laws.KernelFit.{unheld-past}
 use Rattle.cells.proofs.listing.holds.Statement.{statement}
 use Rattle.cells.proofs.listing.holds.Tie as tie

@@ -9,7 +9,7 @@ use borrow.Author.Tests.{ltb-true, ltb-false}
 use lib.ListN.{getD}
 use Rattle.spec.specs.Limits.{user-limit, grant-limit}
 use Rattle.bits.specs.Bit.{word-bits}
-use Rattle.cells.specs.Rows.{row-words}
+use Rattle.cell_rows.specs.Rows.{row-words}
 use Rattle.cells.specs.KernelList.{ListedTo, WordRest, word-starts, next-listed, word-listed, word-cut}
 use Rattle.cells.proofs.listing.list_word.Statement.{statement}
 use Rattle.cells.proofs.listing.list_word.Tie as tie

@@ -5,7 +5,7 @@ use mathlib.Core.Path.{_≡_, refl}
 use Rattle.spec.specs.Limits.{user-limit, grant-limit}
 use Rattle.bits.specs.Bit.{word-bits}
 use Rattle.cells.specs.KernelList.{ListedTo, none-listed, all-listed}
-use Rattle.cells.specs.Rows.{row-words, row-bits}
+use Rattle.cell_rows.specs.Rows.{row-words, row-bits}
 use Rattle.cells.proofs.listing.listed.Statement.{statement}
 use Rattle.cells.proofs.listing.listed.Tie as tie
 

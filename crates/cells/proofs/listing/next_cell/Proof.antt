@@ -6,9 +6,9 @@ use mathlib.Core.Path.{_≡_}
 use Rattle.spec.specs.Limits.{user-limit}
 use Rattle.bits.specs.Bit.{word-bits}
 use Rattle.bits.specs.Counting.{Skipped}
-use Rattle.cells.specs.CellPlaces.{marked}
+use Rattle.cell_rows.specs.CellPlaces.{marked}
 use Rattle.cells.specs.KernelWalk.{passed-word, found-in-word}
-use Rattle.cells.specs.Rows.{row-words, row-bits}
+use Rattle.cell_rows.specs.Rows.{row-words, row-bits}
 use Rattle.cells.proofs.listing.next_cell.Statement.{statement}
 use Rattle.cells.proofs.listing.next_cell.Tie as tie
 

@@ -1,6 +1,6 @@
 -- `cells::listing::permission_of`: the cells of a row are those of the permissions in turn.
 use mathlib.Core.Path.{refl}
-use Rattle.cells.specs.Rows.{row-words, row-bits}
+use Rattle.cell_rows.specs.Rows.{row-words, row-bits}
 use Rattle.cells.proofs.listing.permission_of.Statement.{statement}
 use Rattle.cells.proofs.listing.permission_of.Tie as tie
 

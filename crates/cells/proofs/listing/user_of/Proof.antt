@@ -1,6 +1,6 @@
 -- `cells::listing::user_of`: a row has as many cells as bits.
 use mathlib.Core.Path.{refl}
-use Rattle.cells.specs.Rows.{row-words, row-bits}
+use Rattle.cell_rows.specs.Rows.{row-words, row-bits}
 use Rattle.cells.proofs.listing.user_of.Statement.{statement}
 use Rattle.cells.proofs.listing.user_of.Tie as tie
 

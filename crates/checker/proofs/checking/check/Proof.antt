@@ -5,7 +5,7 @@ use mathlib.Core.Path.{_≡_, sym, _∙_}
 use borrow.Author.Needs.{needs}
 use lib.ListN.{length}
 use Rattle.spec.specs.Limits.{book-limit, user-limit}
-use Rattle.cells.specs.Rows.{row-words}
+use Rattle.cell_rows.specs.Rows.{row-words}
 use Rattle.checker.specs.Laws.CheckSteps.{users-within, refused-for-sheet, refused-too-long}
 use Rattle.checker.proofs.checking.check.Statement.{statement}
 use Rattle.checker.proofs.checking.check.Tie as tie

@@ -5,7 +5,7 @@ use native.Mathlib.Omega.{arith}
 use borrow.Author.Needs.{needs}
 use Rattle.spec.specs.Limits.{role-limit}
 use Rattle.spec.specs.Sheet.{Sheet, sheet-of}
-use Rattle.cells.specs.Rows.{row-words}
+use Rattle.cell_rows.specs.Rows.{row-words}
 use Rattle.read_fields.specs.CountSteps.{CountsAt}
 use Rattle.form.specs.RowSteps.{zeros-blank}
 use Rattle.checker.specs.BookRead.{FrontRead, no-counts-written, no-roles-written}

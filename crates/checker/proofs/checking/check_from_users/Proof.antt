@@ -8,7 +8,7 @@ use borrow.Author.Needs.{needs}
 use lib.ListN.{length, length-replicate}
 use Rattle.spec.specs.Limits.{user-limit, role-limit}
 use Rattle.spec.specs.Sheet.{Sheet, sheet-of}
-use Rattle.cells.specs.Rows.{row-words}
+use Rattle.cell_rows.specs.Rows.{row-words}
 use Rattle.form.specs.RowSteps.{zeros-blank}
 use Rattle.read_rows.specs.UserSteps.{UsersPart}
 use Rattle.read_fields.specs.WitnessSteps.{WitnessPart}

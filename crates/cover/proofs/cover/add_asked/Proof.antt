@@ -1,7 +1,7 @@
 -- `cover::cover::add_asked`: the position of a class and a permission is that of their cell.
 use native.Mathlib.Omega.{arith}
-use Rattle.cells.specs.Rows.{row-words, row-bits}
-use Rattle.cells.specs.Laws.PositionSet.{cell-added}
+use Rattle.cell_rows.specs.Rows.{row-words, row-bits}
+use Rattle.cell_rows.specs.Laws.PositionSet.{cell-added}
 use Rattle.cover.proofs.cover.add_asked.Statement.{statement}
 use Rattle.cover.proofs.cover.add_asked.Tie as tie
 

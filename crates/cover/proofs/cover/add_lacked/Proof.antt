@@ -5,7 +5,7 @@ use native.Mathlib.Omega.{arith}
 use mathlib.Core.Path.{_≡_}
 use lib.ListN.{length, getD}
 use Rattle.bits.specs.Bit.{word-bits}
-use Rattle.cells.specs.Rows.{row-words, row-bits}
+use Rattle.cell_rows.specs.Rows.{row-words, row-bits}
 use Rattle.cover.specs.CoverWords.{LacksAdded, no-lacks-added, lacks-word-added}
 use Rattle.cover.proofs.cover.add_lacked.Statement.{statement}
 use Rattle.cover.proofs.cover.add_lacked.Tie as tie

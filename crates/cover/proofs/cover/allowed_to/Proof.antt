@@ -3,7 +3,7 @@ use Prim.Native.Nat.{_-_, _≤_}
 use native.Mathlib.Omega.{arith}
 use mathlib.Core.Path.{_≡_, refl, _∙_}
 use lib.ListN.{length}
-use Rattle.cells.specs.Rows.{row-words, row-bits}
+use Rattle.cell_rows.specs.Rows.{row-words, row-bits}
 use Rattle.cover.specs.CoverAllowed.{AllowedSoFar, none-allowed, one-allowed, allowed-all}
 use Rattle.cover.proofs.cover.allowed_to.Statement.{statement}
 use Rattle.cover.proofs.cover.allowed_to.Tie as tie

@@ -4,7 +4,7 @@ use native.Mathlib.Omega.{arith}
 use mathlib.Core.Path.{_≡_}
 use mathlib.Core.Bool.{false}
 use Rattle.bits.specs.Bit.{word-bits}
-use Rattle.cells.specs.Rows.{row-words, row-bits}
+use Rattle.cell_rows.specs.Rows.{row-words, row-bits}
 use Rattle.cover.specs.CoverFree.{free, none-before, found-free, none-free}
 use Rattle.cover.proofs.cover.class_for.Statement.{statement}
 use Rattle.cover.proofs.cover.class_for.Tie as tie

@@ -4,7 +4,7 @@ use native.Mathlib.Omega.{arith}
 use mathlib.Core.Bool.{Bool, not}
 use mathlib.Core.List.{List}
 use Rattle.bits.specs.Bit.{word-bits}
-use Rattle.cells.specs.Rows.{row-words, row-bits, cell}
+use Rattle.cell_rows.specs.Rows.{row-words, row-bits, cell}
 use Rattle.cells.specs.Laws.FirstAt.{Tried, none-tried, lowest-passes, one-tried, all-tried}
 use Rattle.cover.proofs.cover.free_in_word.Statement.{statement}
 use Rattle.cover.proofs.cover.free_in_word.Tie as tie

@@ -9,7 +9,7 @@ use mathlib.Core.Logic.{inl, inr}
 use lib.ListN.{length, getD, length-set}
 use Rattle.spec.specs.Limits.{grant-limit}
 use Rattle.bits.specs.Counting.{NextFrom}
-use Rattle.cells.specs.Rows.{row-words, row-bits}
+use Rattle.cell_rows.specs.Rows.{row-words, row-bits}
 use Rattle.cells.specs.Blank.{BlankFrom, zeros-blank, set-blank, later-blank}
 use Rattle.cells.specs.Laws.CellPlace.{row-bits-pos}
 use Rattle.cover.specs.CoverRelation.{user-at-cell, permission-at-cell, HeldCells, user-room, user-has-room}

@@ -1,7 +1,7 @@
 -- `cover::cover::is_lacked`: the bit tested is that of the class and the permission.
 use borrow.Author.Needs.{needs}
 use native.Mathlib.Omega.{arith}
-use Rattle.cells.specs.Rows.{row-words, row-bits}
+use Rattle.cell_rows.specs.Rows.{row-words, row-bits}
 use Rattle.cover.proofs.cover.is_lacked.Statement.{statement}
 use Rattle.cover.proofs.cover.is_lacked.Tie as tie
 

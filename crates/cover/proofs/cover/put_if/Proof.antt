@@ -2,9 +2,9 @@
 use Prim.Native.Nat.{_+_, _*_}
 use native.Mathlib.Omega.{arith}
 use mathlib.Core.Path.{_≡_}
-use Rattle.cells.specs.Rows.{row-words, row-bits}
+use Rattle.cell_rows.specs.Rows.{row-words, row-bits}
 use Rattle.cells.specs.Laws.CellAdded.{cell-kept}
-use Rattle.cells.specs.Laws.PositionSet.{cell-added}
+use Rattle.cell_rows.specs.Laws.PositionSet.{cell-added}
 use Rattle.cover.proofs.cover.put_if.Statement.{statement}
 use Rattle.cover.proofs.cover.put_if.Tie as tie
 

@@ -4,8 +4,8 @@ use native.Mathlib.Omega.{arith}
 use mathlib.Core.Path.{_≡_, refl, _∙_}
 use lib.ListN.{length}
 use Rattle.spec.specs.Limits.{user-limit}
-use Rattle.cells.specs.Rows.{row-words, row-bits}
-use Rattle.cells.specs.CellPlaces.{cell-words}
+use Rattle.cell_rows.specs.Rows.{row-words, row-bits}
+use Rattle.cell_rows.specs.CellPlaces.{cell-words}
 use Rattle.fit.specs.Columns.{column-words}
 use Rattle.fit.specs.ColumnsMade.{PutInBelow, none-put-in, next-put-in, columns-made}
 use Rattle.fit.proofs.column.columns_of.Statement.{statement}

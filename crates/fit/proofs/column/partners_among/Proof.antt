@@ -7,7 +7,7 @@ use borrow.Author.Tests.{ltb-false}
 use Rattle.spec.specs.Limits.{user-limit}
 use Rattle.bits.specs.Bit.{bit, word-bits}
 use Rattle.bits.specs.Laws.Count.{count-below-le}
-use Rattle.cells.specs.Rows.{row-words}
+use Rattle.cell_rows.specs.Rows.{row-words}
 use Rattle.fit.specs.Columns.{near-in-word}
 use Rattle.fit.specs.Laws.Column.{word-sum, word-sum-dropped, word-sum-of-none, near-sum-le, near-word-count}
 use Rattle.fit.proofs.column.partners_among.Statement.{statement}

@@ -7,8 +7,8 @@ use mathlib.Core.Path.{_≡_, refl}
 use Rattle.spec.specs.Limits.{user-limit}
 use Rattle.bits.specs.Counting.{sum-below}
 use Rattle.bits.specs.Bit.{word-bits}
-use Rattle.cells.specs.Rows.{row-words, row-bits}
-use Rattle.cells.specs.CellPlaces.{CountedBelow}
+use Rattle.cell_rows.specs.Rows.{row-words, row-bits}
+use Rattle.cell_rows.specs.CellPlaces.{CountedBelow}
 use Rattle.cells.specs.Laws.CellPlace.{row-bits-pos}
 use Rattle.fit.specs.Columns.{column-words, held-in}
 use Rattle.fit.specs.Laws.Column.{

@@ -3,7 +3,7 @@
 use native.Mathlib.Omega.{arith}
 use mathlib.Core.Path.{_≡_, refl}
 use Rattle.spec.specs.Limits.{user-limit}
-use Rattle.cells.specs.Rows.{row-words, row-bits}
+use Rattle.cell_rows.specs.Rows.{row-words, row-bits}
 use Rattle.fit.specs.ColumnsMade.{PuttingIn, one-put-in, all-put-in}
 use Rattle.fit.proofs.column.put_in_columns.Statement.{statement}
 use Rattle.fit.proofs.column.put_in_columns.Tie as tie

@@ -2,7 +2,7 @@
 -- next, and its position is dropped.
 use native.Mathlib.Omega.{arith}
 use Rattle.spec.specs.Limits.{user-limit}
-use Rattle.cells.specs.Rows.{row-words}
+use Rattle.cell_rows.specs.Rows.{row-words}
 use Rattle.fit.specs.Laws.ColumnUnion.{Joining, union-starts, union-goes-on, union-ends}
 use Rattle.fit.proofs.column.union_of.Statement.{statement}
 use Rattle.fit.proofs.column.union_of.Tie as tie

@@ -9,7 +9,7 @@ use lib.ListN.{getD}
 use Rattle.spec.specs.Limits.{user-limit}
 use Rattle.bits.specs.Bit.{bit}
 use Rattle.bits.specs.Laws.Bit.{bit-of-zero}
-use Rattle.cells.specs.Rows.{row-words, row-bits}
+use Rattle.cell_rows.specs.Rows.{row-words, row-bits}
 use Rattle.cells.specs.Laws.CellPlace.{fit-by-word}
 use Rattle.fit.proofs.fit.fitting.Statement.{statement}
 use Rattle.fit.proofs.fit.fitting.Tie as tie

@@ -1,7 +1,7 @@
 -- `row_cells::cells_in_word`: none, some or all positions of the word.
 use borrow.Author.Needs.{needs}
 use native.Mathlib.Omega.{arith}
-use Rattle.cells.specs.Rows.{row-words}
+use Rattle.cell_rows.specs.Rows.{row-words}
 use Rattle.form.proofs.row_cells.cells_in_word.Statement.{statement}
 use Rattle.form.proofs.row_cells.cells_in_word.Tie as tie
 

@@ -4,7 +4,7 @@ use native.Mathlib.Omega.{arith}
 use mathlib.Core.Path.{_≡_, refl, _∙_}
 use lib.ListN.{length, length-set}
 use Rattle.bits.specs.Bit.{word-bits}
-use Rattle.cells.specs.Rows.{row-words, row-bits}
+use Rattle.cell_rows.specs.Rows.{row-words, row-bits}
 use Rattle.form.specs.Laws.RoleLimit.{word-below}
 use Rattle.form.specs.RowGrown.{ClearedBelow, cleared-more}
 use Rattle.form.proofs.row_cells.clear_row.Statement.{statement}

@@ -9,7 +9,7 @@ use lib.ListN.{length}
 use Rattle.spec.specs.Sheet.{Sheet, sheet-of, user-count, permission-count}
 use Rattle.spec.specs.Book.{Said}
 use Rattle.spec.specs.Refusal.{counts-agree, product-agrees, witness-agrees}
-use Rattle.cells.specs.Rows.{row-words, row-bits}
+use Rattle.cell_rows.specs.Rows.{row-words, row-bits}
 use Rattle.rules.specs.AcceptedFacts.{Lawful, accepted-lawful}
 use Rattle.form.specs.Laws.RoleLimit.{roles-fit-a-row, permissions-fit-a-row}
 use Rattle.judging.specs.BookSays.{Says, counts-as-said, product-as-said, lines-as-said, witness-as-said}

@@ -4,7 +4,7 @@ use Prim.Native.Nat.{_+_, _*_, _<_}
 use native.Mathlib.Omega.{arith}
 use mathlib.Core.Path.{refl}
 use lib.ListN.{length}
-use Rattle.cells.specs.Rows.{row-words}
+use Rattle.cell_rows.specs.Rows.{row-words}
 use Rattle.form.specs.Laws.RoleLimit.{word-below}
 use Rattle.judging.specs.GivenRoles.{roles-masked}
 use Rattle.judging.proofs.product.roles_word.Statement.{statement}

@@ -4,7 +4,7 @@ use native.Mathlib.Omega.{arith}
 use mathlib.Core.Path.{sym}
 use borrow.Author.Needs.{needs}
 use lib.ListN.{length}
-use Rattle.cells.specs.Rows.{row-words}
+use Rattle.cell_rows.specs.Rows.{row-words}
 use Rattle.form.specs.Laws.RoleLimit.{word-below}
 use Rattle.judging.specs.ProductWords.{WordsAgree, words-start, words-more, words-end, word-differs}
 use Rattle.judging.proofs.product.row_agrees.Statement.{statement}

@@ -1,7 +1,7 @@
 -- `counts_block::read_counts`: the line of names, the two counts, the state and the empty line, one after the other.
 use borrow.Author.Needs.{needs}
 use Rattle.spec.specs.Text.{ascii}
-use Rattle.roles.specs.StandingCases.{standing-case}
+use Rattle.standing.specs.StandingCases.{standing-case}
 use Rattle.steps.specs.Stands.{Stands}
 use Rattle.steps.specs.Laws.Step.{misses-first}
 use Rattle.read_fields.specs.CountSteps.{CountAt, standing-text, after-heading, no-roles, no-bound, no-state}

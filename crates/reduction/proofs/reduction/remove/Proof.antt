@@ -6,7 +6,7 @@ use mathlib.Core.Path.{refl}
 use lib.ListN.{length-set}
 use lib.Seq.{getD-set-same, getD-set-other}
 use Rattle.spec.specs.Limits.{user-limit, grant-limit}
-use Rattle.cells.specs.Rows.{row-words}
+use Rattle.cell_rows.specs.Rows.{row-words}
 use Rattle.verdict.specs.Laws.ReductionRemove.{bit-cleared}
 use Rattle.reduction.proofs.reduction.remove.Statement.{statement}
 use Rattle.reduction.proofs.reduction.remove.Tie as tie

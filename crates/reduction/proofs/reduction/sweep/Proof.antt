@@ -10,8 +10,8 @@ use lib.Arith.{digits-lt, digits-div}
 use lib.ListN.{getD}
 use Rattle.spec.specs.Limits.{user-limit}
 use Rattle.bits.specs.Bit.{word-bits}
-use Rattle.cells.specs.Rows.{row-words}
-use Rattle.cells.specs.CellPlaces.{cells-of, marked}
+use Rattle.cell_rows.specs.Rows.{row-words}
+use Rattle.cell_rows.specs.CellPlaces.{cells-of, marked}
 use Rattle.verdict.specs.Insides.{Insides}
 use Rattle.verdict.specs.Laws.Inside.{insides-found, insides-kept}
 use Rattle.verdict.specs.ReductionWork.{work-of, word-cells}

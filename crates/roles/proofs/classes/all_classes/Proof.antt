@@ -9,8 +9,8 @@ use lib.ListN.{length, getD, set}
 use lib.Seq.{getD-set-same}
 use Rattle.spec.specs.Limits.{grant-limit, user-limit}
 use Rattle.spec.specs.Roles.{Classes, put-back}
-use Rattle.cells.specs.Rows.{row-words}
-use Rattle.cells.specs.CellPlaces.{cell-limit}
+use Rattle.cell_rows.specs.Rows.{row-words}
+use Rattle.cell_rows.specs.CellPlaces.{cell-limit}
 use Rattle.verdict.specs.Log.{log-of, removal-of}
 use Rattle.roles.specs.CellClasses.{ClassesAt, classes-in}
 use Rattle.roles.specs.Laws.CellClass.{single-written, tied-written}

@@ -6,8 +6,8 @@ use borrow.Author.Needs.{needs}
 use mathlib.Core.Path.{_≡_}
 use lib.ListN.{length, getD}
 use Rattle.spec.specs.Limits.{user-limit}
-use Rattle.cells.specs.Rows.{row-words}
-use Rattle.cells.specs.CellPlaces.{cell-limit}
+use Rattle.cell_rows.specs.Rows.{row-words}
+use Rattle.cell_rows.specs.CellPlaces.{cell-limit}
 use Rattle.roles.specs.CellClasses.{ClassAt, paired-in}
 use Rattle.roles.specs.Laws.CellClass.{kernel-grant-written}
 use Rattle.roles.proofs.classes.place_kernel.Statement.{statement}

@@ -3,8 +3,8 @@
 use mathlib.Core.Path.{refl, sym, ap, _∙_}
 use Rattle.spec.specs.Limits.{user-limit}
 use Rattle.spec.specs.Cover.{used}
-use Rattle.cells.specs.Rows.{row-words}
-use Rattle.cells.specs.CellPlaces.{cell-limit}
+use Rattle.cell_rows.specs.Rows.{row-words}
+use Rattle.cell_rows.specs.CellPlaces.{cell-limit}
 use Rattle.roles.specs.Laws.CellClass.{no-classes}
 use Rattle.roles.specs.Laws.RolesInput.{kernel-below, removed-below, partner-below, classed-rows, roles-shown}
 use Rattle.roles.specs.Laws.RolesInput.{roles-only}

@@ -1,7 +1,7 @@
 -- `roles::counted`: a role is a column of a row, so one more than its number fits; the greater of the two is answered.
 use native.Mathlib.Omega.{arith}
 use borrow.Author.Needs.{needs}
-use Rattle.cells.specs.Rows.{row-words, row-bits}
+use Rattle.cell_rows.specs.Rows.{row-words, row-bits}
 use Rattle.roles.proofs.numbering.counted.Statement.{statement}
 use Rattle.roles.proofs.numbering.counted.Tie as tie
 

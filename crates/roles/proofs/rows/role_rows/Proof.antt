@@ -3,7 +3,7 @@ use Prim.Native.Nat.{_*_, _-_, _≤_}
 use native.Mathlib.Omega.{arith}
 use mathlib.Core.Path.{_≡_, refl}
 use Rattle.spec.specs.Limits.{user-limit, grant-limit}
-use Rattle.cells.specs.Rows.{row-words, row-bits}
+use Rattle.cell_rows.specs.Rows.{row-words, row-bits}
 use Rattle.roles.specs.RoleWalk.{RolesTo}
 use Rattle.roles.specs.Laws.RoleWalk.{no-roles}
 use Rattle.roles.proofs.rows.role_rows.Statement.{statement}

@@ -5,8 +5,8 @@ use native.Mathlib.Omega.{arith}
 use lib.ListN.{getD, set}
 use lib.Seq.{set-getD}
 use Rattle.spec.specs.Limits.{user-limit, grant-limit}
-use Rattle.cells.specs.Rows.{row-words, row-bits}
-use Rattle.cells.specs.CellPlaces.{cell-limit}
+use Rattle.cell_rows.specs.Rows.{row-words, row-bits}
+use Rattle.cell_rows.specs.CellPlaces.{cell-limit}
 use Rattle.roles.specs.RoleNumbers.{class-limit}
 use Rattle.roles.specs.Laws.RoleWalk.{RowTo, row-starts, row-ends, cell-below, few-here, role-here, row-next}
 use Rattle.roles.specs.Laws.RoleWalk.{word-added, row-added}

@@ -5,7 +5,7 @@ use mathlib.Core.Path.{_≡_, sym, ap, _∙_}
 use Rattle.refusal.specs.Laws.Fields.{FieldStep, field-step}
 use Rattle.sheet.specs.Spelled.{field-end}
 use Rattle.sheet.specs.Laws.Spelled.{field-ends}
-use Rattle.text.specs.declared.cursor.FieldRead.{FieldRead}
+use Rattle.reader.specs.declared.cursor.FieldRead.{FieldRead}
 use Rattle.sheet.proofs.spelled.read_name.Statement.{statement}
 use Rattle.sheet.proofs.spelled.read_name.Tie as tie
 

@@ -4,7 +4,7 @@ use native.Mathlib.Omega.{arith}
 use mathlib.Core.Path.{_≡_, refl, sym, _∙_}
 use mathlib.Core.Logic.{⊎-elim}
 use lib.ListN.{length, length-set}
-use Rattle.cells.specs.Rows.{row-words, row-bits}
+use Rattle.cell_rows.specs.Rows.{row-words, row-bits}
 use Rattle.table.specs.TableParts.{ColumnsOf}
 use Rattle.table.specs.Laws.TablePart.{column-put-in, column-left-out}
 use Rattle.table.proofs.table.columns.Statement.{statement}

@@ -1,7 +1,7 @@
 -- `table::table::held_by`: each word has its own cells.
 use native.Mathlib.Omega.{arith}
 use borrow.Author.Needs.{needs}
-use Rattle.cells.specs.Rows.{row-words, row-bits}
+use Rattle.cell_rows.specs.Rows.{row-words, row-bits}
 use Rattle.table.specs.TableWords.{table-row}
 use Rattle.table.proofs.table.held_by.Statement.{statement}
 use Rattle.table.proofs.table.held_by.Tie as tie

@@ -1,7 +1,7 @@
 -- `table::table::on_line`: each arm asks what its case says.
 use borrow.Author.Needs.{needs}
 use native.Mathlib.Omega.{arith}
-use Rattle.cells.specs.Rows.{row-words, row-bits}
+use Rattle.cell_rows.specs.Rows.{row-words, row-bits}
 use Rattle.table.proofs.table.on_line.Statement.{statement}
 use Rattle.table.proofs.table.on_line.Tie as tie
 

@@ -10,7 +10,7 @@ use Rattle.spec.specs.Vocabulary.{some-below}
 use Rattle.bits.specs.Bit.{bit}
 use Rattle.bits.specs.Laws.Bit.{bit-of-zero}
 use Rattle.bits.specs.Laws.Step.{some-below-step}
-use Rattle.cells.specs.Rows.{row-words, row-bits}
+use Rattle.cell_rows.specs.Rows.{row-words, row-bits}
 use Rattle.table.proofs.table.permissions_among.Statement.{statement}
 use Rattle.table.proofs.table.permissions_among.Tie as tie
 

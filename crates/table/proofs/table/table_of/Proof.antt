@@ -7,7 +7,7 @@ use borrow.Author.Needs.{needs}
 use borrow.Author.Tests.{eq-eqb}
 use lib.ListN.{length, length-set, length-replicate}
 use Rattle.bits.specs.Laws.Below.{some-below-intro}
-use Rattle.cells.specs.Rows.{row-words, row-bits}
+use Rattle.cell_rows.specs.Rows.{row-words, row-bits}
 use Rattle.table.specs.TableWords.{table-row, table-limit}
 use Rattle.table.specs.TableHeld.{HeldBy, own-user}
 use Rattle.table.specs.Laws.Table.{table-of}

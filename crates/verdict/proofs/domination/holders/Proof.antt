@@ -2,7 +2,7 @@
 use borrow.Author.Needs.{needs}
 use native.Mathlib.Omega.{arith}
 use Rattle.spec.specs.Limits.{user-limit}
-use Rattle.cells.specs.Rows.{row-words, row-bits}
+use Rattle.cell_rows.specs.Rows.{row-words, row-bits}
 use Rattle.verdict.specs.Laws.Misfit.{whole-word-holds, cut-word-holds}
 use Rattle.verdict.proofs.domination.holders.Statement.{statement}
 use Rattle.verdict.proofs.domination.holders.Tie as tie

@@ -5,7 +5,7 @@ use native.Mathlib.Omega.{arith}
 use borrow.Author.Needs.{needs}
 use Rattle.spec.specs.Limits.{user-limit}
 use Rattle.bits.specs.Bit.{word-bits}
-use Rattle.cells.specs.Rows.{row-words, row-bits}
+use Rattle.cell_rows.specs.Rows.{row-words, row-bits}
 use Rattle.fit.specs.Columns.{column-words}
 use Rattle.verdict.specs.Laws.Misfit.{SuspectsWord, suspects-word}
 use Rattle.verdict.specs.Laws.MisfitWalk.{NoMisfitBefore, first-misfit, no-misfit-then, no-misfit-first}

@@ -5,7 +5,7 @@ use Prim.Native.Nat.{ℕ, _+_}
 use mathlib.Core.Bool.{Bool, not}
 use mathlib.Core.List.{List}
 use Rattle.spec.specs.Limits.{user-limit}
-use Rattle.cells.specs.Rows.{row-words}
+use Rattle.cell_rows.specs.Rows.{row-words}
 use Rattle.verdict.specs.Misfits.{row-fits}
 use Rattle.cells.specs.Laws.FirstAt.{Tried, none-tried, lowest-passes, one-tried, all-tried}
 use Rattle.verdict.proofs.domination.misfit_among.Statement.{statement}

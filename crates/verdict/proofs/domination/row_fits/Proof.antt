@@ -3,7 +3,7 @@ use borrow.Author.Needs.{needs}
 use native.Mathlib.Omega.{arith}
 use mathlib.Core.Path.{_∙_}
 use Rattle.spec.specs.Limits.{user-limit}
-use Rattle.cells.specs.Rows.{row-words}
+use Rattle.cell_rows.specs.Rows.{row-words}
 use Rattle.verdict.specs.Laws.Misfit.{row-fits-by-word}
 use Rattle.verdict.proofs.domination.row_fits.Statement.{statement}
 use Rattle.verdict.proofs.domination.row_fits.Tie as tie

@@ -4,7 +4,7 @@ use borrow.Author.Needs.{needs}
 use native.Mathlib.Omega.{arith}
 use mathlib.Core.Path.{sym, _∙_}
 use Rattle.spec.specs.Limits.{user-limit}
-use Rattle.cells.specs.Rows.{row-words, row-bits}
+use Rattle.cell_rows.specs.Rows.{row-words, row-bits}
 use Rattle.verdict.specs.Laws.Misfit.{suspects-all, suspects-apart}
 use Rattle.verdict.proofs.domination.suspects.Statement.{statement}
 use Rattle.verdict.proofs.domination.suspects.Tie as tie

@@ -6,7 +6,7 @@ use mathlib.Core.Logic.{⊎-elim}
 use borrow.Author.Tests.{le-ltb}
 use lib.ListN.{length}
 use Rattle.spec.specs.Limits.{user-limit}
-use Rattle.cells.specs.Rows.{row-words}
+use Rattle.cell_rows.specs.Rows.{row-words}
 use Rattle.fit.specs.Columns.{column-words}
 use Rattle.cells.specs.Laws.MadeCells.{no-cells}
 use Rattle.verdict.specs.Insides.{may-tie}

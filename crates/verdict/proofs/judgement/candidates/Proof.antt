@@ -7,7 +7,7 @@ use borrow.Author.Tests.{eq-eqb, ne-eqb, eqb-true}
 use Rattle.spec.specs.Limits.{user-limit}
 use Rattle.bits.specs.Bit.{word-bits}
 use Rattle.bits.specs.Truth.{same-truth}
-use Rattle.cells.specs.Rows.{row-words}
+use Rattle.cell_rows.specs.Rows.{row-words}
 use Rattle.fit.specs.Laws.FitWord.{marked-in-word}
 use Rattle.verdict.proofs.judgement.candidates.Statement.{statement}
 use Rattle.verdict.proofs.judgement.candidates.Tie as tie

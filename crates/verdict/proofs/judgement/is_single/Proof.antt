@@ -9,8 +9,8 @@ use Rattle.spec.specs.Limits.{user-limit}
 use Rattle.bits.specs.Truth.{not-both}
 use Rattle.bits.specs.Counting.{count-below}
 use Rattle.bits.specs.Laws.Word.{some-bit-pos}
-use Rattle.cells.specs.Rows.{row-words}
-use Rattle.cells.specs.CellPlaces.{cell-limit, near}
+use Rattle.cell_rows.specs.Rows.{row-words}
+use Rattle.cell_rows.specs.CellPlaces.{cell-limit, near}
 use Rattle.verdict.specs.Laws.Single.{one-of-two, alone-in-word}
 use Rattle.verdict.proofs.judgement.is_single.Statement.{statement}
 use Rattle.verdict.proofs.judgement.is_single.Tie as tie

@@ -10,7 +10,7 @@ use Rattle.spec.specs.Vocabulary.{filter}
 use Rattle.spec.specs.Sheet.{Sheet}
 use Rattle.spec.specs.Fit.{fits}
 use Rattle.cells.specs.CellSets.{cell-grants}
-use Rattle.cells.specs.CellPlaces.{grant-of, Shown}
+use Rattle.cell_rows.specs.CellPlaces.{grant-of, Shown}
 use Rattle.fit.specs.Laws.FitWord.{near-count-all}
 use Rattle.verdict.specs.Laws.ReductionVisit.{cells-within}
 use Rattle.verdict.specs.ReductionVerdict.{LowestIn}

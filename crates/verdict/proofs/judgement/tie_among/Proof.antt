@@ -10,7 +10,7 @@ use Rattle.spec.specs.Limits.{user-limit}
 use Rattle.bits.specs.Bit.{bit, word-bits}
 use Rattle.bits.specs.Laws.Bit.{bit-and}
 use Rattle.bits.specs.Truth.{and-left}
-use Rattle.cells.specs.Rows.{row-words, row-bits}
+use Rattle.cell_rows.specs.Rows.{row-words, row-bits}
 use Rattle.verdict.specs.NearCells.{tie-at}
 use Rattle.verdict.specs.Laws.Misfit.{HoldersWord, holders-word, holder-within}
 use Rattle.bits.specs.Laws.Walk.{Walk, walk-next}

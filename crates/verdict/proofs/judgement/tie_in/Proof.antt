@@ -6,7 +6,7 @@ use Prim.Native.Nat.{_+_, _*_, _<_, zero-le}
 use mathlib.Core.Path.{_≡_}
 use Rattle.spec.specs.Limits.{user-limit}
 use Rattle.bits.specs.Bit.{word-bits}
-use Rattle.cells.specs.Rows.{row-words}
+use Rattle.cell_rows.specs.Rows.{row-words}
 use Rattle.verdict.specs.NearCells.{Untried}
 use Rattle.verdict.specs.Laws.NearTie.{all-untried, lowest-untried, none-untried}
 use Rattle.verdict.specs.Laws.Misfit.{unless-misfit}

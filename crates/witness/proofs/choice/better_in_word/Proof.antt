@@ -6,7 +6,7 @@ use native.Mathlib.Omega.{arith}
 use mathlib.Core.List.{List}
 use Rattle.spec.specs.Limits.{user-limit}
 use Rattle.bits.specs.Bit.{word-bits}
-use Rattle.cells.specs.Rows.{row-words}
+use Rattle.cell_rows.specs.Rows.{row-words}
 use Rattle.witness.specs.Counts.{Counted}
 use Rattle.witness.specs.WitnessWalk.{Walked, InWord, word-starts, word-goes-on, word-ends}
 use Rattle.witness.proofs.choice.better_in_word.Statement.{statement}

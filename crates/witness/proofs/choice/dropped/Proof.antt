@@ -6,8 +6,8 @@ use native.Mathlib.Omega.{arith}
 use mathlib.Core.Path.{_≡_, refl}
 use lib.ListN.{length, length-set}
 use Rattle.spec.specs.Limits.{user-limit}
-use Rattle.cells.specs.Rows.{row-words}
-use Rattle.cells.specs.CellPlaces.{cell-words}
+use Rattle.cell_rows.specs.Rows.{row-words}
+use Rattle.cell_rows.specs.CellPlaces.{cell-words}
 use Rattle.witness.specs.WitnessCells.{left-over, left-over-word}
 use Rattle.cells.specs.Laws.MadeCells.{MadeWords, none-made, one-made, all-made}
 use Rattle.witness.proofs.choice.dropped.Statement.{statement}

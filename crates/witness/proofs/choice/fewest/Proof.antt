@@ -4,7 +4,7 @@ use native.Mathlib.Omega.{arith}
 use mathlib.Core.List.{List}
 use Rattle.spec.specs.Limits.{user-limit}
 use Rattle.bits.specs.Bit.{word-bits}
-use Rattle.cells.specs.Rows.{row-words, row-bits}
+use Rattle.cell_rows.specs.Rows.{row-words, row-bits}
 use Rattle.witness.specs.Counts.{Counted}
 use Rattle.witness.specs.WitnessWalk.{Walked, walk-starts, walk-ends}
 use Rattle.witness.proofs.choice.fewest.Statement.{statement}

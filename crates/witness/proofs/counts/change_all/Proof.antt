@@ -5,8 +5,8 @@ use native.Mathlib.Omega.{arith}
 use mathlib.Core.Path.{_≡_, _∙_}
 use Rattle.spec.specs.Limits.{user-limit}
 use Rattle.bits.specs.Bit.{word-bits}
-use Rattle.cells.specs.Rows.{row-words}
-use Rattle.cells.specs.CellPlaces.{cell-words}
+use Rattle.cell_rows.specs.Rows.{row-words}
+use Rattle.cell_rows.specs.CellPlaces.{cell-words}
 use Rattle.fit.specs.Columns.{column-words}
 use Rattle.witness.specs.Laws.CountChange.{not-changed}
 use Rattle.witness.specs.CountChange.{ChangedAt, fit-count, of-users-below}

@@ -4,7 +4,7 @@ use Prim.Native.Nat.{_+_, _*_}
 use native.Mathlib.Omega.{arith}
 use Rattle.spec.specs.Limits.{user-limit}
 use Rattle.bits.specs.Bit.{word-bits}
-use Rattle.cells.specs.Rows.{row-words}
+use Rattle.cell_rows.specs.Rows.{row-words}
 use Rattle.witness.specs.CountChange.{at-position}
 use Rattle.witness.specs.Laws.CountChange.{Changing, change-starts, still-to-come, change-ends, none-at}
 use Rattle.witness.specs.Laws.CountChange.{lowest-at, position-changed}

@@ -7,7 +7,7 @@ use mathlib.Core.Path.{_∙_}
 use Rattle.spec.specs.Limits.{user-limit}
 use Rattle.bits.specs.Bit.{word-bits}
 use Rattle.bits.specs.Laws.Count.{count-below-le}
-use Rattle.cells.specs.Rows.{row-words}
+use Rattle.cell_rows.specs.Rows.{row-words}
 use Rattle.witness.specs.Laws.CountChange.{none-at, nothing-changed}
 use Rattle.witness.specs.Laws.FitCounts.{reached-open, user-changed}
 use Rattle.witness.proofs.counts.change_for_user.Statement.{statement}

@@ -3,7 +3,7 @@
 use native.Mathlib.Omega.{arith}
 use mathlib.Core.Path.{_∙_}
 use Rattle.spec.specs.Limits.{user-limit}
-use Rattle.cells.specs.Rows.{row-words}
+use Rattle.cell_rows.specs.Rows.{row-words}
 use Rattle.witness.specs.CountChange.{fit-count, of-users}
 use Rattle.witness.specs.Laws.CountChange.{Changing, change-starts, still-to-come, change-ends}
 use Rattle.witness.specs.Laws.FitCounts.{lowest-to-come, users-go-on, no-users-left}

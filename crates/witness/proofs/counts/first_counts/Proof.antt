@@ -3,7 +3,7 @@ use Prim.Native.Nat.{_*_, _-_, _≤_}
 use native.Mathlib.Omega.{arith}
 use mathlib.Core.Path.{_≡_}
 use Rattle.spec.specs.Limits.{user-limit}
-use Rattle.cells.specs.Rows.{row-words}
+use Rattle.cell_rows.specs.Rows.{row-words}
 use Rattle.witness.specs.Laws.Counts.{Growing, growth-starts, growth-fits, growth-goes-on, growth-ends}
 use Rattle.witness.proofs.counts.first_counts.Statement.{statement}
 use Rattle.witness.proofs.counts.first_counts.Tie as tie

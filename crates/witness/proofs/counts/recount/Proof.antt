@@ -3,7 +3,7 @@ use Prim.Native.Nat.{_*_, _-_, _≤_}
 use native.Mathlib.Omega.{arith}
 use mathlib.Core.Path.{_≡_}
 use Rattle.spec.specs.Limits.{user-limit}
-use Rattle.cells.specs.Rows.{row-words}
+use Rattle.cell_rows.specs.Rows.{row-words}
 use Rattle.witness.specs.Laws.Counts.{Recounting, recount-starts, recount-enough, recount-goes-on, recount-ends}
 use Rattle.witness.proofs.counts.recount.Statement.{statement}
 use Rattle.witness.proofs.counts.recount.Tie as tie

@@ -7,8 +7,8 @@ use Rattle.spec.specs.Limits.{user-limit}
 use Rattle.bits.specs.Counting.{count-below}
 use Rattle.bits.specs.Laws.Count.{count-below-le}
 use Rattle.bits.specs.Bit.{word-bits}
-use Rattle.cells.specs.Rows.{row-words}
-use Rattle.cells.specs.CellPlaces.{marked}
+use Rattle.cell_rows.specs.Rows.{row-words}
+use Rattle.cell_rows.specs.CellPlaces.{marked}
 use Rattle.fit.specs.Laws.FitWord.{marked-in-word, count-next-word}
 use Rattle.witness.proofs.sets.counted.Statement.{statement}
 use Rattle.witness.proofs.sets.counted.Tie as tie

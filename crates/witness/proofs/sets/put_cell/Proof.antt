@@ -2,7 +2,7 @@
 use native.Mathlib.Omega.{arith}
 use mathlib.Core.Path.{_∙_}
 use Rattle.spec.specs.Limits.{user-limit}
-use Rattle.cells.specs.Rows.{row-words}
+use Rattle.cell_rows.specs.Rows.{row-words}
 use Rattle.witness.proofs.sets.put_cell.Statement.{statement}
 use Rattle.witness.proofs.sets.put_cell.Tie as tie
 

@@ -10,9 +10,9 @@ use borrow.Author.Tests.{eq-eqb, ne-eqb}
 use lib.ListN.{length}
 use Rattle.spec.specs.Limits.{grant-limit, user-limit}
 use Rattle.spec.specs.Sheet.{Sheet}
-use Rattle.cells.specs.Rows.{row-words, row-bits}
+use Rattle.cell_rows.specs.Rows.{row-words, row-bits}
 use Rattle.cells.specs.CellSets.{cell-grants}
-use Rattle.cells.specs.CellPlaces.{cell-limit, cell-words, Shown, Part, cells-of}
+use Rattle.cell_rows.specs.CellPlaces.{cell-limit, cell-words, Shown, Part, cells-of}
 use Rattle.witness.specs.Counts.{Counted}
 use Rattle.witness.specs.WitnessCells.{left-over-part}
 use Rattle.witness.specs.WitnessChoice.{no-choice}

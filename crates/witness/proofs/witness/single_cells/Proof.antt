@@ -8,9 +8,9 @@ use borrow.Author.Tests.{ne-eqb}
 use lib.ListN.{length, getD}
 use Rattle.spec.specs.Limits.{grant-limit, user-limit}
 use Rattle.spec.specs.Reduction.{singles-of}
-use Rattle.cells.specs.Rows.{row-words}
+use Rattle.cell_rows.specs.Rows.{row-words}
 use Rattle.verdict.specs.Log.{log-of}
-use Rattle.cells.specs.CellPlaces.{cell-words, cell-limit}
+use Rattle.cell_rows.specs.CellPlaces.{cell-words, cell-limit}
 use Rattle.witness.specs.WitnessSingles.{CellsOf, no-singles, single-put-in, tied-left-out}
 use Rattle.witness.proofs.witness.single_cells.Statement.{statement}
 use Rattle.witness.proofs.witness.single_cells.Tie as tie

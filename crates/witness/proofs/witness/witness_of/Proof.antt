@@ -4,8 +4,8 @@ use borrow.Author.Needs.{needs}
 use mathlib.Core.Path.{_≡_}
 use lib.ListN.{length}
 use Rattle.spec.specs.Limits.{user-limit}
-use Rattle.cells.specs.Rows.{row-words}
-use Rattle.cells.specs.CellPlaces.{cell-words}
+use Rattle.cell_rows.specs.Rows.{row-words}
+use Rattle.cell_rows.specs.CellPlaces.{cell-words}
 use Rattle.witness.specs.WitnessRows.{witnessed}
 use Rattle.witness.proofs.witness.witness_of.Statement.{statement}
 use Rattle.witness.proofs.witness.witness_of.Tie as tie

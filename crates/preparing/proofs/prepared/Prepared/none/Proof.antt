@@ -1,7 +1,7 @@
 -- `session::prepared::Prepared::none`: every number is 0, and every array has only zeros.
 use mathlib.Core.Path.{refl}
 use Rattle.spec.specs.Limits.{user-limit, grant-limit}
-use Rattle.cells.specs.Rows.{row-words}
+use Rattle.cell_rows.specs.Rows.{row-words}
 use Rattle.table.specs.TableWords.{table-row}
 use Rattle.preparing.proofs.prepared.Prepared.none.Statement.{statement}
 use Rattle.preparing.proofs.prepared.Prepared.none.Tie as tie

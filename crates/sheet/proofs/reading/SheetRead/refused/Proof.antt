@@ -1,6 +1,6 @@
 -- `SheetRead::refused`: each part is written as it is to be.
 use Rattle.spec.specs.Limits.{user-limit}
-use Rattle.cells.specs.Rows.{row-words}
+use Rattle.cell_rows.specs.Rows.{row-words}
 use Rattle.sheet.proofs.reading.SheetRead.refused.Statement.{statement}
 use Rattle.sheet.proofs.reading.SheetRead.refused.Tie as tie
 

@@ -1,0 +1,2 @@
+-- The lines that answer a script's calls.
+pub mod Adler

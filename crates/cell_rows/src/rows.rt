@@ -1,0 +1,26 @@
+// Rows of words for the cells of a sheet: a row for each user, a bit for each permission.
+use bits::WORD_BITS;
+use numbers::CELL_WORDS;
+ghost use mathlib.Core.Path.{_≡_};
+ghost use Prim.Native.Nat.{_*_, _/_, _<_};
+ghost use lib.ListN.{length, replicate};
+ghost use Rattle.spec.specs.Limits.{user-limit};
+ghost use Rattle.bits.specs.Bit.{word-bits};
+ghost use Rattle.cell_rows.specs.Rows.{row-words};
+ghost use Rattle.cell_rows.specs.CellAdded.{PositionSet};
+
+// Rows with no cell set.
+pub fn no_rows() -> [u64; CELL_WORDS]
+    ensures { λ r. ⌜ r ≡ replicate (user-limit * row-words) 0 ⌝ }
+{
+    [0; CELL_WORDS]
+}
+
+// Position n of some words is set, counted through all of them.
+pub fn mark(words: &mut [u64], n: usize)
+    requires { ⌜ n / word-bits < length (now words) ⌝ }
+    ensures { λ _. ⌜ PositionSet (now (words .entry)) (now (words .exit)) n ⌝ }
+{
+    let i = n / WORD_BITS;
+    words[i] = bits::with(words[i], n % WORD_BITS);
+}

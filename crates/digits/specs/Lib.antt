@@ -1,0 +1,3 @@
+-- Counts in decimal: read with a cap, measured and written.
+pub mod Capped
+pub mod BudgetRead

@@ -1,0 +1,10 @@
+// Counts and budgets read from decimal digits.
+mod budget;
+mod digits;
+
+pub use budget::BudgetRead;
+pub use budget::budget_of;
+pub use budget::read_budget;
+pub use digits::CountRead;
+pub use digits::count_of;
+pub use digits::digits_of;
