@@ -1,2 +1,2 @@
--- The lines that answer a script's calls.
+-- The Adler-32 of some bytes, by which the line of an answer names them.
 pub mod Adler

@@ -1,4 +1,4 @@
-// The Adler-32 of some bytes, by which a line of an answer names the bytes of a book.
+// The Adler-32 of some bytes, by which the line of an answer names them.
 mod adler;
 
 pub use adler::adler_32;

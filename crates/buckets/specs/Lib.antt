@@ -1,4 +1,3 @@
--- Names as parts of the sheet itself: where they stand, one by its number, the number of one, and whether one stands
--- twice.
+-- Whether a name stands twice among many: names are put into buckets, and compared with those of their own.
 pub mod Buckets
 pub mod Laws

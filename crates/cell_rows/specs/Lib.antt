@@ -1,4 +1,4 @@
--- Cells as rows of words: cells by number, sets of cells, and the cells of a set in order.
+-- Cells as rows of words: none set, and one more; and what it means that rows show a sheet.
 pub mod CellPlaces
 pub mod Rows
 pub mod CellAdded

@@ -1,4 +1,4 @@
-// Cells as rows of words: one set, and one asked for.
+// Cells as rows of words: none set, and one more; and what it means that rows show a sheet.
 mod rows;
 
 pub use rows::mark;

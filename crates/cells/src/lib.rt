@@ -1,4 +1,4 @@
-// Cells as rows of words: cells by number, sets of cells, and the cells of a set in order.
+// Cells by number, sets of cells, and the cells of a set in order.
 mod listing;
 
 pub use listing::Kernel;

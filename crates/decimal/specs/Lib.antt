@@ -1,4 +1,4 @@
--- Counts in decimal: read with a cap, measured and written.
+-- Counts in decimal: measured and written.
 pub mod WordDigits
 pub mod Measured
 pub mod Laws

@@ -1,4 +1,4 @@
-// Counts written in decimal.
+// Counts in decimal: measured and written.
 mod decimal;
 
 pub use decimal::decimal_length;

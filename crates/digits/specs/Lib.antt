@@ -1,3 +1,3 @@
--- Counts in decimal: read with a cap, measured and written.
+-- Counts and budgets read from decimal digits, with a cap.
 pub mod Capped
 pub mod BudgetRead

@@ -1,4 +1,4 @@
-// Counts and budgets read from decimal digits.
+// Counts and budgets read from decimal digits, with a cap.
 mod budget;
 mod digits;
 

@@ -1,5 +1,4 @@
--- Names as parts of the sheet itself: where they stand, one by its number, the number of one, and whether one stands
--- twice.
+-- Names as parts of the sheet itself: where they stand, one by its number, and the number of one.
 pub mod NamesAt
 pub mod FoundBetween
 pub mod LaidOut

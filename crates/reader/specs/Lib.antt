@@ -1,2 +1,2 @@
--- Bytes as text: fields and lines read from front to back, bytes compared, bytes written to the front of a lent buffer.
+-- A text read from front to back: the field that stands at a cursor, and where to go on.
 pub mod Fields

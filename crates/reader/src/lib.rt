@@ -1,4 +1,4 @@
-// A sheet read from front to back: the field that stands at a cursor, and where to go on.
+// A text read from front to back: the field that stands at a cursor, and where to go on.
 mod cursor;
 
 pub use cursor::Cursor;

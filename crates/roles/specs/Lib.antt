@@ -1,4 +1,4 @@
--- Roles: the laws of classes, roles, state and bound, and what the code's words stand for.
+-- Roles: the laws of classes and roles, and what the code's words stand for.
 pub mod CellClasses
 pub mod RoleNumbers
 pub mod RoleMatrices

@@ -1,5 +1,5 @@
 // Roles from a placement of the kernel: the classes of all grants, the roles by their lowest grant and their two
-// matrices; and the state and the bound of a book.
+// matrices.
 mod classes;
 mod limits;
 mod matrices;

@@ -1,2 +1,2 @@
--- Roles: the laws of classes, roles, state and bound, and what the code's words stand for.
+-- The state that a search names and a book says, and the bound beside it.
 pub mod StandingCases

@@ -1,4 +1,4 @@
--- Bytes as text: fields and lines read from front to back, bytes compared, bytes written to the front of a lent buffer.
+-- Bytes as text: which bytes there are, bytes compared, bytes written to the front of a lent buffer.
 pub mod Written
 pub mod Line
 pub mod Laws
