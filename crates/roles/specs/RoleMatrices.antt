@@ -13,7 +13,7 @@ use Rattle.bits.specs.Bit.{word-bits}
 use Rattle.bits.specs.Laws.Bit.{bit-of-zero}
 use Rattle.cells.specs.Rows.{row-words, row-bits, cell}
 use Rattle.cells.specs.CellAdded.{CellAdded, word-of}
-use Rattle.search.specs.Gathered.{eqb-comm}
+use Rattle.moves.specs.Gathered.{eqb-comm}
 
 -- user u has a grant of role r
 abbrev pub has-role : List Classed → ℕ → ℕ → Bool
