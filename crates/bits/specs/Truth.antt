@@ -1,7 +1,10 @@
 -- What follows from a test that passes or fails. A test passes where it is true, `So b`, which is `b ≡ true`.
+use Prim.Native.Nat.{ℕ}
 use mathlib.Core.Path.{_≡_, refl, sym, _∙_}
 use mathlib.Core.Logic.{_⊎_, inl, inr}
 use mathlib.Core.Bool.{Bool, true, false, So, not, _&&_, _||_, false≢true}
+use borrow.Author.Tests.{eqb-true, eq-eqb}
+use lib.Dec.{eqb}
 
 pub passes-or-fails : (b : Bool) → So b ⊎ (b ≡ false)
 passes-or-fails true = inl refl
@@ -18,6 +21,11 @@ fails-unless false h = refl
 pub same-truth : (a b : Bool) → (So a → So b) → (So b → So a) → a ≡ b
 same-truth true b f g = sym (f refl)
 same-truth false b f g = sym (fails-unless b (λ p. false≢true (g p)))
+
+-- whether two numbers are equal, asked the other way round
+pub eqb-comm : (a b : ℕ) → eqb a b ≡ eqb b a
+eqb-comm a b =
+    same-truth (eqb a b) (eqb b a) (λ e. eq-eqb b a (sym (eqb-true a b e))) (λ e. eq-eqb a b (sym (eqb-true b a e)))
 
 -- b passes where a does
 abbrev pub implies : Bool → Bool → Bool

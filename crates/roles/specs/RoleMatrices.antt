@@ -10,10 +10,10 @@ use lib.ListN.{getD, replicate}
 use Rattle.spec.specs.Vocabulary.{any}
 use Rattle.spec.specs.Roles.{Classed}
 use Rattle.bits.specs.Bit.{word-bits}
+use Rattle.bits.specs.Truth.{eqb-comm}
 use Rattle.bits.specs.Laws.Bit.{bit-of-zero}
 use Rattle.cell_rows.specs.Rows.{row-words, row-bits, cell}
 use Rattle.cell_rows.specs.CellAdded.{CellAdded, word-of}
-use Rattle.search.specs.Gathered.{eqb-comm}
 
 -- user u has a grant of role r
 abbrev pub has-role : List Classed → ℕ → ℕ → Bool

@@ -10,10 +10,5 @@ pub mod Potential
 pub mod Progress
 pub mod Rising
 pub mod SameFit
-pub mod Placed
-pub mod Trail
-pub mod ClassEnd
-pub mod Moves
 pub mod Running
 pub mod Carried
-pub mod Choice

@@ -1,7 +1,4 @@
--- The search machine: what holds of every step and every run. From `View` on: what the words and bytes of the
--- code stand for, and why a step and a run of the code are the machine's.
+-- The search machine: what the words and bytes of a position stand for, and, in `Laws`, what holds of every step and
+-- every run of the machine and why a run of the code is one.
 pub mod View
-pub mod Gathered
-pub mod OpenTo
-pub mod Lent
 pub mod Laws

@@ -1,27 +1,15 @@
 // Where the machine stands, one step from there, and a run within a budget.
-use crate::lent;
-use crate::members;
-use crate::moves;
 use marks::Marks;
+use moves::Cursor;
+use moves::Sizes;
 use numbers::KERNEL_LIMIT;
 use numbers::TABLE_WORDS;
 ghost use mathlib.Core.Path.{_≡_};
 ghost use Prim.Native.Nat.{_<_, _≤_};
 ghost use Rattle.spec.specs.Limits.{search-limit};
 ghost use Rattle.spec.specs.Machine.{step, run, search};
-ghost use Rattle.search.specs.View.{kernel-given, view, view-ran, PositionStands, started};
-
-// Depth d, next try t, classes in use, class count b of the best placement, finished or not, and which grants opened
-// a class.
-#[repr(C)]
-pub struct Cursor {
-    pub depth: usize,
-    pub next: usize,
-    pub used: usize,
-    pub count: usize,
-    pub finished: bool,
-    pub opened: Marks,
-}
+ghost use Rattle.moves.specs.FitTable.{kernel-given};
+ghost use Rattle.search.specs.View.{view, view-ran, PositionStands, started};
 
 // The state of the machine: a cursor, the classes of the grants placed, and the best placement. Which positions stand
 // for a state is said by `PositionStands`; whoever makes one otherwise than by `start` and the steps from there has
@@ -31,13 +19,6 @@ pub struct Position {
     pub cursor: Cursor,
     pub classes: [u8; KERNEL_LIMIT],
     pub best: [u8; KERNEL_LIMIT],
-}
-
-// How many grants a kernel has, how many singles were removed, and how many grants are in the witness.
-pub struct Sizes {
-    pub kernel: usize,
-    pub singles: usize,
-    pub witness: usize,
 }
 
 // Where some steps led, and how many they were.
@@ -84,7 +65,7 @@ impl Position {
         let at = self.cursor;
         let mut classes = self.classes;
         let mut best = self.best;
-        let mut members = members::gathered(&classes, at.depth);
+        let mut members = moves::gathered(&classes, at.depth);
         let after = moves::moved(at, &mut classes, &mut best, &mut members, fit, sizes);
         Position::of(after, classes, best)
     }
@@ -99,10 +80,10 @@ impl Position {
         let mut at = self.cursor;
         let mut classes = self.classes;
         let mut best = self.best;
-        let mut members = members::gathered(&classes, at.depth);
+        let mut members = moves::gathered(&classes, at.depth);
         let mut steps = 0;
         while steps < budget && !at.finished {
-            at = lent::advanced(at, &mut classes, &mut best, &mut members, fit, sizes);
+            at = moves::advanced(at, &mut classes, &mut best, &mut members, fit, sizes);
             steps += 1;
         }
         let position = Position::of(at, classes, best);

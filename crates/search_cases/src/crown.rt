@@ -1,8 +1,8 @@
 // The kernel: grants by user, then permission, where each user lacks the permission of the same number.
+use moves::Sizes;
 use numbers::KERNEL_LIMIT;
 use numbers::KERNEL_WORDS;
 use numbers::TABLE_WORDS;
-use search::Sizes;
 ghost use mathlib.Core.Path.{_≡_};
 ghost use Rattle.spec.specs.Cover.{used};
 ghost use Rattle.lists.specs.LatestFirst.{latest-first};

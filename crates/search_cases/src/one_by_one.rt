@@ -11,7 +11,8 @@ ghost use Prim.Native.Nat.{_≤_};
 ghost use Rattle.spec.specs.Limits.{search-limit};
 ghost use Rattle.spec.specs.Machine.{run};
 ghost use Rattle.lists.specs.LatestFirst.{latest-first};
-ghost use Rattle.search.specs.View.{kernel-given, view, view-ran, PositionStands};
+ghost use Rattle.moves.specs.FitTable.{kernel-given};
+ghost use Rattle.search.specs.View.{view, view-ran, PositionStands};
 ghost use Rattle.search_cases.specs.Crown.{grants, sizes};
 ghost use Rattle.search_cases.specs.Same.{Tells};
 

@@ -1,13 +1,13 @@
 // Loads: a sheet taken in, or refused.
 use crate::Session;
 use answers::LoadAnswer;
+use moves::Sizes;
 use names::Layout;
 use numbers::CELL_WORDS;
 use numbers::KERNEL_LIMIT;
 use numbers::SHEET_LIMIT;
 use preparing::Prepared;
 use search::Position;
-use search::Sizes;
 ghost use mathlib.Core.Path.{_≡_};
 ghost use mathlib.Core.Logic.{_≢_};
 ghost use Rattle.spec.specs.Sheet.{sheet-of};

@@ -1,8 +1,8 @@
 // Searches: the session's own position moved forward within a budget.
 use crate::Session;
 use answers::SearchAnswer;
+use moves::Sizes;
 use search::Ran;
-use search::Sizes;
 ghost use mathlib.Core.Path.{_≡_};
 ghost use mathlib.Core.Logic.{_≢_};
 ghost use Rattle.spec.specs.Calls.{Searches};

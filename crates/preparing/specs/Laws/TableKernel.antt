@@ -17,8 +17,8 @@ use Rattle.spec.specs.Cover.{fit-at}
 use Rattle.spec.specs.Machine.{Kernel}
 use Rattle.spec.specs.Roles.{kernel-of}
 use Rattle.table.specs.TableWords.{table-row, table-limit, table-bit}
-use Rattle.search.specs.declared.machine.Sizes.{Sizes}
-use Rattle.search.specs.View.{fit-in, kernel-given}
+use Rattle.moves.specs.declared.cursor.Sizes.{Sizes}
+use Rattle.moves.specs.FitTable.{fit-in, kernel-given}
 use Rattle.search.specs.Laws.SameFit.{SameKernel}
 use Rattle.preparing.specs.Prepared.{PreparedFor}
 use Rattle.preparing.specs.declared.prepared.Prepared.{Prepared}

@@ -8,10 +8,11 @@ use Rattle.spec.specs.Cover.{used}
 use Rattle.spec.specs.Machine.{Kernel, State, start, search}
 use Rattle.lists.specs.LatestFirst.{latest-first}
 use Rattle.search.specs.declared.machine.Ran.{Ran}
-use Rattle.search.specs.declared.machine.Sizes.{Sizes}
+use Rattle.moves.specs.declared.cursor.Sizes.{Sizes}
 use Rattle.search.specs.Laws.Runs.{search-steps-le}
-use Rattle.search.specs.View.{kernel-given, view, view-ran, PositionStands, started}
-use Rattle.search.specs.Laws.Trail.{trail-none}
+use Rattle.moves.specs.FitTable.{kernel-given}
+use Rattle.search.specs.View.{view, view-ran, PositionStands, started}
+use Rattle.moves.specs.Laws.Trail.{trail-none}
 
 -- the first placement's class count is right
 module _ (first : List ℕ) (count : ℕ) (sizes : Sizes) (counted : count ≡ used (latest-first first (sizes .kernel)))

@@ -5,7 +5,8 @@ use native.Mathlib.Omega.{arith}
 use borrow.Author.Needs.{needs}
 use Rattle.spec.specs.Limits.{search-limit}
 use Rattle.search.specs.Laws.Carried.{searched-steps-le}
-use Rattle.search.specs.View.{PositionStands, kernel-given, view}
+use Rattle.moves.specs.FitTable.{kernel-given}
+use Rattle.search.specs.View.{PositionStands, view}
 use Rattle.search_cases.specs.Crown.{grants, sizes, part, most}
 use Rattle.search_cases.proofs.many_searches.Statement.{statement}
 use Rattle.search_cases.proofs.many_searches.Tie as tie

@@ -5,7 +5,8 @@ use Prim.Native.Nat.{_≤_}
 use mathlib.Core.Path.{sym, _∙_}
 use Rattle.spec.specs.Limits.{search-limit}
 use Rattle.search.specs.Laws.Runs.{search-within}
-use Rattle.search.specs.View.{kernel-given, view}
+use Rattle.moves.specs.FitTable.{kernel-given}
+use Rattle.search.specs.View.{view}
 use Rattle.search_cases.specs.Crown.{grants, sizes}
 use Rattle.search_cases.proofs.one_by_one.as_the_search.Statement.{statement}
 use Rattle.search_cases.proofs.one_by_one.as_the_search.Tie as tie

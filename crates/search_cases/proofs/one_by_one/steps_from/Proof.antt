@@ -4,7 +4,8 @@
 use borrow.Author.Tests.{not-true, not-false}
 use Prim.Native.Nat.{_-_}
 use native.Mathlib.Omega.{arith}
-use Rattle.search.specs.View.{kernel-given, view}
+use Rattle.moves.specs.FitTable.{kernel-given}
+use Rattle.search.specs.View.{parts-of, view}
 use Rattle.search.specs.Laws.Running.{Running, running-none, running-more, running-spent, running-finished}
 use Rattle.search_cases.specs.Crown.{grants, sizes}
 use Rattle.search_cases.proofs.one_by_one.steps_from.Statement.{statement}
@@ -12,7 +13,7 @@ use Rattle.search_cases.proofs.one_by_one.steps_from.Tie as tie
 
 abbrev Inv-loop : tie.InvT-loop
 Inv-loop fit budget position₀ steps₀ position steps =
-    Running (kernel-given fit sizes) budget (view position₀ grants) position steps
+    Running (kernel-given fit sizes) budget (view position₀ grants) (parts-of position) steps
 
 abbrev μ-loop : tie.MeasureT-loop
 μ-loop fit budget position₀ steps₀ position steps = budget - steps
@@ -20,7 +21,7 @@ abbrev μ-loop : tie.MeasureT-loop
 loop-holds : tie.Need-loop-holds Inv-loop μ-loop
 loop-holds c =
     let a = c .args in
-    running-none (kernel-given (a .fit .now) sizes) (a .budget) (a .from) (c .pre)
+    running-none (kernel-given (a .fit .now) sizes) (a .budget) (parts-of (a .from)) (c .pre)
 
 step-requires : tie.Need-step-requires Inv-loop μ-loop
 step-requires c κs = c .before .before .before .loop .inv .stands
@@ -32,7 +33,7 @@ loop-again c =
     let loop = at-loop .loop in
     let a = start .args in
     running-more (kernel-given (a .fit .now) sizes) (a .budget) (view (a .from) grants) (loop .inv)
-    (c .step .result)
+    (parts-of (c .step .result))
     (c .before .before .before .loop-test .taken) (not-true (loop .position .cursor .finished)
     (c .before .if1 .taken)) (c .step .ensures .0) (c .step .ensures .1)
 

@@ -9,16 +9,18 @@ use borrow.Author.Needs.{needs}
 use borrow.Author.Tests.{not-true, not-false}
 use lib.ListN.{length}
 use Rattle.marks.specs.Marks.{mark-limit}
-use Rattle.search.specs.View.{kernel-given, view}
-use Rattle.search.specs.Lent.{at-position, Ready}
-use Rattle.search.specs.Laws.Moves.{depth-le-limit, class-below-limit}
+use Rattle.moves.specs.FitTable.{kernel-given}
+use Rattle.moves.specs.Parts.{at-position, parts-view}
+use Rattle.search.specs.View.{parts-of, view}
+use Rattle.moves.specs.Lent.{Ready}
+use Rattle.moves.specs.Laws.Moves.{depth-le-limit, class-below-limit}
 use Rattle.search.specs.Laws.Running.{Running, running-none, running-more, running-spent, running-finished}
 use Rattle.search.proofs.machine.Position.run.Statement.{statement}
 use Rattle.search.proofs.machine.Position.run.Tie as tie
 
 abbrev Inv-loop : tie.InvT-loop
 Inv-loop fit sizes budget at₀ classes₀ best₀ members₀ steps₀ at classes best members steps =
-    Running (kernel-given fit sizes) budget (view (at-position at₀ classes₀ best₀) (sizes .kernel))
+    Running (kernel-given fit sizes) budget (parts-view (at-position at₀ classes₀ best₀) (sizes .kernel))
     (at-position at classes best) steps
     × Ready (sizes .kernel) at classes best members
 
@@ -36,7 +38,8 @@ loop-holds : tie.Need-loop-holds Inv-loop μ-loop
 loop-holds c =
     let start = c .before .before .before .before .before in
     let a = start .args in (
-      running-none (kernel-given (a .fit .now) (a .sizes)) (a .budget) (a .self) (start .pre),
+      running-none (kernel-given (a .fit .now) (a .sizes)) (a .budget) (parts-of (a .self))
+          (start .pre),
       record { stands = start .pre; classes-sized = whole-array start; gathered = c .gathered .ensures },
     )
 

@@ -4,7 +4,8 @@ use mathlib.Core.Path.{refl, sym}
 use native.Mathlib.Omega.{arith}
 use Rattle.spec.specs.Limits.{search-limit}
 use Rattle.search.specs.Laws.Runs.{search-within, search-above}
-use Rattle.search.specs.View.{kernel-given, view}
+use Rattle.moves.specs.FitTable.{kernel-given}
+use Rattle.search.specs.View.{view}
 use Rattle.search.proofs.machine.Position.search.Statement.{statement}
 use Rattle.search.proofs.machine.Position.search.Tie as tie
 

@@ -4,7 +4,7 @@ use mathlib.Core.Path.{_≡_}
 use borrow.Author.Needs.{needs}
 use lib.ListN.{length}
 use Rattle.marks.specs.Marks.{mark-limit}
-use Rattle.search.specs.Laws.Moves.{depth-le-limit, class-below-limit}
+use Rattle.moves.specs.Laws.Moves.{depth-le-limit, class-below-limit}
 use Rattle.search.proofs.machine.Position.step.Statement.{statement}
 use Rattle.search.proofs.machine.Position.step.Tie as tie
 
