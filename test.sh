@@ -22,6 +22,9 @@ took() { # SINCE WHAT
     echo "gate: $2 ($((SECONDS - $1)) s)" | tee -a "$log/times"
 }
 
+# rt waits for all proofs or edits that it started together before it starts the next ones: with four of them no
+# processor of two is idle for long
+export RT_JOBS=${RT_JOBS:-4}
 began=$SECONDS
 rt ci 2>&1 | tee "$log/rattle"
 status=$?
@@ -37,13 +40,10 @@ for program in sheet_cases search_cases book_cases; do
 done
 paste -d '>' crates/play/stdin target/log/play.stdout | sed 's/^/play: /; s/>/ -> /'
 
-# rt ci leaves the programs; the library is made from what it proved. Where one of them is missing the Rust tests fail
-began=$SECONDS
+# rt ci leaves the programs
 for program in rolebook rolecheck play; do
     [ -x "target/bin/$program" ] || rt check "$program"
 done
-rt staticlib porvuund
-took "$began" "the library"
 
 # the shell front for people: what it prints, and its exit status
 front() { # STATUS OUTPUT ARGUMENT..
@@ -68,21 +68,36 @@ front 2 '' book "$log/no such sheet"
 front 2 '' book examples/roosts.csv many
 took "$began" "the shell front"
 
-# the Rust tests, a crate of them after the other: each line names its crate
-began=$SECONDS
-(cd rust && cargo test --offline --workspace --no-run 2>&1)
-took "$began" "the Rust tests built"
-for part in trials programs baseline compare bench; do
+# the library is made from what rt ci proved, beside the tests that need none. Where it is missing the others fail
+library_began=$SECONDS
+rt staticlib porvuund >"$log/library" 2>&1 &
+library=$!
+
+# builds and runs the Rust tests of these crates, one crate after the other: each line names its crate
+rust_tests() { # WHICH CRATE..
+    local which=$1 part status counts packages=()
+    shift
+    for part; do packages+=(-p "$part"); done
     began=$SECONDS
-    (cd rust && cargo test --offline --no-fail-fast -p "$part" 2>&1) | tee "$log/rust" |
-        sed "s/^test \(.* \.\.\. \)/rust, $part: \1/"
-    status=$?
-    counts=$(awk '/^test result:/ { p += $4; f += $6 } END { print p + 0, f + 0 }' "$log/rust")
-    [ "${counts%% *}" -gt 0 ] || status=1
-    # shellcheck disable=SC2086
-    tally "$status" $counts
-    took "$began" "the Rust tests of $part"
-done
+    (cd rust && cargo test --offline --no-run "${packages[@]}" 2>&1)
+    took "$began" "the Rust tests $which, built"
+    for part; do
+        began=$SECONDS
+        (cd rust && cargo test --offline --no-fail-fast -p "$part" 2>&1) | tee "$log/rust" |
+            sed "s/^test \(.* \.\.\. \)/rust, $part: \1/"
+        status=$?
+        counts=$(awk '/^test result:/ { p += $4; f += $6 } END { print p + 0, f + 0 }' "$log/rust")
+        [ "${counts%% *}" -gt 0 ] || status=1
+        # shellcheck disable=SC2086
+        tally "$status" $counts
+        took "$began" "the Rust tests of $part"
+    done
+}
+rust_tests "of Rust alone" trials programs baseline
+wait "$library"
+cat "$log/library"
+took "$library_began" "the library, beside them"
+rust_tests "of the proved programs and library" compare bench
 
 took 0 "all of it" >/dev/null
 bash .ci/times "$log/rattle" "$log/times"
