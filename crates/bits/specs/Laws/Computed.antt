@@ -29,12 +29,12 @@ not-every-low-three : every-below 3 (bit 0b10110) ≡ false
 unfolding every-below bit
 not-every-low-three = refl
 
--- a triangle of 256 rows: counted row by row it is half a square with its diagonal
-triangle : sum-below 256 (λ i. count-below 256 (λ j. ltb i j)) ≡ 128 * 255
+-- a triangle of 16 rows: counted row by row it is half a square without its diagonal
+triangle : sum-below 16 (λ i. count-below 16 (λ j. ltb i j)) ≡ 8 * 15
 unfolding sum-below count-below
 triangle = refl
 
 -- once a number is found the test is not computed again
-found-early : lowest-below 2048 (λ i. eqb (count-below 2048 (ltb i)) 2046) ≡ some 1
+found-early : lowest-below 64 (λ i. eqb (count-below 64 (ltb i)) 62) ≡ some 1
 unfolding lowest-below count-below
 found-early = refl
