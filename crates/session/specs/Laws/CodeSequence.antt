@@ -120,6 +120,12 @@ pub record Demand2Of (calling : Calling) : Type 1 where
 abbrev pub Demand3Of : Calling → Type 1
 Demand3Of calling = (events : List Event) (s : CodeSession) → Ran calling events s → OwedOfAll events
 
+-- the three demands of calls of the code
+pub record DemandsOf (calling : Calling) : Type 1 where
+  pub demand-1 : Demand1Of calling
+  pub demand-2 : Demand2Of calling
+  pub demand-3 : Demand3Of calling
+
 -- ---- they follow
 
 -- the value is judged as the session that it stands for is, and a refusal hands back the very value
@@ -161,11 +167,11 @@ module _ {calling : Calling} (tied : Tied calling) where
     ensured (event .call) (event .outcome) (ran .0) s (ran .2) (ran-sound earlier (ran .0) (ran .1)) .0,
   )
 
-  pub tied-demand-1 : Demand1Of calling
+  tied-demand-1 : Demand1Of calling
   tied-demand-1 earlier before ran call outcome after step =
       judged call outcome before after (ensured call outcome before after step (ran-sound earlier before ran))
 
-  pub tied-demand-2 : Demand2Of calling
+  tied-demand-2 : Demand2Of calling
   tied-demand-2 =
       record {
         accepts-sheets = λ earlier before after text answer ran step.
@@ -178,5 +184,8 @@ module _ {calling : Calling} (tied : Tied calling) where
             (ran-led (record { call = write buffer; outcome = written } ∷ earlier) s ran) accepts;
       }
 
-  pub tied-demand-3 : Demand3Of calling
+  tied-demand-3 : Demand3Of calling
   tied-demand-3 events s ran = demand-3 .owed events (view s) (ran-led events s ran)
+
+  pub tied-demands : DemandsOf calling
+  tied-demands = record { demand-1 = tied-demand-1; demand-2 = tied-demand-2; demand-3 = tied-demand-3 }
