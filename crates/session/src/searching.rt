@@ -1,14 +1,12 @@
 // Searches: the session's own position moved forward within a budget.
 use crate::Session;
 use answers::SearchAnswer;
-use search::Ran;
 use search::Sizes;
 ghost use mathlib.Core.Path.{_≡_};
 ghost use mathlib.Core.Logic.{_≢_};
 ghost use Rattle.spec.specs.Calls.{Searches};
 ghost use Rattle.answers.specs.Said.{search-said};
-ghost use Rattle.session.specs.CodeSession.{view, Holds, Sound};
-ghost use Rattle.session.specs.Counted.{RanIn};
+ghost use Rattle.session.specs.CodeSession.{view, Sound};
 
 // The session after a search, and what the search answers.
 pub struct Searched {
@@ -17,21 +15,6 @@ pub struct Searched {
 }
 
 impl Session {
-    // Where the search comes to within a budget.
-    fn ran(self, budget: u32) -> Ran
-        requires { ⌜ Holds self ⌝ }
-        ensures { λ r. ⌜ RanIn self budget r ⌝ }
-    {
-        let position = self.position;
-        let table = self.prepared.table;
-        let sizes = Sizes {
-            kernel: self.prepared.kernel.size,
-            singles: self.prepared.reduced.singles,
-            witness: self.prepared.witness.count,
-        };
-        position.search(&table, sizes, budget)
-    }
-
     // Moves the session's own position forward by as many steps as the budget, or by those left until finished if
     // fewer; with a kernel too great to be searched by none. Refused without an accepted sheet.
     pub fn search(self, budget: u32) -> Searched
@@ -46,7 +29,14 @@ impl Session {
                 answer: SearchAnswer::refused(10),
             };
         }
-        let ran = self.ran(budget);
+        let from = self.position;
+        let table = self.prepared.table;
+        let sizes = Sizes {
+            kernel: self.prepared.kernel.size,
+            singles: self.prepared.reduced.singles,
+            witness: self.prepared.witness.count,
+        };
+        let ran = from.search(&table, sizes, budget);
         let position = ran.position;
         let mut after = self;
         after.position = position;

@@ -141,16 +141,27 @@ judged (write buffer) written before after (happens, (sound, kept)) =
     let j = demand-1 .writes (view before) (view after) buffer (written .lent) (written .answer) happens in
     record { lowest = j .lowest; refused = λ n. (j .refused n .0, j .refused n .1, kept n) }
 
+-- what is ensured of the calls of one kind is ensured of each that was made
+ensured-of : {Given Answer : Type 0} (way : Way Given Answer)
+    (Ensures : Given → Answer → CodeSession → CodeSession → Type 0)
+    → ((made : way .Made) → Sound (way .on made)
+    → Ensures (way .given made) (way .gave made) (way .on made) (way .led made))
+    → (asked : Given) (answer : Answer) (before after : CodeSession) → MadeAs way asked answer before after
+    → Sound before
+    → Ensures asked answer before after
+ensured-of way Ensures ensures asked answer before after (made, on, given, gave, led) sound =
+    rw (on, given, gave, led) (ensures made (rw on at sound))
+
 module _ {calling : Calling} (tied : Tied calling) where
   ensured : (call : Call) (outcome : Outcome call) (before after : CodeSession)
       → Step calling call outcome before after → Sound before
       → Ensured call outcome before after
-  ensured (load text) answer before after (made, on, given, gave, led) sound =
-      rw (on, given, gave, led) (tied .loads made (rw on at sound))
-  ensured (search budget) answer before after (made, on, given, gave, led) sound =
-      rw (on, given, gave, led) (tied .searches made (rw on at sound))
-  ensured (write buffer) written before after (made, on, given, gave, led) sound =
-      rw (on, given, gave, led) (tied .writes made (rw on at sound))
+  ensured (load text) answer before after =
+      ensured-of (calling .loads) (λ t. Ensured (load t)) (tied .loads) text answer before after
+  ensured (search budget) answer before after =
+      ensured-of (calling .searches) (λ n. Ensured (search n)) (tied .searches) budget answer before after
+  ensured (write buffer) written before after =
+      ensured-of (calling .writes) (λ b. Ensured (write b)) (tied .writes) buffer written before after
 
   -- what the calls led to is what the next call requires
   pub ran-sound : (events : List Event) (s : CodeSession) → Ran calling events s → Sound s
