@@ -17,7 +17,7 @@ pub struct Searched {
 impl Session {
     // Moves the session's own position forward by as many steps as the budget, or by those left until finished if
     // fewer; with a kernel too great to be searched by none. Refused without an accepted sheet.
-    pub fn search(self, budget: u32) -> Searched
+    pub fn search(mut self, budget: u32) -> Searched
         requires { ⌜ Sound self ⌝ }
         ensures { λ r. ⌜ Searches (view self) budget (search-said (r .answer)) (view (r .session)) ⌝ }
         ensures { λ r. ⌜ Sound (r .session) ⌝ }
@@ -38,16 +38,15 @@ impl Session {
         };
         let ran = from.search(&table, sizes, budget);
         let position = ran.position;
-        let mut after = self;
-        after.position = position;
+        self.position = position;
         let counts = answers::counts_at(
-            after.position.cursor.count,
-            after.prepared.reduced.singles,
-            after.prepared.witness.count,
-            after.position.cursor.finished,
+            self.position.cursor.count,
+            self.prepared.reduced.singles,
+            self.prepared.witness.count,
+            self.position.cursor.finished,
         );
         Searched {
-            session: after,
+            session: self,
             answer: SearchAnswer::found(ran.steps, counts),
         }
     }
