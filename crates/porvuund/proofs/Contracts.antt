@@ -8,9 +8,8 @@ use Rattle.checker.specs.Laws.CodeCall.{CodeCall, Kept}
 use Rattle.right.specs.CheckOwed.{CheckOwed, check-owed}
 use Rattle.answers.specs.Said.{write-said}
 use Rattle.session.specs.CodeSession.{view, Sound}
-use Rattle.session.specs.Laws.CodeSequence.{Calling, Tied, Demand1Of, Demand2Of, Demand3Of, tied-demand-1}
-use Rattle.session.specs.Laws.CodeSequence.{tied-demand-2, tied-demand-3}
-use Rattle.session.proofs.Contracts.{begun-by, loads-by, writes-by}
+use Rattle.session.specs.Laws.CodeSequence.{Calling, Tied, DemandsOf, tied-demands}
+use Rattle.session.proofs.Contracts.{calling-by, loads-by, searches-by, writes-by}
 use Rattle.porvuund.specs.SearchNumbers.{Numbers, numbers-said, numbers-searched}
 use Rattle.porvuund.specs.Laws.TaskOwed.{TaskOwed, task-owed}
 use Rattle.judging.specs.BookSays.{answer-of}
@@ -29,19 +28,9 @@ use Rattle.porvuund.proofs.calls.porvuund_check.Reads as check-reads
 -- the exported calls of a session; a search's answer is the one that its numbers are
 abbrev pub exported : Calling
 exported =
-    record {
-      Begun = begun-by fresh-reads.Pre fresh-reads.Post;
-      begun = λ b. b .0 .result;
-      loads = loads-by load-reads.Pre load-reads.Post;
-      searches = record {
-        Made = (call : CodeCall 0 search-kinds.ps search-kinds.r) × Kept search-reads.Pre search-reads.Post call;
-        on = λ m. m .0 .args .0;
-        given = λ m. m .0 .args .1 .0;
-        gave = λ m. numbers-said (m .0 .result .answer);
-        led = λ m. m .0 .result .session;
-      };
-      writes = writes-by write-reads.Pre write-reads.Post;
-    }
+    calling-by fresh-reads.Pre fresh-reads.Post (loads-by load-reads.Pre load-reads.Post)
+    (searches-by search-kinds.r search-reads.Pre search-reads.Post (λ l r. (numbers-said (r .answer), r .session)))
+    (writes-by write-reads.Pre write-reads.Post)
 
 -- each contract gives what the demands need
 pub exported-tied : Tied exported
@@ -54,14 +43,8 @@ exported-tied =
     }
 
 -- the demands hold of the exported calls
-pub demand-1-of-the-library : Demand1Of exported
-demand-1-of-the-library = tied-demand-1 exported-tied
-
-pub demand-2-of-the-library : Demand2Of exported
-demand-2-of-the-library = tied-demand-2 exported-tied
-
-pub demand-3-of-the-library : Demand3Of exported
-demand-3-of-the-library = tied-demand-3 exported-tied
+pub demands-of-the-library : DemandsOf exported
+demands-of-the-library = tied-demands exported-tied
 
 -- the numbers of a search are those of the answer that the search owes, its state's among them
 pub search-numbers : (call : CodeCall 0 search-kinds.ps search-kinds.r) → Kept search-reads.Pre search-reads.Post call

@@ -2,15 +2,17 @@
 -- what each contract requires and ensures, by the reading that is made of its clauses, is what a step of a run needs
 -- (`Tied`).
 use mathlib.Core.Path.{refl}
-use borrow.Fn.Kinds.{In, Out}
+use Prim.Native.Nat.{ℕ}
+use borrow.Fn.Kinds.{RK, In, Out, resT}
+use contract.Lifetimes.{Lfts}
 use denote.Ref.{now}
 use Rattle.spec.specs.Text.{Bytes}
-use Rattle.spec.specs.Calls.{LoadAnswer}
+use Rattle.spec.specs.Calls.{LoadAnswer, SearchAnswer}
 use Rattle.spec.specs.Sequence.{WriteOutcome}
 use Rattle.checker.specs.Laws.CodeCall.{CodeCall, Kept}
 use Rattle.answers.specs.Said.{load-said, search-said, write-said}
-use Rattle.session.specs.Laws.CodeSequence.{Way, Calling, Tied, Demand1Of, Demand2Of, Demand3Of, tied-demand-1}
-use Rattle.session.specs.Laws.CodeSequence.{tied-demand-2, tied-demand-3}
+use Rattle.session.specs.Laws.CodeSequence.{Way, Calling, Tied, DemandsOf, tied-demands}
+use Rattle.session.specs.declared.Session.{Session as CodeSession}
 use Rattle.session.proofs.Session.fresh.Kinds as fresh-kinds
 use Rattle.session.proofs.Session.fresh.Reads as fresh-reads
 use Rattle.session.proofs.Session.load.Kinds as load-kinds
@@ -20,11 +22,9 @@ use Rattle.session.proofs.Session.search.Reads as search-reads
 use Rattle.session.proofs.Session.write.Kinds as write-kinds
 use Rattle.session.proofs.Session.write.Reads as write-reads
 
--- calls with the parameters and the result that the session's have, whatever their contract: a load leads to the
--- value that it hands back, a writing leaves the value that it was made on
-abbrev pub begun-by : In 0 fresh-kinds.ps → Out 0 fresh-kinds.ps fresh-kinds.r → Type 1
-begun-by requires ensures = (call : CodeCall 0 fresh-kinds.ps fresh-kinds.r) × Kept requires ensures call
-
+-- calls with the parameters that the session's have, whatever their contract: a load leads to the value that it hands
+-- back, a writing leaves the value that it was made on. A search may give back what it answers in another form: how
+-- that is read is said with it
 abbrev pub loads-by : In 1 load-kinds.ps → Out 1 load-kinds.ps load-kinds.r → Way Bytes LoadAnswer
 loads-by requires ensures =
     record {
@@ -33,6 +33,17 @@ loads-by requires ensures =
       given = λ m. now (m .0 .args .1 .0);
       gave = λ m. load-said (m .0 .result .answer);
       led = λ m. m .0 .result .session;
+    }
+
+abbrev pub searches-by : (r : RK 0) → In 0 search-kinds.ps → Out 0 search-kinds.ps r
+    → ((l : Lfts 0) → resT r l .Denot → SearchAnswer × CodeSession) → Way ℕ SearchAnswer
+searches-by r requires ensures read =
+    record {
+      Made = (call : CodeCall 0 search-kinds.ps r) × Kept requires ensures call;
+      on = λ m. m .0 .args .0;
+      given = λ m. m .0 .args .1 .0;
+      gave = λ m. read (m .0 .lifetimes) (m .0 .result) .0;
+      led = λ m. read (m .0 .lifetimes) (m .0 .result) .1;
     }
 
 abbrev pub writes-by : In 1 write-kinds.ps → Out 1 write-kinds.ps write-kinds.r → Way Bytes WriteOutcome
@@ -45,22 +56,23 @@ writes-by requires ensures =
       led = λ m. m .0 .args .0;
     }
 
+abbrev pub calling-by : In 0 fresh-kinds.ps → Out 0 fresh-kinds.ps fresh-kinds.r → Way Bytes LoadAnswer
+    → Way ℕ SearchAnswer → Way Bytes WriteOutcome → Calling
+calling-by requires ensures loads searches writes =
+    record {
+      Begun = (call : CodeCall 0 fresh-kinds.ps fresh-kinds.r) × Kept requires ensures call;
+      begun = λ b. b .0 .result;
+      loads = loads;
+      searches = searches;
+      writes = writes;
+    }
+
 -- the calls of a session
 abbrev pub calling : Calling
 calling =
-    record {
-      Begun = begun-by fresh-reads.Pre fresh-reads.Post;
-      begun = λ b. b .0 .result;
-      loads = loads-by load-reads.Pre load-reads.Post;
-      searches = record {
-        Made = (call : CodeCall 0 search-kinds.ps search-kinds.r) × Kept search-reads.Pre search-reads.Post call;
-        on = λ m. m .0 .args .0;
-        given = λ m. m .0 .args .1 .0;
-        gave = λ m. search-said (m .0 .result .answer);
-        led = λ m. m .0 .result .session;
-      };
-      writes = writes-by write-reads.Pre write-reads.Post;
-    }
+    calling-by fresh-reads.Pre fresh-reads.Post (loads-by load-reads.Pre load-reads.Post)
+    (searches-by search-kinds.r search-reads.Pre search-reads.Post (λ l r. (search-said (r .answer), r .session)))
+    (writes-by write-reads.Pre write-reads.Post)
 
 -- each contract gives what the demands need
 pub contracts-tied : Tied calling
@@ -72,14 +84,7 @@ contracts-tied =
       writes = λ m sound. (m .1 sound, (sound, λ n. refl));
     }
 
--- demand 1 holds of every call of the code, on any value that the calls led to
-pub demand-1-of-the-code : Demand1Of calling
-demand-1-of-the-code = tied-demand-1 contracts-tied
-
--- demand 2 holds of every load and every writing of the code
-pub demand-2-of-the-code : Demand2Of calling
-demand-2-of-the-code = tied-demand-2 contracts-tied
-
--- demand 3 holds of every run of the code
-pub demand-3-of-the-code : Demand3Of calling
-demand-3-of-the-code = tied-demand-3 contracts-tied
+-- the demands hold of every run of the code: demand 1 of every call on any value that the calls led to, demand 2 of
+-- every load and every writing, demand 3 of the whole sequence
+pub demands-of-the-code : DemandsOf calling
+demands-of-the-code = tied-demands contracts-tied

@@ -1,6 +1,7 @@
 -- The laws behind what contracts cite.
 pub mod Anew
 pub mod Loading
+pub mod Counted
 pub mod MovedOn
 pub mod CountsHeld
 pub mod SearchedHeld

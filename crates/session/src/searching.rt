@@ -2,13 +2,11 @@
 use crate::Session;
 use answers::SearchAnswer;
 use moves::Sizes;
-use search::Ran;
 ghost use mathlib.Core.Path.{_≡_};
 ghost use mathlib.Core.Logic.{_≢_};
 ghost use Rattle.spec.specs.Calls.{Searches};
 ghost use Rattle.answers.specs.Said.{search-said};
-ghost use Rattle.session.specs.CodeSession.{view, Holds, Sound};
-ghost use Rattle.session.specs.Counted.{RanIn};
+ghost use Rattle.session.specs.CodeSession.{view, Sound};
 
 // The session after a search, and what the search answers.
 pub struct Searched {
@@ -17,24 +15,9 @@ pub struct Searched {
 }
 
 impl Session {
-    // Where the search comes to within a budget.
-    fn ran(self, budget: u32) -> Ran
-        requires { ⌜ Holds self ⌝ }
-        ensures { λ r. ⌜ RanIn self budget r ⌝ }
-    {
-        let position = self.position;
-        let table = self.prepared.table;
-        let sizes = Sizes {
-            kernel: self.prepared.kernel.size,
-            singles: self.prepared.reduced.singles,
-            witness: self.prepared.witness.count,
-        };
-        position.search(&table, sizes, budget)
-    }
-
     // Moves the session's own position forward by as many steps as the budget, or by those left until finished if
     // fewer; with a kernel too great to be searched by none. Refused without an accepted sheet.
-    pub fn search(self, budget: u32) -> Searched
+    pub fn search(mut self, budget: u32) -> Searched
         requires { ⌜ Sound self ⌝ }
         ensures { λ r. ⌜ Searches (view self) budget (search-said (r .answer)) (view (r .session)) ⌝ }
         ensures { λ r. ⌜ Sound (r .session) ⌝ }
@@ -46,18 +29,24 @@ impl Session {
                 answer: SearchAnswer::refused(10),
             };
         }
-        let ran = self.ran(budget);
+        let from = self.position;
+        let table = self.prepared.table;
+        let sizes = Sizes {
+            kernel: self.prepared.kernel.size,
+            singles: self.prepared.reduced.singles,
+            witness: self.prepared.witness.count,
+        };
+        let ran = from.search(&table, sizes, budget);
         let position = ran.position;
-        let mut after = self;
-        after.position = position;
+        self.position = position;
         let counts = answers::counts_at(
-            after.position.cursor.count,
-            after.prepared.reduced.singles,
-            after.prepared.witness.count,
-            after.position.cursor.finished,
+            self.position.cursor.count,
+            self.prepared.reduced.singles,
+            self.prepared.witness.count,
+            self.position.cursor.finished,
         );
         Searched {
-            session: after,
+            session: self,
             answer: SearchAnswer::found(ran.steps, counts),
         }
     }

@@ -21,7 +21,7 @@ use Rattle.book_lines.specs.RowsSaid.{GrantCells}
 use Rattle.book_lines.specs.declared.counts.Counts.{Counts}
 use Rattle.form.specs.Laws.RoleLimit.{permissions-fit-a-row}
 use Rattle.session.specs.CodeSession.{text-in, state-in, Holds}
-use Rattle.session.specs.Counted.{CountsIn}
+use Rattle.session.specs.Laws.Counted.{CountsIn}
 use Rattle.session.specs.Laws.CountsHeld.{roles-held, few-roles-held}
 use Rattle.session.specs.declared.Session.{Session as CodeSession}
 

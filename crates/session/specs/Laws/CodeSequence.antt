@@ -120,6 +120,12 @@ pub record Demand2Of (calling : Calling) : Type 1 where
 abbrev pub Demand3Of : Calling → Type 1
 Demand3Of calling = (events : List Event) (s : CodeSession) → Ran calling events s → OwedOfAll events
 
+-- the three demands of calls of the code
+pub record DemandsOf (calling : Calling) : Type 1 where
+  pub demand-1 : Demand1Of calling
+  pub demand-2 : Demand2Of calling
+  pub demand-3 : Demand3Of calling
+
 -- ---- they follow
 
 -- the value is judged as the session that it stands for is, and a refusal hands back the very value
@@ -135,16 +141,27 @@ judged (write buffer) written before after (happens, (sound, kept)) =
     let j = demand-1 .writes (view before) (view after) buffer (written .lent) (written .answer) happens in
     record { lowest = j .lowest; refused = λ n. (j .refused n .0, j .refused n .1, kept n) }
 
+-- what is ensured of the calls of one kind is ensured of each that was made
+ensured-of : {Given Answer : Type 0} (way : Way Given Answer)
+    (Ensures : Given → Answer → CodeSession → CodeSession → Type 0)
+    → ((made : way .Made) → Sound (way .on made)
+    → Ensures (way .given made) (way .gave made) (way .on made) (way .led made))
+    → (asked : Given) (answer : Answer) (before after : CodeSession) → MadeAs way asked answer before after
+    → Sound before
+    → Ensures asked answer before after
+ensured-of way Ensures ensures asked answer before after (made, on, given, gave, led) sound =
+    rw (on, given, gave, led) (ensures made (rw on at sound))
+
 module _ {calling : Calling} (tied : Tied calling) where
   ensured : (call : Call) (outcome : Outcome call) (before after : CodeSession)
       → Step calling call outcome before after → Sound before
       → Ensured call outcome before after
-  ensured (load text) answer before after (made, on, given, gave, led) sound =
-      rw (on, given, gave, led) (tied .loads made (rw on at sound))
-  ensured (search budget) answer before after (made, on, given, gave, led) sound =
-      rw (on, given, gave, led) (tied .searches made (rw on at sound))
-  ensured (write buffer) written before after (made, on, given, gave, led) sound =
-      rw (on, given, gave, led) (tied .writes made (rw on at sound))
+  ensured (load text) answer before after =
+      ensured-of (calling .loads) (λ t. Ensured (load t)) (tied .loads) text answer before after
+  ensured (search budget) answer before after =
+      ensured-of (calling .searches) (λ n. Ensured (search n)) (tied .searches) budget answer before after
+  ensured (write buffer) written before after =
+      ensured-of (calling .writes) (λ b. Ensured (write b)) (tied .writes) buffer written before after
 
   -- what the calls led to is what the next call requires
   pub ran-sound : (events : List Event) (s : CodeSession) → Ran calling events s → Sound s
@@ -161,11 +178,11 @@ module _ {calling : Calling} (tied : Tied calling) where
     ensured (event .call) (event .outcome) (ran .0) s (ran .2) (ran-sound earlier (ran .0) (ran .1)) .0,
   )
 
-  pub tied-demand-1 : Demand1Of calling
+  tied-demand-1 : Demand1Of calling
   tied-demand-1 earlier before ran call outcome after step =
       judged call outcome before after (ensured call outcome before after step (ran-sound earlier before ran))
 
-  pub tied-demand-2 : Demand2Of calling
+  tied-demand-2 : Demand2Of calling
   tied-demand-2 =
       record {
         accepts-sheets = λ earlier before after text answer ran step.
@@ -178,5 +195,8 @@ module _ {calling : Calling} (tied : Tied calling) where
             (ran-led (record { call = write buffer; outcome = written } ∷ earlier) s ran) accepts;
       }
 
-  pub tied-demand-3 : Demand3Of calling
+  tied-demand-3 : Demand3Of calling
   tied-demand-3 events s ran = demand-3 .owed events (view s) (ran-led events s ran)
+
+  pub tied-demands : DemandsOf calling
+  tied-demands = record { demand-1 = tied-demand-1; demand-2 = tied-demand-2; demand-3 = tied-demand-3 }

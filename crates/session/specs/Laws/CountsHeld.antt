@@ -16,7 +16,7 @@ use Rattle.minimality.specs.StateBound.{state-counted, state-le-permissions}
 use Rattle.demands.specs.Believed.{accepted-even}
 use Rattle.session.specs.CodeSession.{text-in, state-in, Holds}
 use Rattle.answers.specs.CountsFrom.{CountsFrom}
-use Rattle.session.specs.Counted.{CountsIn}
+use Rattle.session.specs.Laws.Counted.{CountsIn}
 use Rattle.session.specs.declared.Session.{Session as CodeSession}
 
 -- the best placement's classes and the singles

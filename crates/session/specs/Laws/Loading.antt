@@ -1,24 +1,20 @@
 -- What a load comes to: a sheet to which a cause applies is answered by the lowest such number and changes nothing;
 -- any other is answered by its counts and started anew.
 use Prim.Native.Nat.{ℕ, _≤_}
-use native.Mathlib.Omega.{arith}
 use mathlib.Core.Path.{_≡_, _∙_}
-use mathlib.Core.Bool.{Bool, true, false, So, cond}
+use mathlib.Core.Bool.{false, So}
 use mathlib.Core.Logic.{_≢_}
 use borrow.Author.Tests.{eq-eqb, ne-eqb}
 use lib.ListN.{length}
 use Rattle.spec.specs.Limits.{sheet-limit}
 use Rattle.spec.specs.Text.{Bytes}
 use Rattle.spec.specs.Sheet.{sheet-of}
-use Rattle.spec.specs.Machine.{State}
 use Rattle.spec.specs.Roles.{start-of}
-use Rattle.spec.specs.Session.{Session, no-sheet, loaded}
+use Rattle.spec.specs.Session.{Session, loaded}
 use Rattle.spec.specs.Refusal.{refusal, accepted}
 use Rattle.spec.specs.Calls.{LoadAnswer, load-refused, load-counts, load-answer, after-load, Loads}
 use Rattle.rules.specs.AcceptedFacts.{accepted-short}
 use Rattle.preparing.specs.Prepared.{PreparedFor, counts-in}
-use Rattle.session.specs.CodeSession.{text-in, state-in, view}
-use Rattle.session.specs.declared.Session.{Session as CodeSession}
 use Rattle.preparing.specs.declared.prepared.Prepared.{Prepared}
 
 module _ (before : Session) (text : Bytes) where
@@ -42,15 +38,6 @@ module _ (before : Session) (text : Bytes) where
 -- an unrefused sheet is short enough to be kept
 pub unrefused-short : (text : Bytes) → refusal text ≡ 0 → length text ≤ sheet-limit
 unrefused-short text none-applies = accepted-short text (eq-eqb (refusal text) 0 none-applies)
-
--- the bytes of a session that stands for a sheet are the sheet's
-pub text-loaded : (s : CodeSession) (text : Bytes) (st : State) → view s ≡ loaded text st → text-in s ≡ text
-text-loaded s text st e = by-case (s .loaded) (text-in s) (state-in s) e
-  where
-    by-case : (accepts : Bool) (own : Bytes) (at : State) → cond accepts (loaded own at) no-sheet ≡ loaded text st
-        → own ≡ text
-    by-case true own at e = cc
-    by-case false own at e = let z : _≡_ {A = ℕ} 0 1 = cc in absurd (omega arith)
 
 -- the counts found of an accepted sheet are the sheet's own
 pub counts-found : (text : Bytes) (p : Prepared) → PreparedFor text p → counts-in p ≡ load-counts (sheet-of text)

@@ -18,7 +18,7 @@ use Rattle.search.specs.declared.machine.Position.{Position}
 use Rattle.search.specs.declared.machine.Ran.{Ran}
 use Rattle.minimality.specs.StateBound.{searching-on}
 use Rattle.session.specs.CodeSession.{text-in, size-in, state-in, Holds}
-use Rattle.session.specs.Counted.{moved-to, RanIn}
+use Rattle.session.specs.Laws.Counted.{moved-to, RanIn}
 use Rattle.preparing.specs.Laws.TableKernel.{table-kernel, same-kernel}
 use Rattle.session.specs.declared.Session.{Session as CodeSession}
 

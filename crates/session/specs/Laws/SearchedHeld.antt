@@ -12,7 +12,7 @@ use Rattle.search.specs.declared.machine.Ran.{Ran}
 use Rattle.standing.specs.StandingCases.{standing-case}
 use Rattle.book_lines.specs.declared.counts.Counts.{Counts}
 use Rattle.session.specs.CodeSession.{text-in, state-in, view}
-use Rattle.session.specs.Counted.{CountsIn, moved-to, RanIn}
+use Rattle.session.specs.Laws.Counted.{CountsIn, moved-to, RanIn}
 use Rattle.session.specs.declared.Session.{Session as CodeSession}
 
 pub view-loaded : (s : CodeSession) → So (s .loaded) → view s ≡ loaded (text-in s) (state-in s)

@@ -13,7 +13,7 @@ use Rattle.spec.specs.Limits.{search-limit}
 use Rattle.spec.specs.Sheet.{sheet-of}
 use Rattle.answers.specs.Said.{write-said}
 use Rattle.session.specs.CodeSession.{text-in, state-in, Holds}
-use Rattle.session.specs.Counted.{CountsIn}
+use Rattle.session.specs.Laws.Counted.{CountsIn}
 use Rattle.session.specs.Laws.CountsHeld.{few-roles-held, counts-held}
 use Rattle.session.specs.Laws.BestHeld.{PartsBelong, best-room, best-belongs}
 use Rattle.session.specs.Laws.BookHeld.{witness-cells-granted, room-for-roles, book-held}
