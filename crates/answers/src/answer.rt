@@ -1,13 +1,13 @@
 // What the calls of a session answer: a result comes with the number 0, a refusal with document 01's number and
 // counts 0.
-use book::Writing;
 use book_lines::Counts;
+use book_lines::Writing;
 use standing::Standing;
 ghost use mathlib.Core.Path.{_≡_};
 ghost use mathlib.Core.Option.{some};
 ghost use Rattle.spec.specs.Calls.{load-refused, search-refused, write-refused};
 ghost use Rattle.standing.specs.StandingCases.{standing-case};
-ghost use Rattle.book.specs.Writing.{writing-said};
+ghost use Rattle.book_lines.specs.Writing.{writing-said};
 ghost use Rattle.answers.specs.Said.{load-said, search-said, write-said};
 
 // A load's counts: users, permissions, grants, the kernel's size k and the witness's count w.

@@ -1,5 +1,2 @@
--- Writing a role book into a lent buffer, if there is room for it.
-pub mod BookRows
-pub mod NameBytes
-pub mod Writing
+-- A role book written into a lent buffer.
 pub mod Laws

@@ -1,6 +1,5 @@
 // The whole book: four blocks, one empty line between each two. Each block is written where the one before ended,
 // plus that empty line.
-use crate::first_places::first_places;
 use blocks::put_roles;
 use blocks::put_users;
 use blocks::put_witness;
@@ -9,13 +8,14 @@ use book_lines::put_counts;
 use names::Layout;
 use numbers::CELL_WORDS;
 use numbers::ROLE_WORDS;
+use places::first_places;
 ghost use Prim.Native.Nat.{_≤_};
 ghost use lib.ListN.{length};
 ghost use Rattle.spec.specs.Sheet.{sheet-of};
 ghost use Rattle.cell_rows.specs.Rows.{row-bits};
 ghost use Rattle.names.specs.LaidOut.{LaidOut};
 ghost use Rattle.book_lines.specs.RowsSaid.{GrantCells};
-ghost use Rattle.book.specs.BookRows.{rows-book};
+ghost use Rattle.book_length.specs.BookRows.{rows-book};
 ghost use Rattle.text.specs.Written.{Written};
 
 // Writes the book at the front of the buffer, and answers how long it is.

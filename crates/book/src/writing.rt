@@ -1,7 +1,8 @@
 // A book into a buffer that may be too short for it.
 use crate::book::write_book;
-use crate::length::book_length;
+use book_length::book_length;
 use book_lines::Counts;
+use book_lines::Writing;
 use names::Layout;
 use numbers::CELL_WORDS;
 use numbers::ROLE_WORDS;
@@ -10,14 +11,8 @@ ghost use Rattle.spec.specs.Sheet.{sheet-of};
 ghost use Rattle.cell_rows.specs.Rows.{row-bits};
 ghost use Rattle.names.specs.LaidOut.{LaidOut};
 ghost use Rattle.book_lines.specs.RowsSaid.{GrantCells};
-ghost use Rattle.book.specs.BookRows.{rows-book};
-ghost use Rattle.book.specs.Writing.{writing-said, Writes};
-
-// What writing a book answers: its byte count, or that the buffer is shorter than the book.
-pub enum Writing {
-    Bytes(usize),
-    TooShort,
-}
+ghost use Rattle.book_length.specs.BookRows.{rows-book};
+ghost use Rattle.book_lines.specs.Writing.{writing-said, Writes};
 
 // Writes the book where the buffer is long enough, and else leaves every byte of the buffer.
 pub fn write_if_room<'a>(

@@ -3,4 +3,5 @@
 pub mod CountsText
 pub mod Lines
 pub mod RowsSaid
+pub mod Writing
 pub mod Laws

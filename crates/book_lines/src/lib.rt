@@ -6,6 +6,7 @@ mod counts;
 mod first_line;
 mod lines;
 mod role_names;
+mod writing;
 
 pub use counts::Counts;
 pub use counts::put_counts;
@@ -15,3 +16,4 @@ pub use lines::put_pair_line;
 pub use role_names::ROLE_NAME_BYTES;
 pub use role_names::put_role_fields;
 pub use role_names::put_role_name;
+pub use writing::Writing;

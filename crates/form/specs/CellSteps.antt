@@ -12,7 +12,7 @@ use Rattle.bits.specs.Laws.Below.{below-or-from}
 use Rattle.bits.specs.Bit.{word-bits}
 use Rattle.cell_rows.specs.Rows.{row-words, cell}
 use Rattle.cells_read.specs.CellsWord.{cell-byte, CellsStand, CellsIn}
-use Rattle.sheet.specs.Laws.CellsStanding.{stands-cells, cells-stand}
+use Rattle.cells_read.specs.Laws.CellsStanding.{stands-cells, cells-stand}
 use Rattle.cell_text.specs.CellsText.{cell-field}
 use Rattle.cell_text.specs.Laws.CellsWritten.{cell-field-length}
 use Rattle.steps.specs.Laws.Aligned.{Aligned, aligned-length, aligned-listed}

@@ -1,7 +1,8 @@
 // Where the names of a list stand in a sheet: each place is one number.
 use numbers::USER_LIMIT;
 ghost use mathlib.Core.Path.{_≡_};
-ghost use Prim.Native.Nat.{_<_};
+ghost use Prim.Native.Nat.{_≤_, _<_};
+ghost use lib.ListN.{length, take};
 ghost use Rattle.places.specs.Places.{place-base, place-of, from-of, to-of, no-places};
 
 // A place is the number of its first byte times this, and the number of the byte after its last.
@@ -44,4 +45,12 @@ pub fn to_of(place: u64) -> usize
     ensures { λ r. ⌜ r ≡ to-of place ⌝ }
 {
     (place % PLACE_BASE) as usize
+}
+
+// The first places of an array.
+pub fn first_places(places: &[u64], n: usize) -> &[u64]
+    requires { ⌜ n ≤ length (now places) ⌝ }
+    ensures { λ r. ⌜ now r ≡ take n (now (places .entry)) ⌝ }
+{
+    &places[..n]
 }

@@ -1,5 +1,4 @@
 -- The laws behind what contracts cite.
-pub mod CellsStanding
 pub mod Spelled
 pub mod UserLineFound
 pub mod UserLines

@@ -1,6 +1,6 @@
 // Prints the book of the paper's sheet, and the book of a sheet without grants.
-use book::Writing;
 use book_lines::Counts;
+use book_lines::Writing;
 use libc::STDOUT_FILENO;
 use numbers::CELL_WORDS;
 use numbers::ROLE_WORDS;

@@ -15,7 +15,7 @@ use Rattle.cell_rows.specs.CellPlaces.{marked, Shown, Part}
 use Rattle.cells.specs.Laws.CellPlace.{cell-marked}
 use Rattle.cells.specs.Laws.CellList.{cell-of, grant-of-cell}
 use Rattle.roles.specs.RolesShown.{RolesAt}
-use Rattle.book.specs.BookRows.{rows-book, rows-book-in}
+use Rattle.book_length.specs.BookRows.{rows-book, rows-book-in}
 use Rattle.blocks.specs.Laws.Laid.{permissions-fit}
 use Rattle.book_lines.specs.RowsSaid.{GrantCells}
 use Rattle.book_lines.specs.declared.counts.Counts.{Counts}

@@ -14,8 +14,8 @@ use Rattle.spec.specs.Session.{loaded, session-book}
 use Rattle.spec.specs.Refusal.{write-causes}
 use Rattle.spec.specs.Calls.{WriteAnswer, write-refused, write-answer, buffer-after, Writes}
 use Rattle.bits.specs.Truth.{passes-or-fails}
-use Rattle.book.specs.Writing.{answer-for, buffer-of}
-use Rattle.book.specs.Writing as writing
+use Rattle.book_lines.specs.Writing.{answer-for, buffer-of}
+use Rattle.book_lines.specs.Writing as writing
 use Rattle.session.specs.CodeSession.{text-in, state-in, view}
 use Rattle.session.specs.Laws.SearchedHeld.{view-loaded, view-no-sheet}
 use Rattle.session.specs.declared.Session.{Session as CodeSession}

@@ -16,7 +16,7 @@ use Rattle.bits.specs.Bit.{bit}
 use Rattle.places.specs.Places.{part}
 use Rattle.text.specs.Line.{separator}
 use Rattle.cells_read.specs.CellsWord.{CellsStand, CellsIn}
-use Rattle.sheet.specs.Laws.CellsStanding.{cells-text, cells-length, cells-stand, stands-cells}
+use Rattle.cells_read.specs.Laws.CellsStanding.{cells-text, cells-length, cells-stand, stands-cells}
 use Rattle.text.specs.Laws.Line.{line-parts}
 use Rattle.sheet.specs.Laws.FirstLine.{fields-text}
 use Rattle.sheet.specs.Spelled.{name-read}

@@ -4,7 +4,7 @@ use Prim.Native.Nat.{_≤_}
 use mathlib.Core.Path.{sym}
 use lib.ListN.{length}
 use lib.Seq.{length-take-le}
-use Rattle.book.specs.Writing.{bytes-within}
+use Rattle.book_lines.specs.Writing.{bytes-within}
 use Rattle.worked_book.proofs.print.Statement.{statement}
 use Rattle.worked_book.proofs.print.Tie as tie
 

@@ -11,11 +11,11 @@ use Rattle.spec.specs.Sheet.{sheet-of}
 use Rattle.spec.specs.Book.{witness-block}
 use Rattle.cell_rows.specs.Rows.{row-bits, row-words}
 use Rattle.cells.specs.CellSets.{cell-grants}
-use Rattle.book.specs.BookRows.{book-parts, rows-book}
+use Rattle.book_length.specs.BookRows.{book-parts, rows-book}
 use Rattle.book_lines.specs.CountsText.{counts-text}
 use Rattle.names.specs.LaidOut.{UsersAt, PermissionsAt}
 use Rattle.blocks.specs.Laws.Laid.{few-users}
-use Rattle.book.specs.Laws.Placed.{users-placed, permissions-placed, users-lent, permissions-lent}
+use Rattle.book_length.specs.Laws.Placed.{users-placed, permissions-placed, users-lent, permissions-lent}
 use Rattle.text.specs.Line.{line-end}
 use Rattle.book_lines.specs.RowsSaid.{shown-roles, shown-users}
 use Rattle.text.specs.Written.{WrittenSoFar, byte-within, end-within, fits-as, front-fits, place-within, room-behind}

@@ -2,8 +2,8 @@
 use borrow.Author.Needs.{needs}
 use native.Mathlib.Omega.{arith}
 use Rattle.spec.specs.Text.{Bytes}
-use Rattle.book.specs.BookRows.{rows-book}
-use Rattle.book.specs.Writing.{refused-short, written-whole}
+use Rattle.book_length.specs.BookRows.{rows-book}
+use Rattle.book_lines.specs.Writing.{refused-short, written-whole}
 use Rattle.book.proofs.writing.write_if_room.Statement.{statement}
 use Rattle.book.proofs.writing.write_if_room.Tie as tie
 

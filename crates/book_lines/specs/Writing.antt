@@ -10,8 +10,8 @@ use lib.ListN.{length, drop, length-append}
 use Rattle.spec.specs.Text.{Bytes}
 use Rattle.spec.specs.Calls.{WriteAnswer, write-refused}
 use Rattle.text.specs.Written.{Written}
-use Rattle.book.specs.declared.writing.Writing.{Writing as WritingValue}
-use Rattle.book.specs.declared.writing.Writing.the-variants as writing
+use Rattle.book_lines.specs.declared.writing.Writing.{Writing as WritingValue}
+use Rattle.book_lines.specs.declared.writing.Writing.the-variants as writing
 
 -- what writing a book answers, as the paper has it: its byte count; or the number 11 and counts 0 for a buffer
 -- shorter than the book

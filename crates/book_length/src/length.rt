@@ -1,6 +1,5 @@
 // How long a book is, before anything of it is written: one sum of the bytes of its counts, its names, its cells and
 // its headings, whatever the cells are, and of its witness.
-use crate::first_places::first_places;
 use book_lines::Counts;
 use cell_text::next_set;
 use decimal::decimal_length;
@@ -10,6 +9,7 @@ use names::user_name_in;
 use numbers::CELL_WORDS;
 use numbers::PermissionNo;
 use numbers::UserNo;
+use places::first_places;
 use places::from_of;
 use places::to_of;
 use standing::Standing;
@@ -26,8 +26,8 @@ ghost use Rattle.decimal.specs.Measured.{Measured, piece-most, line-most, block
 ghost use Rattle.book_lines.specs.CountsText.{standing-text, counts-text};
 ghost use Rattle.book_lines.specs.RowsSaid.{GrantCells};
 ghost use Rattle.blocks.specs.WitnessText.{witness-row};
-ghost use Rattle.book.specs.BookRows.{rows-book};
-ghost use Rattle.book.specs.NameBytes.{PlacesShort, bytes-at, role-name-bytes};
+ghost use Rattle.book_length.specs.BookRows.{rows-book};
+ghost use Rattle.book_length.specs.NameBytes.{PlacesShort, bytes-at, role-name-bytes};
 
 // The first words of the three headings with their line feeds, and the three empty lines.
 const HEADINGS: usize = 29;

@@ -13,10 +13,10 @@ use Rattle.decimal.specs.Measured.{piece-most}
 use Rattle.blocks.specs.Laws.Laid.{permission-counted, permissions-all, permissions-in-row}
 use Rattle.blocks.specs.Laws.SkippedParts.{none-said}
 use Rattle.blocks.specs.WitnessText.{cell-line, line-if}
-use Rattle.book.specs.Laws.NameBytes.{user-short, permission-short}
-use Rattle.book.specs.Laws.WitnessMeasured.{adding-past, cell-measured}
-use Rattle.book.proofs.length.witness_row_length.Statement.{statement}
-use Rattle.book.proofs.length.witness_row_length.Tie as tie
+use Rattle.book_length.specs.Laws.NameBytes.{user-short, permission-short}
+use Rattle.book_length.specs.Laws.WitnessMeasured.{adding-past, cell-measured}
+use Rattle.book_length.proofs.length.witness_row_length.Statement.{statement}
+use Rattle.book_length.proofs.length.witness_row_length.Tie as tie
 
 abbrev Inv-loop : tie.InvT-loop
 Inv-loop s users permissions witness user name count total₀ i₀ total i =

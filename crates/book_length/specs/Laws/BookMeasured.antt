@@ -26,10 +26,10 @@ use Rattle.blocks.specs.Laws.Shown.{role-fields, role-lines, user-lines, roles-
 use Rattle.blocks.specs.Laws.Shown.{role-line-parts, user-line-parts}
 use Rattle.blocks.specs.WitnessText.{witness-row, witness-parts}
 use Rattle.book_lines.specs.declared.counts.Counts.{Counts}
-use Rattle.book.specs.BookRows.{rows-book, book-parts}
-use Rattle.book.specs.NameBytes.{role-name-bytes}
-use Rattle.book.specs.Laws.SumOfParts.{listed-sum}
-use Rattle.book.specs.Laws.WitnessMeasured.{ended-length}
+use Rattle.book_length.specs.BookRows.{rows-book, book-parts}
+use Rattle.book_length.specs.NameBytes.{role-name-bytes}
+use Rattle.book_length.specs.Laws.SumOfParts.{listed-sum}
+use Rattle.book_length.specs.Laws.WitnessMeasured.{ended-length}
 
 -- a name and its cells
 named-length : (name : Bytes) (words : List ℕ) (row count : ℕ)

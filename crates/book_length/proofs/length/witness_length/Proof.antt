@@ -7,8 +7,8 @@ use Rattle.spec.specs.Sheet.{sheet-of, user-count}
 use Rattle.decimal.specs.Measured.{Adding, adding-ends, adding-starts, line-most, measured-within, part-added}
 use Rattle.blocks.specs.Laws.Laid.{user-counted, users-all, users-lawful}
 use Rattle.blocks.specs.WitnessText.{witness-row}
-use Rattle.book.proofs.length.witness_length.Statement.{statement}
-use Rattle.book.proofs.length.witness_length.Tie as tie
+use Rattle.book_length.proofs.length.witness_length.Statement.{statement}
+use Rattle.book_length.proofs.length.witness_length.Tie as tie
 
 abbrev Inv-loop : tie.InvT-loop
 Inv-loop s users permissions witness total₀ i₀ total i =

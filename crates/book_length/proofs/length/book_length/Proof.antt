@@ -10,12 +10,12 @@ use Rattle.rules.specs.AcceptedFacts.{accepted-lawful}
 use Rattle.names.specs.LaidOut.{UsersAt, PermissionsAt}
 use Rattle.names.specs.declared.layout.Layout.{Layout}
 use Rattle.blocks.specs.Laws.Laid.{few-users, permissions-fit}
-use Rattle.book.specs.Laws.NameBytes.{bytes-small, role-bytes-small, users-short, permissions-short}
-use Rattle.book.specs.Laws.NameBytes.{users-bytes, permissions-bytes}
-use Rattle.book.specs.Laws.Placed.{users-placed, permissions-placed, users-lent, permissions-lent, cells-small}
-use Rattle.book.specs.Laws.BookMeasured.{book-sum}
-use Rattle.book.proofs.length.book_length.Statement.{statement}
-use Rattle.book.proofs.length.book_length.Tie as tie
+use Rattle.book_length.specs.Laws.NameBytes.{bytes-small, role-bytes-small, users-short, permissions-short}
+use Rattle.book_length.specs.Laws.NameBytes.{users-bytes, permissions-bytes}
+use Rattle.book_length.specs.Laws.Placed.{users-placed, permissions-placed, users-lent, permissions-lent, cells-small}
+use Rattle.book_length.specs.Laws.BookMeasured.{book-sum}
+use Rattle.book_length.proofs.length.book_length.Statement.{statement}
+use Rattle.book_length.proofs.length.book_length.Tie as tie
 
 -- the layout, which the function keeps where it can be lent
 abbrev layout : tie.Start → Layout

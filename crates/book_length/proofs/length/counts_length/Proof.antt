@@ -1,9 +1,9 @@
 -- `length::counts_length`: the line of names, both numbers, the comma between them, and the state.
 use borrow.Author.Needs.{needs}
 use native.Mathlib.Omega.{arith}
-use Rattle.book.specs.Laws.CountsMeasured.{counts-measured}
-use Rattle.book.proofs.length.counts_length.Statement.{statement}
-use Rattle.book.proofs.length.counts_length.Tie as tie
+use Rattle.book_length.specs.Laws.CountsMeasured.{counts-measured}
+use Rattle.book_length.proofs.length.counts_length.Statement.{statement}
+use Rattle.book_length.proofs.length.counts_length.Tie as tie
 
 add-roles : tie.Need-add-roles
 add-roles c = omega (arith, c .decimal-length .ensures .small)

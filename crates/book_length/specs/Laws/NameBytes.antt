@@ -18,7 +18,7 @@ use Rattle.places.specs.Places.{from-at, to-at, Part, NamesPlaced}
 use Rattle.decimal.specs.Laws.Digit.{one-digit, digit-more}
 use Rattle.cell_rows.specs.Rows.{row-bits, row-words}
 use Rattle.book_lines.specs.Laws.Name.{role-name-parts, role-name-short}
-use Rattle.book.specs.NameBytes.{PlacesShort, bytes-at, role-name-bytes}
+use Rattle.book_length.specs.NameBytes.{PlacesShort, bytes-at, role-name-bytes}
 
 -- ---- the names of a sheet
 

@@ -1,9 +1,9 @@
--- `first_places::first_places`: the part has as many places as are asked for.
+-- `places::first_places`: the part has as many places as are asked for.
 use mathlib.Core.Path.{sym}
 use borrow.Author.Needs.{needs}
 use lib.Seq.{length-take-le}
-use Rattle.book.proofs.first_places.first_places.Statement.{statement}
-use Rattle.book.proofs.first_places.first_places.Tie as tie
+use Rattle.places.proofs.places.first_places.Statement.{statement}
+use Rattle.places.proofs.places.first_places.Tie as tie
 
 slice-aggregate-result : tie.Need-slice-aggregate-result
 slice-aggregate-result c = sym (length-take-le (c .before .args .n) (c .before .args .places .now) (c .before .pre))

@@ -7,8 +7,8 @@ use Rattle.standing.specs.StandingCases.{standing-case}
 use Rattle.standing.specs.declared.standing.Standing.{Standing as StandingValue}
 use Rattle.book_lines.specs.CountsText.{standing-text}
 use Rattle.decimal.specs.Measured.{measured-as}
-use Rattle.book.proofs.length.standing_length.Statement.{statement}
-use Rattle.book.proofs.length.standing_length.Tie as tie
+use Rattle.book_length.proofs.length.standing_length.Statement.{statement}
+use Rattle.book_length.proofs.length.standing_length.Tie as tie
 
 abbrev text : StandingValue → Bytes
 text standing = standing-text (standing-case standing)

@@ -8,9 +8,9 @@ use lib.ListN.{length}
 use Rattle.spec.specs.Limits.{user-limit, name-limit}
 use Rattle.bits.specs.Counting.{sum-below}
 use Rattle.places.specs.Places.{from-at, to-at}
-use Rattle.book.specs.Laws.NameBytes.{bytes-below}
-use Rattle.book.proofs.length.bytes_at.Statement.{statement}
-use Rattle.book.proofs.length.bytes_at.Tie as tie
+use Rattle.book_length.specs.Laws.NameBytes.{bytes-below}
+use Rattle.book_length.proofs.length.bytes_at.Statement.{statement}
+use Rattle.book_length.proofs.length.bytes_at.Tie as tie
 
 abbrev Inv-loop : tie.InvT-loop
 Inv-loop places total₀ i₀ total i =

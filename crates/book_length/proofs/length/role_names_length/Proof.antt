@@ -3,9 +3,9 @@ use borrow.Author.Needs.{needs}
 use native.Mathlib.Omega.{arith}
 use mathlib.Core.Path.{sym}
 use Rattle.cell_rows.specs.Rows.{row-bits, row-words}
-use Rattle.book.specs.Laws.NameBytes.{few-role-bytes, many-role-bytes}
-use Rattle.book.proofs.length.role_names_length.Statement.{statement}
-use Rattle.book.proofs.length.role_names_length.Tie as tie
+use Rattle.book_length.specs.Laws.NameBytes.{few-role-bytes, many-role-bytes}
+use Rattle.book_length.proofs.length.role_names_length.Statement.{statement}
+use Rattle.book_length.proofs.length.role_names_length.Tie as tie
 
 returns : tie.Need-returns
 returns c = sym (few-role-bytes (c .before .args .roles) (omega arith))
