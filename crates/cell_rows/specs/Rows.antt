@@ -9,7 +9,7 @@ use Rattle.bits.specs.Bit.{bit, word-bits}
 
 -- words in a row
 unfoldable pub row-words : ℕ
-row-words = 1
+row-words = 2
 
 -- bits in a row: as many as permissions can be
 unfoldable pub row-bits : ℕ

@@ -2,10 +2,10 @@
 use bits::WORD_BITS;
 
 // The bytes of a sheet.
-pub const SHEET_LIMIT: usize = 40_960;
+pub const SHEET_LIMIT: usize = 65_536;
 
 // The permissions of a sheet.
-pub const PERMISSION_LIMIT: usize = 64;
+pub const PERMISSION_LIMIT: usize = 128;
 
 // The users of a sheet.
 pub const USER_LIMIT: usize = 256;
@@ -20,13 +20,13 @@ pub const GRANT_LIMIT: usize = 2_048;
 pub const KERNEL_LIMIT: usize = 128;
 
 // The bytes of a book.
-pub const BOOK_LIMIT: usize = 65_536;
+pub const BOOK_LIMIT: usize = 131_072;
 
 // The roles of a book: as many as permissions, since no cover needs more.
 pub const ROLE_LIMIT: usize = PERMISSION_LIMIT;
 
 // The words of a row, and its bits: as many as permissions can be.
-pub const ROW_WORDS: usize = 1;
+pub const ROW_WORDS: usize = 2;
 
 pub const ROW_BITS: usize = ROW_WORDS * WORD_BITS;
 

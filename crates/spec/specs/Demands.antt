@@ -111,7 +111,7 @@ pub record SearchOwed (budget : ℕ) (answer : SearchAnswer) (earlier : List Cal
 pub record WriteOwed (buffer : Bytes) (written : WriteOutcome) (earlier : List Call) : Type 0 where
   -- 10 with no accepted sheet, and no refusal otherwise of a buffer of as many bytes as the checker takes
   pub sheetless : last-accepted earlier ≡ none → written .answer ≡ write-refused 10
-  pub answered : (text : Bytes) → last-accepted earlier ≡ some text → 65_536 ≤ length buffer → written .answer .number
+  pub answered : (text : Bytes) → last-accepted earlier ≡ some text → 131_072 ≤ length buffer → written .answer .number
       ≡ 0
   pub book : written .answer .number ≡ 0 → BookOwed (brought-out written) earlier
 

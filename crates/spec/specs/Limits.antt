@@ -1,4 +1,4 @@
--- The limits of document 01. Each stands here once, for all tests and for the machine. The rules of a sheet, what
+-- The limits of document 01, as document 02's first request sets them. Each stands here once, for all tests and for the machine. The rules of a sheet, what
 -- makes a book right, and the demands say their numbers themselves and do not share these names: a test with another
 -- limit no longer meets them. The cases compare each with the paper's number too; of the greatest budget, and of a
 -- kernel above 128, they alone speak.
@@ -6,11 +6,11 @@ use Rattle.spec.specs.Vocabulary.{ℕ}
 
 -- the bytes of a sheet
 unfoldable pub sheet-limit : ℕ
-sheet-limit = 40_960
+sheet-limit = 65_536
 
 -- the permissions of a sheet
 unfoldable pub permission-limit : ℕ
-permission-limit = 64
+permission-limit = 128
 
 -- the users of a sheet
 unfoldable pub user-limit : ℕ
@@ -39,4 +39,4 @@ role-limit = permission-limit
 
 -- the bytes of a book that the checker takes
 unfoldable pub book-limit : ℕ
-book-limit = 65_536
+book-limit = 131_072

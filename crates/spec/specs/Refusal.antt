@@ -29,7 +29,7 @@ abbrev pub first-number : List Cause → ℕ
 first-number [] = 0
 first-number (cause ∷ later) = refuse-if (cause .applies) (cause .number) (first-number later)
 
--- 1: sheet above 40,960 bytes
+-- 1: sheet above 65,536 bytes
 unfoldable pub too-long : Bytes → Bool
 unfolding sheet-limit
 too-long text = ltb sheet-limit (length text)
@@ -39,7 +39,7 @@ unfoldable pub bad-bytes : Bytes → Bool
 unfolding allowed-byte
 bad-bytes text = empty text || not (eqb (last-byte text) line-feed) || not (all allowed-byte text)
 
--- 3: first field not `user`, or first line not of 2 to 65 fields
+-- 3: first field not `user`, or first line not of 2 to 129 fields
 unfoldable pub bad-first-line : List Line → Bool
 unfolding permission-limit
 bad-first-line lines =
@@ -151,7 +151,7 @@ some-fit sheet (g ∷ later) = any (fits sheet g) later || some-fit sheet later
 unfoldable pub witness-agrees : Sheet → List Grant → Bool
 witness-agrees sheet grants = all (held sheet) grants && not (some-fit sheet grants)
 
--- 12: book above 65,536 bytes or not of the form, or a witness name unknown; 13: counts disagree; 14: product is not
+-- 12: book above 131,072 bytes or not of the form, or a witness name unknown; 13: counts disagree; 14: product is not
 -- the sheet; 15: witness grant not held, or two on different lines fit (the same one twice included)
 unfoldable pub book-causes : Sheet → Bytes → List Cause
 unfolding book-limit form said counts-agree product-agrees witness-agrees

@@ -12,8 +12,8 @@ use Rattle.spec.specs.Book.{Said, book-text}
 -- form: these bytes are what the book says of the sheet, in the book's form
 pub record OfForm (sheet : Sheet) (text : Bytes) (says : Said) : Type 0 where
   pub written : text ≡ book-text sheet says
-  pub short : length text ≤ 65_536
-  pub few-roles : says .roles .count ≤ 64
+  pub short : length text ≤ 131_072
+  pub few-roles : says .roles .count ≤ 128
   pub known-users : (g : Grant) → List·Memᴰ g (says .witness) → g .user < user-count sheet
   pub known-permissions : (g : Grant) → List·Memᴰ g (says .witness) → g .permission < permission-count sheet
 

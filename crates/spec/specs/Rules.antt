@@ -28,9 +28,9 @@ pub record Names (names : List Bytes) : Type 0 where
 -- these bytes are this sheet's, and it keeps all rules
 pub record Keeps (text : Bytes) (sheet : Sheet) : Type 0 where
   pub written : text ≡ sheet-text sheet
-  pub short : length text ≤ 40_960
+  pub short : length text ≤ 65_536
   pub some-permission : 1 ≤ length (sheet .permissions)
-  pub few-permissions : length (sheet .permissions) ≤ 64
+  pub few-permissions : length (sheet .permissions) ≤ 128
   pub some-user : 1 ≤ length (sheet .users)
   pub few-users : length (sheet .users) ≤ 256
   pub permission-names : Names (sheet .permissions)

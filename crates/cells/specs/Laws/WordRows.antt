@@ -1,6 +1,7 @@
--- Rows whose cells are the positions of words: the lines that spell them, how many grants they have, and the words as
+-- Rows whose cells are those of rows of words: the lines that spell them, how many grants they have, and the words as
 -- the rows of a sheet. Assumes nothing.
-use Prim.Native.Nat.{ℕ, zero, suc, _+_, _-_, _*_, _/_, _%_, _≤_, _<_}
+use Prim.Native.Nat.{ℕ, zero, suc, _+_, _*_, _/_, _%_, _≤_, _<_}
+use native.Mathlib.Nat.{le-trans, le-add-right, mul-le-mul-right}
 use native.Mathlib.Omega.{arith}
 use mathlib.Core.Path.{_≡_, refl, sym, ap, _∙_}
 use mathlib.Core.Logic.{⊎-elim}
@@ -9,25 +10,25 @@ use mathlib.Core.List.{List, [], _∷_, map}
 use lib.ListN.{length, getD, length-append, List·getD-eq-default}
 use Rattle.spec.specs.Vocabulary.{keep, list-from, list-of}
 use Rattle.spec.specs.Text.{Bytes, Line}
-use Rattle.spec.specs.Sheet.{Sheet, cell-text, holds, user-count, grants-of-row, grants-of-rows}
+use Rattle.spec.specs.Sheet.{Sheet, cell-text, user-count, grants-of-row, grants-of-rows}
 use Rattle.spec.specs.Rules.{user-lines}
 use Rattle.bits.specs.Counting.{one-if, count-below, sum-below}
 use Rattle.bits.specs.Laws.Below.{below-or-from}
-use Rattle.bits.specs.Laws.Count.{count-below-add, count-below-first, count-below-none-intro}
-use Rattle.bits.specs.Laws.Sum.{sum-below-ext, sum-below-first}
-use Rattle.bits.specs.Bit.{bit, word-bits}
+use Rattle.bits.specs.Laws.Count.{count-below-first}
+use Rattle.bits.specs.Laws.Sum.{sum-below-first}
+use Rattle.bits.specs.Bit.{word-bits}
 use Rattle.bits.specs.Laws.Bit.{bit-of-zero}
 use Rattle.lists.specs.ListOfLaws.{list-of-first, list-of-same, length-list-of, getD-list-of, map-list-of}
 use Rattle.cell_rows.specs.Rows.{row-words, row-bits, cell}
 use Rattle.cells.specs.RowsRead.{RowsRead}
 
--- the row of a word
-abbrev pub word-row : ℕ → ℕ → List Bool
-word-row width word = list-of width (bit word)
+-- a row of words as a row of a sheet
+abbrev pub word-row : ℕ → List ℕ → ℕ → List Bool
+word-row width words u = list-of width (cell words u)
 
--- the rows of the first n words
+-- the first n rows
 abbrev pub word-rows : ℕ → List ℕ → ℕ → List (List Bool)
-word-rows width words n = list-of n (λ u. word-row width (getD words u 0))
+word-rows width words n = list-of n (word-row width words)
 
 -- ---- lines
 
@@ -40,12 +41,12 @@ lines-from i (suc n) name row =
 -- the lines of names and of rows of words
 pub word-lines : (n width : ℕ) (name : ℕ → Bytes) (words : List ℕ)
     → user-lines (list-of n name) (word-rows width words n) ≡ list-of n
-    (λ u. name u ∷ list-of width (λ i. cell-text (bit (getD words u 0) i)))
+    (λ u. name u ∷ list-of width (λ i. cell-text (cell words u i)))
 word-lines n width name words =
-    lines-from 0 n name (λ u. word-row width (getD words u 0))
-    ∙ list-of-same n (λ u. name u ∷ map cell-text (word-row width (getD words u 0)))
-    (λ u. name u ∷ list-of width (λ i. cell-text (bit (getD words u 0) i)))
-    (λ u h. ap (λ (l : Line). name u ∷ l) (map-list-of cell-text width (bit (getD words u 0))))
+    lines-from 0 n name (word-row width words)
+    ∙ list-of-same n (λ u. name u ∷ map cell-text (word-row width words u))
+    (λ u. name u ∷ list-of width (λ i. cell-text (cell words u i)))
+    (λ u h. ap (λ (l : Line). name u ∷ l) (map-list-of cell-text width (cell words u)))
 
 -- ---- grants
 
@@ -73,64 +74,46 @@ rows-grants u (suc n) width f =
     ∙ rw (row-grants u 0 width (f 0), rows-grants (suc u) n width (λ v. f (suc v)))
     (sym (sum-below-first n (λ v. count-below width (f v))))
 
--- a word with no position past the width has all its positions below it
-narrow-count : (width word : ℕ) → width ≤ word-bits → ((q : ℕ) → width ≤ q → bit word q ≡ false)
-    → count-below word-bits (bit word) ≡ count-below width (bit word)
-narrow-count width word h narrow =
-    let all : word-bits ≡ width + (word-bits - width) = omega arith in
-    let none : count-below (word-bits - width) (λ i. bit word (width + i)) ≡ 0 =
-    count-below-none-intro (word-bits - width) (λ i. bit word (width + i)) (λ i l. narrow (width + i) (omega arith)) in
-    ap (λ (k : ℕ). count-below k (bit word)) all ∙ count-below-add width (word-bits - width) (bit word)
-    ∙ omega (arith, none)
-
--- the grants of rows of words are as many as the words have positions
-pub word-grants : (n width : ℕ) (words : List ℕ) → width ≤ word-bits → ((u : ℕ) → u < n → (q : ℕ) → width ≤ q
-    → bit (getD words u 0) q ≡ false)
-    → length (grants-of-rows 0 (word-rows width words n)) ≡ sum-below n
-    (λ u. count-below word-bits (bit (getD words u 0)))
-word-grants n width words h narrow =
-    rows-grants 0 n width (λ u. bit (getD words u 0))
-    ∙ sym (sum-below-ext n (λ u. count-below word-bits (bit (getD words u 0)))
-    (λ u. count-below width (bit (getD words u 0)))
-    (λ u l. narrow-count width (getD words u 0) h (narrow u l)))
+-- the grants of rows of words are as many as the rows have cells set
+pub word-grants : (n width : ℕ) (words : List ℕ)
+    → length (grants-of-rows 0 (word-rows width words n)) ≡ sum-below n (λ u. count-below width (cell words u))
+word-grants n width words = rows-grants 0 n width (cell words)
 
 -- ---- cells
 
--- words with no position past the width and none from word n on are the rows of a sheet with these rows
-module _ (n width : ℕ) (words : List ℕ) (narrow : (u : ℕ) → u < n → (q : ℕ) → width ≤ q → bit (getD words u 0) q ≡
-    false)
-    (beyond : (i : ℕ) → n ≤ i → getD words i 0 ≡ 0) where
-  in-row : (u p : ℕ) → u < n → bit (getD words u 0) p ≡ getD (word-row width (getD words u 0)) p false
-  in-row u p h =
-      ⊎-elim (λ l. sym (getD-list-of width (bit (getD words u 0)) p false l))
-      (λ l. narrow u h p l
-      ∙ sym (List·getD-eq-default (word-row width (getD words u 0)) false
-      (rw (length-list-of width (bit (getD words u 0))) l)))
+-- rows with no cell past the width and no word past row n are the rows of a sheet with these rows
+module _ (n width : ℕ) (words : List ℕ)
+    (narrow : (u : ℕ) → u < n → (p : ℕ) → width ≤ p → p < row-bits → cell words u p ≡ false)
+    (beyond : (i : ℕ) → n * row-words ≤ i → getD words i 0 ≡ 0) where
+  in-row : (u p : ℕ) → u < n → p < row-bits → cell words u p ≡ getD (word-row width words u) p false
+  in-row u p h k =
+      ⊎-elim (λ l. sym (getD-list-of width (cell words u) p false l))
+      (λ l. narrow u h p l k
+      ∙ sym (List·getD-eq-default (word-row width words u) false (rw (length-list-of width (cell words u)) l)))
       (below-or-from p width)
 
-  in-rows : (u p : ℕ) → bit (getD words u 0) p ≡ getD (getD (word-rows width words n) u []) p false
-  in-rows u p = ⊎-elim row past (below-or-from u n)
-    where
-      row : u < n → bit (getD words u 0) p ≡ getD (getD (word-rows width words n) u []) p false
-      row h = rw (getD-list-of n (λ v. word-row width (getD words v 0)) u [] h) (in-row u p h)
+  past-rows : (u p : ℕ) → n ≤ u → n * row-words ≤ u * row-words + p / word-bits
+  past-rows u p h = le-trans (mul-le-mul-right row-words h) (le-add-right (u * row-words) (p / word-bits))
 
-      past : n ≤ u → bit (getD words u 0) p ≡ getD (getD (word-rows width words n) u []) p false
+  in-rows : (u p : ℕ) → p < row-bits → cell words u p ≡ getD (getD (word-rows width words n) u []) p false
+  in-rows u p k = ⊎-elim row past (below-or-from u n)
+    where
+      row : u < n → cell words u p ≡ getD (getD (word-rows width words n) u []) p false
+      row h = rw (getD-list-of n (word-row width words) u [] h) (in-row u p h k)
+
+      past : n ≤ u → cell words u p ≡ getD (getD (word-rows width words n) u []) p false
       past h =
-          let none : length (word-rows width words n) ≤ u =
-          rw (length-list-of n (λ v. word-row width (getD words v 0))) h in
-          rw (beyond u h, List·getD-eq-default (word-rows width words n) [] none) (bit-of-zero p)
+          let none : length (word-rows width words n) ≤ u = rw (length-list-of n (word-row width words)) h in
+          rw (
+            beyond (u * row-words + p / word-bits) (past-rows u p h),
+            List·getD-eq-default (word-rows width words n) [] none,
+          )
+          (bit-of-zero (p % word-bits))
 
   pub word-rows-read : (sheet : Sheet) → sheet .rows ≡ word-rows width words n → user-count sheet ≡ n
       → RowsRead words sheet
-  unfolding row-words row-bits
   word-rows-read sheet rows users =
       record {
-        rows = record { shows = shows };
-        beyond = λ i h. beyond i (omega arith);
+        rows = record { shows = λ u p h. rw rows (in-rows u p h) };
+        beyond = λ i h. beyond i (rw users at h);
       }
-    where
-      shows : (u p : ℕ) → p < row-bits → cell words u p ≡ holds sheet u p
-      shows u p h =
-          let word : u * row-words + p / word-bits ≡ u = omega arith in
-          let place : p % word-bits ≡ p = omega arith in
-          rw (word, place, rows) (in-rows u p)

@@ -107,14 +107,14 @@ roles-off : numbers
 unfolding numbers with-roles some-below every-below lowest-below
 roles-off = refl
 
--- 64 roles are of the form, 65 are not
+-- 128 roles are of the form, 129 are not
 many-roles : ℕ → Bool
 unfolding roles-form
 many-roles count =
     roles-form (record { users = []; permissions = []; rows = [] }) ((ascii "role" ∷ []) ∷ list-of count
     (λ r. role-name r ∷ []))
 
-role-limits : map many-roles (64 ∷ 65 ∷ []) ≡ true ∷ false ∷ []
+role-limits : map many-roles (128 ∷ 129 ∷ []) ≡ true ∷ false ∷ []
 unfolding many-roles role-limit permission-limit role-name every-below
 role-limits = refl
 

@@ -6,6 +6,6 @@ use Rattle.spec.specs.Limits.{budget-limit, role-limit, book-limit}
 
 limits : sheet-limit ∷ permission-limit ∷ user-limit ∷ name-limit ∷ grant-limit ∷ search-limit ∷ budget-limit ∷
     role-limit ∷ book-limit ∷ []
-    ≡ 40_960 ∷ 64 ∷ 256 ∷ 16 ∷ 2_048 ∷ 128 ∷ 4_294_967_295 ∷ 64 ∷ 65_536 ∷ []
+    ≡ 65_536 ∷ 128 ∷ 256 ∷ 16 ∷ 2_048 ∷ 128 ∷ 4_294_967_295 ∷ 128 ∷ 131_072 ∷ []
 unfolding sheet-limit permission-limit user-limit name-limit grant-limit search-limit budget-limit role-limit book-limit
 limits = refl

@@ -34,28 +34,28 @@ refusals : map refusal
 unfolding refusal
 refusals = refl
 
--- a sheet of so many full rows of 64, and a last row of so many ones
+-- a sheet of so many full rows of 128, and a last row of so many ones
 full : ℕ → ℕ → Sheet
 full rows ones =
-    record { users = []; permissions = []; rows = replicate rows (replicate 64 true) ++ replicate ones true ∷ [] }
+    record { users = []; permissions = []; rows = replicate rows (replicate 128 true) ++ replicate ones true ∷ [] }
 
--- whether each limit is passed at the limit and one beyond: 64 permissions, 256 users, 16 bytes of a name, 2,048
+-- whether each limit is passed at the limit and one beyond: 128 permissions, 256 users, 16 bytes of a name, 2,048
 -- grants
 limits :
-    bad-first-line ((ascii "user" ∷ replicate 64 (ascii "a")) ∷ [])
-    ∷ bad-first-line ((ascii "user" ∷ replicate 65 (ascii "a")) ∷ [])
+    bad-first-line ((ascii "user" ∷ replicate 128 (ascii "a")) ∷ [])
+    ∷ bad-first-line ((ascii "user" ∷ replicate 129 (ascii "a")) ∷ [])
     ∷ bad-line-count ([] ∷ replicate 256 [])
     ∷ bad-line-count ([] ∷ replicate 257 [])
     ∷ has-name-length (replicate 16 0)
     ∷ has-name-length (replicate 17 0)
-    ∷ too-many-grants (full 31 64)
-    ∷ too-many-grants (full 32 1)
+    ∷ too-many-grants (full 15 128)
+    ∷ too-many-grants (full 16 1)
     ∷ []
     ≡ false ∷ true ∷ false ∷ true ∷ true ∷ false ∷ false ∷ true ∷ []
 unfolding bad-first-line bad-line-count has-name-length too-many-grants full
 limits = refl
 
--- 40,960 bytes
-long : too-long (replicate 40_960 0) ∷ too-long (replicate 40_961 0) ∷ [] ≡ false ∷ true ∷ []
+-- 65,536 bytes
+long : too-long (replicate 65_536 0) ∷ too-long (replicate 65_537 0) ∷ [] ≡ false ∷ true ∷ []
 unfolding too-long
 long = refl
