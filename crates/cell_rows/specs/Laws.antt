@@ -1,2 +1,3 @@
 -- The laws behind what contracts cite.
+pub mod Width
 pub mod PositionSet
