@@ -1,4 +1,4 @@
--- The first so many cells of a row, word after word: how many stand in word k, and how many before it. Assumes nothing.
+-- The first so many cells of a row, word after word. Assumes nothing.
 use Prim.Native.Nat.{ℕ, _-_, _*_, min}
 use Rattle.bits.specs.Bit.{word-bits}
 

@@ -1,17 +1,26 @@
--- The arithmetic of rows of words, for any number of words in a row that is not 0. That it is not 0 is all that is
--- said of the number itself, here and nowhere else.
-use Prim.Native.Nat.{ℕ, _+_, _*_, _/_, _%_, _<_}
+-- The arithmetic of rows of words, for any number of words in a row that is not 0. That it is not 0, and that a row
+-- has room for every permission and every role, is all that any law says of the number itself, and only here.
+use Prim.Native.Nat.{ℕ, _+_, _*_, _/_, _%_, _≤_, _<_}
 use native.Mathlib.Nat.{mod-lt, mul-assoc, mul-comm, div-add-mod', div-lt-iff-lt-mul, div-div-eq-div-mul}
 use native.Mathlib.Omega.{arith}
 use mathlib.Core.Path.{_≡_, sym, ap, _∙_}
 use lib.Arith.{mod-mul, digits-lt}
-use lib.Dec.{lit<}
+use lib.Dec.{lit<, lit≤}
+use Rattle.spec.specs.Limits.{permission-limit, role-limit}
 use Rattle.bits.specs.Bit.{word-bits}
 use Rattle.cell_rows.specs.Rows.{row-words, row-bits}
 
 pub some-words : 0 < row-words
 unfolding row-words
 some-words = omega arith
+
+pub permissions-fit : permission-limit ≤ row-bits
+unfolding permission-limit row-bits row-words
+permissions-fit = lit≤ tt
+
+pub roles-fit : role-limit ≤ row-bits
+unfolding role-limit
+roles-fit = permissions-fit
 
 pub some-bits : 0 < row-bits
 unfolding row-bits

@@ -1,4 +1,5 @@
--- The cells of a row are those of its words, word after word: word k has the cells behind those of the words before it.
+-- The cells of a row are those of its words, word after word: word k has the cells behind those of the words before
+-- it.
 use Prim.Native.Nat.{ℕ, zero, suc, _+_, _*_, _≤_, _<_}
 use native.Mathlib.Nat.{add-zero}
 use native.Mathlib.Omega.{arith}

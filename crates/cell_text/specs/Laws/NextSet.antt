@@ -1,5 +1,5 @@
--- The next set cell of a row, word after word: the cells of a word are its bits, so where the walk stands in a word the
--- next bit of the word is the next cell, and where the word has none the walk goes on at the word behind it.
+-- The next set cell of a row, word after word: the cells of a word are its bits, so where the walk stands in a word
+-- the next bit of the word is the next cell, and where the word has none the walk goes on at the word behind it.
 use Prim.Native.Nat.{ℕ, _+_, _*_, _/_, _%_, _≤_, _<_}
 use native.Mathlib.Nat.{le-refl}
 use native.Mathlib.Omega.{arith}

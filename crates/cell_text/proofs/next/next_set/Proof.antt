@@ -59,5 +59,5 @@ pub next-set-spec : {M : Type 1} → statement M
 unfolding row-words row-bits
 next-set-spec =
     tie.close (tie.spec Inv-loop μ-loop loop-holds (λ c. omega arith) (λ c. omega arith) (λ c. omega arith)
-    (λ c. omega arith) (λ c κs. omega arith) (λ c. omega arith) (λ c. omega arith) returns returns-2 (λ c. omega arith)
-    loop-again returns-3)
+    (λ c. omega arith) (λ c κs. omega arith) (λ c. omega arith) (λ c. omega arith) returns returns-2
+    (λ c. omega arith) loop-again returns-3)

@@ -1,5 +1,5 @@
--- `row::put_word`: the cells are written four by four as far as that goes, and then one by one: where the cells below i
--- are written, a turn writes cell i behind them.
+-- `row::put_word`: the cells are written four by four as far as that goes, and then one by one: where the cells
+-- below i are written, a turn writes cell i behind them.
 use borrow.Author.Needs.{needs}
 use Prim.Native.Nat.{ℕ, _-_, _*_, _/_, _≤_}
 use native.Mathlib.Omega.{arith}
@@ -37,13 +37,16 @@ front-room word n count l fits =
       listed-even count 2 (part word) (λ p k. cell-field-length (bit word p)),
     )
 
+abbrev start : tie.After-put-fours Inv-loop μ-loop → tie.Start Inv-loop μ-loop
+start c = c .before .before .before
+
 -- the fours are the first cells
 first : (c : tie.After-put-fours Inv-loop μ-loop)
-    → let a = c .before .before .before .args in
+    → let a = start c .args in
     Listing (a .count) (part (a .word)) (4 * (a .count / 4)) (a .out .now) (c .put-fours .last .0)
     (c .put-fours .result)
 first c =
-    let s = c .before .before .before in
+    let s = start c in
     let n = 4 * (s .args .count / 4) in
     record {
       below = omega arith;
@@ -55,15 +58,16 @@ first c =
 
 -- where the loop stands
 standing : (c : tie.At-loop Inv-loop μ-loop)
-    → let a = c .before .before .before .before .before .before .args in
+    → let a = start (c .before .before .before) .args in
     Listing (a .count) (part (a .word)) (c .loop .i) (a .out .now) (c .loop .out) (c .loop .at)
 standing c = c .loop .inv _ (first (c .before .before .before))
 
 -- a turn writes cell i
 written : (c : tie.After-put-cell Inv-loop μ-loop)
     → let l = c .before .before .before .before in
-    Written (part (l .before .before .before .before .before .before .args .word) (l .loop .i)) (rest-from (l .loop .at) (l .loop .out))
-    (c .put-cell .last .0) (c .put-cell .result)
+    let word = start (l .before .before .before) .args .word in
+    Written (part word (l .loop .i)) (rest-from (l .loop .at) (l .loop .out)) (c .put-cell .last .0)
+    (c .put-cell .result)
 written c = written-as (ap cell-field (c .before .before .has .ensures)) (c .put-cell .ensures)
 
 put-fours-requires : tie.Need-put-fours-requires Inv-loop μ-loop
@@ -76,7 +80,7 @@ loop-holds : tie.Need-loop-holds Inv-loop μ-loop
 loop-holds c before l = l
 
 has-requires : tie.Need-has-requires Inv-loop μ-loop
-has-requires c κs = omega (arith, c .loop-test .taken, c .before .before .before .before .before .before .before .pre .0)
+has-requires c κs = omega (arith, c .loop-test .taken, start (c .before .before .before .before) .pre .0)
 
 sub-put-cell : tie.Need-sub-put-cell Inv-loop μ-loop
 sub-put-cell c = within-buffer (part-ready (standing (c .before .before)) (c .before .loop-test .taken))
