@@ -9,8 +9,8 @@ ghost use Rattle.cell_rows.specs.Rows.{row-bits};
 ghost use Rattle.text.specs.Line.{behind-comma};
 ghost use Rattle.text.specs.Written.{Written};
 
-// The bytes of the longest name of a role, `R64`.
-pub const ROLE_NAME_BYTES: usize = 3;
+// The bytes of the longest name of a role, `R128`.
+pub const ROLE_NAME_BYTES: usize = 4;
 
 // Writes the name of a role.
 pub fn put_role_name(out: &mut [u8], role: RoleNo) -> usize

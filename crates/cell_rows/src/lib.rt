@@ -1,5 +1,6 @@
 // Cells as rows of words: none set, and one more; and what it means that rows show a sheet.
 mod rows;
 
+pub use rows::cells_in_word;
 pub use rows::mark;
 pub use rows::no_rows;

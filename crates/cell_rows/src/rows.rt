@@ -7,6 +7,7 @@ ghost use lib.ListN.{length, replicate};
 ghost use Rattle.spec.specs.Limits.{user-limit};
 ghost use Rattle.bits.specs.Bit.{word-bits};
 ghost use Rattle.cell_rows.specs.Rows.{row-words};
+ghost use Rattle.cell_rows.specs.RowWords.{in-word};
 ghost use Rattle.cell_rows.specs.CellAdded.{PositionSet};
 
 // Rows with no cell set.
@@ -23,4 +24,19 @@ pub fn mark(words: &mut [u64], n: usize)
 {
     let i = n / WORD_BITS;
     words[i] = bits::with(words[i], n % WORD_BITS);
+}
+
+// How many of the first `count` cells of a row stand in word k.
+pub fn cells_in_word(count: usize, k: usize) -> usize
+    requires { ⌜ k < row-words ⌝ }
+    ensures { λ r. ⌜ r ≡ in-word count k ⌝ }
+{
+    let first = k * WORD_BITS;
+    if count <= first {
+        return 0;
+    }
+    if count - first < WORD_BITS {
+        return count - first;
+    }
+    WORD_BITS
 }

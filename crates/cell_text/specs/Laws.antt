@@ -1,4 +1,5 @@
 -- The laws behind what contracts cite.
 pub mod Parts
+pub mod CellWords
 pub mod NextSet
 pub mod CellsWritten

@@ -4,10 +4,11 @@ use Prim.Native.Nat.{ℕ, _≤_, _<_}
 use native.Mathlib.Omega.{arith}
 use mathlib.Core.List.{List}
 use lib.ListN.{length}
-use Rattle.spec.specs.Limits.{permission-limit, user-limit}
+use Rattle.spec.specs.Limits.{user-limit}
 use Rattle.spec.specs.Text.{Bytes}
 use Rattle.spec.specs.Sheet.{sheet-of, user-count, permission-count}
-use Rattle.cell_rows.specs.Rows.{row-words, row-bits}
+use Rattle.cell_rows.specs.Rows.{row-bits}
+use Rattle.cell_rows.specs.Laws.Width.{permissions-fit as permissions-fit-a-row}
 use Rattle.rules.specs.AcceptedFacts.{Lawful, accepted-lawful}
 use Rattle.names.specs.LaidOut.{LaidOut, UsersAt, PermissionsAt}
 use Rattle.names.specs.declared.layout.Layout.{Layout}
@@ -17,8 +18,13 @@ module _ {text : Bytes} {layout : Layout} (laid : LaidOut text layout) where
   few-users = omega (arith, laid .user-total, accepted-lawful text (laid .accepts) .few-users)
 
   pub permissions-fit : layout .permissions ≤ row-bits
-  unfolding permission-limit row-bits row-words
-  permissions-fit = omega (arith, laid .permission-total, accepted-lawful text (laid .accepts) .few-permissions)
+  permissions-fit =
+      omega (
+        arith,
+        laid .permission-total,
+        accepted-lawful text (laid .accepts) .few-permissions,
+        permissions-fit-a-row,
+      )
 
 module _ {text : Bytes} {places : List ℕ} (at : UsersAt text places) where
   pub users-lawful : Lawful (sheet-of text)
@@ -39,5 +45,10 @@ module _ {text : Bytes} {places : List ℕ} (at : PermissionsAt text places) whe
   permissions-all h = omega (arith, at .names .total)
 
   pub permissions-in-row : length places ≤ row-bits
-  unfolding permission-limit row-bits row-words
-  permissions-in-row = omega (arith, at .names .total, accepted-lawful text (at .accepts) .few-permissions)
+  permissions-in-row =
+      omega (
+        arith,
+        at .names .total,
+        accepted-lawful text (at .accepts) .few-permissions,
+        permissions-fit-a-row,
+      )

@@ -8,8 +8,7 @@ use lib.ListN.{length}
 use Rattle.spec.specs.Text.{ascii}
 use Rattle.spec.specs.Decimal.{decimal}
 use Rattle.spec.specs.Book.{role-name}
-use Rattle.cell_rows.specs.Rows.{row-words, row-bits}
-use Rattle.decimal.specs.Laws.Decimal.{decimal-length-two}
+use Rattle.decimal.specs.Laws.Decimal.{decimal-length-three}
 use Rattle.text.specs.Line.{behind-comma}
 
 -- a name, and a name behind a comma
@@ -20,7 +19,6 @@ role-name-parts r = rw (add-one r)
 pub role-field-parts : (r : ℕ) → behind-comma (role-name r) ≡ ascii ",R" ++ decimal (r + 1)
 role-field-parts r = ap behind-comma (role-name-parts r)
 
--- no name of a role is longer than `R64`
-pub role-name-short : (r : ℕ) → r < row-bits → length (role-name r) ≤ 3
-unfolding row-bits row-words
-role-name-short r h = rw (role-name-parts r) (omega (arith, decimal-length-two (r + 1) (omega arith)))
+-- no name of a role up to `R999` is longer than that
+pub role-name-short : (r : ℕ) → r < 999 → length (role-name r) ≤ 4
+role-name-short r h = rw (role-name-parts r) (omega (arith, decimal-length-three (r + 1) (omega arith)))

@@ -1,53 +1,49 @@
--- The next set cell of a row that is one word: the cells of the row are the bits of the word, so the next bit of the
--- word is the next cell, where it is one of the cells that are looked at, and else there is none.
-use Prim.Native.Nat.{ℕ, _*_, _/_, _%_, _≤_, _<_}
-use native.Mathlib.Nat.{le-refl, add-zero}
+-- The next set cell of a row, word after word: the cells of a word are its bits, so where the walk stands in a word
+-- the next bit of the word is the next cell, and where the word has none the walk goes on at the word behind it.
+use Prim.Native.Nat.{ℕ, _+_, _*_, _/_, _%_, _≤_, _<_}
+use native.Mathlib.Nat.{le-refl}
 use native.Mathlib.Omega.{arith}
-use mathlib.Core.Path.{_≡_, _∙_}
-use mathlib.Core.Bool.{Bool}
+use mathlib.Core.Path.{_≡_}
+use mathlib.Core.Logic.{⊎-elim}
+use mathlib.Core.Bool.{Bool, false}
 use mathlib.Core.List.{List}
 use lib.ListN.{getD}
 use Rattle.bits.specs.Bit.{bit, word-bits}
-use Rattle.bits.specs.Counting.{NextFrom}
-use Rattle.cell_rows.specs.Rows.{row-words, row-bits, cell}
+use Rattle.bits.specs.Counting.{Skipped, NextFrom}
+use Rattle.bits.specs.Laws.Below.{below-or-from}
+use Rattle.cell_rows.specs.Rows.{row-words, cell}
 
--- the word of a row
-abbrev pub row-word : List ℕ → ℕ → ℕ
-row-word words row = getD words (row * row-words) 0
-
-pub cell-in-word : (words : List ℕ) (row p : ℕ) → p < row-bits → cell words row p ≡ bit (row-word words row) p
-unfolding row-bits row-words
-cell-in-word words row p l =
-    let first : p / word-bits ≡ 0 = omega arith in
-    let same : p % word-bits ≡ p = omega arith in
-    rw (first, same, add-zero (row * row-words))
-
--- where the walk is at its end
-pub next-at-end : (test : ℕ → Bool) (from count : ℕ) → from ≡ count → NextFrom test from count count
-next-at-end test from count e = record {
-  not-before = omega arith;
+-- none of the cells that are looked at is set
+pub none-next : {test : ℕ → Bool} {from count n : ℕ} → from ≤ count → Skipped test from n → count ≤ n
+    → NextFrom test from count count
+none-next {count = count} h earlier e = record {
+  not-before = h;
   not-past = le-refl count;
-  skipped = λ n k l. absurd (omega arith);
+  skipped = λ m k l. earlier m k (omega arith);
   passes = λ l. absurd (omega arith);
 }
 
-module _ (words : List ℕ) (row from count next : ℕ) (room : count ≤ row-bits)
-    (found : NextFrom (bit (row-word words row)) from word-bits next) where
-  -- the next bit is past the cells that are looked at
-  pub next-past : from ≤ count → count ≤ next → NextFrom (cell words row) from count count
-  next-past h e = record {
-    not-before = h;
-    not-past = le-refl count;
-    skipped = λ n k l. cell-in-word words row n (omega arith) ∙ found .skipped n k (omega arith);
-    passes = λ l. absurd (omega arith);
-  }
+-- the walk stands at cell n, and p is the next bit of its word
+module _ (words : List ℕ) (row from n p : ℕ)
+    (next : NextFrom (bit (getD words (row * row-words + n / word-bits) 0)) (n % word-bits) word-bits p)
+    (earlier : Skipped (cell words row) from n) where
+  in-word : (m : ℕ) → n ≤ m → m < n / word-bits * word-bits + p → cell words row m ≡ false
+  in-word m k l =
+      let word : m / word-bits ≡ n / word-bits = omega (arith, next .not-past) in
+      rw word (next .skipped (m % word-bits) (omega arith) (omega arith))
 
-  -- the next bit is one of them
-  pub next-within : next < count → NextFrom (cell words row) from count next
-  unfolding row-bits row-words
-  next-within e = record {
-    not-before = found .not-before;
+  pub passed-word : Skipped (cell words row) from (n / word-bits * word-bits + p)
+  passed-word m k l = ⊎-elim (λ o. earlier m k o) (λ o. in-word m o l) (below-or-from m n)
+
+  -- it is one of the cells that are looked at
+  pub found-in-word : (count : ℕ) → from ≤ n → n / word-bits * word-bits + p < count → p < word-bits
+      → NextFrom (cell words row) from count (n / word-bits * word-bits + p)
+  found-in-word count k l m = record {
+    not-before = omega (arith, next .not-before);
     not-past = omega arith;
-    skipped = λ n k l. cell-in-word words row n (omega arith) ∙ found .skipped n k l;
-    passes = λ l. cell-in-word words row next (omega arith) ∙ found .passes (omega arith);
+    skipped = passed-word;
+    passes = λ o.
+        let word : (n / word-bits * word-bits + p) / word-bits ≡ n / word-bits = omega arith in
+        let position : (n / word-bits * word-bits + p) % word-bits ≡ p = omega arith in
+        rw (word, position) (next .passes m);
   }

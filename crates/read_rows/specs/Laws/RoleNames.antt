@@ -1,4 +1,4 @@
--- A role's name has three bytes at most, so it is written to a buffer of three.
+-- A role's name has four bytes at most, so it is written to a buffer of four.
 use Prim.Native.Nat.{ℕ, _≤_, _<_}
 use native.Mathlib.Omega.{arith}
 use mathlib.Core.Path.{_≡_}
@@ -9,11 +9,11 @@ use Rattle.spec.specs.Book.{role-name}
 use Rattle.text.specs.Written.{Written}
 use Rattle.right.specs.WordLaws.{role-name-length}
 
-pub role-name-short : (r : ℕ) → r < role-limit → length (role-name r) ≤ 3
+pub role-name-short : (r : ℕ) → r < role-limit → length (role-name r) ≤ 4
 unfolding role-limit
-role-name-short r h = role-name-length 1 r (omega arith)
+role-name-short r h = role-name-length 2 r (omega arith)
 
 -- a name that was written is no longer than the buffer
 pub name-within : (r : ℕ) {before after : Bytes} {n : ℕ} → r < role-limit → Written (role-name r) before after n
-    → length after ≡ 3 → n ≤ length after
+    → length after ≡ 4 → n ≤ length after
 name-within r h w e = omega (arith, w .counted, e, role-name-short r h)

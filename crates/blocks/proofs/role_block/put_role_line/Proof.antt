@@ -6,6 +6,8 @@ use mathlib.Core.Path.{_≡_, sym, ap, _∙_}
 use lib.ListN.{length, take}
 use lib.Seq.{length-take-le}
 use Rattle.spec.specs.Text.{Bytes, line-text}
+use Rattle.spec.specs.Book.{role-name}
+use Rattle.cell_rows.specs.Rows.{row-bits, row-words}
 use Rattle.text.specs.Written.{fits-as, written-as}
 use Rattle.book_lines.specs.Laws.LineWritten.{front-written}
 use Rattle.book_lines.specs.Laws.Name.{role-name-short}
@@ -18,13 +20,17 @@ use Rattle.blocks.proofs.role_block.put_role_line.Tie as tie
 abbrev start : tie.After-put-role-name → tie.Start
 start c = c .before .before .before .before
 
+name-short : (s : tie.Start) → length (role-name (s .args .role .0)) ≤ 4
+unfolding row-bits row-words
+name-short s = role-name-short (s .args .role .0) (omega (arith, s .pre .0 .0))
+
 name-within : (c : tie.After-put-role-name) → c .put-role-name .result ≤ length (c .put-role-name .last .0)
 name-within c =
     omega (
       arith,
       c .put-role-name .ensures .counted,
       c .put-role-name .kept .0,
-      role-name-short (start c .args .role .0) (start c .pre .0 .0),
+      name-short (start c),
     )
 
 -- the line of that name is the role's line
@@ -42,7 +48,7 @@ line-said c =
 put-role-name-requires : tie.Need-put-role-name-requires
 put-role-name-requires c κs =
     let s = c .before .before .before in
-    (s .pre .0 .0, role-name-short (s .args .role .0) (s .pre .0 .0))
+    (s .pre .0 .0, name-short s)
 
 array-share-prefix-name : tie.Need-array-share-prefix-name
 array-share-prefix-name c = name-within (c .before .before)

@@ -1,153 +1,84 @@
--- `cells::put_cells`: the cells are written four by four as far as that goes, and then one by one: where the cells
--- below i are written, a turn writes cell i behind them.
+-- `row::put_cells`: where the cells of the words below k are written, a turn writes those of word k behind them; all
+-- words say all cells.
 use borrow.Author.Needs.{needs}
-use Prim.Native.Nat.{ℕ, _-_, _*_, _/_, _≤_}
+use Prim.Native.Nat.{_-_}
 use native.Mathlib.Omega.{arith}
-use mathlib.Core.List.{List}
-use mathlib.Core.Path.{_≡_, ap, sym, _∙_}
-use lib.ListN.{length}
-use Rattle.spec.specs.Text.{Bytes}
-use Rattle.bits.specs.Bit.{bit}
-use Rattle.lists.specs.Listed.{listed, listed-same, listed-even}
-use Rattle.cell_rows.specs.Rows.{cell, row-bits, row-words}
-use Rattle.cell_text.specs.CellsText.{cell-field}
-use Rattle.cell_text.specs.Laws.CellsWritten.{cell-field-length}
-use Rattle.cell_text.specs.Laws.Parts.{Listing, listing-ends, part-ready, part-within, part-written}
-use Rattle.cell_text.specs.Laws.NextSet.{cell-in-word, row-word}
-use Rattle.text.specs.Written.{Written, fits-as, rest-from, room-behind, within-buffer, written-as, written-length}
+use mathlib.Core.Path.{sym, ap}
+use Rattle.cell_rows.specs.Rows.{row-words}
+use Rattle.cell_text.specs.CellsText.{word-text}
+use Rattle.cell_text.specs.Laws.CellWords.{word-part, row-said}
+use Rattle.cell_text.specs.Laws.Parts.{Listing, listing-ends, listing-starts, part-ready, part-within}
+use Rattle.cell_text.specs.Laws.Parts.{part-written}
+use Rattle.text.specs.Written.{Written, fits-as, rest-from, room-behind, within-buffer, written-as}
 use Rattle.cell_text.proofs.row.put_cells.Statement.{statement}
 use Rattle.cell_text.proofs.row.put_cells.Tie as tie
 
--- what the cells say
-abbrev part : List ℕ → ℕ → ℕ → Bytes
-part words row p = cell-field (cell words row p)
-
--- what was written before the loop stays
 abbrev Inv-loop : tie.InvT-loop
-Inv-loop out₀ words row count word fours at₀ i₀ out at i =
-    (before : Bytes) → Listing count (part words row) i₀ before out₀ at₀ → Listing count (part words row) i before
-    out at
+Inv-loop out₀ words row count at₀ k₀ out at k = Listing row-words (word-part words row count) k out₀ out at
 
 abbrev μ-loop : tie.MeasureT-loop
-μ-loop out₀ words row count word fours at₀ i₀ out at i = count - i
-
--- the cells of the row are the bits of its word
-same-cells : (words : List ℕ) (row n : ℕ) → n ≤ row-bits → listed n (λ p. cell-field (bit (row-word words row) p)) ≡
-    listed n (part words row)
-same-cells words row n l = listed-same n _ _ (λ p k. ap cell-field (sym (cell-in-word words row p (omega arith))))
-
--- there is room for a front of them
-front-room : (words : List ℕ) (row n count : ℕ) → n ≤ count → {room : ℕ} → length (listed count (part words row)) ≤ room
-    → length (listed n (part words row)) ≤ room
-front-room words row n count l fits =
-    omega (
-      arith,
-      listed-even n 2 (part words row) (λ p k. cell-field-length (cell words row p)),
-      listed-even count 2 (part words row) (λ p k. cell-field-length (cell words row p)),
-    )
-
-abbrev start : tie.After-shared-slice-known2 Inv-loop μ-loop → tie.Start Inv-loop μ-loop
-start c = c .before .before .before
-
--- the fours are the first cells
-first : (c : tie.After-put-fours Inv-loop μ-loop)
-    → let s = start (c .before .before) in
-    Listing (s .args .count) (part (s .args .words .now) (s .args .row)) (4 * (s .args .count / 4))
-    (s .args .out .now) (c .put-fours .last .0) (c .put-fours .result)
-unfolding row-words
-first c =
-    let s = start (c .before .before) in
-    let words = s .args .words .now in
-    let row = s .args .row in
-    let n = 4 * (s .args .count / 4) in
-    let fits = front-room words row n (s .args .count) (omega arith) (s .pre .1) in
-    let w : Written (listed n (part words row)) (s .args .out .now) (c .put-fours .last .0) (c .put-fours .result) =
-    written-as (same-cells words row n (omega (arith, s .pre .0 .0))) (c .put-fours .ensures) in
-    record {
-      below = omega arith;
-      fits = s .pre .1;
-      written = w;
-      same-length = written-length
-          (listed n (part words row)) fits w;
-    }
-
--- where the loop stands
-standing : (c : tie.At-loop Inv-loop μ-loop)
-    → let s = start (c .before .before .before .before .before) in
-    Listing (s .args .count) (part (s .args .words .now) (s .args .row)) (c .loop .i) (s .args .out .now)
-    (c .loop .out) (c .loop .at)
-standing c = c .loop .inv _ (first (c .before .before .before))
-
--- the cell that is written is cell i
-set-is : (c : tie.After-has Inv-loop μ-loop)
-    → let l = c .before .before in
-    let s = start (l .before .before .before .before .before) in
-    c .has .result ≡ cell (s .args .words .now) (s .args .row) (l .loop .i)
-unfolding row-words
-set-is c =
-    let l = c .before .before in
-    let s = start (l .before .before .before .before .before) in
-    c .has .ensures ∙ sym (cell-in-word (s .args .words .now) (s .args .row) (l .loop .i)
-    (omega (arith, c .before .loop-test .taken, s .pre .0 .0)))
-
-written : (c : tie.After-put-cell Inv-loop μ-loop)
-    → let l = c .before .before .before .before in
-    let s = start (l .before .before .before .before .before) in
-    Written (part (s .args .words .now) (s .args .row) (l .loop .i)) (rest-from (l .loop .at) (l .loop .out))
-    (c .put-cell .last .0) (c .put-cell .result)
-written c = written-as (ap cell-field (set-is (c .before .before))) (c .put-cell .ensures)
-
-put-fours-requires : tie.Need-put-fours-requires Inv-loop μ-loop
-unfolding row-words row-bits
-put-fours-requires c κs =
-    let s = start (c .before) in
-    let words = s .args .words .now in
-    let row = s .args .row in
-    let n = 4 * (s .args .count / 4) in (
-      omega (arith, s .pre .0 .0),
-      fits-as (sym (same-cells words row n (omega (arith, s .pre .0 .0)))) (front-room words row n (s .args .count)
-          (omega arith) (s .pre .1)),
-    )
+μ-loop out₀ words row count at₀ k₀ out at k = row-words - k
 
 loop-holds : tie.Need-loop-holds Inv-loop μ-loop
-loop-holds c before l = l
+loop-holds c =
+    let s = c .before .before in
+    let a = s .args in
+    listing-starts _ _ (fits-as (sym (row-said (a .words .now) (a .row) (a .count) (s .pre .0 .0))) (s .pre .1))
 
-has-requires : tie.Need-has-requires Inv-loop μ-loop
-unfolding row-words row-bits
-has-requires c κs =
-    let earlier = c .before .before .before .before .before .before in
-    omega (arith, c .loop-test .taken, start earlier .pre .0 .0)
+-- a turn writes the cells of word k
+written : (c : tie.After-put-word Inv-loop μ-loop)
+    → let l = c .before .before .before .before .before in
+    let a = l .before .before .before .args in
+    Written (word-part (a .words .now) (a .row) (a .count) (l .loop .k)) (rest-from (l .loop .at) (l .loop .out))
+    (c .put-word .last .0) (c .put-word .result)
+unfolding row-words
+written c =
+    written-as (ap (word-text _) (c .before .before .before .cells-in-word .ensures)) (c .put-word .ensures)
 
-sub-put-cell : tie.Need-sub-put-cell Inv-loop μ-loop
-sub-put-cell c = within-buffer (part-ready (standing (c .before .before)) (c .before .loop-test .taken))
+sub-put-word : tie.Need-sub-put-word Inv-loop μ-loop
+unfolding row-words
+sub-put-word c = within-buffer (part-ready (c .before .before .loop .inv) (c .before .loop-test .taken))
 
-part-put-cell-start : tie.Need-part-put-cell-start Inv-loop μ-loop
-part-put-cell-start c = within-buffer (part-ready (standing (c .before .before)) (c .before .loop-test .taken))
+part-put-word-start : tie.Need-part-put-word-start Inv-loop μ-loop
+unfolding row-words
+part-put-word-start c = within-buffer (part-ready (c .before .before .loop .inv) (c .before .loop-test .taken))
 
-put-cell-requires : tie.Need-put-cell-requires Inv-loop μ-loop
-put-cell-requires c κs =
-    fits-as (ap cell-field (sym (set-is (c .before))))
-    (room-behind (part-ready (standing (c .before .before .before)) (c .before .before .loop-test .taken)))
+put-word-requires : tie.Need-put-word-requires Inv-loop μ-loop
+unfolding row-words
+put-word-requires c κs =
+    let here = c .before .before in
+    let at-loop = here .before .before in (
+      omega (arith, here .cells-in-word .ensures),
+      fits-as (ap (word-text _) (sym (here .cells-in-word .ensures)))
+          (room-behind (part-ready (at-loop .loop .inv) (here .before .loop-test .taken))),
+    )
 
 add-at : tie.Need-add-at Inv-loop μ-loop
+unfolding row-words
 add-at c =
-    let a = (c .before .before .before .before .before) in
-    omega (arith, part-within (standing (a .before)) (a .loop-test .taken) (written (c .before .before)))
+    let turn = c .before .before .before .before .before .before in
+    omega (arith, part-within (turn .before .loop .inv) (turn .loop-test .taken) (written (c .before .before)))
 
 loop-again : tie.Need-loop-again Inv-loop μ-loop
-loop-again c before l =
-    let a = (c .before .before .before .before .before) in
-    part-written (a .before .loop .inv before l) (a .loop-test .taken) (written (c .before .before))
+unfolding row-words
+loop-again c =
+    let turn = c .before .before .before .before .before .before in
+    part-written (turn .before .loop .inv) (turn .loop-test .taken) (written (c .before .before))
 
 same-length : tie.Need-same-length Inv-loop μ-loop
-same-length c = standing (c .before) .same-length
+same-length c = c .before .loop .inv .same-length
 
 returns : tie.Need-returns Inv-loop μ-loop
-returns c = listing-ends (standing (c .before)) (c .loop-test .left)
+unfolding row-words
+returns c =
+    let s = c .before .before .before .before in
+    let a = s .args in
+    written-as (row-said (a .words .now) (a .row) (a .count) (s .pre .0 .0)) (listing-ends (c .before .loop .inv)
+    (c .loop-test .left))
 
 pub put-cells-spec : {M : Type 1} → statement M
-unfolding row-words row-bits
+unfolding row-words
 put-cells-spec =
-    tie.close (tie.spec Inv-loop μ-loop (λ c. omega arith) (λ c. omega arith) (λ c. omega arith) put-fours-requires
-    (λ c. omega arith) loop-holds has-requires sub-put-cell part-put-cell-start (λ c. search needs) put-cell-requires
+    tie.close (tie.spec Inv-loop μ-loop loop-holds (λ c κs. omega arith) sub-put-word part-put-word-start
+    (λ c. search needs) (λ c. omega arith) (λ c. omega arith) (λ c. omega arith) (λ c. omega arith) put-word-requires
     add-at (λ c. omega arith) (λ c. omega arith) loop-again same-length returns)
