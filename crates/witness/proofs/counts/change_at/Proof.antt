@@ -34,7 +34,6 @@ loop-less : tie.Need-loop-less Inv-loop μ-loop
 loop-less c = c .without-lowest .ensures .less
 
 loop-again : tie.Need-loop-again Inv-loop μ-loop
-unfolding user-limit row-words
 loop-again c =
     let at-loop = c .before .before .before .before .before in
     let start = at-loop .before in

@@ -26,7 +26,6 @@ unfolding user-limit row-words
 add-m c = omega (arith, c .lowest .ensures .within)
 
 change-in-word-requires : tie.Need-change-in-word-requires Inv-loop μ-loop
-unfolding user-limit row-words
 change-in-word-requires c κs =
     let at-loop = c .before .before .before in
     let start = at-loop .before in
@@ -44,7 +43,6 @@ loop-less : tie.Need-loop-less Inv-loop μ-loop
 loop-less c = c .without-lowest .ensures .less
 
 loop-again : tie.Need-loop-again Inv-loop μ-loop
-unfolding user-limit row-words
 loop-again c =
     let at-loop = c .before .before .before .before .before in
     let at = at-loop .loop in
