@@ -11,8 +11,8 @@ use numbers::ROLE_WORDS;
 use places::first_places;
 ghost use Prim.Native.Nat.{_≤_};
 ghost use lib.ListN.{length};
+ghost use Rattle.spec.specs.Limits.{role-limit};
 ghost use Rattle.spec.specs.Sheet.{sheet-of};
-ghost use Rattle.cell_rows.specs.Rows.{row-bits};
 ghost use Rattle.names.specs.LaidOut.{LaidOut};
 ghost use Rattle.book_lines.specs.RowsSaid.{GrantCells};
 ghost use Rattle.book_length.specs.BookRows.{rows-book};
@@ -28,7 +28,7 @@ pub fn write_book<'a>(
     witness: &'a [u64; CELL_WORDS],
     counts: Counts,
 ) -> usize
-    requires { ⌜ LaidOut (now s) layout × (counts .roles ≤ row-bits) × GrantCells (now witness) (sheet-of (now s)) ⌝ }
+    requires { ⌜ LaidOut (now s) layout × (counts .roles ≤ role-limit) × GrantCells (now witness) (sheet-of (now s)) ⌝ }
     requires { ⌜ length (rows-book (now s) (now has) (now gives) (now witness) counts) ≤ length (now out) ⌝ }
     ensures { λ r. ⌜ Written (rows-book (now (s .entry)) (now (has .entry)) (now (gives .entry))
         (now (witness .entry)) counts)

@@ -7,8 +7,8 @@ use names::Layout;
 use numbers::CELL_WORDS;
 use numbers::ROLE_WORDS;
 ghost use Prim.Native.Nat.{_≤_};
+ghost use Rattle.spec.specs.Limits.{role-limit};
 ghost use Rattle.spec.specs.Sheet.{sheet-of};
-ghost use Rattle.cell_rows.specs.Rows.{row-bits};
 ghost use Rattle.names.specs.LaidOut.{LaidOut};
 ghost use Rattle.book_lines.specs.RowsSaid.{GrantCells};
 ghost use Rattle.book_length.specs.BookRows.{rows-book};
@@ -24,7 +24,7 @@ pub fn write_if_room<'a>(
     witness: &'a [u64; CELL_WORDS],
     counts: Counts,
 ) -> Writing
-    requires { ⌜ LaidOut (now s) layout × (counts .roles ≤ row-bits) × GrantCells (now witness) (sheet-of (now s)) ⌝ }
+    requires { ⌜ LaidOut (now s) layout × (counts .roles ≤ role-limit) × GrantCells (now witness) (sheet-of (now s)) ⌝ }
     ensures { λ r. ⌜ Writes (rows-book (now (s .entry)) (now (has .entry)) (now (gives .entry)) (now (witness .entry))
         counts)
         (now (out .entry)) (writing-said r) (now (out .exit)) ⌝ }

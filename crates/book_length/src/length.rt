@@ -68,12 +68,18 @@ fn bytes_at(places: &[u64]) -> usize
     total
 }
 
-// How many bytes the names of so many roles have: two up to `R9`, and three from there on.
+// How many bytes the names of so many roles have: two up to `R9`, three up to `R99`, and four from there on.
 fn role_names_length(roles: usize) -> usize
     requires { ⌜ roles ≤ row-bits ⌝ }
     ensures { λ r. ⌜ r ≡ role-name-bytes roles ⌝ }
 {
-    if roles < 10 { 2 * roles } else { 3 * roles - 9 }
+    if roles < 10 {
+        return 2 * roles;
+    }
+    if roles < 100 {
+        return 3 * roles - 9;
+    }
+    4 * roles - 108
 }
 
 // How long the witness lines of a user are.

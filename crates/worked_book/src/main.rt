@@ -4,10 +4,11 @@ use book_lines::Writing;
 use libc::STDOUT_FILENO;
 use numbers::CELL_WORDS;
 use numbers::ROLE_WORDS;
+use numbers::ROW_WORDS;
 use standing::Standing;
 ghost use Prim.Native.Nat.{_≤_};
+ghost use Rattle.spec.specs.Limits.{role-limit};
 ghost use Rattle.spec.specs.Sheet.{sheet-of};
-ghost use Rattle.cell_rows.specs.Rows.{row-bits};
 ghost use Rattle.book_lines.specs.RowsSaid.{GrantCells};
 
 // Prints the book of a sheet, from its two matrices, its witness and its counts.
@@ -18,7 +19,7 @@ fn print<'a>(
     witness: &'a [u64; CELL_WORDS],
     counts: Counts,
 )
-    requires { ⌜ (counts .roles ≤ row-bits) × GrantCells (now witness) (sheet-of (now s)) ⌝ }
+    requires { ⌜ (counts .roles ≤ role-limit) × GrantCells (now witness) (sheet-of (now s)) ⌝ }
 {
     let read = sheet::read(s);
     if read.number != 0 {
@@ -38,14 +39,14 @@ fn worked() {
     let s = *b"user,rec,id,map\nann,1,1,0\nbo,0,1,1\ncy,1,1,1\n";
     let mut has = [0; CELL_WORDS];
     has[0] = 0b01;
-    has[1] = 0b10;
-    has[2] = 0b11;
+    has[ROW_WORDS] = 0b10;
+    has[2 * ROW_WORDS] = 0b11;
     let mut gives = [0; ROLE_WORDS];
     gives[0] = 0b011;
-    gives[1] = 0b110;
+    gives[ROW_WORDS] = 0b110;
     let mut witness = [0; CELL_WORDS];
     witness[0] = 0b001;
-    witness[1] = 0b100;
+    witness[ROW_WORDS] = 0b100;
     let counts = Counts {
         roles: 2,
         bound: 2,

@@ -1,6 +1,7 @@
--- The names of a sheet are the bytes between their places, and short; a role's name has two bytes up to `R9` and
--- three from there on.
+-- The names of a sheet are the bytes between their places, and short; a role's name has two bytes up to `R9`, three up
+-- to `R99` and four up to `R999`.
 use Prim.Native.Nat.{ℕ, zero, suc, _+_, _-_, _*_, _/_, _≤_, _<_}
+use native.Mathlib.Nat.{add-zero, suc-mul}
 use native.Mathlib.Omega.{arith}
 use mathlib.Core.Path.{_≡_, sym, ap, _∙_}
 use mathlib.Core.List.{List, []}
@@ -16,7 +17,6 @@ use Rattle.rules.specs.AcceptedFacts.{Lawful, accepted-lawful}
 use Rattle.names.specs.LaidOut.{UsersAt, PermissionsAt}
 use Rattle.places.specs.Places.{from-at, to-at, Part, NamesPlaced}
 use Rattle.decimal.specs.Laws.Digit.{one-digit, digit-more}
-use Rattle.cell_rows.specs.Rows.{row-bits, row-words}
 use Rattle.book_lines.specs.Laws.Name.{role-name-parts, role-name-short}
 use Rattle.book_length.specs.NameBytes.{PlacesShort, bytes-at, role-name-bytes}
 
@@ -100,29 +100,51 @@ role-name-three r h k =
     ap length (role-name-parts r)
     ∙ omega (arith, digit-more (r + 1) (omega arith), one-digit ((r + 1) / 10) (omega arith))
 
-pub few-role-bytes : (n : ℕ) → n ≤ 9 → role-name-bytes n ≡ 2 * n
-unfolding sum-below
-few-role-bytes zero h = omega arith
-few-role-bytes (suc n) h = omega (arith, few-role-bytes n (omega arith), role-name-two n (omega arith))
+role-name-four : (r : ℕ) → 99 ≤ r → r < 999 → length (role-name r) ≡ 4
+role-name-four r h k =
+    ap length (role-name-parts r)
+    ∙ omega (
+      arith,
+      digit-more (r + 1) (omega arith),
+      digit-more ((r + 1) / 10) (omega arith),
+      one-digit ((r + 1) / 10 / 10) (omega arith),
+    )
 
-one-role-more : (k n : ℕ) → role-name-bytes n ≡ 3 * k + 18 → length (role-name n) ≡ 3
-    → role-name-bytes (suc n) ≡ 3 * suc k + 18
+-- k roles more, whose names have the same length
+roles-more : (n each k : ℕ) → ((r : ℕ) → n ≤ r → r < n + k → length (role-name r) ≡ each)
+    → role-name-bytes (n + k) ≡ role-name-bytes n + k * each
 unfolding sum-below
-one-role-more k n e l = omega arith
-
-more-role-bytes : (k : ℕ) → k ≤ 90 → role-name-bytes (k + 9) ≡ 3 * k + 18
-more-role-bytes zero h = few-role-bytes 9 (omega arith)
-more-role-bytes (suc k) h =
-    let next : suc k + 9 ≡ suc (k + 9) = omega arith in
+roles-more n each zero h = rw (add-zero n) (omega arith)
+roles-more n each (suc k) h =
+    let next : n + suc k ≡ suc (n + k) = omega arith in
     ap role-name-bytes next
-    ∙ one-role-more k (k + 9) (more-role-bytes k (omega arith)) (role-name-three (k + 9) (omega arith) (omega arith))
+    ∙ omega (
+      arith,
+      suc-mul k each,
+      roles-more n each k (λ r l m. h r l (omega arith)),
+      h (n + k) (omega arith) (omega arith),
+    )
 
-pub many-role-bytes : (n : ℕ) → 10 ≤ n → n ≤ 99 → role-name-bytes n ≡ 3 * n - 9
-many-role-bytes n h k =
-    let whole : n ≡ (n - 9) + 9 = omega arith in
-    ap role-name-bytes whole ∙ more-role-bytes (n - 9) (omega arith) ∙ omega arith
+-- the names up to `R9`, up to `R99` and up to `R999`
+pub role-bytes-two : (n : ℕ) → n ≤ 9 → role-name-bytes n ≡ 2 * n
+unfolding sum-below
+role-bytes-two n h =
+    let whole : n ≡ 0 + n = omega arith in
+    ap role-name-bytes whole ∙ roles-more 0 2 n (λ r l m. role-name-two r (omega arith)) ∙ omega arith
 
-pub role-bytes-small : (n : ℕ) → n ≤ row-bits → role-name-bytes n ≤ 192
-unfolding row-bits row-words
-role-bytes-small n h =
-    omega (arith, sum-below-le n 3 (λ r. length (role-name r)) (λ r l. role-name-short r (omega arith)))
+pub role-bytes-three : (n : ℕ) → 9 ≤ n → n ≤ 99 → role-name-bytes n ≡ 3 * n - 9
+role-bytes-three n h k =
+    let whole : n ≡ 9 + (n - 9) = omega arith in
+    ap role-name-bytes whole
+    ∙ roles-more 9 3 (n - 9) (λ r l m. role-name-three r l (omega arith))
+    ∙ omega (arith, role-bytes-two 9 (omega arith))
+
+pub role-bytes-four : (n : ℕ) → 99 ≤ n → n ≤ 999 → role-name-bytes n ≡ 4 * n - 108
+role-bytes-four n h k =
+    let whole : n ≡ 99 + (n - 99) = omega arith in
+    ap role-name-bytes whole
+    ∙ roles-more 99 4 (n - 99) (λ r l m. role-name-four r l (omega arith))
+    ∙ omega (arith, role-bytes-three 99 (omega arith) (omega arith))
+
+pub role-bytes-small : (n : ℕ) → n ≤ 999 → role-name-bytes n ≤ n * 4
+role-bytes-small n h = sum-below-le n 4 (λ r. length (role-name r)) (λ r l. role-name-short r (omega arith))

@@ -1,15 +1,17 @@
 -- `book::write_book`: each block is written behind the empty line behind the one before.
 use borrow.Author.Needs.{needs}
 use Prim.Native.Nat.{_+_, _≤_, ℕ}
+use native.Mathlib.Nat.{le-trans}
 use native.Mathlib.Omega.{arith}
 use mathlib.Core.List.{_++_}
 use mathlib.Core.Path.{_≡_, sym}
 use lib.ListN.{length, set}
-use Rattle.spec.specs.Limits.{user-limit}
+use Rattle.spec.specs.Limits.{user-limit, role-limit}
 use Rattle.spec.specs.Text.{Bytes, text-of}
 use Rattle.spec.specs.Sheet.{sheet-of}
 use Rattle.spec.specs.Book.{witness-block}
 use Rattle.cell_rows.specs.Rows.{row-bits, row-words}
+use Rattle.cell_rows.specs.Laws.Width.{roles-fit}
 use Rattle.cells.specs.CellSets.{cell-grants}
 use Rattle.book_length.specs.BookRows.{book-parts, rows-book}
 use Rattle.book_lines.specs.CountsText.{counts-text}
@@ -163,11 +165,16 @@ permissions-at : (c : tie.After-put-counts)
     → PermissionsAt (start c .args .s .now) (placed c .first-places2 .result .now)
 permissions-at c = permissions-lent (start c .pre .0 .0) (placed c .first-places2 .ensures)
 
+-- a role has a place in a row
+roles-in-row : (s : tie.Start) → s .args .counts .roles ≤ row-bits
+roles-in-row s = le-trans (s .pre .0 .1) roles-fit
+
 put-roles-requires : tie.Need-put-roles-requires
-unfolding row-bits row-words
+unfolding role-limit row-words
 put-roles-requires c κs =
     let a = c .before .before .before .before in
-    ((permissions-at a, start a .pre .0 .1, omega arith), room-behind (at-second a))
+    let few = start a .pre .0 .1 in
+    ((permissions-at a, roles-in-row (start a), omega arith), room-behind (at-second a))
 
 put-users-requires : tie.Need-put-users-requires
 unfolding row-words user-limit
@@ -175,7 +182,7 @@ put-users-requires c κs =
     let b = c .before .before .before .before in
     let a = counted b in
     let pre = start a .pre .0 in (
-      (users-at a, pre .1, omega (arith, few-users (pre .0), pre .0 .user-total)),
+      (users-at a, roles-in-row (start a), omega (arith, few-users (pre .0), pre .0 .user-total)),
       room-behind (at-third b),
     )
 

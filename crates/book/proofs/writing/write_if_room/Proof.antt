@@ -1,7 +1,9 @@
 -- `writing::write_if_room`: the length is known before anything is written, and decides which case it is.
 use borrow.Author.Needs.{needs}
+use native.Mathlib.Nat.{le-trans}
 use native.Mathlib.Omega.{arith}
 use Rattle.spec.specs.Text.{Bytes}
+use Rattle.cell_rows.specs.Laws.Width.{roles-fit}
 use Rattle.book_length.specs.BookRows.{rows-book}
 use Rattle.book_lines.specs.Writing.{refused-short, written-whole}
 use Rattle.book.proofs.writing.write_if_room.Statement.{statement}
@@ -15,6 +17,11 @@ returns c =
     let s = (c .before .before .before .before) in
     refused-short (text s) (s .args .out .now)
     (omega (arith, c .if1 .taken, c .before .book-length .ensures (s .args .has .now) (s .args .gives .now)))
+
+book-length-requires : tie.Need-book-length-requires
+book-length-requires c κs =
+    let s = c .before .before in
+    (s .pre .0, le-trans (s .pre .1) roles-fit, s .pre .2)
 
 write-book-requires : tie.Need-write-book-requires
 write-book-requires c κs =
@@ -43,4 +50,4 @@ returns-2 c =
 
 pub write-if-room-spec : {M : Type 1} → statement M
 write-if-room-spec =
-    tie.close (tie.spec (λ c κs. search needs) returns write-book-requires (λ c. search needs) returns-2)
+    tie.close (tie.spec book-length-requires returns write-book-requires (λ c. search needs) returns-2)

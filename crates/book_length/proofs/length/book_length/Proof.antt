@@ -59,15 +59,22 @@ names-small c =
       bytes-small (permissions-short (permissions-at (c .before .before))),
     )
 
-roles-small : (c : tie.After-role-names-length) → c .role-names-length .result ≤ 192
+roles-small : (c : tie.After-role-names-length) → c .role-names-length .result ≤ 4 * row-bits
+unfolding row-bits row-words
 roles-small c =
     let s = named c in
-    omega (arith, c .role-names-length .ensures, role-bytes-small (s .args .counts .roles) (s .pre .1))
+    omega (
+      arith,
+      c .role-names-length .ensures,
+      s .pre .1,
+      role-bytes-small (s .args .counts .roles) (omega (arith, s .pre .1)),
+    )
 
 lines-small : (s : tie.Start)
     → let roles = s .args .counts .roles in
-    (roles ≤ 64) × (layout s .permissions ≤ 64) × (roles * (2 * layout s .permissions + 1) ≤ 8_256)
-    × (layout s .users * (2 * roles + 1) ≤ 33_024)
+    (roles ≤ row-bits) × (layout s .permissions ≤ row-bits)
+    × (roles * (2 * layout s .permissions + 1) ≤ row-bits * (2 * row-bits + 1))
+    × (layout s .users * (2 * roles + 1) ≤ user-limit * (2 * row-bits + 1))
 unfolding row-bits row-words user-limit
 lines-small s =
     let fit = permissions-fit (s .pre .0) in
@@ -100,6 +107,7 @@ sum-small : (c : tie.After-counts-length)
     let names = r .before .before .bytes-at .result + r .before .bytes-at2 .result + 2 * r .role-names-length .result in
     c .counts-length .result + (29 + layout s .permissions + s .args .counts .roles) + names + lines s
     + c .before .witness-length .result < 2 ^ 32
+unfolding row-bits row-words user-limit
 sum-small c =
     let r = role-names c in
     let small = lines-small (named r) in
@@ -129,6 +137,7 @@ returns c =
     (r .role-names-length .ensures) (c .before .witness-length .ensures)
 
 pub book-length-spec : {M : Type 1} → statement M
+unfolding row-bits row-words user-limit
 book-length-spec =
     tie.close (tie.spec first-places-requires first-places-requires-2 (λ c κs. users-short (users-at c))
     (λ c κs. permissions-short (permissions-at (c .before))) (λ c. omega (arith, names-small c))

@@ -5,9 +5,10 @@ use native.Mathlib.Omega.{arith}
 use mathlib.Core.Bool.{So}
 use mathlib.Core.Path.{ap}
 use lib.ListN.{length}
-use Rattle.spec.specs.Limits.{name-limit}
+use Rattle.spec.specs.Limits.{name-limit, permission-limit}
 use Rattle.spec.specs.Sheet.{sheet-of, permission-count}
-use Rattle.cell_rows.specs.Rows.{cell, row-bits, row-words}
+use Rattle.cell_rows.specs.Rows.{cell, row-words}
+use Rattle.rules.specs.AcceptedFacts.{accepted-lawful}
 use Rattle.decimal.specs.Measured.{Adding, Measured, adding-ends, adding-starts, measured-within, part-added}
 use Rattle.decimal.specs.Measured.{piece-most}
 use Rattle.blocks.specs.Laws.Laid.{permission-counted, permissions-all, permissions-in-row}
@@ -36,6 +37,9 @@ named c = c .before .before .before
 more : (c : tie.In-loop Inv-loop μ-loop)
     → c .before .loop .i < permission-count (sheet-of (start (named c) .args .s .now))
 more c = permission-counted (start (named c) .pre .1) (c .loop-test .taken)
+
+few-permissions : (s : tie.Start Inv-loop μ-loop) → permission-count (sheet-of (s .args .s .now)) ≤ permission-limit
+few-permissions s = accepted-lawful (s .args .s .now) (s .pre .1 .accepts) .few-permissions
 
 -- both names are short
 user-fits : (c : tie.In-loop Inv-loop μ-loop) → length (named c .user-name-in .result .now) ≤ name-limit
@@ -100,15 +104,15 @@ unfolding name-limit
 add-total-2 c = omega (arith, user-fits (c .before), permission-fits c)
 
 add-total-3 : tie.Need-add-total-3 Inv-loop μ-loop
-unfolding row-bits row-words
+unfolding permission-limit
 add-total-3 c =
     let turn = c .before in
     omega (
       arith,
       measured c .small,
       turn .before .loop .inv .0 .small,
-      turn .loop-test .taken,
-      permissions-in-row (start (named turn) .pre .1),
+      more turn,
+      few-permissions (start (named turn)),
     )
 
 add-next-set : tie.Need-add-next-set Inv-loop μ-loop
@@ -137,11 +141,11 @@ loop-again c =
     )
 
 returns : tie.Need-returns Inv-loop μ-loop
-unfolding row-bits row-words
+unfolding permission-limit
 returns c =
     let s = start (c .before .before .before) in
     measured-within (adding-ends (c .before .loop .inv .0) (permissions-all (s .pre .1) (c .loop-test .left)))
-    (omega (arith, permissions-in-row (s .pre .1), s .pre .1 .names .total))
+    (omega (arith, few-permissions s))
 
 pub witness-row-length-spec : {M : Type 1} → statement M
 witness-row-length-spec =
