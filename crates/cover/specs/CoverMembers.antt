@@ -28,7 +28,7 @@ use Rattle.cell_rows.specs.Rows.{row-words, row-bits, cell}
 use Rattle.cell_rows.specs.CellAdded.{CellAdded, word-of}
 use Rattle.cells.specs.Laws.CellAdded.{word-below}
 use Rattle.cell_rows.specs.CellPlaces.{grant-of, fit-in}
-use Rattle.cells.specs.Laws.CellPlace.{row-bits-pos}
+use Rattle.cell_rows.specs.Laws.Width.{row-bits-pos}
 use Rattle.cover.specs.CoverRelation.{fit-at-cells}
 
 -- a row of words for each class: as many classes as permissions

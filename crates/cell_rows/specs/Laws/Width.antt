@@ -10,9 +10,9 @@ use Rattle.spec.specs.Limits.{permission-limit, role-limit}
 use Rattle.bits.specs.Bit.{word-bits}
 use Rattle.cell_rows.specs.Rows.{row-words, row-bits}
 
-pub some-words : 0 < row-words
+pub row-words-pos : 0 < row-words
 unfolding row-words
-some-words = omega arith
+row-words-pos = omega arith
 
 pub permissions-fit : permission-limit ≤ row-bits
 unfolding permission-limit row-bits row-words
@@ -22,9 +22,9 @@ pub roles-fit : role-limit ≤ row-bits
 unfolding role-limit
 roles-fit = permissions-fit
 
-pub some-bits : 0 < row-bits
+pub row-bits-pos : 0 < row-bits
 unfolding row-bits
-some-bits = omega (arith, some-words)
+row-bits-pos = omega (arith, row-words-pos)
 
 -- the words of n rows have their cells
 pub rows-cells : (n : ℕ) → n * row-bits ≡ n * row-words * word-bits
@@ -52,28 +52,28 @@ row-inside u n k h l = digits-lt h l
 -- ---- a cell by its number
 
 -- the user of a cell is that of its word
-pub user-of-word : (n : ℕ) → n / row-bits ≡ n / word-bits / row-words
+pub user-of-cell : (n : ℕ) → n / row-bits ≡ n / word-bits / row-words
 unfolding row-bits
-user-of-word n = ap (λ (m : ℕ). n / m) (mul-comm row-words word-bits) ∙ sym (div-div-eq-div-mul n word-bits row-words)
+user-of-cell n = ap (λ (m : ℕ). n / m) (mul-comm row-words word-bits) ∙ sym (div-div-eq-div-mul n word-bits row-words)
 
 -- its permission, by the word's place in the row and the position in the word
 pub permission-in-word : (n : ℕ) → n % row-bits ≡ n / word-bits % row-words * word-bits + n % word-bits
 unfolding row-bits
-permission-in-word n = mod-mul n some-words (lit< tt)
+permission-in-word n = mod-mul n row-words-pos (lit< tt)
 
 -- word i of the rows is word i % row-words of user i / row-words
 pub word-split : (i : ℕ) → i / row-words * row-words + i % row-words ≡ i
 word-split i = div-add-mod' i row-words
 
 pub word-of-row : (i : ℕ) → i % row-words < row-words
-word-of-row i = mod-lt i some-words
+word-of-row i = mod-lt i row-words-pos
 
 -- it is a word of the first n users exactly where its user is one of them
 pub user-below : (i n : ℕ) → i < n * row-words → i / row-words < n
-user-below i n = div-lt-iff-lt-mul some-words .1
+user-below i n = div-lt-iff-lt-mul row-words-pos .1
 
 pub word-below : (i n : ℕ) → i / row-words < n → i < n * row-words
-word-below i n = div-lt-iff-lt-mul some-words .0
+word-below i n = div-lt-iff-lt-mul row-words-pos .0
 
 pub permission-below : (n : ℕ) → n % row-bits < row-bits
-permission-below n = mod-lt n some-bits
+permission-below n = mod-lt n row-bits-pos

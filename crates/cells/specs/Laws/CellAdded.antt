@@ -16,10 +16,7 @@ use Rattle.bits.specs.Laws.Below.{below-or-from}
 use Rattle.bits.specs.Bit.{bit, word-bits}
 use Rattle.cell_rows.specs.Rows.{row-words, row-bits, cell}
 use Rattle.cell_rows.specs.CellAdded.{CellAdded, word-of}
-
-pub word-in-row : (p : ℕ) → p < row-bits → p / word-bits < row-words
-unfolding row-bits
-word-in-row p h = omega arith
+use Rattle.cell_rows.specs.Laws.Width.{word-in-row}
 
 -- the words of a user end before those of the next begin
 pub word-below : (n u p : ℕ) → u < n → p < row-bits → word-of u p < n * row-words

@@ -24,7 +24,8 @@ use Rattle.cells.specs.Laws.Grant.{same-parts, grant-held, held-grant}
 use Rattle.cells.specs.Laws.GrantOrder.{Before, grants-ordered}
 use Rattle.cells.specs.CellSets.{in-cells, cell-grants}
 use Rattle.cell_rows.specs.CellPlaces.{grant-of, marked, Shown, Part}
-use Rattle.cells.specs.Laws.CellPlace.{row-bits-pos, cell-marked}
+use Rattle.cell_rows.specs.Laws.Width.{row-bits-pos}
+use Rattle.cells.specs.Laws.CellPlace.{cell-marked}
 
 -- ---- cells in rising number
 

@@ -2,40 +2,26 @@
 -- remainders of its number, first by the bits of a word, then by the words of a row. So the bit of a cell is the cell
 -- of its user and permission.
 use Prim.Native.Nat.{ℕ, _+_, _*_, _/_, _%_, _<_}
-use native.Mathlib.Nat.{mul-comm, mod-lt, div-add-mod', div-div-eq-div-mul, div-lt-iff-lt-mul}
-use mathlib.Core.Path.{_≡_, sym}
+use native.Mathlib.Nat.{mod-lt, div-add-mod', div-lt-iff-lt-mul}
+use mathlib.Core.Path.{_≡_}
 use mathlib.Core.Bool.{_&&_}
 use mathlib.Core.List.{List}
 use lib.Dec.{lit<}
-use lib.Arith.{digits-div, digits-mod, mod-mul}
+use lib.Arith.{digits-div, digits-mod}
 use lib.ListN.{getD}
 use Rattle.bits.specs.Bit.{bit, word-bits}
 use Rattle.cell_rows.specs.Rows.{row-words, row-bits, cell}
 use Rattle.cells.specs.CellSets.{in-cells}
 use Rattle.cell_rows.specs.CellPlaces.{grant-of, marked, fit-in}
-use Rattle.cell_rows.specs.Laws.Width.{some-words, some-bits}
-
-pub row-words-pos : 0 < row-words
-row-words-pos = some-words
-
-pub row-bits-pos : 0 < row-bits
-row-bits-pos = some-bits
+use Rattle.cell_rows.specs.Laws.Width.{row-bits-pos, user-of-cell, permission-in-word}
 
 -- ---- the parts of a cell's number
 
-pub user-of-cell : (n : ℕ) → n / row-bits ≡ n / word-bits / row-words
-unfolding row-bits
-user-of-cell n = rw (mul-comm row-words word-bits) (sym (div-div-eq-div-mul n word-bits row-words))
-
-row-remainder : (n : ℕ) → n % row-bits ≡ n / word-bits % row-words * word-bits + n % word-bits
-unfolding row-bits
-row-remainder n = mod-mul n row-words-pos (lit< tt)
-
 pub word-of-cell : (n : ℕ) → n % row-bits / word-bits ≡ n / word-bits % row-words
-word-of-cell n = rw (row-remainder n) (digits-div (n / word-bits % row-words) (mod-lt n (lit< tt)))
+word-of-cell n = rw (permission-in-word n) (digits-div (n / word-bits % row-words) (mod-lt n (lit< tt)))
 
 pub position-of-cell : (n : ℕ) → n % row-bits % word-bits ≡ n % word-bits
-position-of-cell n = rw (row-remainder n) (digits-mod (n / word-bits % row-words) (mod-lt n (lit< tt)))
+position-of-cell n = rw (permission-in-word n) (digits-mod (n / word-bits % row-words) (mod-lt n (lit< tt)))
 
 pub user-below : (n users : ℕ) → n < users * row-bits → n / row-bits < users
 user-below n users = div-lt-iff-lt-mul row-bits-pos .1

@@ -14,7 +14,7 @@ use Rattle.lists.specs.KeyLaws.{same-key, by-key}
 use Rattle.lists.specs.SameGrouping.{grouping-ext}
 use Rattle.cover.specs.Laws.Cover.{fewer-le-earlier, by-fit, by-permission, by-user}
 use Rattle.cell_rows.specs.CellPlaces.{grant-of, Shown}
-use Rattle.cells.specs.Laws.CellPlace.{row-bits-pos}
+use Rattle.cell_rows.specs.Laws.Width.{row-bits-pos}
 use Rattle.fit.specs.Laws.Fit.{Held, one-user-fits}
 use Rattle.fit.specs.Laws.FitWord.{fit-at-grants}
 use Rattle.cells.specs.KernelArray.{grant-at-cell}

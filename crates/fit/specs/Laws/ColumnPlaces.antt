@@ -13,12 +13,12 @@ use Rattle.bits.specs.Truth.{same-truth, and-intro, and-left, and-right}
 use Rattle.bits.specs.Bit.{word-bits}
 use Rattle.cell_rows.specs.Rows.{row-bits}
 use Rattle.cell_rows.specs.CellPlaces.{cell-words}
-use Rattle.cell_rows.specs.Laws.Width.{some-words}
+use Rattle.cell_rows.specs.Laws.Width.{row-words-pos}
 use Rattle.fit.specs.Columns.{column-words, place-limit}
 
 pub some-cell-words : 0 < cell-words
 unfolding user-limit
-some-cell-words = omega (arith, some-words)
+some-cell-words = omega (arith, row-words-pos)
 
 -- the words of a column have a position for each word of the rows
 pub whole-columns : column-words * word-bits ≡ cell-words

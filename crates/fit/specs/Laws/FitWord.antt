@@ -20,11 +20,10 @@ use Rattle.bits.specs.Bit.{bit, word-bits}
 use Rattle.bits.specs.Truth.{fails-unless}
 use Rattle.bits.specs.Laws.Bit.{bit-and}
 use Rattle.cell_rows.specs.Rows.{row-words, row-bits, cell}
-use Rattle.cell_rows.specs.Laws.Width.{some-bits, rows-cells}
+use Rattle.cell_rows.specs.Laws.Width.{row-bits-pos, rows-cells}
 use Rattle.cells.specs.CellSets.{cell-grants}
 use Rattle.cells.specs.KernelArray.{grant-at-cell}
 use Rattle.cell_rows.specs.CellPlaces.{cell-limit, cells-of, grant-of, marked, fit-in, near, FittingWord, Shown, Part}
-use Rattle.cells.specs.Laws.CellPlace.{row-bits-pos}
 use Rattle.cells.specs.Laws.CellList.{passing-grants-count}
 
 -- ---- a word
@@ -80,7 +79,7 @@ module _ {rows : List ℕ} {users : ℕ} {sheet : Sheet} (shown : Shown rows use
   -- past the users nobody holds anything
   none-near-past : (left : List ℕ) (it n : ℕ) → cells-of users ≤ n → near rows left it n ≡ false
   none-near-past left it n l =
-      let past : users ≤ n / row-bits = le-div-iff-mul-le some-bits .1 (rw (rows-cells users) l) in
+      let past : users ≤ n / row-bits = le-div-iff-mul-le row-bits-pos .1 (rw (rows-cells users) l) in
       let none = fails-unless (cell rows (n / row-bits) (it % row-bits)) (λ e.
       omega (
         arith,

@@ -20,7 +20,7 @@ use Rattle.lists.specs.PassingBelow.{passing-below, passing-length}
 use Rattle.cell_rows.specs.Rows.{row-bits}
 use Rattle.cells.specs.CellSets.{cell-grants}
 use Rattle.cell_rows.specs.CellPlaces.{cell-limit, grant-of, marked, Shown, Part, cells-of}
-use Rattle.cells.specs.Laws.CellPlace.{row-bits-pos}
+use Rattle.cell_rows.specs.Laws.Width.{row-bits-pos}
 use Rattle.cells.specs.Laws.CellList.{marked-holds, grants-by-cell, cell-grants-by-cell}
 use Rattle.verdict.specs.Laws.Near.{row-cells}
 use Rattle.verdict.specs.Laws.ReductionVisit.{cells-within}

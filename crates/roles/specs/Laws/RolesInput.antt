@@ -23,7 +23,8 @@ use Rattle.lists.specs.LatestFirst.{latest-first}
 use Rattle.cells.specs.Laws.Grant.{grant-held}
 use Rattle.cell_rows.specs.Rows.{row-words, row-bits}
 use Rattle.cell_rows.specs.CellPlaces.{cell-limit, grant-of, marked, Shown}
-use Rattle.cells.specs.Laws.CellPlace.{row-bits-pos, cell-marked}
+use Rattle.cell_rows.specs.Laws.Width.{row-bits-pos}
+use Rattle.cells.specs.Laws.CellPlace.{cell-marked}
 use Rattle.cells.specs.Laws.CellList.{cell-grants-by-cell}
 use Rattle.cells.specs.KernelArray.{shown-roomy}
 use Rattle.verdict.specs.Log.{removal-at}

@@ -17,7 +17,7 @@ use Rattle.bits.specs.Laws.Below.{some-below-intro, some-below-ext, none-below-
 use Rattle.bits.specs.Laws.Below.{every-below-ext}
 use Rattle.cell_rows.specs.Rows.{row-words, row-bits}
 use Rattle.cell_rows.specs.CellPlaces.{marked, Part}
-use Rattle.cells.specs.Laws.CellPlace.{user-of-cell}
+use Rattle.cell_rows.specs.Laws.Width.{user-of-cell}
 use Rattle.cells.specs.Laws.NextBelow.{next-passes, next-fails}
 use Rattle.fit.specs.Laws.FitWord.{marked-in-word}
 use Rattle.verdict.specs.NearCells.{tie-at}

@@ -32,7 +32,8 @@ use Rattle.bits.specs.Truth.{
 use Rattle.bits.specs.Laws.Below.{every-below-ext, every-below-intro, every-below-elim}
 use Rattle.cell_rows.specs.Rows.{row-words, row-bits}
 use Rattle.cell_rows.specs.CellPlaces.{grant-of, marked, fit-in, FittingWord, cells-of}
-use Rattle.cells.specs.Laws.CellPlace.{row-bits-pos, user-of-cell, word-of-cell, position-of-cell, fit-by-word}
+use Rattle.cell_rows.specs.Laws.Width.{row-bits-pos, user-of-cell}
+use Rattle.cells.specs.Laws.CellPlace.{word-of-cell, position-of-cell, fit-by-word}
 use Rattle.fit.specs.Laws.FitWord.{marked-in-word}
 use Rattle.fit.specs.Columns.{column-words, held-in, Columns}
 use Rattle.fit.specs.Laws.ColumnPlaces.{whole-columns}

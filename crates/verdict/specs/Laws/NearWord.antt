@@ -17,7 +17,8 @@ use Rattle.bits.specs.Laws.Below.{every-below-add, every-below-intro, every-bel
 use Rattle.cell_rows.specs.Rows.{row-words, row-bits, cell}
 use Rattle.cells.specs.CellSets.{in-cells}
 use Rattle.cell_rows.specs.CellPlaces.{grant-of, marked, fit-in, near, Part, cells-of}
-use Rattle.cells.specs.Laws.CellPlace.{user-of-cell, cell-marked, fit-by-word}
+use Rattle.cell_rows.specs.Laws.Width.{user-of-cell}
+use Rattle.cells.specs.Laws.CellPlace.{cell-marked, fit-by-word}
 use Rattle.fit.specs.Laws.FitWord.{marked-in-word}
 use Rattle.fit.specs.Columns.{held-in}
 use Rattle.verdict.specs.NearCells.{dominates-in, tie-test, tie-at}

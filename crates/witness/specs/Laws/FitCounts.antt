@@ -21,7 +21,7 @@ use Rattle.bits.specs.Laws.Bit.{bit-and, bit-of-zero}
 use Rattle.bits.specs.Word.{LowestDropped}
 use Rattle.cell_rows.specs.Rows.{row-words}
 use Rattle.cell_rows.specs.CellPlaces.{cell-words, grant-of, marked, fit-in}
-use Rattle.cell_rows.specs.Laws.Width.{user-of-word, word-of-row}
+use Rattle.cell_rows.specs.Laws.Width.{user-of-cell, word-of-row}
 use Rattle.cells.specs.Laws.CellPlace.{word-of-cell, position-of-cell, fit-by-word}
 use Rattle.witness.specs.CountChange.{at-position, fit-count, ChangedAt}
 use Rattle.witness.specs.CountChange.{row-word, of-word, of-words, of-words-below}
@@ -37,7 +37,7 @@ use Rattle.fit.specs.Laws.ColumnUnion.{union-reaches}
 fit-by-row : (rows : List ℕ) (i n q : ℕ) → q < word-bits
     → fit-in rows (grant-of n) (grant-of (i * word-bits + q)) ≡ (bit (row-word rows (n / word-bits) i) q
     && bit (row-word rows i (n / word-bits)) (n % word-bits))
-fit-by-row rows i n q l = fit-by-word rows n i q l ∙ rw (user-of-word n, word-of-cell n, position-of-cell n)
+fit-by-row rows i n q l = fit-by-word rows n i q l ∙ rw (user-of-cell n, word-of-cell n, position-of-cell n)
 
 module _ (rows : List ℕ) (i word n : ℕ) where
   pub fit-count-held : So (bit (row-word rows i (n / word-bits)) (n % word-bits))

@@ -11,7 +11,7 @@ use Rattle.spec.specs.Limits.{grant-limit}
 use Rattle.bits.specs.Counting.{NextFrom}
 use Rattle.cell_rows.specs.Rows.{row-words, row-bits}
 use Rattle.cells.specs.Blank.{BlankFrom, zeros-blank, set-blank, later-blank}
-use Rattle.cells.specs.Laws.CellPlace.{row-bits-pos}
+use Rattle.cell_rows.specs.Laws.Width.{row-bits-pos}
 use Rattle.cover.specs.CoverRelation.{user-at-cell, permission-at-cell, HeldCells, user-room, user-has-room}
 use Rattle.cover.specs.CoverMembers.{class-words}
 use Rattle.cover.specs.CoverFree.{free}

@@ -8,7 +8,7 @@ use mathlib.Core.Path.{_≡_, refl, _∙_}
 use lib.ListN.{length}
 use Rattle.spec.specs.Limits.{grant-limit}
 use Rattle.cell_rows.specs.Rows.{row-words, row-bits}
-use Rattle.cells.specs.Laws.CellPlace.{row-bits-pos}
+use Rattle.cell_rows.specs.Laws.Width.{row-bits-pos}
 use Rattle.cover.specs.CoverRelation.{permission-at-cell}
 use Rattle.cover.specs.CoverKeys.{Keyed, none-keyed, keyed-count-below, class-from-is-next, one-keyed}
 use Rattle.cover.proofs.cover.grouped_by_permission.Statement.{statement}

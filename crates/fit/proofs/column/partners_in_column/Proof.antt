@@ -9,7 +9,7 @@ use Rattle.bits.specs.Counting.{sum-below}
 use Rattle.bits.specs.Bit.{word-bits}
 use Rattle.cell_rows.specs.Rows.{row-words, row-bits}
 use Rattle.cell_rows.specs.CellPlaces.{CountedBelow}
-use Rattle.cells.specs.Laws.CellPlace.{row-bits-pos}
+use Rattle.cell_rows.specs.Laws.Width.{row-bits-pos}
 use Rattle.fit.specs.Columns.{column-words, held-in}
 use Rattle.fit.specs.Laws.Column.{
   near-sum-le,
