@@ -1,11 +1,11 @@
 -- What puts two grants of the kernel together, by their cells: that they fit, as the rows say, or that they have one
 -- permission or one user.
 use Prim.Native.Nat.{ℕ, _/_, _%_, _^_, _<_}
-use native.Mathlib.Omega.{arith}
+use native.Mathlib.Nat.{lt-of-le-of-lt, div-le-self}
 use mathlib.Core.Bool.{Bool, So}
 use mathlib.Core.List.{List}
 use lib.ListN.{length, getD}
-use Rattle.cell_rows.specs.Rows.{row-words, row-bits, cell}
+use Rattle.cell_rows.specs.Rows.{row-bits, cell}
 use Rattle.cell_rows.specs.CellPlaces.{grant-of, fit-in}
 
 -- two numbers of the kernel fit
@@ -29,5 +29,4 @@ abbrev pub user-room : ℕ
 user-room = 2 ^ 16
 
 pub user-has-room : (n : ℕ) → n < 2 ^ 16 → n / row-bits < user-room
-unfolding row-bits row-words
-user-has-room n l = omega arith
+user-has-room n l = lt-of-le-of-lt (div-le-self n row-bits) l

@@ -1,11 +1,11 @@
 -- What the calls answer with and without a sheet, and what an accepted writing brings out. Each follows from the
 -- calls' definitions by cases: is there a sheet, is it accepted, does the buffer take the book.
-use Prim.Native.Nat.{ℕ, _≤_}
+use Prim.Native.Nat.{ℕ, _≤_, _<_}
 use mathlib.Core.Path.{_≡_, refl, sym, ap, _∙_}
 use mathlib.Core.Bool.{Bool, true, false, So, cond}
 use mathlib.Core.List.{_++_}
 use mathlib.Core.Logic.{_↔_, ⊎-elim}
-use borrow.Author.Tests.{eq-eqb, le-ltb}
+use borrow.Author.Tests.{eq-eqb, lt-ltb, le-ltb}
 use lib.Dec.{eqb}
 use lib.ListN.{length, take, drop}
 use lib.Seq.{take-append-seam}
@@ -59,6 +59,12 @@ pub loaded-write : (text : Bytes) (st : State) (buffer : Bytes) → length (book
     → write-answer (loaded text st) buffer .number ≡ 0
 unfolding write-answer write-causes session-book
 loaded-write text st buffer takes = rw (le-ltb (length buffer) (length (book (sheet-of text) st)) takes)
+
+-- and 11 where it does not
+pub loaded-write-short : (text : Bytes) (st : State) (buffer : Bytes) → length buffer < length (book (sheet-of text) st)
+    → write-answer (loaded text st) buffer .number ≡ 11
+unfolding write-answer write-causes session-book
+loaded-write-short text st buffer short = rw (lt-ltb (length buffer) (length (book (sheet-of text) st)) short)
 
 -- what a writing answers and leaves in the buffer, by whether no cause applies
 abbrev answer-if : Bool → ℕ → Bytes → WriteAnswer

@@ -97,9 +97,9 @@ module _ (earlier : List Call) (before : Session) (e : before ≡ session-after 
   -- a buffer of as many bytes as the checker takes is enough
   room-enough : (buffer : Bytes) (written : WriteOutcome) (after : Session) → Writes before buffer (written .answer)
       (written .lent) after
-      → (text : Bytes) → last-accepted earlier ≡ some text → 65_536 ≤ length buffer → written .answer .number ≡ 0
+      → (text : Bytes) → last-accepted earlier ≡ some text → 131_072 ≤ length buffer → written .answer .number ≡ 0
   room-enough buffer written after h text last room =
-      let short : length (book (sheet-of text) (reached text (budgets-given earlier))) ≤ 65_536 =
+      let short : length (book (sheet-of text) (reached text (budgets-given earlier))) ≤ 131_072 =
       book-believed text (last-is-accepted earlier text last) (budgets-given earlier) .right .of-form .short in
       ap (λ (a : WriteAnswer). a .number) (h .answers ∙ ap (λ (s : Session). write-answer s buffer)
       (sheet-loaded text last))

@@ -7,7 +7,7 @@ use Rattle.spec.specs.Vocabulary.{some-below}
 use Rattle.bits.specs.Bit.{bit, word-bits}
 use Rattle.fit.specs.Columns.{column-words}
 
--- position t is in word j of the column of a permission at a position of the word
-abbrev pub in-union : List ℕ → ℕ → ℕ → ℕ → Bool
-in-union columns word j t =
-    some-below word-bits (λ q. bit word q && bit (getD columns (q * column-words + j) 0) t)
+-- position t is in word j of the column of a permission at a position of the word, which is word k of a row
+abbrev pub in-union : List ℕ → ℕ → ℕ → ℕ → ℕ → Bool
+in-union columns word k j t =
+    some-below word-bits (λ q. bit word q && bit (getD columns ((k * word-bits + q) * column-words + j) 0) t)

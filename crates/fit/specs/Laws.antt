@@ -1,5 +1,6 @@
 -- The laws behind what contracts cite.
 pub mod Fit
+pub mod ColumnPlaces
 pub mod Among
 pub mod Column
 pub mod FitWord

@@ -2,7 +2,6 @@
 use crate::lines::put_number_line;
 use crate::lines::put_pair_line;
 use digits::budget_of;
-use numbers::BOOK_LIMIT;
 use porvuund::porvuund_book;
 use porvuund::porvuund_check;
 ghost use mathlib.Core.List.{[], _∷_};
@@ -10,8 +9,8 @@ ghost use Rattle.spec.specs.Program.{program-output};
 ghost use Rattle.text.specs.Written.{Written};
 ghost use Rattle.outputs.specs.CheckOutput.{check-output};
 
-// The bytes of the book program's buffer: as many as the greatest book that the checker takes.
-pub const PROGRAM_BUFFER: usize = BOOK_LIMIT;
+// The bytes of the book program's buffer. The checker takes longer books, and for those the program prints 11.
+pub const PROGRAM_BUFFER: usize = 65_536;
 
 // Puts what the book program prints for a sheet and its argument at the front of the buffer: the book, or the number
 // of the refusal and a line feed. Without an argument the word is empty.

@@ -9,7 +9,7 @@ use lib.ListN.{length, getD, set, length-set}
 use lib.Seq.{getD-set-same, getD-set-other}
 
 abbrev pub space-limit : ℕ
-space-limit = 131_072
+space-limit = 262_144
 
 -- the byte at a place
 abbrev pub pattern : ℕ → ℕ

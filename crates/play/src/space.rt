@@ -4,7 +4,7 @@ ghost use Rattle.play.specs.Space.{Patterned, pattern, space-limit};
 ghost use Prim.Native.Nat.{_<_};
 
 // The bytes that a writing can be lent, at most.
-pub const SPACE_LIMIT: usize = 131_072;
+pub const SPACE_LIMIT: usize = 262_144;
 
 // The byte at a place before a writing.
 fn pattern_byte(i: usize) -> u8

@@ -1,13 +1,14 @@
 -- The parts of a fit table's words. A word has the cells from a place on. Those that fit the grant at a cell are the
 -- ones whose permissions its user holds and whose users hold its permission: the first are the same for all grants of
 -- a user, the second for all grants of a permission.
-use Prim.Native.Nat.{ℕ, _+_, _/_, _%_, _^_, _<_, _≤_}
+use Prim.Native.Nat.{ℕ, _+_, _*_, _/_, _%_, _^_, _<_, _≤_}
 use mathlib.Core.Bool.{Bool, So, _&&_}
 use mathlib.Core.List.{List}
 use lib.Dec.{ltb}
 use lib.ListN.{length, getD}
-use Rattle.bits.specs.Bit.{bit, word-bits}
+use Rattle.bits.specs.Bit.{word-bits}
 use Rattle.cell_rows.specs.Rows.{row-bits, cell}
+use Rattle.cell_rows.specs.CellPlaces.{marked}
 use Rattle.table.specs.TableWords.{FirstBits}
 use Rattle.table.specs.declared.table.Line.{Line}
 use Rattle.table.specs.declared.table.Line.the-variants.{Column, Row}
@@ -18,10 +19,10 @@ pub record CellsFrom (size from count : ℕ) : Type 0 where
   pub there : (q : ℕ) → q < count → from + q < size
   pub all : (q : ℕ) → q < word-bits → count ≤ q → size ≤ from + q
 
--- the permission has a place in a row, and the user's number is one of the machine's
+-- the permission has a place in a row, and the user's first cell has a number that is one of the machine's
 abbrev pub LineWithin : Line → Type 0
 LineWithin (Column p) = p .0 < row-bits
-LineWithin (Row u) = u .0 < 2 ^ word-bits
+LineWithin (Row u) = u .0 * row-bits < 2 ^ word-bits
 
 -- the cell n is on the line: its user holds the permission, or the user holds its permission
 abbrev pub on-line : List ℕ → Line → ℕ → Bool
@@ -48,7 +49,7 @@ permission-held-at rows cells from u q = cell rows u (getD cells (from + q) 0 % 
 abbrev pub permission-held : List ℕ → List ℕ → ℕ → ℕ → ℕ → Bool
 permission-held rows cells from u q = ltb (from + q) (length cells) && permission-held-at rows cells from u q
 
--- for each permission of a set below a bound, the cells of a word whose users hold it
-pub record ColumnsOf (rows cells : List ℕ) (from some bound : ℕ) (words : List ℕ) : Type 0 where
-  pub column : (p : ℕ) → p < bound → So (bit some p) → FirstBits (user-holds rows cells from p) word-bits
+-- for each permission of a row below a bound, the cells of a word whose users hold it
+pub record ColumnsOf (rows cells : List ℕ) (from : ℕ) (some : List ℕ) (bound : ℕ) (words : List ℕ) : Type 0 where
+  pub column : (p : ℕ) → p < bound → So (marked some p) → FirstBits (user-holds rows cells from p) word-bits
       (getD words p 0)

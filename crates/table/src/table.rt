@@ -1,5 +1,6 @@
 // The fit table of a kernel that can be searched: bit j of grant i's words says that grants i and j fit.
 use bits::WORD_BITS;
+use cell_rows::mark;
 use cells::Kernel;
 use cells::holds;
 use cells::permission_of;
@@ -10,6 +11,7 @@ use numbers::KERNEL_LIMIT;
 use numbers::KERNEL_WORDS;
 use numbers::PermissionNo;
 use numbers::ROW_BITS;
+use numbers::ROW_WORDS;
 use numbers::TABLE_WORDS;
 use numbers::UserNo;
 ghost use mathlib.Core.Path.{_≡_};
@@ -20,9 +22,9 @@ ghost use lib.ListN.{length, getD, take};
 ghost use Rattle.spec.specs.Vocabulary.{some-below};
 ghost use Rattle.spec.specs.Sheet.{Sheet};
 ghost use Rattle.spec.specs.Reduction.{kernel};
-ghost use Rattle.bits.specs.Bit.{bit, word-bits};
+ghost use Rattle.bits.specs.Bit.{word-bits};
 ghost use Rattle.cell_rows.specs.Rows.{row-bits};
-ghost use Rattle.cell_rows.specs.CellPlaces.{grant-of, Shown};
+ghost use Rattle.cell_rows.specs.CellPlaces.{grant-of, marked, Shown};
 ghost use Rattle.cells.specs.KernelArray.{KernelListed};
 ghost use Rattle.table.specs.TableWords.{table-limit, FirstBits, Table};
 ghost use Rattle.table.specs.TableParts.{CellsFrom, LineWithin, on-line, on-line-from, ColumnsOf};
@@ -76,31 +78,36 @@ fn line_word<'a>(rows: &'a [u64], cells: &'a [u16], from: usize, line: Line) -> 
     word
 }
 
-// The permissions of the first cells.
-fn permissions_among(cells: &[u16], count: usize) -> u64
+// The permissions of the first cells, as a row.
+fn permissions_among(cells: &[u16], count: usize) -> [u64; ROW_WORDS]
     requires { ⌜ count ≤ length (now cells) ⌝ }
-    ensures { λ r. ⌜ ((p : ℕ) → bit r p ≡ some-below count (λ (i : ℕ). eqb p (getD (now (cells .entry)) i 0
+    ensures { λ r. ⌜ ((p : ℕ) → marked r p ≡ some-below count (λ (i : ℕ). eqb p (getD (now (cells .entry)) i 0
         % row-bits))) ⌝ }
 {
-    let mut word = 0;
+    let mut row = [0; ROW_WORDS];
     let mut i = 0;
     while i < count {
         let at = cells[i] as usize;
-        word = bits::with(word, permission_of(CellNo(at)).0);
+        mark(&mut row, permission_of(CellNo(at)).0);
         i += 1;
     }
-    word
+    row
 }
 
-// For each permission of a set, the cells of a word whose users hold it.
-fn columns<'a>(rows: &'a [u64], cells: &'a [u16], from: usize, some: u64) -> [u64; ROW_BITS]
+// For each permission of a row, the cells of a word whose users hold it.
+fn columns<'a>(
+    rows: &'a [u64],
+    cells: &'a [u16],
+    from: usize,
+    some: &'a [u64; ROW_WORDS],
+) -> [u64; ROW_BITS]
     requires { ⌜ from < table-limit ⌝ }
-    ensures { λ r. ⌜ ColumnsOf (now (rows .entry)) (now (cells .entry)) from some row-bits r ⌝ }
+    ensures { λ r. ⌜ ColumnsOf (now (rows .entry)) (now (cells .entry)) from (now (some .entry)) row-bits r ⌝ }
 {
     let mut words = [0; ROW_BITS];
     let mut p = 0;
     while p < ROW_BITS {
-        if bits::has(some, p) {
+        if bits::has(some[p / WORD_BITS], p % WORD_BITS) {
             words[p] = line_word(rows, cells, from, Line::Column(PermissionNo(p)));
         }
         p += 1;
@@ -155,8 +162,8 @@ fn table_of<'a>(rows: &'a [u64], cells: &'a [u16]) -> [u64; TABLE_WORDS]
 {
     let count = limited(cells.len());
     let some = permissions_among(cells, count);
-    let low = columns(rows, cells, 0, some);
-    let high = columns(rows, cells, WORD_BITS, some);
+    let low = columns(rows, cells, 0, &some);
+    let high = columns(rows, cells, WORD_BITS, &some);
     let mut last = held_by(rows, cells, CellNo(0));
     let mut words = [0; TABLE_WORDS];
     let mut i = 0;

@@ -8,6 +8,7 @@ use lib.Dec.{eqb, ltb}
 use lib.ListN.{length, getD}
 use Rattle.bits.specs.Counting.{count-below}
 use Rattle.bits.specs.Bit.{bit, word-bits}
+use Rattle.cell_rows.specs.Rows.{row-words}
 use Rattle.cell_rows.specs.CellPlaces.{cell-limit, grant-of, marked, fit-in}
 use Rattle.witness.specs.declared.counts.Change.{Change}
 use Rattle.witness.specs.declared.counts.Change.the-variants.{Added, TakenOff}
@@ -22,9 +23,9 @@ abbrev pub CanChange : Change → ℕ → ℕ → Type 0
 CanChange Added count by = count + by ≤ cell-limit
 CanChange TakenOff count by = by ≤ count
 
--- cell n is at a position of some in word u
+-- cell n is at a position of some in word m
 abbrev pub at-position : ℕ → ℕ → ℕ → Bool
-at-position u some n = eqb (n / word-bits) u && bit some (n % word-bits)
+at-position m some n = eqb (n / word-bits) m && bit some (n % word-bits)
 
 -- the counts at the cells that pass are changed, each by its own number, and all others stay
 pub record ChangedAt (change : Change) (at : ℕ → Bool) (by : ℕ → ℕ) (before after : List ℕ) : Type 0 where
@@ -40,14 +41,18 @@ abbrev pub fit-count : List ℕ → ℕ → ℕ → ℕ → ℕ
 fit-count rows i word n =
     count-below word-bits (λ q. bit word q && fit-in rows (grant-of n) (grant-of (i * word-bits + q)))
 
--- cell n is one of left, of user u
-abbrev pub of-user : List ℕ → ℕ → ℕ → Bool
-of-user left u n = eqb (n / word-bits) u && marked left n
+-- the word with the permissions of word m, in the row of word i's user
+abbrev pub row-word : List ℕ → ℕ → ℕ → ℕ
+row-word rows i m = getD rows (i / row-words * row-words + m % row-words) 0
 
--- the same of the users at the positions of some in word j of a column
-abbrev pub of-users : List ℕ → ℕ → ℕ → ℕ → Bool
-of-users left j some n = at-position j some (n / word-bits) && marked left n
+-- cell n is one of left, in word m
+abbrev pub of-word : List ℕ → ℕ → ℕ → Bool
+of-word left m n = eqb (n / word-bits) m && marked left n
 
--- the same of the users below an end
-abbrev pub of-users-below : List ℕ → ℕ → ℕ → Bool
-of-users-below left end n = ltb (n / word-bits) end && marked left n
+-- the same in the words at the positions of some in word j of a column
+abbrev pub of-words : List ℕ → ℕ → ℕ → ℕ → Bool
+of-words left j some n = at-position j some (n / word-bits) && marked left n
+
+-- the same in the words below an end
+abbrev pub of-words-below : List ℕ → ℕ → ℕ → Bool
+of-words-below left end n = ltb (n / word-bits) end && marked left n

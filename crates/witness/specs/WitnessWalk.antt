@@ -23,6 +23,7 @@ use Rattle.bits.specs.Laws.Bit.{bit-of-zero}
 use Rattle.bits.specs.Word.{LowestDropped}
 use Rattle.lists.specs.PassingBelow.{passing-below, passing-until, passing-next}
 use Rattle.cell_rows.specs.Rows.{row-words, row-bits}
+use Rattle.cell_rows.specs.Laws.Width.{rows-cells}
 use Rattle.witness.specs.declared.choice.Choice.{Choice}
 use Rattle.cells.specs.CellSets.{cell-grants}
 use Rattle.cell_rows.specs.CellPlaces.{grant-of, marked, Shown, Part}
@@ -115,7 +116,6 @@ module _ (rows left : List ℕ) (users i : ℕ) where
       → LowestDropped w rest
       → users ≤ user-limit → i < users * row-words → (counts : List ℕ) → Counted rows left users counts
       → InWord rows left users i rest (better-of best (i * word-bits + low) (getD counts (i * word-bits + low) 0))
-  unfolding row-bits row-words
   word-goes-on {w} {low} {rest} best in-word is-low dropped few inside counts counted = record {
     from = low + 1;
     not-past = omega (arith, is-low .within);
@@ -130,7 +130,8 @@ module _ (rows left : List ℕ) (users i : ℕ) where
         (walk-passes rows left users best (i * word-bits + in-word .from) (in-word .walked) (i * word-bits + low)
         (omega (arith, not-below))
         (skipped-in-word w best in-word low (omega (arith, is-low .within)) (is-low .first)))
-        few counts counted (omega (arith, is-low .within)) (marked-in-word left i low (is-low .within)
+        few counts counted (omega (arith, is-low .within, rows-cells users))
+        (marked-in-word left i low (is-low .within)
         ∙ sym (in-word .ahead low not-below) ∙ is-low .holds));
   }
     where

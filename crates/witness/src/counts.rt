@@ -1,5 +1,5 @@
-// How many of the grants open to choice fit each of them, by their cells. A row is one word, so a word of a set is a
-// user's.
+// How many of the grants open to choice fit each of them, by their cells. The counts change word by word: the grants in
+// one word of the rows have one user.
 use bits::WORD_BITS;
 use fit::COLUMN_WORDS;
 use fit::PLACE_WORDS;
@@ -7,15 +7,14 @@ use fit::union_of;
 use numbers::CELL_LIMIT;
 use numbers::CELL_WORDS;
 use numbers::ROW_WORDS;
-use numbers::UserNo;
 ghost use mathlib.Core.Path.{_≡_};
 ghost use mathlib.Core.Bool.{So, false};
 ghost use Prim.Native.Nat.{ℕ, _≤_, _<_};
 ghost use lib.ListN.{length, getD};
 ghost use Rattle.spec.specs.Limits.{user-limit};
 ghost use Rattle.cell_rows.specs.CellPlaces.{cell-words, cell-limit, marked};
-ghost use Rattle.witness.specs.CountChange.{changed-by, CanChange, CanChangeAt, ChangedAt};
-ghost use Rattle.witness.specs.CountChange.{at-position, fit-count, of-user, of-users, of-users-below};
+ghost use Rattle.witness.specs.CountChange.{changed-by, CanChange, CanChangeAt, ChangedAt, at-position};
+ghost use Rattle.witness.specs.CountChange.{row-word, fit-count, of-word, of-words, of-words-below};
 ghost use Rattle.fit.specs.Columns.{column-words, Columns};
 ghost use Rattle.witness.specs.Counts.{Counted};
 
@@ -36,59 +35,59 @@ fn changed(change: Change, count: u16, by: u16) -> u16
     }
 }
 
-// Changes the counts at the positions of user u's word.
-fn change_at(counts: &mut [u16; CELL_LIMIT], change: Change, u: UserNo, some: u64, by: u16)
-    requires { ⌜ (u .0 < cell-words) × (length (now counts) ≡ cell-limit)
-        × CanChangeAt change (at-position (u .0) some) (λ (n : ℕ). by) (now counts) ⌝ }
-    ensures { λ r. ⌜ ChangedAt change (at-position (u .0) some) (λ (n : ℕ). by) (now (counts .entry))
+// Changes the counts at the positions of some in word m.
+fn change_at(counts: &mut [u16; CELL_LIMIT], change: Change, m: usize, some: u64, by: u16)
+    requires { ⌜ (m < cell-words) × (length (now counts) ≡ cell-limit)
+        × CanChangeAt change (at-position m some) (λ (n : ℕ). by) (now counts) ⌝ }
+    ensures { λ r. ⌜ ChangedAt change (at-position m some) (λ (n : ℕ). by) (now (counts .entry))
         (now (counts .exit)) ⌝ }
 {
     let mut w = some;
     while w != 0 {
-        let n = u.0 * WORD_BITS + bits::lowest(w);
+        let n = m * WORD_BITS + bits::lowest(w);
         counts[n] = changed(change, counts[n], by);
         w = bits::without_lowest(w);
     }
 }
 
-// Some grants of a user, at the positions of a word.
+// Some grants in one word of the rows: the number of the word, and a position for each grant.
 pub struct SomeGrants {
-    pub user: UserNo,
+    pub at: usize,
     pub word: u64,
 }
 
-// Adds some grants to the counts of user u's open grants, or takes them off. They fit those whose permission their
-// user holds, if u holds theirs.
-fn change_for_user<'a>(
+// The word with the permissions of word m, in the row of word i's user.
+fn row_word(rows: &[u64; CELL_WORDS], i: usize, m: usize) -> u64
+    requires { ⌜ i < cell-words ⌝ }
+    ensures { λ r. ⌜ r ≡ row-word (now (rows .entry)) i m ⌝ }
+{
+    rows[i / ROW_WORDS * ROW_WORDS + m % ROW_WORDS]
+}
+
+// Adds some grants to the counts of the open grants in word m, or takes them off. If their user holds an open grant's
+// permission, those of them fit it whose permissions word m's user holds.
+fn change_in_word<'a>(
     counts: &mut [u16; CELL_LIMIT],
     change: Change,
     rows: &'a [u64; CELL_WORDS],
     left: &'a [u64; CELL_WORDS],
     these: SomeGrants,
-    u: UserNo,
+    m: usize,
 )
-    requires { ⌜ (these .user .0 < cell-words) × (u .0 < cell-words) × (length (now counts) ≡ cell-limit)
-        × CanChangeAt change (of-user (now left) (u .0)) (fit-count (now rows) (these .user .0) (these .word))
-        (now counts) ⌝ }
-    ensures { λ r. ⌜ ChangedAt change (of-user (now (left .entry)) (u .0)) (fit-count (now (rows .entry))
-        (these .user .0) (these .word)) (now (counts .entry)) (now (counts .exit)) ⌝ }
+    requires { ⌜ (these .at < cell-words) × (m < cell-words) × (length (now counts) ≡ cell-limit)
+        × CanChangeAt change (of-word (now left) m) (fit-count (now rows) (these .at) (these .word)) (now counts) ⌝ }
+    ensures { λ r. ⌜ ChangedAt change (of-word (now (left .entry)) m) (fit-count (now (rows .entry)) (these .at)
+        (these .word)) (now (counts .entry)) (now (counts .exit)) ⌝ }
 {
-    let at = u.0;
-    let user = these.user.0;
-    let own = left[at] & rows[user];
+    let own = left[m] & row_word(rows, these.at, m);
     if own != 0 {
-        change_at(
-            counts,
-            change,
-            u,
-            own,
-            bits::count(these.word & rows[at]) as u16,
-        );
+        let by = bits::count(these.word & row_word(rows, m, these.at));
+        change_at(counts, change, m, own, by as u16);
     }
 }
 
-// The same for the users at the positions of word j of a column.
-fn change_for_users<'a>(
+// The same for the words at the positions of some in word j of a column.
+fn change_in_words<'a>(
     counts: &mut [u16; CELL_LIMIT],
     change: Change,
     rows: &'a [u64; CELL_WORDS],
@@ -97,22 +96,22 @@ fn change_for_users<'a>(
     j: usize,
     some: u64,
 )
-    requires { ⌜ (these .user .0 < cell-words) × (j < column-words) × (length (now counts) ≡ cell-limit)
-        × CanChangeAt change (of-users (now left) j some) (fit-count (now rows) (these .user .0) (these .word))
+    requires { ⌜ (these .at < cell-words) × (j < column-words) × (length (now counts) ≡ cell-limit)
+        × CanChangeAt change (of-words (now left) j some) (fit-count (now rows) (these .at) (these .word))
         (now counts) ⌝ }
-    ensures { λ r. ⌜ ChangedAt change (of-users (now (left .entry)) j some) (fit-count (now (rows .entry))
-        (these .user .0) (these .word)) (now (counts .entry)) (now (counts .exit)) ⌝ }
+    ensures { λ r. ⌜ ChangedAt change (of-words (now (left .entry)) j some) (fit-count (now (rows .entry)) (these .at)
+        (these .word)) (now (counts .entry)) (now (counts .exit)) ⌝ }
 {
     let from = j * WORD_BITS;
     let mut w = some;
     while w != 0 {
-        let u = from + bits::lowest(w);
-        change_for_user(counts, change, rows, left, these, UserNo(u));
+        let m = from + bits::lowest(w);
+        change_in_word(counts, change, rows, left, these, m);
         w = bits::without_lowest(w);
     }
 }
 
-// The same for all users. Only those who hold a permission of these grants have any that fit.
+// The same for all words. Only those of users who hold a permission of these grants have any that fit.
 fn change_all<'a>(
     counts: &mut [u16; CELL_LIMIT],
     change: Change,
@@ -121,19 +120,20 @@ fn change_all<'a>(
     left: &'a [u64; CELL_WORDS],
     these: SomeGrants,
 )
-    requires { ⌜ (these .user .0 < cell-words) × Columns (now rows) (now columns) × (length (now counts) ≡ cell-limit)
-        × CanChangeAt change (of-users-below (now left) cell-words) (fit-count (now rows) (these .user .0)
-        (these .word)) (now counts) ⌝ }
-    ensures { λ r. ⌜ ChangedAt change (of-users-below (now (left .entry)) cell-words) (fit-count (now (rows .entry))
-        (these .user .0) (these .word)) (now (counts .entry)) (now (counts .exit)) ⌝ }
+    requires { ⌜ (these .at < cell-words) × Columns (now rows) (now columns) × (length (now counts) ≡ cell-limit)
+        × CanChangeAt change (of-words-below (now left) cell-words) (fit-count (now rows) (these .at) (these .word))
+        (now counts) ⌝ }
+    ensures { λ r. ⌜ ChangedAt change (of-words-below (now (left .entry)) cell-words) (fit-count (now (rows .entry))
+        (these .at) (these .word)) (now (counts .entry)) (now (counts .exit)) ⌝ }
 {
     if these.word == 0 {
         return;
     }
+    let k = these.at % ROW_WORDS;
     let mut j = 0;
     while j < COLUMN_WORDS {
-        let some = union_of(columns, these.word, j);
-        change_for_users(counts, change, rows, left, these, j, some);
+        let some = union_of(columns, these.word, k, j);
+        change_in_words(counts, change, rows, left, these, j, some);
         j += 1;
     }
 }
@@ -153,10 +153,7 @@ pub fn first_counts<'a>(
     let mut i = 0;
     while i < users * ROW_WORDS {
         let word = left[i];
-        let these = SomeGrants {
-            user: UserNo(i),
-            word,
-        };
+        let these = SomeGrants { at: i, word };
         change_all(&mut counts, Change::Added, rows, columns, left, these);
         i += 1;
     }
@@ -182,10 +179,7 @@ pub fn recount<'a>(
     let mut i = 0;
     while i < users * ROW_WORDS {
         let word = bits::apart(left[i], rest[i]);
-        let closed = SomeGrants {
-            user: UserNo(i),
-            word,
-        };
+        let closed = SomeGrants { at: i, word };
         change_all(counts, Change::TakenOff, rows, columns, rest, closed);
         i += 1;
     }

@@ -1,6 +1,7 @@
 -- Setting one position of some words: its word gets the bit, and the other words stay. So one position more is set, and
 -- in rows one cell more.
 use Prim.Native.Nat.{ℕ, _+_, _*_, _/_, _%_, _<_}
+use native.Mathlib.Nat.{suc-mul}
 use native.Mathlib.Omega.{arith}
 use mathlib.Core.Path.{_≡_, sym, ap, _∙_}
 use mathlib.Core.Logic.{⊎-elim}
@@ -10,10 +11,12 @@ use borrow.Author.Tests.{eqb-true, eqb-false, eq-eqb, ne-eqb}
 use lib.Dec.{eqb}
 use lib.ListN.{length, getD, set, length-set}
 use lib.Seq.{getD-set-same, getD-set-other}
+use lib.Arith.{digits-div, digits-mod}
 use Rattle.bits.specs.Truth.{passes-or-fails, same-truth, and-intro, and-left, and-right}
 use Rattle.bits.specs.Bit.{bit, word-bits}
 use Rattle.cell_rows.specs.Rows.{row-words, row-bits, cell}
 use Rattle.cell_rows.specs.CellPlaces.{marked}
+use Rattle.cell_rows.specs.Laws.Width.{cell-word, cell-position, word-in-row}
 use Rattle.cell_rows.specs.CellAdded.{PositionSet, CellAdded}
 
 put-in : (words : List ℕ) (n w : ℕ) → n / word-bits < length words
@@ -57,28 +60,25 @@ position-set words n w inside says = record {
 
 same-cell : (u v p q : ℕ) → p < row-bits → q < row-bits
     → eqb (v * row-bits + q) (u * row-bits + p) ≡ (eqb v u && (eqb q p && true))
-unfolding row-bits row-words
 same-cell u v p q h k =
     rw (and-true (eqb q p)) (same-truth (eqb (v * row-bits + q) (u * row-bits + p)) (eqb v u && eqb q p)
     (λ t. let same = eqb-true (v * row-bits + q) (u * row-bits + p) t in
-    and-intro (eqb v u) (eqb q p) (eq-eqb v u (omega arith)) (eq-eqb q p (omega arith)))
+    and-intro (eqb v u) (eqb q p)
+    (eq-eqb v u (sym (digits-div v k) ∙ ap (λ n. n / row-bits) same ∙ digits-div u h))
+    (eq-eqb q p (sym (digits-mod v k) ∙ ap (λ n. n % row-bits) same ∙ digits-mod u h)))
     (λ t. eq-eqb (v * row-bits + q) (u * row-bits + p)
-    (omega (arith, eqb-true v u (and-left (eqb v u) (eqb q p) t), eqb-true q p (and-right (eqb v u) (eqb q p) t)))))
+    (ap (λ n. n * row-bits + q) (eqb-true v u (and-left (eqb v u) (eqb q p) t))
+    ∙ ap (λ n. u * row-bits + n) (eqb-true q p (and-right (eqb v u) (eqb q p) t)))))
 
-cell-at : (words : List ℕ) (v q : ℕ) → q < row-bits → cell words v q ≡ marked words (v * row-bits + q)
-unfolding row-bits row-words
-cell-at words v q k =
-    let word : (v * row-bits + q) / word-bits ≡ v * row-words + q / word-bits = omega arith in
-    let position : (v * row-bits + q) % word-bits ≡ q % word-bits = omega arith in
-    rw (word, position)
+cell-at : (words : List ℕ) (v q : ℕ) → cell words v q ≡ marked words (v * row-bits + q)
+cell-at words v q = rw (cell-word v q, cell-position v q)
 
 -- the position of a cell
 pub cell-added : (words after : List ℕ) (u p : ℕ) → p < row-bits → PositionSet words after (u * row-bits + p)
     → CellAdded words after u p true
-unfolding row-bits row-words
 cell-added words after u p h put = record {
   size = put .size;
-  shows = λ v q k. cell-at after v q k ∙ put .shows (v * row-bits + q)
-      ∙ rw (same-cell u v p q h k, cell-at words v q k);
-  later = λ i k. put .others i (λ e. omega arith);
+  shows = λ v q k. cell-at after v q ∙ put .shows (v * row-bits + q)
+      ∙ rw (same-cell u v p q h k, cell-at words v q);
+  later = λ i k. put .others i (λ e. omega (arith, cell-word u p, word-in-row p h, suc-mul u row-words));
 }

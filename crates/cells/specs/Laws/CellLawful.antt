@@ -1,22 +1,16 @@
 -- What a caller with a sheet that keeps the rules has: its rows show it, of as many users as it has. The sheet's
 -- limits are those that the words have room for.
-use Prim.Native.Nat.{ℕ, _≤_, _<_}
+use Prim.Native.Nat.{ℕ, _<_}
 use native.Mathlib.Omega.{arith}
 use mathlib.Core.Bool.{So}
 use mathlib.Core.List.{List, []}
-use lib.Dec.{lit≤}
 use lib.ListN.{getD}
-use Rattle.spec.specs.Limits.{permission-limit}
 use Rattle.spec.specs.Sheet.{Sheet, user-count, holds}
 use Rattle.cells.specs.Laws.Grant.{yes-within, held-user-below}
-use Rattle.cell_rows.specs.Rows.{row-words, row-bits, RowsOf}
+use Rattle.cell_rows.specs.Rows.{row-bits, RowsOf}
 use Rattle.rules.specs.AcceptedFacts.{Lawful}
 use Rattle.cell_rows.specs.CellPlaces.{Shown, Shows}
-
--- a row has room for every permission
-room-for-permissions : permission-limit ≤ row-bits
-unfolding permission-limit row-bits row-words
-room-for-permissions = lit≤ tt
+use Rattle.cell_rows.specs.Laws.Width.{permissions-fit}
 
 pub lawful-shown : {rows : List ℕ} {sheet : Sheet} → Lawful sheet → RowsOf rows sheet → Shown rows (user-count sheet)
     sheet
@@ -33,7 +27,7 @@ lawful-shown {sheet = sheet} lawful read =
           yes-within (getD (sheet .rows) u []) held,
           lawful .a-cell-each u (user u p held),
           lawful .few-permissions,
-          room-for-permissions,
+          permissions-fit,
         )
 
 pub lawful-shows : {rows : List ℕ} {sheet : Sheet} → Lawful sheet → RowsOf rows sheet → Shows rows (user-count sheet)

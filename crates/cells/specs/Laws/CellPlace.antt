@@ -13,14 +13,13 @@ use Rattle.bits.specs.Bit.{bit, word-bits}
 use Rattle.cell_rows.specs.Rows.{row-words, row-bits, cell}
 use Rattle.cells.specs.CellSets.{in-cells}
 use Rattle.cell_rows.specs.CellPlaces.{grant-of, marked, fit-in}
+use Rattle.cell_rows.specs.Laws.Width.{some-words, some-bits}
 
 pub row-words-pos : 0 < row-words
-unfolding row-words
-row-words-pos = lit< tt
+row-words-pos = some-words
 
 pub row-bits-pos : 0 < row-bits
-unfolding row-bits row-words
-row-bits-pos = lit< tt
+row-bits-pos = some-bits
 
 -- ---- the parts of a cell's number
 

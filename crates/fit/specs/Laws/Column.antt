@@ -9,10 +9,10 @@ use mathlib.Core.Logic.{⊎-elim}
 use mathlib.Core.Bool.{Bool, true, false, So, not, _&&_, cond, and-true, and-false}
 use mathlib.Core.List.{List}
 use borrow.Author.Tests.{eq-eqb, ne-eqb}
+use lib.Arith.{digits-lt, digits-div, digits-mod}
 use lib.Dec.{eqb}
 use lib.Bits.{bitAnd}
 use lib.ListN.{getD}
-use Rattle.spec.specs.Limits.{user-limit}
 use Rattle.bits.specs.Counting.{count-below, sum-below, Lowest}
 use Rattle.bits.specs.Laws.Below.{below-or-from, last-or-below}
 use Rattle.bits.specs.Laws.Block.{count-below-blocks}
@@ -26,6 +26,7 @@ use Rattle.cell_rows.specs.Rows.{row-words, row-bits}
 use Rattle.cell_rows.specs.CellPlaces.{cell-words, cell-limit, marked, near, FittingWord, CountedBelow}
 use Rattle.cells.specs.Laws.CellPlace.{fit-by-word}
 use Rattle.fit.specs.Laws.FitWord.{marked-in-word, near-word}
+use Rattle.fit.specs.Laws.ColumnPlaces.{whole-columns, column-from}
 use Rattle.fit.specs.Columns.{column-words, held-in, near-in-word, near-if, Columns}
 
 -- ---- the positions of a word, one after the other
@@ -64,12 +65,13 @@ word-sum-of-none g = sum-below-none word-bits (λ q. cond (bit 0 q) (g q) 0) (λ
 pub column-position : (rows columns : List ℕ) → Columns rows columns → (p j q : ℕ) → p < row-bits → j < column-words
     → q < word-bits
     → bit (getD columns (p * column-words + j) 0) q ≡ held-in rows p (j * word-bits + q)
-unfolding user-limit row-words row-bits
 column-position rows columns made p j q k l m =
     let n = (p * column-words + j) * word-bits + q in
-    let permission : n / cell-words ≡ p = omega arith in
-    let word : n % cell-words ≡ j * word-bits + q = omega arith in
-    sym (marked-in-word columns (p * column-words + j) q m) ∙ made .inside n (omega arith) ∙ rw (permission, word)
+    let inside : j * word-bits + q < cell-words = rw whole-columns at (digits-lt l m) in
+    let place : n ≡ p * cell-words + (j * word-bits + q) = omega (arith, column-from p) in
+    sym (marked-in-word columns (p * column-words + j) q m) ∙ ap (marked columns) place
+    ∙ made .inside (p * cell-words + (j * word-bits + q)) (digits-lt k inside)
+    ∙ rw (digits-div p inside, digits-mod p inside)
 
 -- ---- the cells of a word near a grant
 

@@ -4,6 +4,7 @@ use Prim.Native.Nat.{ℕ, _+_, _*_, _<_}
 use mathlib.Core.Path.{_≡_, sym, ap, _∙_}
 use mathlib.Core.Bool.{Bool, So, not, _&&_, _||_, or-assoc, or-false}
 use mathlib.Core.List.{List}
+use lib.Arith.{digits-lt}
 use lib.Bits.{bitOr}
 use lib.Dec.{eqb}
 use lib.ListN.{getD}
@@ -20,45 +21,45 @@ use Rattle.fit.specs.ColumnUnion.{in-union}
 use Rattle.fit.specs.Laws.Column.{column-position}
 
 -- the columns of the permissions at the positions of w are still to be joined
-abbrev pub Joining : List ℕ → ℕ → ℕ → ℕ → ℕ → Type 0
-Joining columns word j some w = (t : ℕ) → (bit some t || in-union columns w j t) ≡ in-union columns word j t
+abbrev pub Joining : List ℕ → ℕ → ℕ → ℕ → ℕ → ℕ → Type 0
+Joining columns word k j some w = (t : ℕ) → (bit some t || in-union columns w k j t) ≡ in-union columns word k j t
 
-module _ (columns : List ℕ) (word j : ℕ) where
-  pub union-starts : Joining columns word j 0 word
-  union-starts t = ap (λ b. b || in-union columns word j t) (bit-of-zero t)
+module _ (columns : List ℕ) (word k j : ℕ) where
+  pub union-starts : Joining columns word k j 0 word
+  union-starts t = ap (λ b. b || in-union columns word k j t) (bit-of-zero t)
 
   pub union-goes-on : {w low rest : ℕ} (some : ℕ) → Lowest word-bits (bit w) low → LowestDropped w rest
-      → Joining columns word j some w
-      → Joining columns word j (bitOr some (getD columns (low * column-words + j) 0)) rest
+      → Joining columns word k j some w
+      → Joining columns word k j (bitOr some (getD columns ((k * word-bits + low) * column-words + j) 0)) rest
   union-goes-on {w} {low} {rest} some is-low dropped so-far t =
-      rw (bit-or some (getD columns (low * column-words + j) 0) t)
-      (or-assoc (bit some t) (at low) (in-union columns rest j t)
+      rw (bit-or some (getD columns ((k * word-bits + low) * column-words + j) 0) t)
+      (or-assoc (bit some t) (at low) (in-union columns rest k j t)
       ∙ ap (λ b. bit some t || b) (sym lowest-apart) ∙ so-far t)
     where
       at : ℕ → Bool
-      at q = bit (getD columns (q * column-words + j) 0) t
+      at q = bit (getD columns ((k * word-bits + q) * column-words + j) 0) t
 
-      lowest-apart : in-union columns w j t ≡ (at low || in-union columns rest j t)
+      lowest-apart : in-union columns w k j t ≡ (at low || in-union columns rest k j t)
       lowest-apart =
           some-below-apart word-bits (bit w) at (is-low .within) (is-low .holds)
           ∙ ap (λ b. at low || b)
           (some-below-ext word-bits (λ q. bit w q && not (eqb q low) && at q) (λ q. bit rest q && at q)
           (λ q l. ap (λ b. b && at q) (sym (dropped .others is-low q))))
 
-  pub union-ends : (some : ℕ) → Joining columns word j some 0 → (t : ℕ) → bit some t ≡ in-union columns word j t
+  pub union-ends : (some : ℕ) → Joining columns word k j some 0 → (t : ℕ) → bit some t ≡ in-union columns word k j t
   union-ends some all t =
       sym (or-false (bit some t))
       ∙ ap (λ b. bit some t || b)
-      (sym (none-below-intro word-bits (λ q. bit 0 q && bit (getD columns (q * column-words + j) 0) t)
-      (λ q l. ap (λ b. b && bit (getD columns (q * column-words + j) 0) t) (bit-of-zero q))))
+      (sym (none-below-intro word-bits (λ q. bit 0 q && bit (getD columns ((k * word-bits + q) * column-words + j) 0) t)
+      (λ q l. ap (λ b. b && bit (getD columns ((k * word-bits + q) * column-words + j) 0) t) (bit-of-zero q))))
       ∙ all t
 
 -- who holds a permission at a position of the word is in the union of the columns of the rows
-pub union-reaches : (rows columns : List ℕ) → Columns rows columns → (word j t q : ℕ) → j < column-words
-    → t < word-bits → q < word-bits → So (bit word q) → So (held-in rows q (j * word-bits + t))
-    → So (in-union columns word j t)
-unfolding row-words row-bits
-union-reaches rows columns made word j t q inside l k p h =
-    some-below-intro word-bits (λ r. bit word r && bit (getD columns (r * column-words + j) 0) t) k
-    (and-intro (bit word q) (bit (getD columns (q * column-words + j) 0) t) p
-    (column-position rows columns made q j t k inside l ∙ h))
+pub union-reaches : (rows columns : List ℕ) → Columns rows columns → (word k j t q : ℕ) → k < row-words
+    → j < column-words → t < word-bits → q < word-bits → So (bit word q)
+    → So (held-in rows (k * word-bits + q) (j * word-bits + t)) → So (in-union columns word k j t)
+unfolding row-bits
+union-reaches rows columns made word k j t q within inside l m p h =
+    some-below-intro word-bits (λ r. bit word r && bit (getD columns ((k * word-bits + r) * column-words + j) 0) t) m
+    (and-intro (bit word q) (bit (getD columns ((k * word-bits + q) * column-words + j) 0) t) p
+    (column-position rows columns made (k * word-bits + q) j t (digits-lt within m) inside l ∙ h))

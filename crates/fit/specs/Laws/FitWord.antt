@@ -2,7 +2,7 @@
 -- grant is that of left and that of the fitting cells together, so the cells near it are counted word by word; and as
 -- many grants of the set fit it.
 use Prim.Native.Nat.{ℕ, _+_, _*_, _/_, _%_, _≤_, _<_}
-use native.Mathlib.Nat.{add-zero, le-dest, mod-lt, mul-assoc}
+use native.Mathlib.Nat.{add-zero, le-dest, mod-lt, mul-assoc, le-div-iff-mul-le}
 use native.Mathlib.Omega.{arith}
 use mathlib.Core.Path.{_≡_, sym, ap, _∙_}
 use mathlib.Core.Bool.{Bool, false, _&&_, and-false}
@@ -20,6 +20,7 @@ use Rattle.bits.specs.Bit.{bit, word-bits}
 use Rattle.bits.specs.Truth.{fails-unless}
 use Rattle.bits.specs.Laws.Bit.{bit-and}
 use Rattle.cell_rows.specs.Rows.{row-words, row-bits, cell}
+use Rattle.cell_rows.specs.Laws.Width.{some-bits, rows-cells}
 use Rattle.cells.specs.CellSets.{cell-grants}
 use Rattle.cells.specs.KernelArray.{grant-at-cell}
 use Rattle.cell_rows.specs.CellPlaces.{cell-limit, cells-of, grant-of, marked, fit-in, near, FittingWord, Shown, Part}
@@ -78,11 +79,12 @@ module _ {rows : List ℕ} {users : ℕ} {sheet : Sheet} (shown : Shown rows use
 
   -- past the users nobody holds anything
   none-near-past : (left : List ℕ) (it n : ℕ) → cells-of users ≤ n → near rows left it n ≡ false
-  unfolding row-words row-bits
   none-near-past left it n l =
+      let past : users ≤ n / row-bits = le-div-iff-mul-le some-bits .1 (rw (rows-cells users) l) in
       let none = fails-unless (cell rows (n / row-bits) (it % row-bits)) (λ e.
       omega (
         arith,
+        past,
         shown .few (n / row-bits) (it % row-bits)
             (sym (shown .cells .shows (n / row-bits) (it % row-bits) (mod-lt it row-bits-pos)) ∙ e),
       )) in

@@ -7,12 +7,12 @@ use native.Mathlib.Numerals.{add-one}
 use native.Mathlib.Omega.{arith}
 use mathlib.Core.Path.{_≡_, refl, sym, ap, _∙_}
 use mathlib.Core.Logic.{⊎-elim}
-use mathlib.Core.Bool.{true, false, So, not, _&&_, _||_, and-true, and-false, and-comm, false≢true}
+use mathlib.Core.Bool.{true, false, So, not, _&&_, and-true, and-false, and-comm, false≢true}
 use mathlib.Core.List.{List, [], _∷_, _++_, map, append-assoc}
 use borrow.Author.Tests.{eq-eqb, ne-eqb}
 use lib.Dec.{eqb}
-use lib.ListN.{length, getD, set, replicate, length-append, length-set, length-replicate}
-use lib.Seq.{getD-append-seam, getD-set-same, set-set}
+use lib.ListN.{length, getD, set, replicate, length-append, length-replicate}
+use lib.Seq.{getD-append-seam, getD-set-same}
 use Rattle.spec.specs.Limits.{user-limit, grant-limit}
 use Rattle.spec.specs.Cover.{used}
 use Rattle.bits.specs.Counting.{Lowest, Skipped}
@@ -25,10 +25,10 @@ use Rattle.lists.specs.PlacementLaws.{earlier-uses-fewer, latest-below-used}
 use Rattle.lists.specs.LatestFirst.{latest-first-later}
 use Rattle.lists.specs.KeyLaws.{by-key}
 use Rattle.lists.specs.KeyStep.{next-class}
-use Rattle.cell_rows.specs.Rows.{row-words, row-bits}
+use Rattle.cell_rows.specs.Rows.{row-bits}
 use Rattle.cell_rows.specs.CellAdded.{CellAdded}
-use Rattle.cells.specs.Laws.CellAdded.{cell-set}
 use Rattle.cell_rows.specs.CellPlaces.{cell-words, cell-limit, grant-of, marked}
+use Rattle.cell_rows.specs.Laws.Width.{rows-cells}
 use Rattle.cover.specs.CoverKeys.{class-from, none-keyed, keyed-count-le, class-from-is-next, one-keyed}
 use Rattle.roles.specs.CellClasses.{paired-in}
 use Rattle.roles.specs.RoleNumbers.{class-limit, no-role, class-key}
@@ -166,20 +166,21 @@ module _ {rows class : List ℕ} {n : ℕ} {table has gives : List ℕ} {count :
               (λ u p. rw (next, paired-here, and-comm (eqb (n % row-bits) p) (eqb r u)));
         }
 
--- ---- within a row
+-- ---- within a word
 
--- w has the positions of user u's row from a place on, and the roles are those of the grants before that place
-pub record RowTo (rows class : List ℕ) (u w : ℕ) (table has gives : List ℕ) (count : ℕ) : Type 0 where
+-- w has the positions of word i of the rows from a place on, and the roles are those of the grants before that place
+pub record WordTo (rows class : List ℕ) (i w : ℕ) (table has gives : List ℕ) (count : ℕ) : Type 0 where
   pub place : ℕ
-  pub inside : place ≤ row-bits
+  pub inside : place ≤ word-bits
   pub before : (q : ℕ) → q < place → bit w q ≡ false
-  pub ahead : (q : ℕ) → place ≤ q → bit w q ≡ bit (getD rows u 0) q
-  pub so-far : RolesTo rows class (u * row-bits + place) table has gives count
+  pub ahead : (q : ℕ) → place ≤ q → bit w q ≡ bit (getD rows i 0) q
+  pub so-far : RolesTo rows class (i * word-bits + place) table has gives count
 
-pub row-starts : {rows class table has gives : List ℕ} {u count : ℕ}
-    → RolesTo rows class (u * row-bits) table has gives count → RowTo rows class u (getD rows u 0) table has gives count
-row-starts {u} roles =
-    let same : u * row-bits + 0 ≡ u * row-bits = omega arith in
+pub word-starts : {rows class table has gives : List ℕ} {i count : ℕ}
+    → RolesTo rows class (i * word-bits) table has gives count
+    → WordTo rows class i (getD rows i 0) table has gives count
+word-starts {i} roles =
+    let same : i * word-bits + 0 ≡ i * word-bits = omega arith in
     record {
       place = 0;
       inside = zero-le;
@@ -188,68 +189,61 @@ row-starts {u} roles =
       so-far = rw same roles;
     }
 
-module _ {rows class table has gives : List ℕ} {u w count : ℕ} (row : RowTo rows class u w table has gives count) where
+module _ {rows class table has gives : List ℕ} {i w count : ℕ} (at : WordTo rows class i w table has gives count) where
   -- where no position of w is below j, no cell from the place on up to that of j is set
-  none-between : (j : ℕ) → j ≤ row-bits → ((q : ℕ) → q < j → bit w q ≡ false)
-      → Skipped (marked rows) (u * row-bits + row .place) (u * row-bits + j)
-  unfolding row-bits row-words
+  none-between : (j : ℕ) → j ≤ word-bits → ((q : ℕ) → q < j → bit w q ≡ false)
+      → Skipped (marked rows) (i * word-bits + at .place) (i * word-bits + j)
   none-between j inside none n k l =
-      let word : n / word-bits ≡ u = omega arith in
-      rw word (sym (row .ahead (n % word-bits) (omega arith)) ∙ none (n % word-bits) (omega arith))
+      let same : n / word-bits ≡ i = omega arith in
+      rw same (sym (at .ahead (n % word-bits) (omega arith)) ∙ none (n % word-bits) (omega arith))
 
-  -- the end of the row
-  pub row-ends : w ≡ 0 → RolesTo rows class ((u + 1) * row-bits) table has gives count
-  row-ends e =
-      let end : u * row-bits + row-bits ≡ (u + 1) * row-bits = omega arith in
-      rw (← end) (roles-skip (u * row-bits + row-bits) (omega (arith, row .inside))
-      (none-between row-bits (le-refl row-bits) (λ q l. rw e (bit-of-zero q))) (row .so-far))
+  -- the end of the word
+  pub word-ends : w ≡ 0 → RolesTo rows class ((i + 1) * word-bits) table has gives count
+  word-ends e =
+      let end : i * word-bits + word-bits ≡ (i + 1) * word-bits = omega arith in
+      rw (← end) (roles-skip (i * word-bits + word-bits) (omega (arith, at .inside))
+      (none-between word-bits (le-refl word-bits) (λ q l. rw e (bit-of-zero q))) (at .so-far))
 
   -- its lowest position is the next grant
-  module _ {j : ℕ} (low : Lowest word-bits (bit w) j) (user : u < user-limit) (classed : ClassedRows rows class) where
-    not-before : row .place ≤ j
-    not-before = ⊎-elim (λ k. absurd (false≢true (sym (row .before j k) ∙ low .holds))) (λ k. k)
-        (below-or-from j (row .place))
+  module _ {j : ℕ} (low : Lowest word-bits (bit w) j) (word : i < cell-words) (classed : ClassedRows rows class) where
+    not-before : at .place ≤ j
+    not-before = ⊎-elim (λ k. absurd (false≢true (sym (at .before j k) ∙ low .holds))) (λ k. k)
+        (below-or-from j (at .place))
 
-    inside : u * row-bits + j < user-limit * row-bits
-    unfolding row-bits row-words
-    inside = omega (arith, low .within)
-
-    pub cell-below : u * row-bits + j < cell-limit
-    unfolding row-bits row-words
+    pub cell-below : i * word-bits + j < cell-limit
     cell-below = omega (arith, low .within)
 
-    held : So (marked rows (u * row-bits + j))
-    unfolding row-bits row-words
+    inside : i * word-bits + j < user-limit * row-bits
+    inside = omega (arith, cell-below, rows-cells user-limit)
+
+    held : So (marked rows (i * word-bits + j))
     held =
         let within = low .within in
-        let word : (u * word-bits + j) / word-bits ≡ u = omega arith in
-        let position : (u * word-bits + j) % word-bits ≡ j = omega arith in
-        rw (word, position) (sym (row .ahead j not-before) ∙ low .holds)
+        let same : (i * word-bits + j) / word-bits ≡ i = omega arith in
+        let position : (i * word-bits + j) % word-bits ≡ j = omega arith in
+        rw (same, position) (sym (at .ahead j not-before) ∙ low .holds)
 
-    here : RolesTo rows class (u * row-bits + j) table has gives count
-    unfolding row-bits row-words
+    here : RolesTo rows class (i * word-bits + j) table has gives count
     here =
-        roles-skip (u * row-bits + j) (omega (arith, not-before))
-        (none-between j (omega (arith, low .within)) (low .first)) (row .so-far)
+        roles-skip (i * word-bits + j) (omega (arith, not-before))
+        (none-between j (omega (arith, low .within)) (low .first)) (at .so-far)
 
     pub few-here : count < grant-limit
     few-here = few-roles classed here inside cell-below held
 
-    module _ {r : ℕ} (taken : r ≡ class-from no-role table count (getD class (u * row-bits + j) 0)) where
+    module _ {r : ℕ} (taken : r ≡ class-from no-role table count (getD class (i * word-bits + j) 0)) where
       pub role-here : r < row-bits
       role-here = role-below classed here inside cell-below held taken
 
       -- one position less
-      pub row-next : {left : ℕ} {has-next gives-next : List ℕ} → LowestDropped w left
-          → CellAdded has has-next u r true → CellAdded gives gives-next r j true
-          → RowTo rows class u left (set table (getD class (u * row-bits + j) 0) r) has-next gives-next
+      pub word-next : {left : ℕ} {has-next gives-next : List ℕ} → LowestDropped w left
+          → CellAdded has has-next ((i * word-bits + j) / row-bits) r true
+          → CellAdded gives gives-next r ((i * word-bits + j) % row-bits) true
+          → WordTo rows class i left (set table (getD class (i * word-bits + j) 0) r) has-next gives-next
           (max (suc r) count)
-      unfolding row-bits row-words
-      row-next dropped has-added gives-added =
+      word-next dropped has-added gives-added =
           let within = low .within in
-          let next : u * word-bits + (j + 1) ≡ suc (u * word-bits + j) = omega arith in
-          let user-of : (u * word-bits + j) / word-bits ≡ u = omega arith in
-          let permission : (u * word-bits + j) % word-bits ≡ j = omega arith in
+          let next : i * word-bits + (j + 1) ≡ suc (i * word-bits + j) = omega arith in
           record {
             place = j + 1;
             inside = omega arith;
@@ -257,26 +251,9 @@ module _ {rows class table has gives : List ℕ} {u w count : ℕ} (row : RowTo 
                 (below-or-from q j);
             ahead = λ q l.
                 dropped .others low q ∙ rw (ne-eqb q j (omega arith)) (and-true (bit w q))
-                ∙ row .ahead q (omega (arith, not-before));
-            so-far = rw next (roles-next classed here inside cell-below held taken (rw user-of has-added)
-                (rw permission gives-added));
+                ∙ at .ahead q (omega (arith, not-before));
+            so-far = rw next (roles-next classed here inside cell-below held taken has-added gives-added);
           }
         where
           last : (q : ℕ) → q < j + 1 → j ≤ q → (bit w q && not (eqb q j)) ≡ false
           last q l k = rw (eq-eqb q j (omega arith)) (and-false (bit w q))
-
--- a position more in the word of a row
-pub word-added : (words : List ℕ) (u p w : ℕ) → u < length words → p < row-bits
-    → ((q : ℕ) → bit w q ≡ (bit (getD words u 0) q || eqb q p)) → CellAdded words (set words u w) u p true
-unfolding row-bits row-words
-word-added words u p w l k says =
-    let word : u * 1 + p / word-bits ≡ u = omega arith in
-    let position : p % word-bits ≡ p = omega arith in
-    rw word at (cell-set words u p w k (rw word l) (λ q. rw (word, position) (says q)))
-
-pub row-added : (words : List ℕ) (u p before w : ℕ) → u < length words → p < row-bits
-    → ((q : ℕ) → bit w q ≡ (bit before q || eqb q p)) → CellAdded (set words u before) (set words u w) u p true
-row-added words u p before w l k says =
-    rw (set-set words u before w) at
-    (word-added (set words u before) u p w (rw (length-set words u before) l) k
-    (λ q. rw (getD-set-same words u before 0 l) (says q)))

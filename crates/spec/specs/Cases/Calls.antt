@@ -1,7 +1,8 @@
 -- Calls one after the other, the lent buffer, the book program and the sequence, computed from the definitions.
 use mathlib.Core.Path.{refl}
-use Rattle.spec.specs.Vocabulary.{ℕ, _≡_, Option, some, List, [], _∷_, _++_, map, take, replicate, lowest-below}
-use Rattle.spec.specs.Limits.{budget-limit, book-limit}
+use Rattle.spec.specs.Vocabulary.{ℕ, _≡_, Option, some, List, [], _∷_, _++_, map, take, length, replicate}
+use Rattle.spec.specs.Vocabulary.{lowest-below}
+use Rattle.spec.specs.Limits.{budget-limit}
 use Rattle.spec.specs.Text.{Bytes, ascii}
 use Rattle.spec.specs.Sheet.{sheet-of}
 use Rattle.spec.specs.Machine.{search}
@@ -81,7 +82,7 @@ goes-on = refl
 narrow : program-output (ascii "user,a,b\nx,1,1\ny,0,1\n") []
     ≡ ascii
     "roles,bound,state\n2,2,witnessed\n\nrole,a,b\nR1,1,1\nR2,0,1\n\nuser,R1,R2\nx,1,0\ny,0,1\n\nuser,permission\nx,a\ny,b\n"
-unfolding program-output printed program-buffer book-limit write-answer write-causes buffer-after budget-of is-budget
+unfolding program-output printed program-buffer write-answer write-causes buffer-after budget-of is-budget
     budget-limit after-load after-search
     searched-on session-book refusal sheet-of kernel-of start-of search book decimal lowest-below
 narrow = refl
@@ -93,17 +94,28 @@ first-of-two : program-output improves []
     "R4,0,0,1,0,0,1,1\nR5,1,0,0,0,0,1,0\nR6,0,0,0,0,1,0,0\n\nuser,R1,R2,R3,R4,R5,R6\nq,1,1,0,0,0,0\nr,1,1,1,0,0,0\n"
     ++ ascii
     "s,0,1,1,1,0,0\nt,1,0,0,0,0,0\nu,0,0,0,1,1,0\nv,0,0,1,1,1,1\nw,0,0,0,1,1,1\n\nuser,permission\nq,g\nr,e\ns,c\nt,d\n"
-unfolding improves program-output printed program-buffer book-limit write-answer write-causes buffer-after budget-of
+unfolding improves program-output printed program-buffer write-answer write-causes buffer-after budget-of
     is-budget budget-limit after-load
     after-search searched-on session-book refusal sheet-of kernel-of start-of search book decimal lowest-below
 first-of-two = refl
 
 -- the budget is searched: 45 steps close the search
 searches : take 31 (program-output improves (ascii "45" ∷ [])) ≡ ascii "roles,bound,state\n5,5,searched\n"
-unfolding improves program-output printed program-buffer book-limit write-answer write-causes buffer-after budget-of
+unfolding improves program-output printed program-buffer write-answer write-causes buffer-after budget-of
     is-budget budget-limit after-load
     after-search searched-on session-book refusal sheet-of kernel-of start-of search book decimal lowest-below
 searches = refl
+
+-- what is printed of a session whose book has 79 bytes: the book from a buffer of 79 bytes, 11 from one of 78
+short-buffers : map (λ room. length (printed (after-load fresh (ascii "user,a\nx,1\n")) (replicate room 0))) (79 ∷ 78 ∷ [])
+    ≡ 79 ∷ 3 ∷ []
+unfolding printed write-answer write-causes buffer-after after-load refusal sheet-of start-of session-book book decimal
+    lowest-below
+short-buffers = refl
+
+too-short : printed (after-load fresh (ascii "user,a\nx,1\n")) (replicate 78 0) ≡ ascii "11\n"
+unfolding printed write-answer write-causes after-load refusal sheet-of start-of session-book book decimal lowest-below
+too-short = refl
 
 -- a refused sheet prints its number and a line feed
 refused : program-output [] [] ≡ ascii "2\n"

@@ -1,7 +1,7 @@
 -- "Around the edges": the paper's edge cases and the four slips to shut out, computed together from the definitions.
 use Rattle.spec.specs.Vocabulary.{ℕ, some, List, [], _∷_, map, lowest-below}
 use mathlib.Core.Path.{_≡_, refl}
-use Rattle.spec.specs.Limits.{budget-limit, book-limit}
+use Rattle.spec.specs.Limits.{budget-limit}
 use Rattle.spec.specs.Text.{Bytes, ascii}
 use Rattle.spec.specs.Sheet.{Grant, sheet-of}
 use Rattle.spec.specs.Reduction.{kernel}
@@ -154,7 +154,7 @@ edges = refl
 worked-book : program-output worked [] ≡
     ascii
     "roles,bound,state\n2,2,witnessed\n\nrole,rec,id,map\nR1,1,1,0\nR2,0,1,1\n\nuser,R1,R2\nann,1,0\nbo,0,1\ncy,1,1\n\nuser,permission\nann,rec\nbo,map\n"
-unfolding program-output printed program-buffer book-limit write-answer write-causes buffer-after worked lowest-below
+unfolding program-output printed program-buffer write-answer write-causes buffer-after worked lowest-below
     budget-of is-budget budget-limit after-load after-search searched-on session-book refusal sheet-of kernel-of
     start-of search book decimal
 worked-book = refl

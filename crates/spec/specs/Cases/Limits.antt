@@ -3,9 +3,11 @@ use Rattle.spec.specs.Vocabulary.{ℕ, List, [], _∷_}
 use mathlib.Core.Path.{_≡_, refl}
 use Rattle.spec.specs.Limits.{sheet-limit, permission-limit, user-limit, name-limit, grant-limit, search-limit}
 use Rattle.spec.specs.Limits.{budget-limit, role-limit, book-limit}
+use Rattle.spec.specs.Program.{program-buffer}
 
 limits : sheet-limit ∷ permission-limit ∷ user-limit ∷ name-limit ∷ grant-limit ∷ search-limit ∷ budget-limit ∷
-    role-limit ∷ book-limit ∷ []
-    ≡ 65_536 ∷ 128 ∷ 256 ∷ 16 ∷ 2_048 ∷ 128 ∷ 4_294_967_295 ∷ 128 ∷ 131_072 ∷ []
+    role-limit ∷ book-limit ∷ program-buffer ∷ []
+    ≡ 65_536 ∷ 128 ∷ 256 ∷ 16 ∷ 2_048 ∷ 128 ∷ 4_294_967_295 ∷ 128 ∷ 131_072 ∷ 65_536 ∷ []
 unfolding sheet-limit permission-limit user-limit name-limit grant-limit search-limit budget-limit role-limit book-limit
+    program-buffer
 limits = refl

@@ -13,9 +13,10 @@ use lib.ListN.{length, getD, set, replicate, length-set, getD-replicate}
 use lib.Seq.{getD-set-same, getD-set-other}
 use lib.Bits.{bitAnd}
 use Rattle.bits.specs.Laws.Below.{below-or-from}
-use Rattle.bits.specs.Bit.{bit, word-bits}
+use Rattle.bits.specs.Bit.{word-bits}
 use Rattle.bits.specs.Laws.Bit.{bit-of-zero, bit-and}
 use Rattle.cell_rows.specs.Rows.{row-bits}
+use Rattle.cell_rows.specs.CellPlaces.{marked}
 use Rattle.table.specs.TableWords.{table-row, table-limit, table-word, FirstBits}
 use Rattle.table.specs.TableParts.{CellsFrom, user-holds-at, user-holds, permission-held-at, permission-held}
 use Rattle.table.specs.TableParts.{ColumnsOf}
@@ -36,28 +37,27 @@ all-cells {size} {from} {count} there test first = record {
     outside q l k = rw (le-ltb q count k, le-ltb (from + q) size (there .all q l k))
 
 -- the columns of the permissions below p + 1
-module _ {rows cells : List ℕ} {from some p : ℕ} {words : List ℕ} (so-far : ColumnsOf rows cells from some p words)
-  where
-    pub column-put-in : (w : ℕ) → p < length words → FirstBits (user-holds rows cells from p) word-bits w
-        → ColumnsOf rows cells from some (p + 1) (set words p w)
-    column-put-in w inside here = record { column = λ q l m. ⊎-elim (earlier q m) (latest q l) (below-or-from q p) }
-      where
-        earlier : (q : ℕ) → So (bit some q) → q < p → FirstBits (user-holds rows cells from q) word-bits
-            (getD (set words p w) q 0)
-        earlier q m k = rw (getD-set-other words p q w 0 (omega arith)) (so-far .column q k m)
+module _ {rows cells some words : List ℕ} {from p : ℕ} (so-far : ColumnsOf rows cells from some p words) where
+  pub column-put-in : (w : ℕ) → p < length words → FirstBits (user-holds rows cells from p) word-bits w
+      → ColumnsOf rows cells from some (p + 1) (set words p w)
+  column-put-in w inside here = record { column = λ q l m. ⊎-elim (earlier q m) (latest q l) (below-or-from q p) }
+    where
+      earlier : (q : ℕ) → So (marked some q) → q < p → FirstBits (user-holds rows cells from q) word-bits
+          (getD (set words p w) q 0)
+      earlier q m k = rw (getD-set-other words p q w 0 (omega arith)) (so-far .column q k m)
 
-        latest : (q : ℕ) → q < p + 1 → p ≤ q → FirstBits (user-holds rows cells from q) word-bits
-            (getD (set words p w) q 0)
-        latest q l k = let same : q ≡ p = omega arith in rw (same, getD-set-same words p w 0 inside) here
+      latest : (q : ℕ) → q < p + 1 → p ≤ q → FirstBits (user-holds rows cells from q) word-bits
+          (getD (set words p w) q 0)
+      latest q l k = let same : q ≡ p = omega arith in rw (same, getD-set-same words p w 0 inside) here
 
-    pub column-left-out : bit some p ≡ false → ColumnsOf rows cells from some (p + 1) words
-    column-left-out f = record {
-      column = λ q l m. ⊎-elim (λ k. so-far .column q k m) (λ k. absurd (latest q l m k))
-          (below-or-from q p);
-    }
-      where
-        latest : (q : ℕ) → q < p + 1 → So (bit some q) → p ≤ q → ⊥
-        latest q l m k = let same : q ≡ p = omega arith in false≢true (sym f ∙ rw same at m)
+  pub column-left-out : marked some p ≡ false → ColumnsOf rows cells from some (p + 1) words
+  column-left-out f = record {
+    column = λ q l m. ⊎-elim (λ k. so-far .column q k m) (λ k. absurd (latest q l m k))
+        (below-or-from q p);
+  }
+    where
+      latest : (q : ℕ) → q < p + 1 → So (marked some q) → p ≤ q → ⊥
+      latest q l m k = let same : q ≡ p = omega arith in false≢true (sym f ∙ rw same at m)
 
 -- two tests of cells that are there
 both-there : (there a b : Bool) → ((there && a) && (there && b)) ≡ (there && (a && b))

@@ -2,7 +2,7 @@
 -- of the other's user, so the other one is dominated unless there is a misfit, and the misfits of one word's cells
 -- are told by one word of the rows.
 use Prim.Native.Nat.{ℕ, _+_, _-_, _*_, _/_, _%_, _≤_, _<_}
-use native.Mathlib.Nat.{mod-lt, div-add-mod', div-lt-iff-lt-mul}
+use native.Mathlib.Nat.{mod-lt, mul-le-mul-right, div-add-mod', div-lt-iff-lt-mul}
 use native.Mathlib.Omega.{arith}
 use mathlib.Core.Path.{_≡_, refl, sym, ap, subst, _∙_}
 use mathlib.Core.Logic.{⊎-elim}
@@ -35,6 +35,7 @@ use Rattle.cell_rows.specs.CellPlaces.{grant-of, marked, fit-in, FittingWord, c
 use Rattle.cells.specs.Laws.CellPlace.{row-bits-pos, user-of-cell, word-of-cell, position-of-cell, fit-by-word}
 use Rattle.fit.specs.Laws.FitWord.{marked-in-word}
 use Rattle.fit.specs.Columns.{column-words, held-in, Columns}
+use Rattle.fit.specs.Laws.ColumnPlaces.{whole-columns}
 use Rattle.fit.specs.Laws.Column.{column-position}
 use Rattle.verdict.specs.NearCells.{dominates-in}
 use Rattle.verdict.specs.Laws.NearWord.{every-in-word, every-word-fails, covered-at}
@@ -66,8 +67,7 @@ module _ (columns : List ℕ) (users p j : ℕ) where
           (omega (arith, ltb-true (j * word-bits + q) (users * row-words) e)))
 
 within-column : {users j : ℕ} → users ≤ user-limit → j * word-bits < users * row-words → j < column-words
-unfolding user-limit row-words
-within-column few l = omega arith
+within-column few l = omega (arith, mul-le-mul-right row-words few, whole-columns)
 
 -- the words of the users who hold the permission p, at the positions of word j of its column
 pub record HoldersWord (rows : List ℕ) (users p j word : ℕ) : Type 0 where

@@ -25,11 +25,11 @@ pub nothing-by : (change : Change) (count : ℕ) → changed-by change count 0 �
 nothing-by Added count = add-zero count
 nothing-by TakenOff count = sub-zero count
 
-pub word-of-position : (u some n : ℕ) → So (at-position u some n) → n / word-bits ≡ u
-word-of-position u some n p = eqb-true (n / word-bits) u (and-left (eqb (n / word-bits) u) (bit some (n % word-bits)) p)
+pub word-of-position : (m some n : ℕ) → So (at-position m some n) → n / word-bits ≡ m
+word-of-position m some n p = eqb-true (n / word-bits) m (and-left (eqb (n / word-bits) m) (bit some (n % word-bits)) p)
 
-pub none-at : (u n : ℕ) → at-position u 0 n ≡ false
-none-at u n = ap (λ b. eqb (n / word-bits) u && b) (bit-of-zero (n % word-bits)) ∙ and-false (eqb (n / word-bits) u)
+pub none-at : (m n : ℕ) → at-position m 0 n ≡ false
+none-at m n = ap (λ b. eqb (n / word-bits) m && b) (bit-of-zero (n % word-bits)) ∙ and-false (eqb (n / word-bits) m)
 
 module _ (change : Change) where
   -- a count at another cell stays
@@ -129,42 +129,42 @@ module _ {change : Change} {all coming : ℕ → Bool} {by : ℕ → ℕ} {befor
 -- ---- at the positions of a word
 
 -- the lowest position dropped
-pub lowest-at : (u w : ℕ) {low : ℕ} → Lowest word-bits (bit w) low → So (at-position u w (u * word-bits + low))
-lowest-at u w {low} is-low =
-    let word : (u * word-bits + low) / word-bits ≡ u = omega (arith, is-low .within) in
-    let position : (u * word-bits + low) % word-bits ≡ low = omega (arith, is-low .within) in
-    rw (word, position, eq-eqb u u refl) (is-low .holds)
+pub lowest-at : (m w : ℕ) {low : ℕ} → Lowest word-bits (bit w) low → So (at-position m w (m * word-bits + low))
+lowest-at m w {low} is-low =
+    let word : (m * word-bits + low) / word-bits ≡ m = omega (arith, is-low .within) in
+    let position : (m * word-bits + low) % word-bits ≡ low = omega (arith, is-low .within) in
+    rw (word, position, eq-eqb m m refl) (is-low .holds)
 
-pub at-dropped : (u : ℕ) {w low rest : ℕ} → Lowest word-bits (bit w) low → LowestDropped w rest → (n : ℕ)
-    → at-position u rest n ≡ (at-position u w n && not (eqb n (u * word-bits + low)))
-at-dropped u {w} {low} {rest} is-low dropped n = ⊎-elim here elsewhere (passes-or-fails (eqb (n / word-bits) u))
+pub at-dropped : (m : ℕ) {w low rest : ℕ} → Lowest word-bits (bit w) low → LowestDropped w rest → (n : ℕ)
+    → at-position m rest n ≡ (at-position m w n && not (eqb n (m * word-bits + low)))
+at-dropped m {w} {low} {rest} is-low dropped n = ⊎-elim here elsewhere (passes-or-fails (eqb (n / word-bits) m))
   where
-    here : So (eqb (n / word-bits) u) → at-position u rest n ≡ (at-position u w n && not (eqb n (u * word-bits + low)))
+    here : So (eqb (n / word-bits) m) → at-position m rest n ≡ (at-position m w n && not (eqb n (m * word-bits + low)))
     here e =
         ap (λ b. b && bit rest (n % word-bits)) e
         ∙ dropped .others is-low (n % word-bits)
         ∙ ap (λ b. bit w (n % word-bits) && not b) same-position
-        ∙ sym (ap (λ b. (b && bit w (n % word-bits)) && not (eqb n (u * word-bits + low))) e)
+        ∙ sym (ap (λ b. (b && bit w (n % word-bits)) && not (eqb n (m * word-bits + low))) e)
       where
-        same-position : eqb (n % word-bits) low ≡ eqb n (u * word-bits + low)
+        same-position : eqb (n % word-bits) low ≡ eqb n (m * word-bits + low)
         same-position =
-            let word : n / word-bits ≡ u = eqb-true (n / word-bits) u e in
-            same-truth (eqb (n % word-bits) low) (eqb n (u * word-bits + low))
-            (λ p. eq-eqb n (u * word-bits + low) (omega (arith, eqb-true (n % word-bits) low p)))
-            (λ p. eq-eqb (n % word-bits) low (omega (arith, is-low .within, eqb-true n (u * word-bits + low) p)))
+            let word : n / word-bits ≡ m = eqb-true (n / word-bits) m e in
+            same-truth (eqb (n % word-bits) low) (eqb n (m * word-bits + low))
+            (λ p. eq-eqb n (m * word-bits + low) (omega (arith, eqb-true (n % word-bits) low p)))
+            (λ p. eq-eqb (n % word-bits) low (omega (arith, is-low .within, eqb-true n (m * word-bits + low) p)))
 
-    elsewhere : eqb (n / word-bits) u ≡ false → at-position u rest n ≡ (at-position u w n
-        && not (eqb n (u * word-bits + low)))
+    elsewhere : eqb (n / word-bits) m ≡ false → at-position m rest n ≡ (at-position m w n
+        && not (eqb n (m * word-bits + low)))
     elsewhere f =
         ap (λ b. b && bit rest (n % word-bits)) f
-        ∙ sym (ap (λ b. (b && bit w (n % word-bits)) && not (eqb n (u * word-bits + low))) f)
+        ∙ sym (ap (λ b. (b && bit w (n % word-bits)) && not (eqb n (m * word-bits + low))) f)
 
 -- the count at the lowest position is changed, and the position dropped
-pub position-changed : {change : Change} {all : ℕ → Bool} {by : ℕ → ℕ} (u : ℕ) {w low rest : ℕ} {before now : List ℕ}
-    → Changing change all (at-position u w) by before now → Lowest word-bits (bit w) low → LowestDropped w rest
-    → u * word-bits + low < length now
-    → Changing change all (at-position u rest) by before (set now (u * word-bits + low)
-    (changed-by change (getD now (u * word-bits + low) 0) (by (u * word-bits + low))))
-position-changed {change} u {w} {low} {now = now} going is-low dropped inside =
-    change-goes-on going (λ n e. rw (eqb-true n (u * word-bits + low) e) (lowest-at u w is-low))
-    (at-dropped u is-low dropped) (one-changed change now (u * word-bits + low) inside)
+pub position-changed : {change : Change} {all : ℕ → Bool} {by : ℕ → ℕ} (m : ℕ) {w low rest : ℕ} {before now : List ℕ}
+    → Changing change all (at-position m w) by before now → Lowest word-bits (bit w) low → LowestDropped w rest
+    → m * word-bits + low < length now
+    → Changing change all (at-position m rest) by before (set now (m * word-bits + low)
+    (changed-by change (getD now (m * word-bits + low) 0) (by (m * word-bits + low))))
+position-changed {change} m {w} {low} {now = now} going is-low dropped inside =
+    change-goes-on going (λ n e. rw (eqb-true n (m * word-bits + low) e) (lowest-at m w is-low))
+    (at-dropped m is-low dropped) (one-changed change now (m * word-bits + low) inside)

@@ -1,6 +1,7 @@
 -- The counts of the grants open to choice, exact at the cells of the open grants. They grow word by word from
 -- nothing, and when grants are closed to choice these are taken off word by word.
 use Prim.Native.Nat.{ℕ, _+_, _-_, _*_, _/_, _≤_, _<_}
+use native.Mathlib.Nat.{mul-le-mul-right}
 use native.Mathlib.Omega.{arith}
 use mathlib.Core.Path.{_≡_, refl, sym, ap, ap₂, _∙_}
 use mathlib.Core.Logic.{⊎-elim}
@@ -22,12 +23,13 @@ use Rattle.bits.specs.Laws.Step.{sum-below-step}
 use Rattle.bits.specs.Laws.Sum.{sum-below-more, sum-below-le}
 use Rattle.bits.specs.Bit.{bit, word-bits}
 use Rattle.cell_rows.specs.Rows.{row-words, row-bits}
+use Rattle.cell_rows.specs.Laws.Width.{rows-cells}
 use Rattle.cells.specs.CellSets.{cell-grants}
 use Rattle.cell_rows.specs.CellPlaces.{cell-words, cell-limit, grant-of, marked, fit-in, near, Shown, Part}
 use Rattle.fit.specs.Laws.FitWord.{marked-in-word, near-count}
 use Rattle.cells.specs.Laws.MadeCells.{getD-zeros}
 use Rattle.fit.specs.Columns.{near-in-word}
-use Rattle.witness.specs.CountChange.{fit-count, ChangedAt, CanChangeAt, of-users-below}
+use Rattle.witness.specs.CountChange.{fit-count, ChangedAt, CanChangeAt, of-words-below}
 use Rattle.witness.specs.Counts.{near-below, Counted}
 use Rattle.witness.specs.declared.counts.Change.the-variants.{Added, TakenOff}
 
@@ -36,9 +38,9 @@ pub counted-grants : {rows : List ℕ} {users : ℕ} {sheet : Sheet} → users �
     → {left : List ℕ} → Part left rows
     → {counts : List ℕ} → Counted rows left users counts → (n : ℕ) → n < users * row-bits → So (marked left n)
     → getD counts n 0 ≡ length (filter (fits sheet (grant-of n)) (cell-grants sheet left))
-unfolding user-limit row-bits row-words
 counted-grants {rows} {users} few shown {left} part counted n inside p =
-    counted .exact n (omega arith) p ∙ sym (count-below-blocks (users * row-words) word-bits (near rows left n))
+    counted .exact n (omega (arith, rows-cells users, mul-le-mul-right row-words few)) p
+    ∙ sym (count-below-blocks (users * row-words) word-bits (near rows left n))
     ∙ near-count shown part n
 
 near-as-word : (rows left : List ℕ) (n i : ℕ) → near-in-word rows left n i ≡ fit-count rows i (getD left i 0) n
@@ -52,22 +54,22 @@ near-as-word rows left n i =
 -- the grants of the first i words are counted
 pub record Growing (rows left : List ℕ) (users i : ℕ) (counts : List ℕ) : Type 0 where
   pub sized : length counts ≡ cell-limit
-  pub so-far : (n : ℕ) → getD counts n 0 ≡ cond (of-users-below left cell-words n) (near-below rows left n i) 0
+  pub so-far : (n : ℕ) → getD counts n 0 ≡ cond (of-words-below left cell-words n) (near-below rows left n i) 0
 
 pub growth-starts : (rows left : List ℕ) (users : ℕ) → Growing rows left users 0 (replicate cell-limit 0)
 unfolding sum-below
 growth-starts rows left users = record {
   sized = length-replicate cell-limit 0;
-  so-far = λ n. getD-zeros cell-limit n ∙ ⊎-elim (λ p. rw p) (λ f. rw f) (passes-or-fails (of-users-below left
+  so-far = λ n. getD-zeros cell-limit n ∙ ⊎-elim (λ p. rw p) (λ f. rw f) (passes-or-fails (of-words-below left
       cell-words n));
 }
 
 module _ (rows left : List ℕ) (users i : ℕ) (counts : List ℕ) (growing : Growing rows left users i counts) where
   -- what stands at a cell of left
-  counted-here : (n : ℕ) → So (of-users-below left cell-words n) → getD counts n 0 ≡ near-below rows left n i
+  counted-here : (n : ℕ) → So (of-words-below left cell-words n) → getD counts n 0 ≡ near-below rows left n i
   counted-here n p = rw p at (growing .so-far n)
 
-  pub growth-fits : i < cell-words → CanChangeAt Added (of-users-below left cell-words)
+  pub growth-fits : i < cell-words → CanChangeAt Added (of-words-below left cell-words)
       (fit-count rows i (getD left i 0)) counts
   growth-fits inside n p =
       omega (
@@ -80,7 +82,7 @@ module _ (rows left : List ℕ) (users i : ℕ) (counts : List ℕ) (growing : G
       )
 
   pub growth-goes-on : (after : List ℕ)
-      → ChangedAt Added (of-users-below left cell-words) (fit-count rows i (getD left i 0)) counts after
+      → ChangedAt Added (of-words-below left cell-words) (fit-count rows i (getD left i 0)) counts after
       → Growing rows left users (i + 1) after
   growth-goes-on after changed = record {
     sized = changed .sized ∙ growing .sized;
@@ -92,7 +94,7 @@ module _ (rows left : List ℕ) (users i : ℕ) (counts : List ℕ) (growing : G
           sum-below-step i (near-in-word rows left n),
         )))
         (λ f. rw f (rw f at (growing .so-far n)))
-        (passes-or-fails (of-users-below left cell-words n));
+        (passes-or-fails (of-words-below left cell-words n));
   }
 
 -- all grants are counted, and at every other cell there is 0
@@ -159,7 +161,7 @@ module _ (rows left rest : List ℕ) (users : ℕ) (within : (n : ℕ) → So (m
   module _ (i closed : ℕ) (before counts : List ℕ) (going : Recounting rows left rest users before i counts)
       (inside : i < users * row-words)
       (says : (q : ℕ) → bit closed q ≡ (bit (getD left i 0) q && not (bit (getD rest i 0) q))) where
-    pub recount-enough : CanChangeAt TakenOff (of-users-below rest cell-words) (fit-count rows i closed) counts
+    pub recount-enough : CanChangeAt TakenOff (of-words-below rest cell-words) (fit-count rows i closed) counts
     recount-enough n p =
         omega (
           arith,
@@ -171,7 +173,7 @@ module _ (rows left rest : List ℕ) (users : ℕ) (within : (n : ℕ) → So (m
         )
 
     pub recount-goes-on : (after : List ℕ)
-        → ChangedAt TakenOff (of-users-below rest cell-words) (fit-count rows i closed) counts after
+        → ChangedAt TakenOff (of-words-below rest cell-words) (fit-count rows i closed) counts after
         → Recounting rows left rest users before (i + 1) after
     recount-goes-on after changed = record {
       sized = changed .sized ∙ going .sized;

@@ -22,17 +22,17 @@ loop-holds : tie.Need-loop-holds Inv-loop μ-loop
 unfolding user-limit row-words row-bits
 loop-holds c = (omega arith, refl, none-put-in _ (row-bits * column-words))
 
-put-in-columns-requires : tie.Need-put-in-columns-requires Inv-loop μ-loop
+put-row-requires : tie.Need-put-row-requires Inv-loop μ-loop
 unfolding user-limit row-words
-put-in-columns-requires c κs = (omega arith, c .before .before .before .loop .inv .1)
+put-row-requires c κs = (omega arith, c .before .before .loop .inv .1)
 
 loop-again : tie.Need-loop-again Inv-loop μ-loop
 unfolding user-limit row-words row-bits
 loop-again c =
-    let at = c .before .before .before .before .loop in (
+    let at = c .before .before .before .loop in (
       omega arith,
-      c .put-in-columns .ensures .sized ∙ at .inv .1,
-      next-put-in _ (at .i) _ _ (at .inv .2) (c .put-in-columns .ensures),
+      c .put-row .ensures .sized ∙ at .inv .1,
+      next-put-in _ (at .i) _ _ (at .inv .2) (c .put-row .ensures),
     )
 
 returns : tie.Need-returns Inv-loop μ-loop
@@ -45,5 +45,5 @@ returns c =
 pub columns-of-spec : {M : Type 1} → statement M
 unfolding user-limit row-words
 columns-of-spec =
-    tie.close (tie.spec Inv-loop μ-loop loop-holds (λ c. omega arith) (λ c. omega arith) put-in-columns-requires
+    tie.close (tie.spec Inv-loop μ-loop loop-holds put-row-requires
     (λ c. omega arith) (λ c. omega arith) loop-again returns)

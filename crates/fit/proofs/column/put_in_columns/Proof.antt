@@ -9,10 +9,10 @@ use Rattle.fit.proofs.column.put_in_columns.Statement.{statement}
 use Rattle.fit.proofs.column.put_in_columns.Tie as tie
 
 abbrev Inv-loop : tie.InvT-loop
-Inv-loop columns₀ i some w₀ columns w = PuttingIn i some w columns₀ columns
+Inv-loop columns₀ i k some from w₀ columns w = PuttingIn i k some w columns₀ columns
 
 abbrev μ-loop : tie.MeasureT-loop
-μ-loop columns₀ i some w₀ columns w = w
+μ-loop columns₀ i k some from w₀ columns w = w
 
 loop-holds : tie.Need-loop-holds Inv-loop μ-loop
 unfolding user-limit row-words row-bits
@@ -34,17 +34,17 @@ loop-again c =
     let at-loop = c .before .before .before .before .before in
     let start = at-loop .before in
     let put = c .before .mark .ensures in
-    one-put-in (start .args .i) (start .args .some) _ _ _ (start .pre .0) (at-loop .loop .inv) (low .ensures)
+    one-put-in (start .args .i) (start .args .k) (start .args .some) _ _ _ (start .pre .0) (at-loop .loop .inv) (low .ensures)
     (c .without-lowest .ensures) (put .size) (put .shows)
 
 returns : tie.Need-returns Inv-loop μ-loop
 returns c =
     let none : c .before .loop .w ≡ 0 = c .loop-test .left in
-    all-put-in _ _ _ _ (rw none at (c .before .loop .inv))
+    all-put-in _ _ _ _ _ (rw none at (c .before .loop .inv))
 
 pub put-in-columns-spec : {M : Type 1} → statement M
 unfolding user-limit row-words
 put-in-columns-spec =
-    tie.close (tie.spec Inv-loop μ-loop loop-holds (λ c κs. omega arith)
-    (λ c. omega (arith, c .lowest .ensures .within)) (λ c. omega (arith, c .lowest .ensures .within)) mark-requires
+    tie.close (tie.spec Inv-loop μ-loop (λ c. omega arith) loop-holds (λ c κs. omega arith)
+    (λ c. omega (arith, c .lowest .ensures .within)) (λ c. omega (arith, c .lowest .ensures .within)) (λ c. omega (arith, c .lowest .ensures .within)) mark-requires
     (λ c κs. omega arith) loop-less loop-again returns)

@@ -4,7 +4,6 @@ use native.Mathlib.Omega.{arith}
 use mathlib.Core.Path.{_≡_, sym}
 use mathlib.Core.List.{[], _∷_}
 use lib.ListN.{length}
-use Rattle.spec.specs.Limits.{book-limit}
 use Rattle.spec.specs.Program.{program-buffer, budget-of}
 use Rattle.text.specs.Written.{written-as}
 use Rattle.answers.specs.Said.{write-said}
@@ -15,7 +14,7 @@ use Rattle.outputs.proofs.output.book_output.Statement.{statement}
 use Rattle.outputs.proofs.output.book_output.Tie as tie
 
 room : (c : tie.After-porvuund-book-arg) → length (c .before .before .before .before .args .out .now) ≡ program-buffer
-unfolding program-buffer book-limit
+unfolding program-buffer
 room c = search needs
 
 abbrev start : tie.After-porvuund-book → tie.Start

@@ -1,4 +1,4 @@
--- `table::table::columns`: permission by permission, its column is made where it is in the set.
+-- `table::table::columns`: permission by permission, its column is made where it is in the row.
 use Prim.Native.Nat.{_-_, _≤_}
 use native.Mathlib.Omega.{arith}
 use mathlib.Core.Path.{_≡_, refl, sym, _∙_}
@@ -28,7 +28,7 @@ line-word-requires c κs = (omega arith, omega arith)
 loop-again : tie.Need-loop-again Inv-loop μ-loop
 unfolding row-bits row-words
 loop-again c =
-    let at = c .before .before .before .loop in
+    let at = c .before .before .before .before .loop in
     let told = c .before .has .ensures in
     ⊎-elim
     (λ w. (
@@ -49,5 +49,5 @@ returns c =
 pub columns-spec : {M : Type 1} → statement M
 unfolding row-bits row-words
 columns-spec =
-    tie.close (tie.spec Inv-loop μ-loop loop-holds (λ c κs. omega arith) line-word-requires (λ c. omega arith)
-    (λ c. omega arith) (λ c. omega arith) (λ c. omega arith) loop-again returns)
+    tie.close (tie.spec Inv-loop μ-loop loop-holds (λ c. omega arith) (λ c. omega arith) (λ c κs. omega arith)
+    line-word-requires (λ c. omega arith) (λ c. omega arith) (λ c. omega arith) (λ c. omega arith) loop-again returns)

@@ -1,44 +1,52 @@
--- `table::table::permissions_among`: after i turns the word has the permissions of the first i cells.
+-- `table::table::permissions_among`: after i turns the row has the permissions of the first i cells.
 use Prim.Native.Nat.{ℕ, _-_, _%_, _≤_}
 use native.Mathlib.Omega.{arith}
-use mathlib.Core.Path.{_≡_}
+use mathlib.Core.Path.{_≡_, refl, sym, _∙_}
 use mathlib.Core.Bool.{Bool, or-comm}
 use borrow.Author.Needs.{needs}
 use lib.Dec.{eqb}
-use lib.ListN.{getD}
+use lib.ListN.{length, getD}
 use Rattle.spec.specs.Vocabulary.{some-below}
-use Rattle.bits.specs.Bit.{bit}
-use Rattle.bits.specs.Laws.Bit.{bit-of-zero}
 use Rattle.bits.specs.Laws.Step.{some-below-step}
 use Rattle.cell_rows.specs.Rows.{row-words, row-bits}
+use Rattle.cell_rows.specs.CellPlaces.{marked}
+use Rattle.cells.specs.Laws.MadeCells.{no-cells}
 use Rattle.table.proofs.table.permissions_among.Statement.{statement}
 use Rattle.table.proofs.table.permissions_among.Tie as tie
 
 abbrev Inv-loop : tie.InvT-loop
-Inv-loop cells count word₀ i₀ word i =
-    (i ≤ count) × ((p : ℕ) → bit word p ≡ some-below i (λ j. eqb p (getD cells j 0 % row-bits)))
+Inv-loop cells count row₀ i₀ row i =
+    (i ≤ count) × (length row ≡ row-words)
+    × ((p : ℕ) → marked row p ≡ some-below i (λ j. eqb p (getD cells j 0 % row-bits)))
 
 abbrev μ-loop : tie.MeasureT-loop
-μ-loop cells count word₀ i₀ word i = count - i
+μ-loop cells count row₀ i₀ row i = count - i
 
 loop-holds : tie.Need-loop-holds Inv-loop μ-loop
-unfolding some-below
-loop-holds c = (omega arith, bit-of-zero)
+unfolding some-below row-words
+loop-holds c = (omega arith, refl, no-cells row-words)
 
 cast-at : tie.Need-cast-at Inv-loop μ-loop
 cast-at c = omega (arith, c .shared-slice-known2 .given (c .before .before .loop .i))
 
-with-requires : tie.Need-with-requires Inv-loop μ-loop
+slice-aggregate-mark : tie.Need-slice-aggregate-mark Inv-loop μ-loop
+unfolding row-words
+slice-aggregate-mark c = sym (c .before .before .before .loop .inv .1)
+
+mark-requires : tie.Need-mark-requires Inv-loop μ-loop
 unfolding row-bits row-words
-with-requires c κs = omega (arith, c .permission-of .ensures)
+mark-requires c κs = omega (arith, c .permission-of .ensures, c .before .before .before .before .loop .inv .1)
 
 loop-again : tie.Need-loop-again Inv-loop μ-loop
 loop-again c =
-    let at = c .before .before .before .before in
+    let put = c .before .mark .ensures in
+    let found = c .before .before .permission-of .ensures in
+    let at = c .before .before .before .before .before .before in
     let i = at .loop .i in (
       omega arith,
+      put .size ∙ at .loop .inv .1,
       λ p. let is-its : ℕ → Bool = λ j. eqb p (getD (at .before .before .args .cells .now) j 0 % row-bits) in
-          rw (c .with .ensures p, at .loop .inv .1 p, c .before .permission-of .ensures, some-below-step i is-its)
+          rw (put .shows p, at .loop .inv .2 p, found, some-below-step i is-its)
           (or-comm (some-below i is-its) (is-its i)),
     )
 
@@ -46,9 +54,9 @@ returns : tie.Need-returns Inv-loop μ-loop
 returns c =
     let at = c .before in
     let e : at .loop .i ≡ at .before .before .args .count = omega arith in
-    rw e at (at .loop .inv .1)
+    rw e at (at .loop .inv .2)
 
 pub permissions-among-spec : {M : Type 1} → statement M
 permissions-among-spec =
-    tie.close (tie.spec Inv-loop μ-loop loop-holds (λ c. omega arith) (λ c. omega arith) cast-at
-    (λ c κs. search needs) with-requires (λ c. omega arith) (λ c. omega arith) loop-again returns)
+    tie.close (tie.spec Inv-loop μ-loop loop-holds (λ c. omega arith) (λ c. omega arith) cast-at slice-aggregate-mark
+    (λ c κs. search needs) mark-requires (λ c. omega arith) (λ c. omega arith) loop-again returns)

@@ -16,18 +16,22 @@ use Rattle.table.proofs.table.table_of.Statement.{statement}
 use Rattle.table.proofs.table.table_of.Tie as tie
 
 abbrev Inv-loop : tie.InvT-loop
-Inv-loop rows cells count some low high last₀ words₀ i₀ last words i =
+Inv-loop rows cells count low high last₀ words₀ i₀ last words i =
     (i ≤ count) × (length words ≡ table-limit * table-row) × HeldBy rows cells (last .user .0) last
     × Filled rows cells i words
 
 abbrev μ-loop : tie.MeasureT-loop
-μ-loop rows cells count some low high last₀ words₀ i₀ last words i = count - i
+μ-loop rows cells count low high last₀ words₀ i₀ last words i = count - i
+
+-- where the permissions of the cells were found
+abbrev found : tie.At-loop Inv-loop μ-loop → tie.After-permissions-among Inv-loop μ-loop
+found c =
+    let low-made = c .before .before .before .before in
+    low-made .before .before
 
 -- there is room for every grant
 within : (c : tie.In-loop Inv-loop μ-loop) → c .before .loop .i < table-limit
-within c =
-    let at-limited = c .before .before .before .before .before .before in
-    omega (arith, at-limited .limited .ensures .1)
+within c = omega (arith, found (c .before) .before .limited .ensures .1)
 
 -- its permission has a column
 column : (c : tie.After-permission-of Inv-loop μ-loop) → c .permission-of .result .0 < row-bits
@@ -54,8 +58,9 @@ loop-again c =
     let at-held = at-permission .before in
     let in-loop = at-held .before .before in
     let at = in-loop .before in
-    let made = at .before .before in
-    let some = made .before .before in
+    let high-made = at .before .before in
+    let low-made = high-made .before .before in
+    let some = found at in
     let i = at .loop .i in
     let p = at-permission .permission-of .result .0 in
     let wanted = some .permissions-among .ensures p ∙ some-below-intro _ _ {i = i} (omega arith)
@@ -67,15 +72,15 @@ loop-again c =
           (at .loop .inv .1)
           (at-permission .permission-of .ensures) (at-held .held-again .ensures .low)
           (at-held .held-again .ensures .high)
-          (made .before .columns .ensures .column p (column at-permission) wanted) (made .columns2 .ensures .column p
-          (column at-permission) wanted),
+          (low-made .columns .ensures .column p (column at-permission) wanted)
+          (high-made .columns2 .ensures .column p (column at-permission) wanted),
     )
 
 returns : tie.Need-returns Inv-loop μ-loop
 unfolding table-row
 returns c users sheet shown =
     let at = c .before in
-    let limited = at .before .before .before .before .before .limited in
+    let limited = found at .before .limited in
     let end : at .loop .i ≡ limited .result = omega arith in
     table-of _ _ (at .loop .words) (all-filled (at .loop .inv .3) (λ l. end ∙ limited .ensures .2 (omega arith))) shown
 

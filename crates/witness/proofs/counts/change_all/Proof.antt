@@ -1,5 +1,5 @@
--- `witness::counts::change_all`: the words of the columns are passed one after the other. The counts of the users
--- still to come are as they were, and a user whom no column reaches has no grant that fits.
+-- `witness::counts::change_all`: the words of the columns are passed one after the other. The counts in the words
+-- still to come are as they were, and a word that no column reaches has no grant that fits.
 use Prim.Native.Nat.{_*_, _-_, _≤_}
 use native.Mathlib.Omega.{arith}
 use mathlib.Core.Path.{_≡_, _∙_}
@@ -9,35 +9,35 @@ use Rattle.cell_rows.specs.Rows.{row-words}
 use Rattle.cell_rows.specs.CellPlaces.{cell-words}
 use Rattle.fit.specs.Columns.{column-words}
 use Rattle.witness.specs.Laws.CountChange.{not-changed}
-use Rattle.witness.specs.CountChange.{ChangedAt, fit-count, of-users-below}
-use Rattle.witness.specs.Laws.FitCounts.{column-to-come, no-word-changed, no-user-changed, next-users-changed}
+use Rattle.witness.specs.CountChange.{ChangedAt, fit-count, of-words-below}
+use Rattle.witness.specs.Laws.FitCounts.{column-to-come, no-word-changed, none-changed-yet, next-words-changed}
 use Rattle.witness.proofs.counts.change_all.Statement.{statement}
 use Rattle.witness.proofs.counts.change_all.Tie as tie
 
 abbrev Inv-loop : tie.InvT-loop
-Inv-loop counts₀ change rows columns left these j₀ counts j =
-    (j ≤ column-words) × ChangedAt change (of-users-below left (j * word-bits)) (fit-count rows (these .user .0)
+Inv-loop counts₀ change rows columns left these k j₀ counts j =
+    (j ≤ column-words) × ChangedAt change (of-words-below left (j * word-bits)) (fit-count rows (these .at)
     (these .word)) counts₀ counts
 
 abbrev μ-loop : tie.MeasureT-loop
-μ-loop counts₀ change rows columns left these j₀ counts j = column-words - j
+μ-loop counts₀ change rows columns left these k j₀ counts j = column-words - j
 
 returns : tie.Need-returns Inv-loop μ-loop
 returns c =
     let a = c .before .before .args in
-    rw (c .if1 .taken) (no-word-changed (a .change) (a .rows .now) (a .left .now) (a .these .user .0) cell-words
+    rw (c .if1 .taken) (no-word-changed (a .change) (a .rows .now) (a .left .now) (a .these .at) cell-words
     (a .counts .now))
 
 loop-holds : tie.Need-loop-holds Inv-loop μ-loop
 loop-holds c =
-    let a = c .before .before .args in
-    (omega arith, no-user-changed (a .change) (a .rows .now) (a .left .now) (a .these .user .0) (a .these .word) _)
+    let a = c .before .before .before .args in
+    (omega arith, none-changed-yet (a .change) (a .rows .now) (a .left .now) (a .these .at) (a .these .word) _)
 
-change-for-users-requires : tie.Need-change-for-users-requires Inv-loop μ-loop
+change-in-words-requires : tie.Need-change-in-words-requires Inv-loop μ-loop
 unfolding user-limit row-words
-change-for-users-requires c κs =
+change-in-words-requires c κs =
     let at-loop = c .before .before .before in
-    let start = at-loop .before .before .before in
+    let start = at-loop .before .before .before .before in
     let at = at-loop .loop in (
       start .pre .0,
       omega arith,
@@ -52,14 +52,14 @@ loop-again : tie.Need-loop-again Inv-loop μ-loop
 unfolding user-limit row-words
 loop-again c =
     let at-loop = c .before .before .before .before in
-    let start = at-loop .before .before .before in
+    let start = at-loop .before .before .before .before in
     let a = start .args in
     let at = at-loop .loop in (
       omega arith,
-      next-users-changed _ (a .rows .now) (a .left .now) (a .these .user .0) (a .these .word) (at .j)
+      next-words-changed _ (a .rows .now) (a .left .now) (a .these .at) (a .these .word) (at .j)
           (c .before .before .union-of .result) (a .columns .now) _ (at .counts) _
           (start .pre .1) (omega arith) (c .before .before .union-of .ensures) (at .inv .1)
-          (c .change-for-users .ensures),
+          (c .change-in-words .ensures),
     )
 
 returns-2 : tie.Need-returns-2 Inv-loop μ-loop
@@ -72,5 +72,5 @@ returns-2 c =
 pub change-all-spec : {M : Type 1} → statement M
 unfolding user-limit row-words
 change-all-spec =
-    tie.close (tie.spec Inv-loop μ-loop returns loop-holds (λ c κs. omega arith) change-for-users-requires
+    tie.close (tie.spec Inv-loop μ-loop returns loop-holds (λ c κs. omega arith) change-in-words-requires
     (λ c. omega arith) (λ c. omega arith) loop-again returns-2)

@@ -12,36 +12,35 @@ use Rattle.witness.proofs.counts.change_at.Statement.{statement}
 use Rattle.witness.proofs.counts.change_at.Tie as tie
 
 abbrev Inv-loop : tie.InvT-loop
-Inv-loop counts₀ change u some by w₀ counts w =
-    Changing change (at-position (u .0) some) (at-position (u .0) w) (λ n. by) counts₀ counts
+Inv-loop counts₀ change m some by w₀ counts w =
+    Changing change (at-position m some) (at-position m w) (λ n. by) counts₀ counts
 
 abbrev μ-loop : tie.MeasureT-loop
-μ-loop counts₀ change u some by w₀ counts w = w
+μ-loop counts₀ change m some by w₀ counts w = w
 
 loop-holds : tie.Need-loop-holds Inv-loop μ-loop
 loop-holds c = change-starts _ _ _ _
 
 changed-requires : tie.Need-changed-requires Inv-loop μ-loop
 changed-requires c κs =
-    let at-loop = c .before .before .before .before in
+    let at-loop = c .before .before .before in
     let start = at-loop .before in
     let at = at-loop .loop in
-    let n = start .args .u .0 * word-bits + c .before .lowest .result in
-    let here = lowest-at (start .args .u .0) (at .w) (c .before .lowest .ensures) in
+    let n = start .args .m * word-bits + c .before .lowest .result in
+    let here = lowest-at (start .args .m) (at .w) (c .before .lowest .ensures) in
     rw (still-to-come (at .inv) n here) (start .pre .2 n (at .inv .among n here))
 
 loop-less : tie.Need-loop-less Inv-loop μ-loop
 loop-less c = c .without-lowest .ensures .less
 
 loop-again : tie.Need-loop-again Inv-loop μ-loop
-unfolding user-limit row-words
 loop-again c =
-    let at-loop = c .before .before .before .before .before .before in
+    let at-loop = c .before .before .before .before .before in
     let start = at-loop .before in
     let at = at-loop .loop in
     let low = c .before .before .before .lowest .ensures in
     rw (c .before .changed .ensures)
-    (position-changed (start .args .u .0) (at .inv) low (c .without-lowest .ensures)
+    (position-changed (start .args .m) (at .inv) low (c .without-lowest .ensures)
     (omega (arith, low .within, start .pre .0, start .pre .1, at .inv .done .sized)))
 
 returns : tie.Need-returns Inv-loop μ-loop

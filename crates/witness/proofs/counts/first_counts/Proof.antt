@@ -19,7 +19,7 @@ unfolding user-limit row-words
 loop-holds c = (omega arith, growth-starts _ _ _)
 
 change-all-requires : tie.Need-change-all-requires Inv-loop μ-loop
-unfolding user-limit row-words
+unfolding row-words
 change-all-requires c κs =
     let start = c .before .before .before .before in
     let at = c .before .before .before .loop in (

@@ -19,7 +19,7 @@ loop-holds : tie.Need-loop-holds Inv-loop μ-loop
 loop-holds c = (omega arith, recount-starts _ _ _ _ (c .pre .3) _ (c .pre .2))
 
 change-all-requires : tie.Need-change-all-requires Inv-loop μ-loop
-unfolding user-limit row-words
+unfolding row-words
 change-all-requires c κs =
     let at-loop = c .before .before .before .before .before in
     let start = at-loop .before in

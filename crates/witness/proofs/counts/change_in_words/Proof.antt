@@ -1,18 +1,18 @@
--- `witness::counts::change_for_users`: the counts of the users at the positions of w are still as they were. The lowest
--- is next, and its position is dropped.
+-- `witness::counts::change_in_words`: the counts in the words at the positions of w are still as they were. The
+-- lowest is next, and its position is dropped.
 use native.Mathlib.Omega.{arith}
 use mathlib.Core.Path.{_∙_}
 use Rattle.spec.specs.Limits.{user-limit}
 use Rattle.cell_rows.specs.Rows.{row-words}
-use Rattle.witness.specs.CountChange.{fit-count, of-users}
+use Rattle.witness.specs.CountChange.{fit-count, of-words}
 use Rattle.witness.specs.Laws.CountChange.{Changing, change-starts, still-to-come, change-ends}
-use Rattle.witness.specs.Laws.FitCounts.{lowest-to-come, users-go-on, no-users-left}
-use Rattle.witness.proofs.counts.change_for_users.Statement.{statement}
-use Rattle.witness.proofs.counts.change_for_users.Tie as tie
+use Rattle.witness.specs.Laws.FitCounts.{lowest-to-come, words-go-on, no-words-left}
+use Rattle.witness.proofs.counts.change_in_words.Statement.{statement}
+use Rattle.witness.proofs.counts.change_in_words.Tie as tie
 
 abbrev Inv-loop : tie.InvT-loop
 Inv-loop counts₀ change rows left these j some from w₀ counts w =
-    Changing change (of-users left j some) (of-users left j w) (fit-count rows (these .user .0) (these .word)) counts₀
+    Changing change (of-words left j some) (of-words left j w) (fit-count rows (these .at) (these .word)) counts₀
     counts
 
 abbrev μ-loop : tie.MeasureT-loop
@@ -21,13 +21,12 @@ abbrev μ-loop : tie.MeasureT-loop
 loop-holds : tie.Need-loop-holds Inv-loop μ-loop
 loop-holds c = change-starts _ _ _ _
 
-add-u : tie.Need-add-u Inv-loop μ-loop
+add-m : tie.Need-add-m Inv-loop μ-loop
 unfolding user-limit row-words
-add-u c = omega (arith, c .lowest .ensures .within)
+add-m c = omega (arith, c .lowest .ensures .within)
 
-change-for-user-requires : tie.Need-change-for-user-requires Inv-loop μ-loop
-unfolding user-limit row-words
-change-for-user-requires c κs =
+change-in-word-requires : tie.Need-change-in-word-requires Inv-loop μ-loop
+change-in-word-requires c κs =
     let at-loop = c .before .before .before in
     let start = at-loop .before in
     let at = at-loop .loop in
@@ -44,20 +43,19 @@ loop-less : tie.Need-loop-less Inv-loop μ-loop
 loop-less c = c .without-lowest .ensures .less
 
 loop-again : tie.Need-loop-again Inv-loop μ-loop
-unfolding user-limit row-words
 loop-again c =
     let at-loop = c .before .before .before .before .before in
     let at = at-loop .loop in
-    users-go-on (at-loop .before .args .left .now) _ (at .inv) (c .before .before .before .lowest .ensures)
-    (c .without-lowest .ensures) (c .before .change-for-user .ensures)
+    words-go-on (at-loop .before .args .left .now) _ (at .inv) (c .before .before .before .lowest .ensures)
+    (c .without-lowest .ensures) (c .before .change-in-word .ensures)
 
 returns : tie.Need-returns Inv-loop μ-loop
 returns c =
     let a = c .before .before .args in
-    change-ends (rw (c .loop-test .left) at (c .before .loop .inv)) (no-users-left (a .left .now) (a .j))
+    change-ends (rw (c .loop-test .left) at (c .before .loop .inv)) (no-words-left (a .left .now) (a .j))
 
-pub change-for-users-spec : {M : Type 1} → statement M
+pub change-in-words-spec : {M : Type 1} → statement M
 unfolding user-limit row-words
-change-for-users-spec =
-    tie.close (tie.spec Inv-loop μ-loop (λ c. omega arith) loop-holds (λ c κs. omega arith) add-u
-    change-for-user-requires (λ c κs. omega arith) loop-less loop-again returns)
+change-in-words-spec =
+    tie.close (tie.spec Inv-loop μ-loop (λ c. omega arith) loop-holds (λ c κs. omega arith) add-m
+    change-in-word-requires (λ c κs. omega arith) loop-less loop-again returns)
