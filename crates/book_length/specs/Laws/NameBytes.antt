@@ -1,5 +1,5 @@
--- The names of a sheet are the bytes between their places, and short; a role's name has two bytes up to `R9`, three up
--- to `R99` and four up to `R999`.
+-- The names of a sheet are the bytes between their places, and short; a role's name has two bytes up to `R9`, three
+-- up to `R99` and four up to `R999`.
 use Prim.Native.Nat.{ℕ, zero, suc, _+_, _-_, _*_, _/_, _≤_, _<_}
 use native.Mathlib.Nat.{add-zero, suc-mul}
 use native.Mathlib.Omega.{arith}

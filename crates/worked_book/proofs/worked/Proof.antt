@@ -18,5 +18,5 @@ print-requires c κs = (omega arith, grant-cells-elim _ _ refl)
 pub worked-spec : {M : Type 1} → statement M
 worked-spec =
     tie.close (tie.spec (λ c. search needs) (λ c. search needs) (λ c. search needs) (λ c. search needs)
-    (λ c. search needs) (λ c. search needs) (λ c. search needs) (λ c. search needs) print-requires
-    (λ c. search needs))
+    (λ c. search needs) (λ c. search needs) (λ c. search needs) (λ c. search needs) (λ c. search needs)
+    (λ c. search needs) print-requires (λ c. search needs))
