@@ -68,7 +68,14 @@ fn show_long_counts() {
     show_zeros(b"a book of 65536 bytes", b"2", 65_403, b",2,");
     show_zeros(b"a book of 131072 bytes", b"2", 130_939, b",2,");
     show_long(b"71 witness lines", b"bo,map\n", b"", b"bo,map\n", 70, b"");
-    show_long(b"135 witness lines", b"bo,map\n", b"", b"bo,map\n", 134, b"");
+    show_long(
+        b"135 witness lines",
+        b"bo,map\n",
+        b"",
+        b"bo,map\n",
+        134,
+        b"",
+    );
 }
 
 // The book of document 01 with zeros in its counts, behind one text and before another.

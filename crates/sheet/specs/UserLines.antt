@@ -1,4 +1,5 @@
--- The lines of users one after the other, their names at noted places and their cells in rows of words. Assumes nothing.
+-- The lines of users one after the other, their names at noted places and their cells in rows of words. Assumes
+-- nothing.
 use Prim.Native.Nat.{ℕ, _*_, _≤_, _<_}
 use mathlib.Core.Path.{_≡_}
 use mathlib.Core.Bool.{Bool}

@@ -39,7 +39,7 @@ fn cells_set(rows: &[u64], row: usize) -> usize
     n
 }
 
-// Reads the lines from a place on, each with so many cells, and notes where the names stand and the rows of the cells.
+// Reads the lines from a place on, each with so many cells, and notes where the names stand and which cells are set.
 pub fn read_user_lines<'a>(
     s: &[u8],
     start: usize,

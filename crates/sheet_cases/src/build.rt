@@ -1,9 +1,8 @@
 // Sheets of any size, built in a lent buffer. What would stand past the buffer's end is dropped.
 ghost use Prim.Native.Nat.{_≤_};
 
-// A sheet of as many users and permissions as asked, whose first cells say yes, as many as there are to be grants. The
-// names of its first users are a byte longer than the others, as many as there are to be longer names. Answers its
-// length.
+// A sheet of as many users and permissions as asked, whose first cells say yes, as many as there are to be grants.
+// The names of its first users have a byte more, as many as there are to be longer names. Answers its length.
 pub fn build(
     out: &mut [u8],
     users: usize,

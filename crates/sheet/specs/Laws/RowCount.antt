@@ -1,7 +1,6 @@
 -- How many cells of a row of words are set, for any number of words: they are counted word by word, and cells past a
 -- width behind which none is set add nothing. Assumes nothing.
 use Prim.Native.Nat.{ℕ, _+_, _-_, _*_, _≤_, _<_}
-use native.Mathlib.Nat.{add-mul}
 use native.Mathlib.Omega.{arith}
 use mathlib.Core.Path.{_≡_, ap, _∙_}
 use mathlib.Core.Bool.{Bool, false}

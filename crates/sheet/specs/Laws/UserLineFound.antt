@@ -7,7 +7,7 @@ use mathlib.Core.Bool.{Bool, So, _&&_}
 use mathlib.Core.List.{List, [], _∷_, _++_, append-assoc}
 use borrow.Author.Tests.{lt-ltb, eq-eqb}
 use lib.Dec.{eqb, ltb}
-use lib.ListN.{length, getD, drop, length-append, length-drop}
+use lib.ListN.{length, getD, drop, length-drop}
 use lib.Seq.{getD-drop}
 use Rattle.spec.specs.Text.{Bytes, comma, line-feed}
 use Rattle.spec.specs.Sheet.{cell-text}

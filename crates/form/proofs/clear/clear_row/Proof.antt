@@ -3,7 +3,6 @@ use Prim.Native.Nat.{_+_, _-_, _*_, _≤_, _<_}
 use native.Mathlib.Omega.{arith}
 use mathlib.Core.Path.{_≡_, refl, _∙_}
 use lib.ListN.{length, length-set}
-use Rattle.bits.specs.Bit.{word-bits}
 use Rattle.cell_rows.specs.Rows.{row-words, row-bits}
 use Rattle.cell_rows.specs.Laws.Width.{row-inside}
 use Rattle.form.specs.RowCleared.{ClearedBelow, cleared-more}

@@ -15,7 +15,8 @@ use Rattle.cells_read.specs.RowCells.{CellsRead}
 use Rattle.sheet.specs.Spelled.{name-read}
 use Rattle.sheet.specs.UserLine.{Spells}
 use Rattle.sheet.specs.Laws.Spelled.{read-or-not, name-stands}
-use Rattle.sheet.specs.Laws.UserLineFound.{line-name-found, cells-found, line-feed-found, cells-end, line-stands}
+use Rattle.sheet.specs.Laws.UserLineFound.{line-name-found, cells-found, line-feed-found, cells-end}
+use Rattle.sheet.specs.Laws.UserLineFound.{line-stands}
 use Rattle.sheet.specs.declared.spelled.NameRead.the-variants.{Name}
 use Rattle.sheet.proofs.user_line.read_user_line.Statement.{statement}
 use Rattle.sheet.proofs.user_line.read_user_line.Tie as tie

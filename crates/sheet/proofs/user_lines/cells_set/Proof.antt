@@ -68,6 +68,6 @@ pub cells-set-spec : {M : Type 1} → statement M
 unfolding count-below row-words
 cells-set-spec =
     tie.close (tie.spec Inv-loop μ-loop (λ c. search needs) (λ c. omega (arith, word-there c))
-    (λ c. omega (arith, word-there c)) (λ c. omega (arith, word-there c)) (λ c. word-there (c .before)) (λ c κs. search needs) add-n
-    (λ c. omega (arith, c .before .before .loop-test .taken)) (λ c. omega (arith, c .before .before .loop-test .taken))
-    loop-again returns)
+    (λ c. omega (arith, word-there c)) (λ c. omega (arith, word-there c)) (λ c. word-there (c .before))
+    (λ c κs. search needs) add-n (λ c. omega (arith, c .before .before .loop-test .taken))
+    (λ c. omega (arith, c .before .before .loop-test .taken)) loop-again returns)

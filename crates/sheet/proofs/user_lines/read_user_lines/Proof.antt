@@ -71,7 +71,8 @@ found c = c .before .line .given .0 .0
 
 line : (c : tie.After-known-told Inv-loop μ-loop) → LineOf (reading c) (Line (found c))
 line c =
-    subst (λ (r : UserLineRead). LineOf (reading c) r) (c .before .line .given .1) (reading c .read-user-line .ensures)
+    let read = reading c in
+    subst (λ (r : UserLineRead). LineOf read r) (c .before .line .given .1) (read .read-user-line .ensures)
 
 -- with a name that is noted
 abbrev told : tie.After-cells-set Inv-loop μ-loop → tie.After-known-told Inv-loop μ-loop
