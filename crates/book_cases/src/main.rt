@@ -19,7 +19,7 @@ use show::show_long;
 use show::show_long_sheet;
 
 // Room for the cases.
-const SPACE: usize = 16_384;
+const SPACE: usize = 32_768;
 
 fn main() {
     let mut space = [0u8; SPACE];
@@ -31,7 +31,7 @@ fn main() {
 fn show_all(cases: &[u8]) {
     let own = show_cases(Damages::Book, cases, 0);
     let sheets = show_cases(Damages::Nothing, cases, own);
-    show_long_sheet(b"a sheet of 40961 bytes", 40_961);
+    show_long_sheet(b"a sheet of 65537 bytes", 65_537);
     let others = show_cases(Damages::Sheet, cases, sheets);
     let lines = show_cases(Damages::Nothing, cases, others);
     let counts = show_lines(cases, lines);
@@ -55,7 +55,7 @@ fn show_lines(cases: &[u8], at: usize) -> usize {
 // Damaged and wrong counts, and damaged witness lines. Answers where the next group starts.
 fn show_counts(cases: &[u8], at: usize) -> usize {
     let witness = show_cases(Damages::Book, cases, at);
-    show_zeros(b"a book of 65537 bytes", b"2", 65_404, b",2,");
+    show_zeros(b"a book of 131073 bytes", b"2", 130_940, b",2,");
     let wrong = show_cases(Damages::Book, cases, witness);
     let bounds = show_cases(Damages::Book, cases, wrong);
     let long = show_cases(Damages::Book, cases, bounds);
@@ -66,7 +66,16 @@ fn show_long_counts() {
     show_zeros(b"roles of 60000 digits", b"2", 59_999, b",2,");
     show_zeros(b"a bound of 60000 digits", b"2,2", 59_999, b",");
     show_zeros(b"a book of 65536 bytes", b"2", 65_403, b",2,");
+    show_zeros(b"a book of 131072 bytes", b"2", 130_939, b",2,");
     show_long(b"71 witness lines", b"bo,map\n", b"", b"bo,map\n", 70, b"");
+    show_long(
+        b"135 witness lines",
+        b"bo,map\n",
+        b"",
+        b"bo,map\n",
+        134,
+        b"",
+    );
 }
 
 // The book of document 01 with zeros in its counts, behind one text and before another.

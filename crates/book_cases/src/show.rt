@@ -11,7 +11,7 @@ ghost use Prim.Native.Nat.{_≤_};
 ghost use lib.ListN.{length};
 
 // Room for a book above the limit.
-const SPACE: usize = 66_000;
+const SPACE: usize = 132_000;
 
 // What a case damages: the book of document 01, its sheet, or nothing, where it has a sheet and a book of its own.
 pub enum Damages {

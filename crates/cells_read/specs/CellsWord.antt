@@ -8,6 +8,8 @@ use lib.Dec.{eqb}
 use lib.ListN.{length, getD}
 use Rattle.spec.specs.Text.{Bytes, comma}
 use Rattle.bits.specs.Bit.{bit}
+use Rattle.lists.specs.Listed.{listed}
+use Rattle.cell_text.specs.CellsText.{cell-field}
 use Rattle.cells_read.specs.declared.line_cells.CellsWord.{CellsWord}
 
 -- the byte of a cell
@@ -18,6 +20,10 @@ cell-byte false = code "0"
 -- two bytes are a comma and `0` or `1`
 abbrev pub cell-stands : ℕ → ℕ → Bool
 cell-stands before b = eqb before comma && (eqb b (cell-byte false) || eqb b (cell-byte true))
+
+-- so many cells, each behind a comma
+abbrev pub cells-text : ℕ → (ℕ → Bool) → Bytes
+cells-text count ones = listed count (λ i. cell-field (ones i))
 
 -- so many cells stand in the text from a place on, and `ones` says which are `1`
 pub record CellsStand (text : Bytes) (at count : ℕ) (ones : ℕ → Bool) : Type 0 where

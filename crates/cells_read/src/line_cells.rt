@@ -1,4 +1,4 @@
-// The cells of a line as one word.
+// Cells of a line, as many as a word has positions at most, as one word.
 use crate::four_cells::fours_word;
 use text::COMMA;
 ghost use mathlib.Core.Path.{_≡_};

@@ -1,3 +1,3 @@
 -- The laws behind what contracts cite.
-pub mod RoleLimit
+pub mod RowWithin
 pub mod Placed

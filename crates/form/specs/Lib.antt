@@ -1,7 +1,6 @@
--- Lines of a book: the cells of a row, a line of a name and cells, and the parts of which a book is made.
+-- Lines of a book: a row cleared, a line of a name and cells, and the parts of which a book is made.
 pub mod Pieces
-pub mod RowGrown
-pub mod CellSteps
+pub mod RowCleared
 pub mod LineSteps
 pub mod RowSteps
 pub mod Laws

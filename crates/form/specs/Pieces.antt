@@ -13,15 +13,11 @@ use Rattle.spec.specs.Decimal.{decimal}
 use Rattle.spec.specs.Book.{standing-word, role-name, Block, Said, counts-block, roles-block, users-block}
 use Rattle.spec.specs.Book.{witness-line, witness-block, blocks-saying, book-text}
 use Rattle.lists.specs.Listed.{listed, listed-same}
-use Rattle.cell_text.specs.CellsText.{cell-field}
+use Rattle.cells_read.specs.CellsWord.{cells-text}
 use Rattle.text.specs.Line.{behind-comma, line-end}
 use Rattle.text.specs.Laws.Line.{line-parts, block-parts, four-blocks}
 
 -- ---- lines
-
--- cells behind a name
-abbrev pub cell-fields : ℕ → (ℕ → Bool) → Bytes
-cell-fields count cell = listed count (λ i. cell-field (cell i))
 
 -- names of roles behind a word
 abbrev pub role-fields : ℕ → Bytes
@@ -29,7 +25,7 @@ role-fields count = listed count (λ r. behind-comma (role-name r))
 
 -- a line of a name and cells
 abbrev pub named-text : Bytes → ℕ → (ℕ → Bool) → Bytes
-named-text name count cells = name ++ (cell-fields count cells ++ line-end)
+named-text name count cells = name ++ (cells-text count cells ++ line-end)
 
 -- such lines by number
 abbrev pub named-texts : (ℕ → Bytes) → ℕ → (ℕ → ℕ → Bool) → ℕ → Bytes
@@ -79,7 +75,7 @@ counts-in-parts count bound standing = simp append-assoc
 named-in-parts : (name : Bytes) (count : ℕ) (cells : ℕ → Bool)
     → line-text (name ∷ list-of count (λ i. cell-text (cells i))) ≡ named-text name count cells
 named-in-parts name count cells =
-    line-parts name count (λ i. cell-text (cells i)) ∙ append-assoc name (cell-fields count cells) line-end
+    line-parts name count (λ i. cell-text (cells i)) ∙ append-assoc name (cells-text count cells) line-end
 
 -- a block of such lines
 block-in-parts : (heading : Line) (name : ℕ → Bytes) (width : ℕ) (cells : ℕ → ℕ → Bool) (count : ℕ)

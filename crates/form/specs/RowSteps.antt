@@ -15,11 +15,11 @@ use Rattle.cell_rows.specs.Rows.{row-words, row-bits, cell}
 use Rattle.cells.specs.Laws.MadeCells.{getD-zeros}
 use Rattle.text.specs.Line.{line-end}
 use Rattle.cell_text.specs.CellsText.{cell-field}
+use Rattle.cells_read.specs.RowGrown.{Blank}
 use Rattle.steps.specs.Stands.{Stands}
 use Rattle.steps.specs.Laws.Stands.{stands-nothing}
 use Rattle.steps.specs.Laws.Step.{stands-more}
 use Rattle.form.specs.Pieces.{named-text, named-texts}
-use Rattle.form.specs.RowGrown.{Blank}
 use Rattle.form.specs.LineSteps.{LineRead}
 
 -- no row has a cell set

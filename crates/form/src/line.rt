@@ -1,13 +1,13 @@
 // A line of a name and cells.
-use crate::row_cells::clear_row;
-use crate::row_cells::read_cells;
+use crate::clear::clear_row;
+use cells_read::read_cells;
 use steps::Step;
 use steps::expect;
 use steps::expect_byte;
 ghost use Prim.Native.Nat.{_+_, _*_, _≤_};
 ghost use lib.ListN.{length};
 ghost use Rattle.cell_rows.specs.Rows.{row-words, row-bits};
-ghost use Rattle.form.specs.RowGrown.{Blank};
+ghost use Rattle.cells_read.specs.RowGrown.{Blank};
 ghost use Rattle.form.specs.LineSteps.{LineReads};
 
 // Reads the line of this name and so many cells into a row that has none set, and where it does not stand leaves the

@@ -20,8 +20,8 @@ use Rattle.bits.specs.Bit.{bit, word-bits}
 use Rattle.bits.specs.Laws.Bit.{bit-of-zero, bit-and}
 use Rattle.bits.specs.Word.{LowestDropped}
 use Rattle.cell_rows.specs.Rows.{row-words, row-bits, cell}
-use Rattle.form.specs.Laws.RoleLimit.{row-within}
-use Rattle.form.specs.RowGrown.{in-word}
+use Rattle.form.specs.Laws.RowWithin.{row-within}
+use Rattle.cell_rows.specs.RowWords.{in-word}
 use Rattle.judging.specs.ProductWords.{gives-bit, GivenWord}
 
 -- the roles of a user at the positions of word j, of which only those below a number count

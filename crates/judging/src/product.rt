@@ -1,6 +1,6 @@
 // Whether the product of the two matrices is the sheet.
 use bits::WORD_BITS;
-use form::cells_in_word;
+use cell_rows::cells_in_word;
 use numbers::ROW_WORDS;
 use numbers::RoleNo;
 use numbers::UserNo;

@@ -17,7 +17,7 @@ use Rattle.steps.specs.Laws.Stands.{stands-then}
 use Rattle.steps.specs.Laws.Step.{misses-first, misses-second, misses-after, misses-next}
 use Rattle.form.specs.Pieces.{named-text, named-texts, users-heading, users-part}
 use Rattle.form.specs.LineSteps.{named-aligned}
-use Rattle.form.specs.RowGrown.{Blank}
+use Rattle.cells_read.specs.RowGrown.{Blank}
 use Rattle.form.specs.RowSteps.{AllBlank, LinesBelow}
 
 -- the lines of all users

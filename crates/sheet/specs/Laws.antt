@@ -1,6 +1,7 @@
 -- The laws behind what contracts cite.
 pub mod Spelled
 pub mod UserLineFound
+pub mod RowCount
 pub mod UserLines
 pub mod UserLinesFound
 pub mod FirstLine

@@ -2,11 +2,18 @@
 ghost use Prim.Native.Nat.{_≤_};
 
 // A sheet of as many users and permissions as asked, whose first cells say yes, as many as there are to be grants.
-// Answers its length.
-pub fn build(out: &mut [u8], users: usize, permissions: usize, grants: usize) -> usize {
+// The names of its first users have a byte more, as many as there are to be longer names. Answers its length.
+pub fn build(
+    out: &mut [u8],
+    users: usize,
+    permissions: usize,
+    grants: usize,
+    longer: usize,
+) -> usize {
     let mut at = put_head(out, permissions);
     let mut left = grants;
     for u in 0..users {
+        at = put_longer(out, at, u < longer);
         let ones = least(left, permissions);
         at = put_user(out, at, u, permissions, ones);
         left -= ones;
@@ -29,6 +36,14 @@ fn put_head(out: &mut [u8], permissions: usize) -> usize {
         at = put_name(out, at, b'p', p);
     }
     put(out, at, b'\n')
+}
+
+// The byte before a name that is to be longer.
+fn put_longer(out: &mut [u8], at: usize, longer: bool) -> usize {
+    if longer {
+        return put(out, at, b'x');
+    }
+    at
 }
 
 // The line of user u, with as many cells as permissions, the first of them ones.

@@ -8,14 +8,21 @@ use numbers::SHEET_LIMIT;
 use show::show;
 use show::show_built;
 use show::show_each;
+use show::show_longer;
 
 fn main() {
     show_built(b"64 permissions", 2, 64, 100);
     show_built(b"65 permissions", 2, 65, 100);
+    show_built(b"128 permissions", 2, 128, 200);
+    show_built(b"129 permissions", 2, 129, 200);
     show_built(b"256 users", 256, 3, 500);
     show_built(b"257 users", 257, 3, 500);
     show_built(b"2048 grants", 256, 64, 2048);
     show_built(b"2049 grants", 256, 64, 2049);
+    show_built(b"2048 grants of 16 users", 16, 128, 2048);
+    show_built(b"2049 grants of 17 users", 17, 128, 2049);
+    show_longer(b"65536 bytes", 256, 124, 2048, 143);
+    show_longer(b"65537 bytes", 256, 124, 2048, 144);
     long_name();
     accepted_or_not();
     each_number();
@@ -27,10 +34,10 @@ fn main() {
 fn long_name() {
     let mut longest = [b'a'; SHEET_LIMIT];
     longest[SHEET_LIMIT - 1] = b'\n';
-    show(b"40960 bytes of one name", &longest);
+    show(b"65536 bytes of one name", &longest);
     let mut longer = [b'a'; SHEET_LIMIT + 1];
     longer[SHEET_LIMIT] = b'\n';
-    show(b"40961 bytes of one name", &longer);
+    show(b"65537 bytes of one name", &longer);
 }
 
 fn accepted_or_not() {

@@ -2,14 +2,23 @@
 use crate::build::build;
 use libc::STDOUT_FILENO;
 use numbers::CELL_WORDS;
+use numbers::SHEET_LIMIT;
 use sheet::SheetRead;
 ghost use Prim.Native.Nat.{_<_, _≤_};
 ghost use lib.ListN.{length};
 
+// Room for a sheet above the limit.
+const SPACE: usize = SHEET_LIMIT + 1;
+
 // Judges a sheet of as many users, permissions and grants as asked.
 pub fn show_built(label: &[u8], users: usize, permissions: usize, grants: usize) {
-    let mut space = io::large_buffer();
-    let n = build(&mut space, users, permissions, grants);
+    show_longer(label, users, permissions, grants, 0);
+}
+
+// Judges such a sheet in which as many names of users as asked are a byte longer.
+pub fn show_longer(label: &[u8], users: usize, permissions: usize, grants: usize, longer: usize) {
+    let mut space = [0u8; SPACE];
+    let n = build(&mut space, users, permissions, grants, longer);
     if n <= space.len() {
         show(label, &space[..n]);
     }

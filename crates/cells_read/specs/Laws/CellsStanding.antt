@@ -11,14 +11,10 @@ use lib.Seq.{getD-drop, getD-at}
 use Rattle.spec.specs.Text.{Bytes, comma}
 use Rattle.spec.specs.Sheet.{cell-text}
 use Rattle.bits.specs.Laws.Below.{last-or-below}
-use Rattle.lists.specs.Listed.{listed, listed-suc, listed-even}
-use Rattle.cells_read.specs.CellsWord.{cell-byte, CellsStand}
+use Rattle.lists.specs.Listed.{listed-suc, listed-even}
+use Rattle.cells_read.specs.CellsWord.{cell-byte, cells-text, CellsStand}
 use Rattle.steps.specs.Stands.{Stands}
 use Rattle.steps.specs.Laws.Stands.{stands-nothing, stands-then, stands-byte}
-
--- so many cells, each behind a comma
-abbrev pub cells-text : ℕ → (ℕ → Bool) → Bytes
-cells-text count ones = listed count (λ i. comma ∷ cell-text (ones i))
 
 -- a cell is one byte
 pub cell-is-byte : (b : Bool) → cell-text b ≡ cell-byte b ∷ []

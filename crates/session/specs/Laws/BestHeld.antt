@@ -21,7 +21,7 @@ use Rattle.cover.specs.CoverPlaced.{Placed}
 use Rattle.roles.specs.RolesInput.{Belongs}
 use Rattle.roles.specs.Laws.ReducedBelongs.{reduced-belongs}
 use Rattle.blocks.specs.Laws.Laid.{few-users}
-use Rattle.form.specs.Laws.RoleLimit.{permissions-fit-a-row}
+use Rattle.cell_rows.specs.Laws.Width.{permissions-fit}
 use Rattle.session.specs.CodeSession.{text-in, size-in, state-in, Holds}
 use Rattle.kept.specs.BestOf.{best-classes}
 use Rattle.session.specs.Laws.MovedOn.{state-within}
@@ -62,7 +62,7 @@ module _ {s : CodeSession} (h : Holds s) where
 
   few-roles : roles-of (sheet-of (text-in s)) (state-in s .best) .count ≤ row-bits
   unfolding role-count
-  few-roles = omega (arith, roles-held h, few-roles-held h, permissions-fit-a-row)
+  few-roles = omega (arith, roles-held h, few-roles-held h, permissions-fit)
 
   module _ (best : length (s .position .best) ≡ search-limit) where
     -- the array has a class for each grant of the kernel

@@ -19,7 +19,7 @@ use Rattle.book_length.specs.BookRows.{rows-book, rows-book-in}
 use Rattle.blocks.specs.Laws.Laid.{permissions-fit}
 use Rattle.book_lines.specs.RowsSaid.{GrantCells}
 use Rattle.book_lines.specs.declared.counts.Counts.{Counts}
-use Rattle.form.specs.Laws.RoleLimit.{permissions-fit-a-row}
+use Rattle.cell_rows.specs.Laws.Width.{permissions-fit}
 use Rattle.session.specs.CodeSession.{text-in, state-in, Holds}
 use Rattle.session.specs.Laws.Counted.{CountsIn}
 use Rattle.session.specs.Laws.CountsHeld.{roles-held, few-roles-held}
@@ -52,7 +52,7 @@ module _ {s : CodeSession} (h : Holds s) where
   module _ {counts : Counts} (counted : CountsIn s counts) where
     -- a role has a place in a row of words
     pub room-for-roles : counts .roles ≤ row-bits
-    room-for-roles = omega (arith, counted .roles, roles-held h, few-roles-held h, permissions-fit-a-row)
+    room-for-roles = omega (arith, counted .roles, roles-held h, few-roles-held h, permissions-fit)
 
     -- what is written is the book
     pub book-held : {has gives : List ℕ} {count : ℕ}

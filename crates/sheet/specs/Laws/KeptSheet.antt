@@ -12,11 +12,10 @@ use Rattle.spec.specs.Limits.{sheet-limit, permission-limit, user-limit, grant-
 use Rattle.spec.specs.Text.{ascii, Bytes, Line, line-text, text-of, same-name}
 use Rattle.spec.specs.Sheet.{Sheet, sheet-of, grants}
 use Rattle.spec.specs.Rules.{Name, Keeps, user-lines, sheet-text}
-use Rattle.bits.specs.Bit.{bit}
 use Rattle.lists.specs.TestLaws.{same-bytes-refl}
 use Rattle.lists.specs.SameLaws.{distinct-places}
 use Rattle.lists.specs.ListOfLaws.{length-list-of, list-of-element}
-use Rattle.cell_rows.specs.Rows.{row-words}
+use Rattle.cell_rows.specs.Rows.{row-words, cell}
 use Rattle.cells.specs.Laws.WordRows.{word-row, word-rows, word-lines, word-grants}
 use Rattle.places.specs.Places.{from-at, to-at, Part, NamesPlaced}
 use Rattle.names.specs.NamesAt.{name-there, names-at}
@@ -107,11 +106,7 @@ module _ (text : Bytes) (n : Notes) (s : LinesStand text n) where
       (name-there text (n .permissions))
 
   pub noted-grants : length (grants (noted text n)) ≡ n .counts .grants
-  unfolding permission-limit
-  noted-grants =
-      word-grants (n .counts .users) (n .counts .permissions) (n .words) (s .first .few)
-      (λ u l. s .lines .each u l .narrow)
-      ∙ sym (s .lines .counted)
+  noted-grants = word-grants (n .counts .users) (n .counts .permissions) (n .words) ∙ sym (s .lines .counted)
 
   -- the text is that sheet's
   pub noted-written : SheetWritten text (noted text n)
@@ -120,7 +115,7 @@ module _ (text : Bytes) (n : Notes) (s : LinesStand text n) where
         written = bytes;
         permissions-named = named-at text (n .permissions) (n .counts .permissions) (s .first .each);
         users-named = named-at text (n .users) (n .counts .users) (λ u l. s .lines .each u l .name);
-        a-row-each = length-list-of (n .counts .users) (λ u. word-row (n .counts .permissions) (getD (n .words) u 0))
+        a-row-each = length-list-of (n .counts .users) (word-row (n .counts .permissions) (n .words))
             ∙ sym noted-users;
       }
 
@@ -130,8 +125,8 @@ module _ (text : Bytes) (n : Notes) (s : LinesStand text n) where
 even-rows : (text : Bytes) (n : Notes) → LinesStand text n → (row : List Bool) → List·Memᴰ row (noted text n .rows)
     → length row ≡ length (noted text n .permissions)
 even-rows text n s row m =
-    let r = list-of-element (n .counts .users) (λ u. word-row (n .counts .permissions) (getD (n .words) u 0)) m in
-    sym (ap length (r .there)) ∙ length-list-of (n .counts .permissions) (bit (getD (n .words) (r .place) 0))
+    let r = list-of-element (n .counts .users) (word-row (n .counts .permissions) (n .words)) m in
+    sym (ap length (r .there)) ∙ length-list-of (n .counts .permissions) (cell (n .words) (r .place))
     ∙ sym (noted-permissions text n s)
 
 -- within the limits and with no name twice it keeps all rules

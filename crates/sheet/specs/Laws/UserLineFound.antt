@@ -4,24 +4,27 @@ use native.Mathlib.Omega.{arith}
 use native.Mathlib.Numerals.{add-one}
 use mathlib.Core.Path.{_≡_, refl, sym, ap, _∙_}
 use mathlib.Core.Bool.{Bool, So, _&&_}
-use mathlib.Core.List.{[], _∷_, _++_, append-assoc}
+use mathlib.Core.List.{List, [], _∷_, _++_, append-assoc}
 use borrow.Author.Tests.{lt-ltb, eq-eqb}
 use lib.Dec.{eqb, ltb}
-use lib.ListN.{length, getD, drop, length-append, length-drop}
+use lib.ListN.{length, getD, drop, length-drop}
 use lib.Seq.{getD-drop}
 use Rattle.spec.specs.Text.{Bytes, comma, line-feed}
 use Rattle.spec.specs.Sheet.{cell-text}
 use Rattle.bits.specs.Truth.{and-intro}
-use Rattle.bits.specs.Bit.{bit}
+use Rattle.cell_rows.specs.Rows.{cell}
 use Rattle.places.specs.Places.{part}
 use Rattle.text.specs.Line.{separator}
-use Rattle.cells_read.specs.CellsWord.{CellsStand, CellsIn}
-use Rattle.cells_read.specs.Laws.CellsStanding.{cells-text, cells-length, cells-stand, stands-cells}
+use Rattle.cells_read.specs.CellsWord.{cells-text}
+use Rattle.cells_read.specs.RowCells.{RowRead}
+use Rattle.cells_read.specs.Laws.CellsStanding.{cells-length}
 use Rattle.text.specs.Laws.Line.{line-parts}
 use Rattle.sheet.specs.Laws.FirstLine.{fields-text}
 use Rattle.sheet.specs.Spelled.{name-read}
 use Rattle.sheet.specs.UserLine.{Spells, LineStands}
+use Rattle.steps.specs.Steps.{Misses}
 use Rattle.steps.specs.Laws.Stands.{stands-then, stands-found, stands-part}
+use Rattle.steps.specs.Laws.Step.{stands-place}
 use Rattle.sheet.specs.Laws.Spelled.{behind, name-stands, name-found}
 use Rattle.sheet.specs.declared.spelled.NameRead.the-variants.{Name}
 
@@ -64,17 +67,8 @@ module _ (text : Bytes) (at width : ℕ) (name : Bytes) (ones : ℕ → Bool) (r
   behind-name : drop (at + length name) text ≡ cells-text width ones ++ line-feed ∷ rest
   behind-name = behind text at name (cells-text width ones ++ line-feed ∷ rest) in-parts
 
-  name-within : at + length name ≤ length text
-  name-within = omega (
-    arith,
-    ap length in-parts,
-    length-append name (cells-text width ones ++ line-feed ∷ rest),
-    length-drop at text,
-    line .within,
-  )
-
-  pub line-cells-stand : CellsStand text (at + length name) width ones
-  line-cells-stand = cells-stand text (at + length name) width ones (line-feed ∷ rest) name-within behind-name
+  pub cells-found : (to : ℕ) → to ≡ at + length name → Misses text to (cells-text width ones) → ⊥
+  cells-found to e none = none .misses (line-feed ∷ rest) (rw e behind-name)
 
   behind-cells : drop (at + length name + 2 * width) text ≡ line-feed ∷ rest
   behind-cells =
@@ -88,22 +82,29 @@ module _ (text : Bytes) (at width : ℕ) (name : Bytes) (ones : ℕ → Bool) (r
   pub behind-line : drop (at + length name + 2 * width + 1) text ≡ rest
   behind-line = behind text (at + length name + 2 * width) (line-feed ∷ []) rest behind-cells
 
+-- cells that were read end two bytes further for each
+pub cells-end : {text : Bytes} {at row width next : ℕ} {words after : List ℕ} → RowRead text at row width words after
+    next
+    → next ≡ at + 2 * width
+cells-end {row = row} {width} {after = after} r =
+    omega (arith, stands-place (r .reads), cells-length width (cell after row))
+
 -- a name, cells and a line feed are such a line
-pub line-stands : (text : Bytes) (at width to word : ℕ) → at ≤ length text → Name to ≡ name-read text at
-    → CellsIn text to width word
-    → So (ltb (to + 2 * width) (length text) && eqb (getD text (to + 2 * width) 0) line-feed)
-    → LineStands text at width (record { to = to; word = word; next = to + 2 * width + 1 })
-line-stands text at width to word h named cells p =
+pub line-stands : {text : Bytes} {at width row to end : ℕ} {words after : List ℕ} → at ≤ length text
+    → Name to ≡ name-read text at → RowRead text to row width words after end
+    → So (ltb end (length text) && eqb (getD text end 0) line-feed)
+    → LineStands text at width row words after (record { to = to; next = end + 1 })
+line-stands {text} {at} {width} {row} {to} {end} {after = after} h named cells p =
     let name = name-stands text at to h named in
     record {
-      user = record { name = name; narrow = cells .beyond };
-      forward = omega (arith, name .forward);
-      stands = rw (add-one, line-parts (part at to text) width (λ i. cell-text (bit word i)))
+      name = name;
+      grown = cells .grown;
+      forward = omega (arith, name .forward, cells .reads .forward);
+      stands = rw (add-one, line-parts (part at to text) width (λ i. cell-text (cell after row i)))
           (stands-then
-          (stands-then (stands-part text at to (omega (arith, name .forward)) (name .within))
-          (stands-cells text to width (bit word) (cells .stand)))
-          (stands-found text (to + 2 * width) line-feed p));
+          (stands-then (stands-part text at to (omega (arith, name .forward)) (name .within)) (cells .reads))
+          (stands-found text end line-feed p));
       behind = λ other ones rest line.
-          (let end : to ≡ at + length other = cc (line-name-found text at width other ones rest line) in
-          rw end (behind-line text at width other ones rest line));
+          (let start : to ≡ at + length other = cc (line-name-found text at width other ones rest line) in
+          rw (cells-end cells, start) (behind-line text at width other ones rest line));
     }

@@ -1,31 +1,35 @@
 -- Reading the lines of users one by one: one more line stands behind those read so far, and what was noted of them
 -- stays. Assumes nothing.
-use Prim.Native.Nat.{ℕ, suc, _+_, _*_, _≤_, _<_}
-use native.Mathlib.Nat.{not-suc-le-zero, ne-of-lt}
+use Prim.Native.Nat.{ℕ, suc, _+_, _*_, _/_, _%_, _≤_, _<_}
+use native.Mathlib.Nat.{not-suc-le-zero, ne-of-lt, le-trans, le-add-right, add-mul}
 use native.Mathlib.Omega.{arith}
 use native.Mathlib.Numerals.{add-one}
 use mathlib.Core.Path.{_≡_, refl, sym, ap, subst, _∙_}
 use mathlib.Core.Logic.{⊎-elim}
 use mathlib.Core.List.{List, [], _∷_, _++_, append-assoc, append-nil}
-use lib.ListN.{length, getD, drop, set, replicate, length-set, length-replicate}
-use lib.Seq.{getD-set-same, getD-set-other, drop-at, drop-append-le}
+use lib.ListN.{length, getD, drop, replicate, length-set, length-replicate}
+use lib.Seq.{drop-at, drop-append-le}
 use Rattle.spec.specs.Limits.{user-limit}
 use Rattle.spec.specs.Text.{Bytes, Line, line-text, text-of}
+use Rattle.spec.specs.Sheet.{cell-text}
 use Rattle.bits.specs.Counting.{count-below, sum-below}
 use Rattle.bits.specs.Laws.Below.{last-or-below}
-use Rattle.bits.specs.Laws.Count.{count-below-le}
+use Rattle.bits.specs.Laws.Count.{count-below-le, count-below-ext}
 use Rattle.bits.specs.Laws.Sum.{sum-below-ext, sum-below-le}
 use Rattle.bits.specs.Laws.Step.{sum-below-step}
-use Rattle.bits.specs.Bit.{bit, word-bits}
+use Rattle.bits.specs.Bit.{word-bits}
+use Rattle.bits.specs.Laws.Bit.{bit-of-zero}
 use Rattle.text.specs.Laws.Line.{text-append}
 use Rattle.lists.specs.ListOfLaws.{list-of-last, list-of-same, length-list-of}
-use Rattle.cell_rows.specs.Rows.{row-words}
-use Rattle.places.specs.Places.{place-base, place-of, from-at, to-at}
+use Rattle.cell_rows.specs.Rows.{row-words, row-bits, cell}
+use Rattle.cells_read.specs.RowGrown.{Blank}
+use Rattle.places.specs.Places.{place-base, place-of, from-at, to-at, BlankPast}
 use Rattle.places.specs.Laws.Places.{note-place, place-stays, noted-from, noted-to, zero-there, blank-kept}
 use Rattle.steps.specs.Stands.{Stands}
 use Rattle.steps.specs.Laws.Stands.{stands-nothing, stands-then}
 use Rattle.sheet.specs.UserLine.{UserAt, line-of, LineStands}
 use Rattle.sheet.specs.UserLines.{Room, line-at, lines-at, ones-at, LinesNoted}
+use Rattle.sheet.specs.Laws.RowCount.{count-narrow}
 use Rattle.sheet.specs.declared.user_line.UserLine.{UserLine}
 
 -- one line more in a text
@@ -46,35 +50,42 @@ lines-start text start width places words h room =
       stands = stands-nothing text start h;
       starts = λ u l. absurd (not-suc-le-zero l);
       unnoted = room .unnoted;
-      beyond = room .blank;
+      beyond = λ i l. room .blank i (omega arith);
       counted = refl;
     }
 
 -- there are few cells
-pub few-ones : (words : List ℕ) (n : ℕ) → ones-at words n ≤ n * word-bits
-few-ones words n =
-    sum-below-le n word-bits (λ u. count-below word-bits (bit (getD words u 0))) (λ u l. count-below-le word-bits
-    (bit (getD words u 0)))
+pub few-ones : (width : ℕ) (words : List ℕ) (n : ℕ) → width ≤ row-bits → ones-at width words n ≤ n * row-bits
+few-ones width words n h =
+    sum-below-le n row-bits (λ u. count-below width (cell words u)) (λ u l. le-trans (count-below-le width
+    (cell words u)) h)
+
+-- a row behind those read has no cell set
+pub next-blank : (words : List ℕ) (n : ℕ) → BlankPast (n * row-words) words → Blank words n
+next-blank words n beyond =
+    record {
+      none = λ p l. rw (beyond (n * row-words + p / word-bits) (le-add-right (n * row-words) (p / word-bits)))
+          (bit-of-zero (p % word-bits));
+    }
 
 -- one line more
-module _ (text : Bytes) (start width : ℕ) (places words : List ℕ) (n ones at : ℕ)
-    (read : LinesNoted text start width places words n ones at)
-    (small : length text < place-base) (h : n < user-limit) (line : UserLine) (stands : LineStands text at width line)
+module _ (text : Bytes) (start width : ℕ) (places words after : List ℕ) (n ones at : ℕ)
+    (read : LinesNoted text start width places words n ones at) (fits : width ≤ row-bits)
+    (kept : length after ≡ length words)
+    (small : length text < place-base) (h : n < user-limit) (line : UserLine)
+    (stands : LineStands text at width n words after line)
   where
     abbrev noted : List ℕ
     noted = note-place places n at (line .to)
 
-    abbrev worded : List ℕ
-    worded = set words n (line .word)
-
     abbrev new-line : Line
-    new-line = line-of text width at (line .to) (line .word)
+    new-line = line-of text width at (line .to) (cell after n)
 
     room : n < length places
     room = omega (arith, read .places-room)
 
     end : line .to < place-base
-    end = omega (arith, stands .user .name .within)
+    end = omega (arith, stands .name .within)
 
     here-from : from-at noted n ≡ at
     here-from = noted-from places n at (line .to) room end
@@ -82,25 +93,27 @@ module _ (text : Bytes) (start width : ℕ) (places words : List ℕ) (n ones at
     here-to : to-at noted n ≡ line .to
     here-to = noted-to places n at (line .to) room end
 
-    here-word : getD worded n 0 ≡ line .word
-    unfolding row-words
-    here-word = getD-set-same words n (line .word) 0 (omega (arith, read .words-room))
-
     place : (u : ℕ) → u < n → getD noted u 0 ≡ getD places u 0
     place u k = place-stays places n at (line .to) u k
 
-    word : (u : ℕ) → u < n → getD worded u 0 ≡ getD words u 0
-    word u k = getD-set-other words n u (line .word) 0 (ne-of-lt k)
+    cells-stay : (u : ℕ) → u < n → (p : ℕ) → p < row-bits → cell after u p ≡ cell words u p
+    cells-stay u k p l = stands .grown .others u p (ne-of-lt k) l
 
-    lines-grow : lines-at text width noted worded (suc n) ≡ lines-at text width places words n ++ new-line ∷ []
+    line-stays : (u : ℕ) → u < n → line-at text width noted after u ≡ line-at text width places words u
+    line-stays u k =
+        rw (
+          place u k,
+          list-of-same width (λ i. cell-text (cell after u i)) (λ i. cell-text (cell words u i))
+              (λ i l. ap cell-text (cells-stay u k i (omega arith))),
+        )
+
+    lines-grow : lines-at text width noted after (suc n) ≡ lines-at text width places words n ++ new-line ∷ []
     lines-grow =
-        list-of-last n (line-at text width noted worded)
+        list-of-last n (line-at text width noted after)
         ∙ rw (
-          list-of-same n (line-at text width noted worded) (line-at text width places words)
-              (λ u k. rw (place u k, word u k)),
+          list-of-same n (line-at text width noted after) (line-at text width places words) line-stays,
           here-from,
           here-to,
-          here-word,
         )
 
     before-length : length (lines-at text width places words n) ≡ n
@@ -127,34 +140,46 @@ module _ (text : Bytes) (start width : ℕ) (places words : List ℕ) (n ones at
           text-more (drop u (lines-at text width places words n)) new-line,
         )
 
-    user-here : (u : ℕ) → u ≡ n → UserAt text width (from-at noted u) (to-at noted u) (getD worded u 0)
-    user-here u e = rw (e, here-from, here-to, here-word) (stands .user)
+    user-here : (u : ℕ) → u ≡ n → UserAt text width (from-at noted u) (to-at noted u) (cell after u)
+    user-here u e = rw (e, here-from, here-to) (record { name = stands .name; narrow = stands .grown .beyond })
+
+    user-before : (u : ℕ) → u < n → UserAt text width (from-at noted u) (to-at noted u) (cell after u)
+    user-before u k =
+        let user = read .each u k in
+        record {
+          name = rw (place u k) (user .name);
+          narrow = λ p f l. cells-stay u k p l ∙ user .narrow p f l;
+        }
 
     line-here : (u : ℕ) → u ≡ n
         → drop (from-at noted u) text ≡ text-of (drop u (lines-at text width places words n ++ new-line ∷ []))
         ++ drop (line .next) text
     line-here u e = rw (e, here-from) starts-here
 
-    counted-more : ones + count-below word-bits (bit (line .word)) ≡ ones-at worded (suc n)
+    counted-more : ones + count-below row-bits (cell after n) ≡ ones-at width after (suc n)
     counted-more =
         rw (
           ← add-one n,
-          sum-below-step n (λ u. count-below word-bits (bit (getD worded u 0))),
-          here-word,
+          sum-below-step n (λ u. count-below width (cell after u)),
+          count-narrow width row-bits (cell after n) fits (stands .grown .beyond),
           read .counted,
-          sum-below-ext n (λ u. count-below word-bits (bit (getD worded u 0)))
-              (λ u. count-below word-bits (bit (getD words u 0)))
-              (λ u k. rw (word u k)),
+          sum-below-ext n (λ u. count-below width (cell after u)) (λ u. count-below width (cell words u))
+              (λ u k. count-below-ext width (cell after u) (cell words u) (λ p l. cells-stay u k p (omega arith))),
         )
 
-    pub lines-more : LinesNoted text start width noted worded (suc n)
-        (ones + count-below word-bits (bit (line .word))) (line .next)
+    beyond-more : BlankPast (suc n * row-words) after
+    beyond-more i l =
+        let past : (n + 1) * row-words ≤ i = rw (add-one n) l in
+        stands .grown .later i past ∙ read .beyond i (omega (arith, past, add-mul n 1 row-words))
+
+    pub lines-more : LinesNoted text start width noted after (suc n) (ones + count-below row-bits (cell after n))
+        (line .next)
     lines-more =
         record {
           places-room = length-set places n (place-of at (line .to)) ∙ read .places-room;
-          words-room = length-set words n (line .word) ∙ read .words-room;
+          words-room = kept ∙ read .words-room;
           few = h;
-          each = λ u l. ⊎-elim (user-here u) (λ k. rw (place u k, word u k) (read .each u k)) (last-or-below l);
+          each = λ u l. ⊎-elim (user-here u) (user-before u) (last-or-below l);
           stands = subst (λ (l : List Line). Stands text start (text-of l) (line .next)) (sym lines-grow)
               (rw (text-more (lines-at text width places words n) new-line)
               (stands-then (read .stands) (stands .stands)));
@@ -163,7 +188,7 @@ module _ (text : Bytes) (start width : ℕ) (places words : List ℕ) (n ones at
               (sym lines-grow)
               (⊎-elim (line-here u) (λ k. rw (place u k) (starts-before u k)) (last-or-below l));
           unnoted = blank-kept n places (place-of at (line .to)) (read .unnoted);
-          beyond = blank-kept n words (line .word) (read .beyond);
+          beyond = beyond-more;
           counted = counted-more;
         }
 

@@ -71,8 +71,8 @@ module _ (text : Bytes) (start width n at : ℕ) (left : LinesLeft text start wi
 
 -- a line that was read leaves the others
 pub left-next : (text : Bytes) (start width n at : ℕ) → LinesLeft text start width n at → at < length text
-    → (line : UserLine)
-    → LineStands text at width line → LinesLeft text start width (suc n) (line .next)
+    → {words after : List ℕ} (line : UserLine)
+    → LineStands text at width n words after line → LinesLeft text start width (suc n) (line .next)
 left-next text start width n at left h line stands names rows fit e =
     stands .behind (getD names n []) (λ i. getD (getD rows n []) i false)
     (text-of (user-lines (drop (suc n) names) (drop (suc n) rows)))
@@ -80,7 +80,7 @@ left-next text start width n at left h line stands names rows fit e =
 
 -- and where no line was read, the text is made of no such lines
 pub no-line-left : (text : Bytes) (start width n at : ℕ) → LinesLeft text start width n at → at < length text
-    → UserLineReads text at width NoLine → UserLinesReads text start width [] [] NoLines
+    → UserLineReads text at width n [] [] NoLine → UserLinesReads text start width [] [] NoLines
 no-line-left text start width n at left h none names rows fit e =
     none (getD names n []) (λ i. getD (getD rows n []) i false)
     (text-of (user-lines (drop (suc n) names) (drop (suc n) rows)))

@@ -1,5 +1,6 @@
 -- `checking::check`: the sheet's own number where it has one; else 12 for a book above the limit, and for any other
 -- book what the readings find.
+use Prim.Native.Nat.{_*_}
 use native.Mathlib.Omega.{arith}
 use mathlib.Core.Path.{_≡_, sym, _∙_}
 use borrow.Author.Needs.{needs}
@@ -25,7 +26,7 @@ check-book-requires c κs =
     let at-if1 = c .before .before .before .before in
     let at-read = at-if1 .before in
     let read = at-read .read .ensures .1 .0 (at-if1 .if1 .left) in
-    let size : length (at-read .read .result .rows) ≡ 256 = search needs in
+    let size : length (at-read .read .result .rows) ≡ user-limit * row-words = search needs in
     ((read .0, read .1, users-within (read .0) _ size), omega (arith, c .before .before .before .if2 .left))
 
 pub check-spec : {M : Type 1} → statement M

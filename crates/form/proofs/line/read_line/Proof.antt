@@ -2,8 +2,8 @@
 use mathlib.Core.Path.{refl}
 use borrow.Author.Needs.{needs}
 use Rattle.steps.specs.Stands.{Stands}
-use Rattle.form.specs.RowGrown.{cleared-after}
-use Rattle.form.specs.CellSteps.{RowRead}
+use Rattle.cells_read.specs.RowCells.{RowRead}
+use Rattle.form.specs.RowCleared.{cleared-after}
 use Rattle.form.specs.LineSteps.{no-name, no-cells, ended, no-end}
 use Rattle.form.proofs.line.read_line.Statement.{statement}
 use Rattle.form.proofs.line.read_line.Tie as tie

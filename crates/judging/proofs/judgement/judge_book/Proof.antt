@@ -11,7 +11,7 @@ use Rattle.spec.specs.Book.{Said}
 use Rattle.spec.specs.Refusal.{counts-agree, product-agrees, witness-agrees}
 use Rattle.cell_rows.specs.Rows.{row-words, row-bits}
 use Rattle.rules.specs.AcceptedFacts.{Lawful, accepted-lawful}
-use Rattle.form.specs.Laws.RoleLimit.{roles-fit-a-row, permissions-fit-a-row}
+use Rattle.cell_rows.specs.Laws.Width.{permissions-fit, roles-fit}
 use Rattle.judging.specs.BookSays.{Says, counts-as-said, product-as-said, lines-as-said, witness-as-said}
 use Rattle.judging.specs.BookSays.{confirmed-as, judged-13, judged-14, judged-15, judged-right}
 use Rattle.judging.proofs.judgement.judge_book.Statement.{statement}
@@ -35,7 +35,7 @@ lawful : (c : tie.Start) → Lawful (sheet c)
 lawful c = accepted-lawful (c .args .sheet .now) (c .pre .0 .0)
 
 wide : (c : tie.Start) → permission-count (sheet c) ≤ row-bits
-wide c = omega (arith, lawful c .few-permissions, permissions-fit-a-row)
+wide c = omega (arith, lawful c .few-permissions, permissions-fit)
 
 room : (c : tie.Start) → user-count (sheet c) * row-words ≤ length (c .args .rows .now)
 room c = rw (c .pre .0 .2) at (c .pre .1 .1 .0)
@@ -77,7 +77,7 @@ returns c =
 rows-agree-requires : tie.Need-rows-agree-requires
 rows-agree-requires c κs =
     let start = agreed c in (
-      omega (arith, start .pre .1 .0 .said .few, roles-fit-a-row),
+      omega (arith, start .pre .1 .0 .said .few, roles-fit),
       start .pre .1 .1 .0,
       start .pre .1 .1 .1,
       start .pre .1 .1 .2,

@@ -5,7 +5,7 @@ use native.Mathlib.Omega.{arith}
 use mathlib.Core.Path.{refl}
 use lib.ListN.{length}
 use Rattle.cell_rows.specs.Rows.{row-words}
-use Rattle.form.specs.Laws.RoleLimit.{word-below}
+use Rattle.form.specs.Laws.RowWithin.{word-below}
 use Rattle.judging.specs.GivenRoles.{roles-masked}
 use Rattle.judging.proofs.product.roles_word.Statement.{statement}
 use Rattle.judging.proofs.product.roles_word.Tie as tie
@@ -13,6 +13,10 @@ use Rattle.judging.proofs.product.roles_word.Tie as tie
 -- the word is among the words
 word-there : (c : tie.Start) → c .args .u .0 * row-words + c .args .j < length (c .args .has .now)
 word-there c = word-below (c .args .u .0) (c .args .u .0 + 1) (c .args .j) _ (omega arith) (c .pre .0) (c .pre .1)
+
+mul-result : tie.Need-mul-result
+unfolding row-words
+mul-result c = omega (arith, word-there (c .before .before))
 
 add-result : tie.Need-add-result
 unfolding row-words
@@ -36,5 +40,5 @@ returns c =
 
 pub roles-word-spec : {M : Type 1} → statement M
 roles-word-spec =
-    tie.close (tie.spec (λ c. search needs) add-result mul-result-2 shared-slice-read-result (λ c κs. search needs)
+    tie.close (tie.spec mul-result add-result mul-result-2 shared-slice-read-result (λ c κs. search needs)
     (λ c κs. search needs) returns)

@@ -5,7 +5,7 @@ use mathlib.Core.Path.{sym}
 use borrow.Author.Needs.{needs}
 use lib.ListN.{length}
 use Rattle.cell_rows.specs.Rows.{row-words}
-use Rattle.form.specs.Laws.RoleLimit.{word-below}
+use Rattle.form.specs.Laws.RowWithin.{word-below}
 use Rattle.judging.specs.ProductWords.{WordsAgree, words-start, words-more, words-end, word-differs}
 use Rattle.judging.proofs.product.row_agrees.Statement.{statement}
 use Rattle.judging.proofs.product.row_agrees.Tie as tie

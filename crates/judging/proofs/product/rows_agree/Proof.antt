@@ -9,7 +9,7 @@ use Rattle.bits.specs.Laws.Below.{missed-below-intro}
 use Rattle.bits.specs.Laws.Step.{every-below-step}
 use Rattle.bits.specs.Truth.{and-intro}
 use Rattle.book_lines.specs.RowsSaid.{roles-in}
-use Rattle.form.specs.Laws.RoleLimit.{row-within}
+use Rattle.form.specs.Laws.RowWithin.{row-within}
 use Rattle.judging.specs.ProductWords.{row-agrees}
 use Rattle.judging.proofs.product.rows_agree.Statement.{statement}
 use Rattle.judging.proofs.product.rows_agree.Tie as tie

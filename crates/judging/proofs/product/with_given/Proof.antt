@@ -8,7 +8,7 @@ use lib.ListN.{length}
 use Rattle.bits.specs.Bit.{bit}
 use Rattle.bits.specs.Laws.Bit.{bit-or}
 use Rattle.cell_rows.specs.Rows.{row-words}
-use Rattle.form.specs.Laws.RoleLimit.{word-below}
+use Rattle.form.specs.Laws.RowWithin.{word-below}
 use Rattle.judging.specs.GivenRoles.{GivenWithin, some-given, none-given, given-next, within-dropped}
 use Rattle.judging.proofs.product.with_given.Statement.{statement}
 use Rattle.judging.proofs.product.with_given.Tie as tie

@@ -75,8 +75,8 @@ loop-again c =
     let read = c .before .before in
     let more = line-read (turn read .before .loop .inv) (line read) in
     let at = turn read .before .loop .lines in
-    ⊎-elim (λ w. rw (w .1) (rw (lt-ltb at 64 (w .0 .taken)) at more))
-    (λ w. rw (w .1) (rw (le-ltb at 64 (w .0 .left)) at more)) (c .before .if1 .came)
+    ⊎-elim (λ w. rw (w .1) (rw (lt-ltb at role-limit (w .0 .taken)) at more))
+    (λ w. rw (w .1) (rw (le-ltb at role-limit (w .0 .left)) at more)) (c .before .if1 .came)
 
 returns-2 : tie.Need-returns-2 Inv-loop μ-loop
 returns-2 c = lines-end (c .before .loop .inv) (c .loop-test .left)

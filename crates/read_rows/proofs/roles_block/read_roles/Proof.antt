@@ -7,7 +7,7 @@ use Rattle.spec.specs.Sheet.{sheet-of}
 use Rattle.rules.specs.AcceptedFacts.{accepted-lawful}
 use Rattle.steps.specs.Stands.{Stands}
 use Rattle.form.specs.Pieces.{roles-heading}
-use Rattle.form.specs.Laws.RoleLimit.{permissions-fit-a-row}
+use Rattle.cell_rows.specs.Laws.Width.{permissions-fit}
 use Rattle.form.specs.RowSteps.{zeros-blank}
 use Rattle.read_rows.specs.RoleSteps.{no-roles-heading, heading-then-roles, no-role-lines}
 use Rattle.read_rows.proofs.roles_block.read_roles.Statement.{statement}
@@ -39,7 +39,7 @@ role-lines-requires c κs =
       heading (c .before) .within,
       omega (
         arith,
-        permissions-fit-a-row,
+        permissions-fit,
         start .pre .0 .1 .permission-total,
         accepted-lawful (start .args .sheet .now) (start .pre .0 .1 .accepts) .few-permissions,
       ),

@@ -8,7 +8,8 @@ use lib.ListN.{length, take}
 use lib.Seq.{length-take-le}
 use Rattle.spec.specs.Limits.{role-limit}
 use Rattle.spec.specs.Book.{role-name}
-use Rattle.form.specs.Laws.RoleLimit.{roles-fit-a-row, row-within}
+use Rattle.cell_rows.specs.Laws.Width.{roles-fit}
+use Rattle.form.specs.Laws.RowWithin.{row-within}
 use Rattle.form.specs.RowSteps.{LinesBelow, lines-start, lines-more}
 use Rattle.book_lines.specs.Laws.LineWritten.{front-written}
 use Rattle.read_rows.specs.Laws.RoleNames.{role-name-short, name-within}
@@ -66,7 +67,7 @@ below c = omega (arith, head c .loop .inv .0, c .if1 .left)
 
 put-role-name-requires : tie.Need-put-role-name-requires Inv-loop μ-loop
 put-role-name-requires c κs =
-    (omega (arith, roles-fit-a-row, below (c .before)), role-name-short (head (c .before) .loop .r) (below (c .before)))
+    (omega (arith, roles-fit, below (c .before)), role-name-short (head (c .before) .loop .r) (below (c .before)))
 
 written-within : (c : tie.After-put-role-name Inv-loop μ-loop) → c .put-role-name .result ≤
     length (c .put-role-name .last .0)

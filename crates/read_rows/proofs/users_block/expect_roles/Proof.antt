@@ -15,7 +15,7 @@ use Rattle.steps.specs.Stands.{Stands}
 use Rattle.steps.specs.Laws.Stands.{stands-nothing, stands-then}
 use Rattle.steps.specs.Steps.{Misses}
 use Rattle.steps.specs.Laws.Step.{stands-more, misses-first, misses-second, misses-known}
-use Rattle.form.specs.Laws.RoleLimit.{roles-fit-a-row}
+use Rattle.cell_rows.specs.Laws.Width.{roles-fit}
 use Rattle.form.specs.Pieces.{role-fields}
 use Rattle.book_lines.specs.Laws.LineWritten.{front-written}
 use Rattle.read_rows.specs.Laws.RoleNames.{role-name-short, name-within}
@@ -72,7 +72,7 @@ below c = omega (arith, call c .pre .1, c .loop-test .taken)
 put-role-name-requires : tie.Need-put-role-name-requires Inv-loop μ-loop
 put-role-name-requires c κs =
     let here = turn (c .before) in
-    (omega (arith, roles-fit-a-row, below here), role-name-short (here .before .loop .r) (below here))
+    (omega (arith, roles-fit, below here), role-name-short (here .before .loop .r) (below here))
 
 written-within : (c : tie.After-put-role-name Inv-loop μ-loop) → c .put-role-name .result ≤
     length (c .put-role-name .last .0)

@@ -9,7 +9,7 @@ use Rattle.spec.specs.Sheet.{sheet-of, user-count, user-name}
 use Rattle.names.specs.Laws.LaidOut.{users-at}
 use Rattle.steps.specs.Stands.{Stands}
 use Rattle.form.specs.Pieces.{users-heading}
-use Rattle.form.specs.Laws.RoleLimit.{roles-fit-a-row}
+use Rattle.cell_rows.specs.Laws.Width.{roles-fit}
 use Rattle.form.specs.Laws.Placed.{users-placed}
 use Rattle.form.specs.RowSteps.{LinesBelow, zeros-blank}
 use Rattle.read_rows.specs.UserSteps.{no-users-heading, no-user-lines, users-then-end, no-users-end}
@@ -51,7 +51,7 @@ user-lines-requires c κs =
       (
         heading read .within,
         users-at (start .args .sheet .now) (start .args .layout) laid,
-        omega (arith, roles-fit-a-row, start .pre .0 .2),
+        omega (arith, roles-fit, start .pre .0 .2),
       ),
       (rw (← laid .user-total) (start .pre .1 .0), start .pre .1 .1),
     )

@@ -6,11 +6,12 @@ use mathlib.Core.Path.{_≡_, sym, subst}
 use mathlib.Core.Bool.{So}
 use borrow.Author.Needs.{needs}
 use lib.ListN.{length, drop}
-use Rattle.spec.specs.Limits.{sheet-limit, permission-limit, grant-limit}
+use Rattle.spec.specs.Limits.{sheet-limit, grant-limit}
 use Rattle.spec.specs.Text.{Bytes, text-of}
 use Rattle.spec.specs.Sheet.{sheet-of}
 use Rattle.spec.specs.Rules.{user-lines}
 use Rattle.spec.specs.Refusal.{accepted}
+use Rattle.cell_rows.specs.Laws.Width.{permissions-fit}
 use Rattle.rules.specs.AcceptedFacts.{accepted-short}
 use Rattle.sheet.specs.FirstLine.{FirstLineThere, FirstLineReads}
 use Rattle.sheet.specs.UserLines.{Fit, UserLinesReads}
@@ -108,13 +109,13 @@ returns-2 c p =
     (accepted-text s p)
 
 read-user-lines-requires : tie.Need-read-user-lines-requires
-unfolding sheet-limit permission-limit
+unfolding sheet-limit
 read-user-lines-requires c κs =
     let told = c .before .before in
     let arg = reading told .before in
     let stands = first-there told .stands in (
       stands .stands .within,
-      stands .few,
+      omega (arith, stands .few, permissions-fit),
       omega (arith, arg .before .if1 .left),
       arg .before .before .before .pre .users-room,
     )

@@ -7,12 +7,12 @@ use Rattle.sheet_cases.proofs.build.build.Statement.{statement}
 use Rattle.sheet_cases.proofs.build.build.Tie as tie
 
 abbrev Inv-loop : tie.InvT-loop
-Inv-loop out₀ users permissions grants at₀ left₀ u₀ out at left u = (length out ≡ length out₀) × (u ≤ users)
+Inv-loop out₀ users permissions grants longer at₀ left₀ u₀ out at left u = (length out ≡ length out₀) × (u ≤ users)
 
 abbrev μ-loop : tie.MeasureT-loop
-μ-loop out₀ users permissions grants at₀ left₀ u₀ out at left u = users - u
+μ-loop out₀ users permissions grants longer at₀ left₀ u₀ out at left u = users - u
 
 pub build-spec : {M : Type 1} → statement M
 build-spec =
-    tie.close (tie.spec Inv-loop μ-loop (λ c κs. tt) (λ c. omega arith) (λ c κs. tt) (λ c κs. tt) (λ c. omega arith)
-    (λ c. omega arith) (λ c. omega arith) (λ c. omega arith) (λ c. omega arith) (λ c. tt))
+    tie.close (tie.spec Inv-loop μ-loop (λ c κs. tt) (λ c. omega arith) (λ c κs. tt) (λ c κs. tt) (λ c κs. tt)
+    (λ c. omega arith) (λ c. omega arith) (λ c. omega arith) (λ c. omega arith) (λ c. omega arith) (λ c. tt))

@@ -5,20 +5,21 @@ use mathlib.Core.Path.{_≡_, refl, _∙_}
 use borrow.Author.Tests.{not-true, not-false}
 use lib.ListN.{length, length-set}
 use Rattle.cell_rows.specs.Rows.{row-words, row-bits}
+use Rattle.cell_rows.specs.RowWords.{before-word}
+use Rattle.cell_rows.specs.Laws.Width.{row-inside}
 use Rattle.cells_read.specs.CellsWord.{CellsIn}
-use Rattle.form.specs.Laws.RoleLimit.{word-below}
-use Rattle.form.specs.RowGrown.{before-word, word-stored}
-use Rattle.form.specs.CellSteps.{Reading, reading-starts, reading-more, reading-ends, reading-off}
-use Rattle.form.proofs.row_cells.read_cells.Statement.{statement}
-use Rattle.form.proofs.row_cells.read_cells.Tie as tie
+use Rattle.cells_read.specs.RowGrown.{word-stored}
+use Rattle.cells_read.specs.RowCells.{Reading, reading-starts, reading-more, reading-ends, reading-off}
+use Rattle.cells_read.proofs.row_cells.read_cells.Statement.{statement}
+use Rattle.cells_read.proofs.row_cells.read_cells.Tie as tie
 
 abbrev Inv-loop : tie.InvT-loop
-Inv-loop book at rows₀ row count next₀ k₀ rows next k =
+Inv-loop text at rows₀ row count next₀ k₀ rows next k =
     (k ≤ row-words) × (length rows ≡ length rows₀) × (next ≡ at + 2 * before-word count k)
-    × Reading book at row (before-word count k) rows₀ rows
+    × Reading text at row (before-word count k) rows₀ rows
 
 abbrev μ-loop : tie.MeasureT-loop
-μ-loop book at rows₀ row count next₀ k₀ rows next k = row-words - k
+μ-loop text at rows₀ row count next₀ k₀ rows next k = row-words - k
 
 loop-holds : tie.Need-loop-holds Inv-loop μ-loop
 loop-holds c =
@@ -57,8 +58,12 @@ unfolding row-words
 word-there c =
     let start = c .before .before .before .before in
     let a = start .args in
-    word-below (a .row) (a .row + 1) (c .before .loop .k) _ (omega arith) (c .loop-test .taken)
-    (omega (arith, start .pre .2, c .before .loop .inv .1))
+    omega (
+      arith,
+      row-inside (a .row) (a .row + 1) (c .before .loop .k) (omega arith) (c .loop-test .taken),
+      start .pre .2,
+      c .before .loop .inv .1,
+    )
 
 mul-rows : tie.Need-mul-rows Inv-loop μ-loop
 unfolding row-words
@@ -83,7 +88,7 @@ mul-next c = omega (arith, c .before .before .before .cells-in-word .ensures)
 cells : (c : tie.Else1 Inv-loop μ-loop)
     → let at-loop = c .before .before .before .before .before in
     let start = at-loop .before .before .before in
-    CellsIn (start .args .book .now) (at-loop .loop .next) (c .before .before .before .cells-in-word .result)
+    CellsIn (start .args .text .now) (at-loop .loop .next) (c .before .before .before .cells-in-word .result)
     (c .before .before .cells-word .result .word)
 cells c = c .before .before .cells-word .ensures .good (not-false _ (c .if1 .left))
 

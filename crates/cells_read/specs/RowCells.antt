@@ -1,4 +1,4 @@
--- Reading the cells of a line into a row, a word of them at a time: the cells read stand in the book one after the
+-- Reading the cells of a line into a row, a word of them at a time: the cells read stand in the text one after the
 -- other, and where some of them do not stand, no such cells do.
 use Prim.Native.Nat.{ℕ, _+_, _-_, _*_, _≤_, _<_}
 use native.Mathlib.Omega.{arith}
@@ -11,8 +11,8 @@ use Rattle.spec.specs.Text.{Bytes, comma}
 use Rattle.bits.specs.Laws.Below.{below-or-from}
 use Rattle.bits.specs.Bit.{word-bits}
 use Rattle.cell_rows.specs.Rows.{row-words, cell}
-use Rattle.cells_read.specs.CellsWord.{cell-byte, CellsStand, CellsIn}
+use Rattle.cells_read.specs.CellsWord.{cell-byte, cells-text, CellsStand, CellsIn}
 use Rattle.cells_read.specs.Laws.CellsStanding.{stands-cells, cells-stand}
 use Rattle.cell_text.specs.CellsText.{cell-field}
 use Rattle.cell_text.specs.Laws.CellsWritten.{cell-field-length}
 use Rattle.steps.specs.Laws.Aligned.{Aligned, aligned-length, aligned-listed}
@@ -20,27 +20,26 @@ use Rattle.steps.specs.declared.step.Step.{Step}
 use Rattle.steps.specs.declared.step.Step.the-variants.{On, Off}
 use Rattle.steps.specs.Stands.{Stands}
 use Rattle.steps.specs.Steps.{Misses}
-use Rattle.form.specs.Pieces.{cell-fields}
-use Rattle.form.specs.RowGrown.{Blank, OthersKept, Grown, grown-none, WordStored, cells-kept, cells-read}
-use Rattle.form.specs.RowGrown.{grown-more}
+use Rattle.cells_read.specs.RowGrown.{Blank, OthersKept, Grown, grown-none, WordStored, cells-kept, cells-read}
+use Rattle.cells_read.specs.RowGrown.{grown-more}
 
 -- cells were read into a row
 pub record RowRead (text : Bytes) (at row count : ℕ) (words after : List ℕ) (next : ℕ) : Type 0 where
-  pub reads : Stands text at (cell-fields count (cell after row)) next
+  pub reads : Stands text at (cells-text count (cell after row)) next
   pub grown : Grown words after row count
 
 -- a step over so many cells; where they do not stand, only their row has changed
 abbrev pub CellsRead : Bytes → ℕ → ℕ → ℕ → List ℕ → List ℕ → Step → Type 0
 CellsRead text at row count words after (On next) = RowRead text at row count words after next
 CellsRead text at row count words after Off =
-    ((cells : ℕ → Bool) → Misses text at (cell-fields count cells)) × OthersKept words after row
+    ((cells : ℕ → Bool) → Misses text at (cells-text count cells)) × OthersKept words after row
 
 -- any two cells take as many bytes
 cells-aligned : (a b : Bool) → Aligned (cell-field a) (cell-field b)
 cells-aligned a b = aligned-length (cell-field a) (cell-field b) (cell-field-length a ∙ sym (cell-field-length b))
 
-pub cell-fields-aligned : (count : ℕ) (a b : ℕ → Bool) → Aligned (cell-fields count a) (cell-fields count b)
-cell-fields-aligned count a b =
+pub cells-text-aligned : (count : ℕ) (a b : ℕ → Bool) → Aligned (cells-text count a) (cells-text count b)
+cells-text-aligned count a b =
     aligned-listed count (λ i. cell-field (a i)) (λ i. cell-field (b i)) (λ i h. cells-aligned (a i) (b i))
 
 -- ---- cells that stand one after the other
@@ -119,7 +118,7 @@ reading-ends {text} {at} {row} {count} {words} {mid} r =
 
 pub reading-off : {text : Bytes} {at : ℕ} (i n count : ℕ) → at ≤ length text → i + n ≤ count
     → ((ones : ℕ → Bool) → CellsStand text (at + 2 * i) n ones → ⊥) → (cells : ℕ → Bool)
-    → Misses text at (cell-fields count cells)
+    → Misses text at (cells-text count cells)
 reading-off {text} {at} i n count h few none cells =
     record {
       misses = λ rest e. none (λ j. cells (i + j))

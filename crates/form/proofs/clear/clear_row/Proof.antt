@@ -1,14 +1,13 @@
--- `row_cells::clear_row`: the cells of the words below k are cleared, and every other row is as it was.
+-- `clear::clear_row`: the cells of the words below k are cleared, and every other row is as it was.
 use Prim.Native.Nat.{_+_, _-_, _*_, _≤_, _<_}
 use native.Mathlib.Omega.{arith}
 use mathlib.Core.Path.{_≡_, refl, _∙_}
 use lib.ListN.{length, length-set}
-use Rattle.bits.specs.Bit.{word-bits}
 use Rattle.cell_rows.specs.Rows.{row-words, row-bits}
-use Rattle.form.specs.Laws.RoleLimit.{word-below}
-use Rattle.form.specs.RowGrown.{ClearedBelow, cleared-more}
-use Rattle.form.proofs.row_cells.clear_row.Statement.{statement}
-use Rattle.form.proofs.row_cells.clear_row.Tie as tie
+use Rattle.cell_rows.specs.Laws.Width.{row-inside}
+use Rattle.form.specs.RowCleared.{ClearedBelow, cleared-more}
+use Rattle.form.proofs.clear.clear_row.Statement.{statement}
+use Rattle.form.proofs.clear.clear_row.Tie as tie
 
 abbrev Inv-loop : tie.InvT-loop
 Inv-loop rows₀ row k₀ rows k = (k ≤ row-words) × (length rows ≡ length rows₀) × ClearedBelow rows₀ rows row k
@@ -25,9 +24,9 @@ word-there : (c : tie.In-loop Inv-loop μ-loop)
 unfolding row-words
 word-there c =
     let start = c .before .before in
-    let inside = word-below (start .args .row) (start .args .row + 1) (c .before .loop .k) _ (omega arith)
-    (c .loop-test .taken) (start .pre) in
-    omega (arith, inside, c .before .loop .inv .1)
+    let inside = row-inside (start .args .row) (start .args .row + 1) (c .before .loop .k) (omega arith)
+    (c .loop-test .taken) in
+    omega (arith, inside, start .pre, c .before .loop .inv .1)
 
 loop-again : tie.Need-loop-again Inv-loop μ-loop
 unfolding row-words

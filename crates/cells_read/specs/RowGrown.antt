@@ -1,22 +1,21 @@
 -- A row of words that has no cell set is read word by word. A word that is stored changes no cell of another, so the
 -- row has the cells that were read and no further ones, and every other row is as it was.
-use Prim.Native.Nat.{ℕ, _+_, _-_, _*_, _/_, _%_, _≤_, _<_, min}
+use Prim.Native.Nat.{ℕ, _+_, _*_, _/_, _%_, _≤_, _<_}
 use native.Mathlib.Omega.{arith}
-use mathlib.Core.Path.{_≡_, refl, ap, _∙_}
+use mathlib.Core.Path.{_≡_, refl, sym, ap, _∙_}
 use mathlib.Core.Logic.{_⊎_, inl, inr, ⊎-elim, _≢_}
 use mathlib.Core.Bool.{false}
 use mathlib.Core.List.{List}
 use borrow.Author.Tests.{eqb-true, eqb-false}
 use lib.Arith.{digits-div, digits-mod}
 use lib.Dec.{eqb}
-use lib.ListN.{length, set}
+use lib.ListN.{length, getD, set}
 use lib.Seq.{getD-set-same, getD-set-other}
 use Rattle.bits.specs.Truth.{passes-or-fails}
 use Rattle.bits.specs.Laws.Below.{below-or-from}
-use Rattle.bits.specs.Laws.Bit.{bit-of-zero}
 use Rattle.bits.specs.Bit.{bit, word-bits}
 use Rattle.cell_rows.specs.Rows.{row-words, row-bits, cell}
-use Rattle.cells.specs.Laws.CellAdded.{one-user}
+use Rattle.cell_rows.specs.Laws.Width.{word-in-row, row-inside}
 
 -- a row without any cell set
 pub record Blank (words : List ℕ) (row : ℕ) : Type 0 where
@@ -26,30 +25,18 @@ pub record Blank (words : List ℕ) (row : ℕ) : Type 0 where
 abbrev pub OthersKept : List ℕ → List ℕ → ℕ → Type 0
 OthersKept words after row = (u p : ℕ) → u ≢ row → p < row-bits → cell after u p ≡ cell words u p
 
--- a row has no cell set, and every other row is as it was
-pub record RowCleared (words after : List ℕ) (row : ℕ) : Type 0 where
-  pub blank : Blank after row
-  pub others : OthersKept words after row
-
-pub cleared-after : {words mid after : List ℕ} {row : ℕ} → OthersKept words mid row → RowCleared mid after row
-    → RowCleared words after row
-cleared-after kept cleared =
-    record { blank = cleared .blank; others = λ u p d l. cleared .others u p d l ∙ kept u p d l }
+-- the words past a row are as they were
+abbrev pub LaterKept : List ℕ → List ℕ → ℕ → Type 0
+LaterKept words after row = (i : ℕ) → (row + 1) * row-words ≤ i → getD after i 0 ≡ getD words i 0
 
 -- the first n cells of a row have been read: no other row has changed, and no further cell is set
 pub record Grown (words after : List ℕ) (row n : ℕ) : Type 0 where
   pub others : OthersKept words after row
+  pub later : LaterKept words after row
   pub beyond : (p : ℕ) → n ≤ p → p < row-bits → cell after row p ≡ false
 
 pub grown-none : {words : List ℕ} {row : ℕ} → Blank words row → Grown words words row 0
-grown-none b = record { others = λ u p h l. refl; beyond = λ p h l. b .none p l }
-
--- how many of the first so many cells of a row stand in word k, and how many before it
-abbrev pub in-word : ℕ → ℕ → ℕ
-in-word count k = min word-bits (count - k * word-bits)
-
-abbrev pub before-word : ℕ → ℕ → ℕ
-before-word count k = min (k * word-bits) count
+grown-none b = record { others = λ u p h l. refl; later = λ i h. refl; beyond = λ p h l. b .none p l }
 
 -- ---- a word is stored
 
@@ -57,51 +44,26 @@ before-word count k = min (k * word-bits) count
 pub record WordStored (words after : List ℕ) (row k w : ℕ) : Type 0 where
   pub here : (q : ℕ) → q < word-bits → cell after row (k * word-bits + q) ≡ bit w q
   pub others : (u p : ℕ) → u ≢ row ⊎ p / word-bits ≢ k → p < row-bits → cell after u p ≡ cell words u p
+  pub later : LaterKept words after row
 
 pub word-stored : (words : List ℕ) (row k w : ℕ) → k < row-words → row * row-words + k < length words
     → WordStored words (set words (row * row-words + k) w) row k w
-unfolding row-bits
 word-stored words row k w h l =
     record {
       here = λ q m. rw (digits-div k m, digits-mod k m, getD-set-same words (row * row-words + k) w 0 l);
       others = λ u p d m.
           ap (λ (n : ℕ). bit n (p % word-bits)) (getD-set-other words (row * row-words + k)
           (u * row-words + p / word-bits) w 0 (λ e. apart u p d m e));
+      later = λ i m. getD-set-other words (row * row-words + k) i w 0 (λ e.
+          let below = row-inside row (row + 1) k (omega arith) h in omega arith);
     }
   where
     apart : (u p : ℕ) → u ≢ row ⊎ p / word-bits ≢ k → p < row-bits → u * row-words + p / word-bits ≡ row * row-words +
         k → ⊥
     apart u p d m e =
-        let first : k * word-bits / word-bits ≡ k = omega arith in
-        let user : u ≡ row = one-user row u (k * word-bits) p (omega arith) m (rw first e) in
+        let user : u ≡ row = sym (digits-div u (word-in-row p m)) ∙ ap (λ (n : ℕ). n / row-words) e
+        ∙ digits-div row h in
         ⊎-elim (λ (other : u ≢ row). other user) (λ (other : p / word-bits ≢ k). other (omega (arith, rw user at e))) d
-
--- the cells of the words below k are cleared
-pub record ClearedBelow (words after : List ℕ) (row k : ℕ) : Type 0 where
-  pub clear : (p : ℕ) → p < k * word-bits → cell after row p ≡ false
-  pub others : OthersKept words after row
-
-pub cleared-more : {words mid : List ℕ} {row k : ℕ} → k < row-words → row * row-words + k < length mid
-    → ClearedBelow words mid row k → ClearedBelow words (set mid (row * row-words + k) 0) row (k + 1)
-unfolding row-bits
-cleared-more {mid = mid} {row} {k} h l so-far =
-    record {
-      clear = λ p m. ⊎-elim (old p) (new p m) (below-or-from p (k * word-bits));
-      others = λ u p d m. put .others u p (inl d) m ∙ so-far .others u p d m;
-    }
-  where
-    put : WordStored mid (set mid (row * row-words + k) 0) row k 0
-    put = word-stored mid row k 0 h l
-
-    old : (p : ℕ) → p < k * word-bits → cell (set mid (row * row-words + k) 0) row p ≡ false
-    old p m = put .others row p (inr (λ e. let s : p / word-bits ≡ k = e in omega arith)) (omega arith)
-        ∙ so-far .clear p m
-
-    new : (p : ℕ) → p < (k + 1) * word-bits → k * word-bits ≤ p → cell (set mid (row * row-words + k) 0) row p ≡ false
-    new p m f =
-        let place : p ≡ k * word-bits + (p - k * word-bits) = omega arith in
-        ap (cell (set mid (row * row-words + k) 0) row) place ∙ put .here (p - k * word-bits) (omega arith)
-        ∙ bit-of-zero (p - k * word-bits)
 
 -- cells from i on are read as a word of n positions
 module _ {words mid after : List ℕ} {row i n k w : ℕ} (g : Grown words mid row i) (put : WordStored mid after row k w)
@@ -118,6 +80,7 @@ module _ {words mid after : List ℕ} {row i n k w : ℕ} (g : Grown words mid r
   grown-more clear =
       record {
         others = λ u p h l. put .others u p (inl h) l ∙ g .others u p h l;
+        later = λ i h. put .later i h ∙ g .later i h;
         beyond = λ p h l.
             ⊎-elim (λ (t : p / word-bits ≡ k). in-it p h t) (λ (other : p / word-bits ≢ k). put .others row p
             (inr other) l ∙ g .beyond p (omega arith) l)

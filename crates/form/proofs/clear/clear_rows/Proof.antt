@@ -1,4 +1,4 @@
--- `row_cells::clear_rows`: the words below k are 0, and the others are as they were.
+-- `clear::clear_rows`: the words below k are 0, and the others are as they were.
 use Prim.Native.Nat.{_-_, _≤_}
 use native.Mathlib.Omega.{arith}
 use mathlib.Core.Path.{_≡_, refl, ap, _∙_}
@@ -6,8 +6,8 @@ use mathlib.Core.List.{_++_, append-nil}
 use borrow.Author.Fill.{fill-none, fill-more}
 use borrow.Author.Needs.{needs}
 use lib.ListN.{length, set, drop, replicate, length-set, drop-of-length-le}
-use Rattle.form.proofs.row_cells.clear_rows.Statement.{statement}
-use Rattle.form.proofs.row_cells.clear_rows.Tie as tie
+use Rattle.form.proofs.clear.clear_rows.Statement.{statement}
+use Rattle.form.proofs.clear.clear_rows.Tie as tie
 
 abbrev Inv-loop : tie.InvT-loop
 Inv-loop rows₀ k₀ rows k =
