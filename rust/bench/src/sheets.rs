@@ -31,7 +31,7 @@ pub fn sheets() -> Vec<Sheet> {
         sheet("band of 32", &families::band(64, 32)),
         sheet("crown of 45", &families::crown(45)),
         sheet("eight blocks", &families::blocks(&[(32, 8); 8])),
-        sheet("names of 16 bytes", &extremes::longest(&mut random)),
+        sheet("names of 16 bytes", &extremes::with_longest_names(&mut random)),
     ]
 }
 
