@@ -38,25 +38,29 @@ pub fn with_longest_names(random: &mut Random) -> Draft {
     with_name_bytes(with_grants(random, paper::USERS, 64, paper::GRANTS), paper::NAME_BYTES)
 }
 
-/// The same sheet under short names: those of one byte, then those of two, but none with a dot.
-pub fn with_short_names(mut draft: Draft) -> Draft {
-    draft.users = short_names(draft.users.len());
-    draft.permissions = short_names(draft.permissions.len());
-    draft
+/// The same sheet under the shortest names that have no dot: those of one byte, then those of two.
+pub fn with_shortest_names(draft: Draft) -> Draft {
+    named(draft, ('a'..='z').chain('A'..='Z').chain('0'..='9').chain(['-', '_']))
 }
 
-fn short_names(count: usize) -> Vec<String> {
-    let characters = ('a'..='z').chain('A'..='Z').chain('0'..='9').chain(['-', '_']);
-    let pairs = characters
-        .clone()
-        .flat_map(|first| characters.clone().map(move |second| String::from_iter([first, second])));
-    characters.clone().map(String::from).chain(pairs).take(count).collect()
+/// The same sheet under the shortest names of small letters and digits.
+pub fn with_short_names(draft: Draft) -> Draft {
+    named(draft, ('a'..='z').chain('0'..='9'))
+}
+
+/// The same sheet under all names of one of these characters, then those of two.
+fn named(mut draft: Draft, characters: impl Iterator<Item = char> + Clone) -> Draft {
+    let pair = |first| characters.clone().map(move |second| String::from_iter([first, second]));
+    let names = characters.clone().map(String::from).chain(characters.clone().flat_map(pair));
+    draft.users = names.clone().take(draft.users.len()).collect();
+    draft.permissions = names.take(draft.permissions.len()).collect();
+    draft
 }
 
 /// Exactly this many bytes with as many grants as there can be: dots behind the names, of which none gets too long,
 /// fill the sheet up.
 pub fn filled(random: &mut Random, users: usize, permissions: usize, bytes: usize) -> Draft {
-    let mut draft = with_short_names(with_grants(random, users, permissions, paper::GRANTS));
+    let mut draft = with_shortest_names(with_grants(random, users, permissions, paper::GRANTS));
     let missing = bytes - draft.bytes().len();
     fill(draft.users.iter_mut().chain(&mut draft.permissions), missing);
     draft

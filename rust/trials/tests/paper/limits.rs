@@ -144,7 +144,7 @@ fn each_limit_passes_and_one_more_is_refused() {
 #[test]
 fn well_formed_sheet_can_be_too_long() {
     let shortest = |users, permissions| {
-        extremes::with_short_names(Draft::plain(users, permissions, |_, _| false)).bytes()
+        extremes::with_shortest_names(Draft::plain(users, permissions, |_, _| false)).bytes()
     };
     assert_eq!((shortest(252, 128).len(), load_number(&shortest(252, 128))), (65_529, 0));
     assert_eq!((shortest(253, 128).len(), load_number(&shortest(253, 128))), (65_788, 1));
