@@ -7,6 +7,7 @@ use second::roles::State;
 
 use crate::names::Name;
 use crate::roles::{Matrices, fields_length, role_fields, role_name};
+use crate::sets::{Set, WORD_BITS};
 use crate::sheet::{Cell, Sheet, permission_of, user_of};
 
 /// What the first block says.
@@ -48,9 +49,9 @@ fn witness_line_length(sheet: &Sheet, cell: Cell) -> usize {
     sheet.users.name(user_of(cell)).length + sheet.permissions.name(permission_of(cell)).length + 2
 }
 
-/// Digits of a count, none of which is above 64.
+/// Digits of a count, none of which is above 128.
 fn digits(count: usize) -> usize {
-    1 + usize::from(count >= 10)
+    1 + usize::from(count >= 10) + usize::from(count >= 100)
 }
 
 /// Writes the book into a buffer of its length.
@@ -118,19 +119,25 @@ impl Writer<'_> {
 
     /// Writes cells, a comma before each, and a line feed.
     #[inline]
-    fn cells(&mut self, cells: u64, count: usize) {
-        let mut done = 0;
-        while done < count {
-            let eight = &EIGHT_CELLS[(cells >> done & 0xff) as usize];
-            self.front(eight, 2 * (count - done).min(8));
-            done += 8;
+    fn cells<const WORDS: usize>(&mut self, cells: Set<WORDS>, count: usize) {
+        for (index, word) in cells.words().iter().enumerate() {
+            let count = count.saturating_sub(index * WORD_BITS).min(WORD_BITS);
+            let mut done = 0;
+            while done < count {
+                let eight = &EIGHT_CELLS[(word >> done & 0xff) as usize];
+                self.front(eight, 2 * (count - done).min(8));
+                done += 8;
+            }
         }
         self.byte(b'\n');
     }
 
     fn count(&mut self, count: usize) {
+        if count >= 100 {
+            self.byte(b'0' + (count / 100) as u8);
+        }
         if count >= 10 {
-            self.byte(b'0' + (count / 10) as u8);
+            self.byte(b'0' + (count / 10 % 10) as u8);
         }
         self.byte(b'0' + (count % 10) as u8);
     }

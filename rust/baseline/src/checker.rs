@@ -2,14 +2,14 @@
 
 use second::book::{COUNTS_HEADING, ROLE_HEADING, USER_HEADING, WITNESS_HEADING};
 use second::checker::CheckAnswer;
-use second::limits::{BOOK_BYTES, ROLES, USERS};
+use second::limits::{BOOK_BYTES, PERMISSIONS, ROLES, USERS};
 use second::refusal::Refusal;
 use second::roles::State;
 
 use crate::names::Name;
 use crate::roles::{role_fields, role_name};
-use crate::sets::ones;
-use crate::sheet::{Cell, Reader, Sheet, cell, fits, permission_of, user_of};
+use crate::sets::{Permissions, Roles, Users};
+use crate::sheet::{Cell, Reader, Sheet, cell, permission_of, user_of};
 
 /// Judges the sheet first, then the book's form, counts, product and witness.
 pub fn check(sheet_bytes: &[u8], book: &[u8]) -> Result<CheckAnswer, Refusal> {
@@ -36,8 +36,8 @@ struct Claim {
     bound: u64,
     state: State,
     role_lines: usize,
-    gives: [u64; ROLES],
-    has: [u64; USERS],
+    gives: [Permissions; ROLES],
+    has: [Roles; USERS],
     witness_lines: usize,
     /// The first witness lines; with more than there can be roles the counts disagree.
     witness: [Cell; ROLES],
@@ -50,8 +50,8 @@ impl Claim {
             bound: 0,
             state: State::Open,
             role_lines: 0,
-            gives: [0; ROLES],
-            has: [0; USERS],
+            gives: [Permissions::NONE; ROLES],
+            has: [Roles::NONE; USERS],
             witness_lines: 0,
             witness: [0; ROLES],
         }
@@ -136,17 +136,24 @@ impl Claim {
     }
 
     fn product_is(&self, sheet: &Sheet) -> bool {
-        let opened = |has: u64| ones(has).fold(0, |row, role| row | self.gives[role]);
+        let opened = |has: &Roles| has.iter().fold(Permissions::NONE, |row, role| row.or(self.gives[role]));
         let users = sheet.users.count();
-        self.has[..users].iter().zip(&sheet.rows).all(|(has, row)| opened(*has) == *row)
+        self.has[..users].iter().zip(&sheet.rows).all(|(has, row)| opened(has) == *row)
     }
 
-    /// Counts agree, so that there are no more witness lines than role lines.
+    /// Counts agree, so that there are no more witness lines than role lines. A line fits an earlier one whose
+    /// permission is in its row and whose user is in its column.
     fn witness_stands(&self, sheet: &Sheet) -> bool {
-        let witness = &self.witness[..self.witness_lines];
-        witness.iter().enumerate().all(|(index, own)| {
-            sheet.holds(user_of(*own), permission_of(*own))
-                && !witness[..index].iter().any(|other| fits(sheet, *other, *own))
+        let mut earlier = Permissions::NONE;
+        let mut earlier_users = [Users::NONE; PERMISSIONS];
+        self.witness[..self.witness_lines].iter().all(|own| {
+            let (user, permission) = (user_of(*own), permission_of(*own));
+            let column = sheet.columns[permission];
+            let fits_earlier =
+                earlier.and(sheet.rows[user]).any(|other| !earlier_users[other].and(column).is_empty());
+            earlier.add(permission);
+            earlier_users[permission].add(user);
+            sheet.holds(user, permission) && !fits_earlier
         })
     }
 }

@@ -4,7 +4,7 @@
 use second::limits::{GRANTS, PERMISSIONS, USERS};
 
 use crate::kernel::Kernel;
-use crate::sets::{one, ones};
+use crate::sets::{Permissions, Roles};
 use crate::sheet::{Sheet, permission_of, user_of};
 
 /// A class for each kernel grant by number. There are never more than permissions.
@@ -23,8 +23,9 @@ impl Placement {
     /// there are users: any two grants of one user fit, so that of a user's grants that can join no earlier class
     /// one opens a class and the others join it. So grouping by user is never the best.
     pub fn find_first_best(&mut self, sheet: &Sheet, kernel: &Kernel) {
-        let permissions = kernel.cells().iter().fold(0, |all, cell| all | one(permission_of(*cell)));
-        if self.group_by_fit(sheet, kernel, permissions.count_ones() as usize).is_none() {
+        let mut permissions = Permissions::NONE;
+        kernel.cells().iter().for_each(|cell| permissions.add(permission_of(*cell)));
+        if self.group_by_fit(sheet, kernel, permissions.count()).is_none() {
             self.group_by_permission(kernel);
         }
     }
@@ -33,17 +34,17 @@ impl Placement {
     /// than so many classes.
     fn group_by_fit(&mut self, sheet: &Sheet, kernel: &Kernel, most: usize) -> Option<()> {
         let mut groups = Groups::none();
-        let permissions = u64::MAX >> (PERMISSIONS - sheet.permissions.count());
+        let permissions = sheet.all_permissions();
         self.count = 0;
         let mut number = 0;
         while number < kernel.count {
             let user = user_of(kernel.cells[number]);
             let row = sheet.rows[user];
-            let lacked = !row & permissions;
+            let lacked = permissions.minus(row);
             let barred = groups.barred_to(lacked);
             while number < kernel.count && user_of(kernel.cells[number]) == user {
                 let permission = permission_of(kernel.cells[number]);
-                let class = (!(barred | groups.by_permission[permission])).trailing_zeros() as usize;
+                let class = barred.or(groups.by_permission[permission]).lowest_missing();
                 if class >= most {
                     return None;
                 }
@@ -71,29 +72,33 @@ impl Placement {
 /// Sets of classes, a bit for each.
 struct Groups {
     /// The classes with a member of this permission.
-    of_permission: [u64; PERMISSIONS],
+    of_permission: [Roles; PERMISSIONS],
     /// The classes with a member of this user.
-    of_user: [u64; USERS],
+    of_user: [Roles; USERS],
     /// The classes with a member whose user lacks this permission.
-    by_permission: [u64; PERMISSIONS],
+    by_permission: [Roles; PERMISSIONS],
 }
 
 impl Groups {
     fn none() -> Groups {
-        Groups { of_permission: [0; PERMISSIONS], of_user: [0; USERS], by_permission: [0; PERMISSIONS] }
+        Groups {
+            of_permission: [Roles::NONE; PERMISSIONS],
+            of_user: [Roles::NONE; USERS],
+            by_permission: [Roles::NONE; PERMISSIONS],
+        }
     }
 
     /// The classes that are barred to a user who lacks these permissions.
-    fn barred_to(&self, lacked: u64) -> u64 {
-        ones(lacked).fold(0, |classes, permission| classes | self.of_permission[permission])
+    fn barred_to(&self, lacked: Permissions) -> Roles {
+        lacked.iter().fold(Roles::NONE, |classes, permission| classes.or(self.of_permission[permission]))
     }
 
     #[inline]
-    fn add(&mut self, class: usize, user: usize, permission: usize, lacked: u64) {
-        self.of_permission[permission] |= one(class);
-        if self.of_user[user] & one(class) == 0 {
-            self.of_user[user] |= one(class);
-            ones(lacked).for_each(|other| self.by_permission[other] |= one(class));
+    fn add(&mut self, class: usize, user: usize, permission: usize, lacked: Permissions) {
+        self.of_permission[permission].add(class);
+        if !self.of_user[user].has(class) {
+            self.of_user[user].add(class);
+            lacked.iter().for_each(|other| self.by_permission[other].add(class));
         }
     }
 }

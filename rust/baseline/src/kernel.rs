@@ -3,7 +3,6 @@
 use second::limits::{GRANTS, PERMISSIONS, USERS};
 
 use crate::reduction::Reduction;
-use crate::sets::ones;
 use crate::sheet::{Cell, Sheet, cell};
 
 /// The kernel's cells by number. Each grant goes with a root: a kernel grant with itself, a single with itself,
@@ -28,22 +27,22 @@ impl Kernel {
         self.take_removals_back(reduction);
         let mut number = 0;
         for (user, row) in sheet.rows[..sheet.users.count()].iter().enumerate() {
-            for permission in ones(*row) {
+            row.iter().for_each(|permission| {
                 self.grant_roots[number] = self.roots[usize::from(cell(user, permission))];
                 number += 1;
-            }
+            });
         }
     }
 
     fn list_kernel(&mut self, sheet: &Sheet, reduction: &Reduction) {
         self.count = 0;
         for (user, row) in reduction.rows[..sheet.users.count()].iter().enumerate() {
-            for permission in ones(*row) {
+            row.iter().for_each(|permission| {
                 let cell = cell(user, permission);
                 self.cells[self.count] = cell;
                 self.roots[usize::from(cell)] = self.count as u16;
                 self.count += 1;
-            }
+            });
         }
     }
 

@@ -1,7 +1,7 @@
 //! Document 01 in plain Rust made to be fast: what the proved implementation is measured against.
 //!
 //! Everything is done in place over words of bits, and nothing is allocated after a session was made. A row is
-//! the word of the permissions that a user holds, a column the words of the users who hold a permission. The
+//! the set of the permissions that a user holds, a column that of the users who hold a permission. The
 //! answers have the types of the second implementation, so that the two can be compared.
 
 pub mod book;

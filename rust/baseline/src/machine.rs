@@ -5,7 +5,7 @@ use second::limits::{PERMISSIONS, SEARCHED_KERNEL, USERS};
 
 use crate::cover::Placement;
 use crate::kernel::Kernel;
-use crate::sets::{Users, WORD_BITS, one, ones};
+use crate::sets::{Users, WORD_BITS};
 use crate::sheet::{Sheet, permission_of, user_of};
 
 /// A set of kernel grants.
@@ -74,13 +74,13 @@ impl Machine {
         let mut of_user = [[0; 2]; USERS];
         let mut users = Users::NONE;
         for (number, cell) in kernel.cells().iter().enumerate() {
-            let bit = one(number % WORD_BITS);
+            let bit = 1 << (number % WORD_BITS);
             of_permission[permission_of(*cell)][number / WORD_BITS] |= bit;
             of_user[user_of(*cell)][number / WORD_BITS] |= bit;
             users.add(user_of(*cell));
         }
         let in_row =
-            |user: usize| ones(sheet.rows[user]).fold([0; 2], |all, own| or(all, of_permission[own]));
+            |user: usize| sheet.rows[user].iter().fold([0; 2], |all, own| or(all, of_permission[own]));
         let in_column = |permission: usize| {
             sheet.columns[permission].and(users).iter().fold([0; 2], |all, own| or(all, of_user[own]))
         };

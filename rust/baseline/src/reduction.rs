@@ -7,7 +7,7 @@
 
 use second::limits::{GRANTS, PERMISSIONS, USERS};
 
-use crate::sets::{Users, one, ones};
+use crate::sets::{Permissions, Users};
 use crate::sheet::{Cell, Sheet, cell, user_of};
 
 /// The removals in order, and what remains.
@@ -19,14 +19,14 @@ pub struct Reduction {
     /// What each removed grant was tied to; a single has itself.
     partner: [Cell; GRANTS],
     /// The remaining grants by user and by permission.
-    pub rows: [u64; USERS],
+    pub rows: [Permissions; USERS],
     pub columns: [Users; PERMISSIONS],
 }
 
 /// A user whose grants are being judged.
 struct Visit {
     user: usize,
-    row: u64,
+    row: Permissions,
     /// The users with a remaining grant in the row.
     near: Users,
     /// Those of them who have no other remaining grant.
@@ -40,7 +40,7 @@ impl Reduction {
             single_count: 0,
             removed: [0; GRANTS],
             partner: [0; GRANTS],
-            rows: [0; USERS],
+            rows: [Permissions::NONE; USERS],
             columns: [Users::NONE; PERMISSIONS],
         }
     }
@@ -70,7 +70,7 @@ impl Reduction {
             if self.count == before && user > last {
                 return None;
             }
-            if self.rows[user] != 0 {
+            if !self.rows[user].is_empty() {
                 self.visit(sheet, user);
             }
         }
@@ -81,34 +81,28 @@ impl Reduction {
     /// other users.
     fn visit(&mut self, sheet: &Sheet, user: usize) {
         let row = sheet.rows[user];
-        let (near, outside) = self.users_of(row, sheet.permissions.count());
-        let visit = Visit { user, row, near, inside: near.minus(outside) };
-        for permission in ones(self.rows[user]) {
+        let near = self.users_of(row);
+        let inside = near.only_those(|other| self.rows[other].minus(row).is_empty());
+        let visit = Visit { user, row, near, inside };
+        self.rows[user].iter().for_each(|permission| {
             if self.is_single(sheet, &visit, permission) {
                 self.single_count += 1;
                 self.remove(user, permission, cell(user, permission));
             } else if let Some(partner) = self.dominated(sheet, &visit, permission) {
                 self.remove(user, permission, partner);
             }
-        }
+        });
     }
 
-    /// The users with remaining grants in a row, and those with some outside it.
+    /// The users with a remaining grant in a row.
     #[inline]
-    fn users_of(&self, row: u64, permissions: usize) -> (Users, Users) {
-        let mut within = Users::NONE;
-        let mut outside = Users::NONE;
-        for (permission, column) in self.columns[..permissions].iter().enumerate() {
-            let is_within = row & one(permission) != 0;
-            within = within.or(column.only_if(is_within));
-            outside = outside.or(column.only_if(!is_within));
-        }
-        (within, outside)
+    fn users_of(&self, row: Permissions) -> Users {
+        row.iter().fold(Users::NONE, |all, place| all.or(self.columns[place]))
     }
 
     #[inline]
     fn is_single(&self, sheet: &Sheet, visit: &Visit, permission: usize) -> bool {
-        if self.rows[visit.user] != one(permission) {
+        if self.rows[visit.user] != Permissions::only(permission) {
             return false;
         }
         let mut others = visit.near.and(sheet.columns[permission]);
@@ -117,7 +111,7 @@ impl Reduction {
     }
 
     fn remove(&mut self, user: usize, permission: usize, partner: Cell) {
-        self.rows[user] &= !one(permission);
+        self.rows[user].remove(permission);
         self.columns[permission].remove(user);
         self.removed[self.count] = cell(user, permission);
         self.partner[self.count] = partner;
@@ -131,7 +125,7 @@ impl Reduction {
         let column = sheet.columns[permission];
         visit.inside.and(column).iter().find_map(|other| {
             if other == visit.user {
-                let candidates = self.rows[other] & !one(permission);
+                let candidates = self.rows[other].minus(Permissions::only(permission));
                 return lowest_apart(sheet, other, candidates, visit.near.minus(column));
             }
             let (near, beyond) = self.users_of_other(sheet.rows[other], visit.row);
@@ -140,20 +134,19 @@ impl Reduction {
     }
 
     /// The users with remaining grants in another's row, and those with some in it outside the visited row.
-    fn users_of_other(&self, other: u64, row: u64) -> (Users, Users) {
-        let all = |set: u64| ones(set).fold(Users::NONE, |all, place| all.or(self.columns[place]));
-        let beyond = all(other & !row);
-        (all(other & row).or(beyond), beyond)
+    fn users_of_other(&self, other: Permissions, row: Permissions) -> (Users, Users) {
+        let beyond = self.users_of(other.minus(row));
+        (self.users_of(other.and(row)).or(beyond), beyond)
     }
 }
 
 /// The lowest grant of a user among these permissions, none of whose holders is one of these users.
 #[inline]
-fn lowest_apart(sheet: &Sheet, user: usize, candidates: u64, users: Users) -> Option<Cell> {
+fn lowest_apart(sheet: &Sheet, user: usize, candidates: Permissions, users: Users) -> Option<Cell> {
     let mut left = candidates;
     users.any(|other| {
-        left &= !sheet.rows[other];
-        left == 0
+        left = left.minus(sheet.rows[other]);
+        left.is_empty()
     });
-    ones(left).next().map(|permission| cell(user, permission))
+    left.iter().next().map(|permission| cell(user, permission))
 }

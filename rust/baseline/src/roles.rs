@@ -4,13 +4,13 @@ use second::limits::{ROLES, USERS};
 
 use crate::cover::Placement;
 use crate::kernel::Kernel;
-use crate::sets::{one, ones};
+use crate::sets::{Permissions, Roles};
 use crate::sheet::Sheet;
 
 /// Who has which role, and what each role gives.
 pub struct Matrices {
-    pub has: [u64; USERS],
-    pub gives: [u64; ROLES],
+    pub has: [Roles; USERS],
+    pub gives: [Permissions; ROLES],
 }
 
 /// More classes than there can be.
@@ -19,21 +19,22 @@ const NO_ROLE: u8 = u8::MAX;
 impl Matrices {
     /// Roles are numbered by their lowest grants.
     pub fn of(sheet: &Sheet, kernel: &Kernel, best: &Placement) -> Matrices {
-        let mut matrices = Matrices { has: [0; USERS], gives: [0; ROLES] };
+        let mut matrices = Matrices { has: [Roles::NONE; USERS], gives: [Permissions::NONE; ROLES] };
         let mut role_of = [NO_ROLE; ROLES];
         let mut roles = 0;
-        let mut roots = kernel.grant_roots.iter();
+        let mut number = 0;
         for (row, has) in sheet.rows[..sheet.users.count()].iter().zip(&mut matrices.has) {
-            for (permission, root) in ones(*row).zip(&mut roots) {
-                let class = class_of(usize::from(*root), kernel, best);
+            row.iter().for_each(|permission| {
+                let class = class_of(usize::from(kernel.grant_roots[number]), kernel, best);
                 if role_of[class] == NO_ROLE {
                     role_of[class] = roles;
                     roles += 1;
                 }
                 let role = usize::from(role_of[class]);
-                *has |= one(role);
-                matrices.gives[role] |= one(permission);
-            }
+                has.add(role);
+                matrices.gives[role].add(permission);
+                number += 1;
+            });
         }
         matrices
     }
@@ -46,16 +47,20 @@ fn class_of(root: usize, kernel: &Kernel, best: &Placement) -> usize {
 }
 
 /// The names of all roles, a comma before each.
-const ROLE_FIELDS: [u8; 4 * ROLES] = {
-    let mut fields = [0; 4 * ROLES];
+const ROLE_FIELDS: [u8; 5 * ROLES] = {
+    let mut fields = [0; 5 * ROLES];
     let mut at = 0;
     let mut role = 1;
     while role <= ROLES {
         fields[at] = b',';
         fields[at + 1] = b'R';
         at += 2;
+        if role >= 100 {
+            fields[at] = b'0' + (role / 100) as u8;
+            at += 1;
+        }
         if role >= 10 {
-            fields[at] = b'0' + (role / 10) as u8;
+            fields[at] = b'0' + (role / 10 % 10) as u8;
             at += 1;
         }
         fields[at] = b'0' + (role % 10) as u8;
@@ -77,8 +82,8 @@ pub fn role_name(index: usize) -> &'static [u8] {
     &ROLE_FIELDS[fields_length(index) + 1..fields_length(index + 1)]
 }
 
-/// Roles from the tenth on have a byte more.
+/// Roles from the tenth on have a byte more, and those from the hundredth on one more still.
 #[inline]
 pub fn fields_length(count: usize) -> usize {
-    3 * count + count.saturating_sub(9)
+    3 * count + count.saturating_sub(9) + count.saturating_sub(99)
 }

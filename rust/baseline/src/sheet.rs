@@ -5,7 +5,7 @@ use second::refusal::Refusal;
 
 use crate::causes::{is_name_byte, lowest_cause};
 use crate::names::{Name, Names};
-use crate::sets::{Users, WORD_BITS, one, ones};
+use crate::sets::{Permissions, Set, Users, WORD_BITS};
 
 /// Grants from which turning whole blocks is faster than turning one cell after another.
 const MANY_GRANTS: usize = 256;
@@ -15,18 +15,18 @@ const MANY_GRANTS: usize = 256;
 pub struct Sheet {
     pub grants: usize,
     /// The permissions that each user holds.
-    pub rows: [u64; USERS],
+    pub rows: [Permissions; USERS],
     /// The users who hold each permission.
     pub columns: [Users; PERMISSIONS],
     pub users: Names<USERS, 512>,
-    pub permissions: Names<PERMISSIONS, 128>,
+    pub permissions: Names<PERMISSIONS, 256>,
 }
 
 impl Sheet {
     pub fn empty() -> Sheet {
         Sheet {
             grants: 0,
-            rows: [0; USERS],
+            rows: [Permissions::NONE; USERS],
             columns: [Users::NONE; PERMISSIONS],
             users: Names::none(),
             permissions: Names::none(),
@@ -53,7 +53,7 @@ impl Sheet {
         while reader.at < bytes.len() {
             self.read_user_line(&mut reader)?;
         }
-        self.rows[self.users.count()..].fill(0);
+        self.rows[self.users.count()..].fill(Permissions::NONE);
         self.turn();
         (self.users.count() > 0 && self.grants <= GRANTS).then_some(())
     }
@@ -74,13 +74,19 @@ impl Sheet {
         self.users.add(name)?;
         let row = reader.cells(self.permissions.count())?;
         self.rows[user] = row;
-        self.grants += row.count_ones() as usize;
+        self.grants += row.count();
         Some(())
     }
 
     #[inline]
     pub fn holds(&self, user: usize, permission: usize) -> bool {
-        self.rows[user] & one(permission) != 0
+        self.rows[user].has(permission)
+    }
+
+    /// The set of all permissions of the sheet.
+    #[inline]
+    pub fn all_permissions(&self) -> Permissions {
+        Permissions::below(self.permissions.count())
     }
 
     /// Makes the columns from the rows.
@@ -89,14 +95,17 @@ impl Sheet {
         let rows = &self.rows[..self.users.count()];
         if self.grants < MANY_GRANTS {
             for (user, row) in rows.iter().enumerate() {
-                ones(*row).for_each(|permission| self.columns[permission].add(user));
+                row.iter().for_each(|permission| self.columns[permission].add(user));
             }
             return;
         }
-        for (index, block) in self.rows.as_chunks::<WORD_BITS>().0.iter().enumerate() {
-            if index * WORD_BITS < self.users.count() {
-                let turned = turned(*block);
-                for (column, word) in self.columns.iter_mut().zip(turned) {
+        let user_words = self.users.count().div_ceil(WORD_BITS);
+        let permission_words = self.permissions.count().div_ceil(WORD_BITS);
+        for (index, block) in self.rows.as_chunks::<WORD_BITS>().0[..user_words].iter().enumerate() {
+            let columns = self.columns.as_chunks_mut::<WORD_BITS>().0[..permission_words].iter_mut();
+            for (place, columns) in columns.enumerate() {
+                let turned = turned(block.each_ref().map(|row| row.words()[place]));
+                for (column, word) in columns.iter_mut().zip(turned) {
                     *column.word_mut(index) = word;
                 }
             }
@@ -157,6 +166,9 @@ const CELL_BITS: u64 = 0x0001_0001_0001_0001;
 /// Takes those bits to four neighbouring places from place 48 on.
 const GATHER: u64 = 1 << 48 | 1 << 33 | 1 << 18 | 1 << 3;
 
+/// Bytes of the cells of a word, each with a comma.
+const WORD_TEXT: usize = 2 * WORD_BITS;
+
 impl Reader<'_> {
     /// Reads these bytes.
     #[inline]
@@ -191,21 +203,17 @@ impl Reader<'_> {
 
     /// Reads the cells of a line from behind the comma before the first to behind its line feed.
     #[inline]
-    pub fn cells(&mut self, count: usize) -> Option<u64> {
+    pub fn cells<const WORDS: usize>(&mut self, count: usize) -> Option<Set<WORDS>> {
+        let mut row = Set::NONE;
         if count == 0 || self.bytes[self.at - 1] != b',' {
-            return (count == 0 && self.bytes[self.at - 1] == b'\n').then_some(0);
+            return (count == 0 && self.bytes[self.at - 1] == b'\n').then_some(row);
         }
         let text = self.bytes.get(self.at..self.at + 2 * count)?;
         self.at += 2 * count;
         let quarters = (count - 1) / 4;
         let (whole, rest) = text.split_at(8 * quarters);
-        let mut row = 0;
-        for (index, four) in whole.as_chunks::<8>().0.iter().enumerate() {
-            let differing = u64::from_le_bytes(*four) ^ FOUR_CELLS;
-            if differing & !CELL_BITS != 0 {
-                return None;
-            }
-            row |= (differing.wrapping_mul(GATHER) >> 48 & 15) << (4 * index);
+        for (index, word) in whole.chunks(WORD_TEXT).enumerate() {
+            *row.word_mut(index) = whole_fours(word)?;
         }
         for (index, cell) in rest.as_chunks::<2>().0.iter().enumerate() {
             let place = 4 * quarters + index;
@@ -213,13 +221,27 @@ impl Reader<'_> {
             if !matches!(cell[0], b'0' | b'1') || cell[1] != separator {
                 return None;
             }
-            row |= u64::from(cell[0] - b'0') << place;
+            *row.word_mut(place / WORD_BITS) |= u64::from(cell[0] - b'0') << (place % WORD_BITS);
         }
         Some(row)
     }
 }
 
-/// A cell of the sheet in one number: rows are 64 cells long.
+/// The cells of a word, read four at a time, each with a comma behind it.
+#[inline]
+fn whole_fours(text: &[u8]) -> Option<u64> {
+    let mut word = 0;
+    for (index, four) in text.as_chunks::<8>().0.iter().enumerate() {
+        let differing = u64::from_le_bytes(*four) ^ FOUR_CELLS;
+        if differing & !CELL_BITS != 0 {
+            return None;
+        }
+        word |= (differing.wrapping_mul(GATHER) >> 48 & 15) << (4 * index);
+    }
+    Some(word)
+}
+
+/// A cell of the sheet in one number: the rows follow each other, each with room for all permissions.
 pub type Cell = u16;
 
 #[inline]
@@ -235,10 +257,4 @@ pub fn user_of(cell: Cell) -> usize {
 #[inline]
 pub fn permission_of(cell: Cell) -> usize {
     usize::from(cell) % PERMISSIONS
-}
-
-/// Each of the two users holds the other's permission.
-#[inline]
-pub fn fits(sheet: &Sheet, some: Cell, other: Cell) -> bool {
-    sheet.holds(user_of(some), permission_of(other)) && sheet.holds(user_of(other), permission_of(some))
 }

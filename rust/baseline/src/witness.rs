@@ -4,7 +4,7 @@ use second::limits::{GRANTS, PERMISSIONS, USERS};
 
 use crate::kernel::Kernel;
 use crate::reduction::Reduction;
-use crate::sets::{Users, WORD_BITS, ones};
+use crate::sets::{Permissions, Users, WORD_BITS};
 use crate::sheet::{Cell, Sheet, permission_of, user_of};
 
 /// The count of a grant that is closed to choice.
@@ -24,14 +24,20 @@ pub struct Witness {
     /// How many open grants fit each kernel grant, itself among them.
     partners: [i16; GRANTS],
     /// The grants open to choice by user.
-    open: [u64; USERS],
+    open: [Permissions; USERS],
     /// The grants that were closed last, by user.
-    closed: [u64; USERS],
+    closed: [Permissions; USERS],
 }
 
 impl Witness {
     pub fn none() -> Witness {
-        Witness { count: 0, cells: [0; MOST], partners: [0; GRANTS], open: [0; USERS], closed: [0; USERS] }
+        Witness {
+            count: 0,
+            cells: [0; MOST],
+            partners: [0; GRANTS],
+            open: [Permissions::NONE; USERS],
+            closed: [Permissions::NONE; USERS],
+        }
     }
 
     pub fn cells(&self) -> &[Cell] {
@@ -66,10 +72,10 @@ impl Witness {
         while number < kernel.count {
             let user = user_of(kernel.cells[number]);
             let counted = Counted::of(sheet.rows[user], &reduction.columns, sheet.users.count());
-            for permission in ones(self.open[user]) {
+            self.open[user].iter().for_each(|permission| {
                 self.partners[number] = counted.sum(sheet.columns[permission]);
                 number += 1;
-            }
+            });
         }
     }
 
@@ -99,17 +105,17 @@ impl Witness {
         let mut users = Users::NONE;
         let mut pairs = 0;
         sheet.columns[permission_of(taken)].iter().for_each(|user| {
-            let closed = self.open[user] & row;
+            let closed = self.open[user].and(row);
             self.closed[user] = closed;
-            self.open[user] &= !closed;
-            if closed != 0 {
+            self.open[user] = self.open[user].minus(closed);
+            if !closed.is_empty() {
                 users.add(user);
             }
-            for permission in ones(closed) {
+            closed.iter().for_each(|permission| {
                 let partners = &mut self.partners[kernel.number(user, permission)];
                 pairs += *partners as usize;
                 *partners = CLOSED;
-            }
+            });
         });
         if pairs <= MANY_PAIRS * kernel.count {
             self.discount_pairs(sheet, kernel, users);
@@ -122,25 +128,25 @@ impl Witness {
     fn discount_pairs(&mut self, sheet: &Sheet, kernel: &Kernel, users: Users) {
         users.iter().for_each(|user| {
             let row = sheet.rows[user];
-            for permission in ones(self.closed[user]) {
+            self.closed[user].iter().for_each(|permission| {
                 sheet.columns[permission].iter().for_each(|other| {
-                    for partner in ones(self.open[other] & row) {
+                    self.open[other].and(row).iter().for_each(|partner| {
                         self.partners[kernel.number(other, partner)] -= 1;
-                    }
+                    });
                 });
-            }
+            });
         });
     }
 
     /// Takes the closed grants off the counts of the open ones, one user after another.
     fn discount_rows(&mut self, sheet: &Sheet, kernel: &Kernel, users: Users) {
         for user in 0..sheet.users.count() {
-            if self.open[user] != 0 {
+            if !self.open[user].is_empty() {
                 let listed = Listed::of(sheet.rows[user], users, &self.closed);
-                for permission in ones(self.open[user]) {
+                self.open[user].iter().for_each(|permission| {
                     let count = listed.sum(sheet.columns[permission]);
                     self.partners[kernel.number(user, permission)] -= count;
-                }
+                });
             }
         }
     }
@@ -159,10 +165,10 @@ const COUNT_BITS: usize = PERMISSIONS.ilog2() as usize + 1;
 impl Counted {
     /// Adds the columns of the row, carrying over.
     #[inline]
-    fn of(row: u64, columns: &[Users; PERMISSIONS], users: usize) -> Counted {
+    fn of(row: Permissions, columns: &[Users; PERMISSIONS], users: usize) -> Counted {
         let words = users.div_ceil(WORD_BITS);
         let mut counted = Counted { bits: [Users::NONE; COUNT_BITS], used: 0, words };
-        for permission in ones(row) {
+        row.iter().for_each(|permission| {
             let mut carried = columns[permission];
             let mut index = 0;
             while !carried.is_empty() {
@@ -173,7 +179,7 @@ impl Counted {
                 index += 1;
             }
             counted.used = counted.used.max(index);
-        }
+        });
         counted
     }
 
@@ -181,7 +187,7 @@ impl Counted {
     #[inline]
     fn sum(&self, column: Users) -> i16 {
         let bits = self.bits[..self.used].iter().enumerate();
-        bits.map(|(index, users)| (users.and(column).count(self.words) as i16) << index).sum()
+        bits.map(|(index, users)| (users.and(column).count_below(self.words) as i16) << index).sum()
     }
 }
 
@@ -193,13 +199,13 @@ struct Listed {
 
 impl Listed {
     #[inline]
-    fn of(row: u64, users: Users, grants: &[u64; USERS]) -> Listed {
+    fn of(row: Permissions, users: Users, grants: &[Permissions; USERS]) -> Listed {
         let mut listed = Listed { users: Users::NONE, counts: [0; USERS] };
         users.iter().for_each(|user| {
-            let common = grants[user] & row;
-            if common != 0 {
+            let common = grants[user].and(row);
+            if !common.is_empty() {
                 listed.users.add(user);
-                listed.counts[user] = common.count_ones() as u8;
+                listed.counts[user] = common.count() as u8;
             }
         });
         listed

@@ -2,15 +2,21 @@
 
 use baseline::session::Session;
 use trials::agreement;
+use trials::families::{any, any_wide};
 
 #[test]
 fn books_of_small_sheets() {
-    agreement::books_agree::<Session>(8_000, 8);
+    agreement::books_agree::<Session>(8_000, |random| any(random, 8));
 }
 
 #[test]
 fn books_of_middle_sheets() {
-    agreement::books_agree::<Session>(1_000, 16);
+    agreement::books_agree::<Session>(1_000, |random| any(random, 16));
+}
+
+#[test]
+fn books_of_wide_sheets() {
+    agreement::books_agree::<Session>(300, |random| any_wide(random, 12));
 }
 
 #[test]
@@ -20,7 +26,12 @@ fn damaged_sheets() {
 
 #[test]
 fn checks() {
-    agreement::checks_agree::<Session>(10_000);
+    agreement::checks_agree::<Session>(10_000, |random| any(random, 8));
+}
+
+#[test]
+fn checks_of_wide_sheets() {
+    agreement::checks_agree::<Session>(2_000, |random| any_wide(random, 8));
 }
 
 #[test]
@@ -39,6 +50,11 @@ fn extremes() {
 }
 
 #[test]
+fn wide_extremes() {
+    agreement::wide_extremes_agree::<Session>();
+}
+
+#[test]
 fn random_large_sheets() {
     agreement::random_large_sheets_agree::<Session>(40);
 }
@@ -46,6 +62,11 @@ fn random_large_sheets() {
 #[test]
 fn limits() {
     agreement::limits_agree::<Session>();
+}
+
+#[test]
+fn book_limits() {
+    agreement::book_limits_agree::<Session>();
 }
 
 #[test]

@@ -21,7 +21,7 @@ fn sheet(name: &str, draft: &Draft) -> Sheet {
 const WORKED: &str = "user,rec,id,map\nann,1,1,0\nbo,0,1,1\ncy,1,1,1\n";
 
 /// Sheets to load, write and check: a small one, and large ones with as many grants as there can be or nearly
-/// as many.
+/// as many, but for the one with two grants a user.
 pub fn sheets() -> Vec<Sheet> {
     let mut random = Random::from_seed(1);
     vec![
@@ -31,8 +31,18 @@ pub fn sheets() -> Vec<Sheet> {
         sheet("band of 32", &families::band(64, 32)),
         sheet("crown of 45", &families::crown(45)),
         sheet("eight blocks", &families::blocks(&[(32, 8); 8])),
-        sheet("names of 16 bytes", &extremes::longest(&mut random)),
+        sheet("names of 16 bytes", &extremes::with_longest_names(&mut random)),
+        sheet("128 wide, full", &extremes::full(16, 128)),
+        sheet("128 wide, 250 users", &extremes::with_long_book(&mut random)),
+        sheet("128 wide, two grants a user", &families::paired(&mut random, 128)),
+        sheet("128 wide, two blocks", &families::blocks(&[(16, 64), (16, 64)])),
+        sheet("128 wide, second half full", &behind_64(&mut random)),
     ]
+}
+
+/// All grants stand in the last 64 of 128 permissions, half of whose cells they are.
+fn behind_64(random: &mut Random) -> Draft {
+    families::behind(64, &extremes::with_grants(random, 64, 64, GRANTS))
 }
 
 /// Sheets to search, on which so many steps do not come to an end.
@@ -62,6 +72,8 @@ fn open_kernel(random: &mut Random, size: usize, side: usize, steps: u32) -> Dra
 
 #[cfg(test)]
 mod tests {
+    use trials::paper::PERMISSIONS;
+
     use super::*;
 
     /// What is measured is what the tables say.
@@ -69,7 +81,21 @@ mod tests {
     fn large_sheets_are_near_the_limit_of_grants() {
         for sheet in &sheets()[1..] {
             let answer = Session::fresh().load(&sheet.bytes).expect("the sheet is acceptable");
-            assert!(answer.grants > GRANTS * 9 / 10, "{}: {answer:?}", sheet.name);
+            let is_near = answer.grants > GRANTS * 9 / 10;
+            assert!(is_near || sheet.name.ends_with("two grants a user"), "{}: {answer:?}", sheet.name);
+        }
+    }
+
+    #[test]
+    fn wide_sheets_have_as_many_permissions_as_there_can_be() {
+        for sheet in sheets() {
+            let answer = Session::fresh().load(&sheet.bytes).expect("the sheet is acceptable");
+            assert_eq!(
+                sheet.name.starts_with("128 wide"),
+                answer.permissions == PERMISSIONS,
+                "{}",
+                sheet.name
+            );
         }
     }
 

@@ -7,7 +7,8 @@ use second::session::Session;
 use trials::agreement;
 use trials::cases::cases;
 use trials::damage;
-use trials::families;
+use trials::extremes;
+use trials::families::{any, any_wide};
 use trials::paper;
 use trials::tally::Tally;
 
@@ -18,12 +19,17 @@ fn a_session_has_the_size_that_the_library_gives_it() {
 
 #[test]
 fn books_of_small_sheets() {
-    with_room(|| agreement::books_agree::<Library>(5_000, 8));
+    with_room(|| agreement::books_agree::<Library>(5_000, |random| any(random, 8)));
 }
 
 #[test]
 fn books_of_middle_sheets() {
-    with_room(|| agreement::books_agree::<Library>(500, 16));
+    with_room(|| agreement::books_agree::<Library>(500, |random| any(random, 16)));
+}
+
+#[test]
+fn books_of_wide_sheets() {
+    with_room(|| agreement::books_agree::<Library>(300, |random| any_wide(random, 12)));
 }
 
 #[test]
@@ -33,7 +39,12 @@ fn damaged_sheets() {
 
 #[test]
 fn checks() {
-    with_room(|| agreement::checks_agree::<Library>(5_000));
+    with_room(|| agreement::checks_agree::<Library>(5_000, |random| any(random, 8)));
+}
+
+#[test]
+fn checks_of_wide_sheets() {
+    with_room(|| agreement::checks_agree::<Library>(2_000, |random| any_wide(random, 8)));
 }
 
 #[test]
@@ -52,6 +63,11 @@ fn extremes() {
 }
 
 #[test]
+fn wide_extremes() {
+    with_room(agreement::wide_extremes_agree::<Library>);
+}
+
+#[test]
 fn random_large_sheets() {
     with_room(|| agreement::random_large_sheets_agree::<Library>(20));
 }
@@ -59,6 +75,11 @@ fn random_large_sheets() {
 #[test]
 fn limits() {
     with_room(agreement::limits_agree::<Library>);
+}
+
+#[test]
+fn book_limits() {
+    with_room(agreement::book_limits_agree::<Library>);
 }
 
 #[test]
@@ -74,23 +95,41 @@ fn expected_book(sheet: &[u8], budget: u32, buffer: &mut [u8]) -> Result<usize, 
     session.write(buffer)
 }
 
+/// Both implementations' answers to one call that loads, searches and writes, which must be the same.
+fn book_by_one_call(sheet: &[u8], budget: u32, length: usize) -> Result<usize, Refusal> {
+    let mut buffer = lent_buffer(length);
+    let mut expected_buffer = buffer.clone();
+    let expected = expected_book(sheet, budget, &mut expected_buffer);
+    assert_eq!(book(sheet, budget, &mut buffer), expected, "{}", String::from_utf8_lossy(sheet));
+    assert!(buffer == expected_buffer, "{}", String::from_utf8_lossy(sheet));
+    expected
+}
+
 /// One call that loads, searches and writes, on good and on damaged sheets and with buffers of all lengths.
 #[test]
 fn books_by_one_call() {
     with_room(|| {
         let mut numbers = Tally::default();
         cases(3_000, |random| {
-            let sheet = families::any(random, 8).bytes();
+            let sheet = any(random, 8).bytes();
             let sheet = if random.percent(30) { damage::bytes(random, &sheet) } else { sheet };
             let budget = random.below(2_000) as u32;
             let length = if random.percent(80) { paper::BOOK_BYTES } else { random.below(400) };
-            let mut buffer = lent_buffer(length);
-            let mut expected_buffer = buffer.clone();
-            let expected = expected_book(&sheet, budget, &mut expected_buffer);
-            assert_eq!(book(&sheet, budget, &mut buffer), expected, "{}", String::from_utf8_lossy(&sheet));
-            assert!(buffer == expected_buffer, "{}", String::from_utf8_lossy(&sheet));
-            numbers.note(expected.err());
+            numbers.note(book_by_one_call(&sheet, budget, length).err());
         });
         numbers.expect([None, Some(Refusal::BufferLength), Some(Refusal::FieldCount)], 5);
+    });
+}
+
+/// The longest book has more bytes than the book program's buffer and fewer than the checker reads.
+#[test]
+fn long_books_by_one_call() {
+    with_room(|| {
+        let sheet = extremes::with_longest_book().bytes();
+        let count = book_by_one_call(&sheet, 0, paper::BOOK_BYTES).expect("the buffer is long enough");
+        assert_eq!(book_by_one_call(&sheet, 0, count), Ok(count));
+        for length in [count - 1, paper::PROGRAM_BUFFER_BYTES] {
+            assert_eq!(book_by_one_call(&sheet, 0, length), Err(Refusal::BufferLength));
+        }
     });
 }

@@ -1,10 +1,10 @@
 //! The proved programs held to those of the second implementation.
 
-use std::path::PathBuf;
+use std::path::{Path, PathBuf};
 
 use compare::programs::printed;
 use programs::{book_output, check_output};
-use second::script::answer_line;
+use second::script::{Call, answer_line};
 use second::session::Session;
 use trials::calls::{script, sequence};
 use trials::cases::cases;
@@ -43,9 +43,19 @@ fn book_program_takes_the_largest_sheets() {
     let mut random = Random::from_seed(7);
     let sheets = [
         extremes::longest(&mut random).bytes(),
+        extremes::with_longest_names(&mut random).bytes(),
         extremes::full(32, 64).bytes(),
+        extremes::full(16, 128).bytes(),
         families::crown(45).bytes(),
+        families::behind(64, &families::crown(45)).bytes(),
+        families::blocks(&[(16, 64), (16, 64)]).bytes(),
+        families::paired(&mut random, 110).bytes(),
         Draft::plain(256, 64, |_, _| false).bytes(),
+        Draft::plain(240, 128, |_, _| false).bytes(),
+        extremes::filled(&mut random, 252, 128, paper::SHEET_BYTES).bytes(),
+        extremes::filled(&mut random, 252, 128, paper::SHEET_BYTES + 1).bytes(),
+        extremes::full(1, paper::PERMISSIONS).bytes(),
+        extremes::full(1, paper::PERMISSIONS + 1).bytes(),
         extremes::of_bytes(paper::SHEET_BYTES),
         extremes::of_bytes(paper::SHEET_BYTES + 1),
         extremes::of_bytes(10 * paper::SHEET_BYTES),
@@ -53,6 +63,23 @@ fn book_program_takes_the_largest_sheets() {
     ];
     for sheet in sheets {
         assert_eq!(printed("rolebook", &[], &sheet), expected_book(&sheet, 0));
+    }
+}
+
+/// Its buffer has 65,536 bytes.
+#[test]
+fn book_program_prints_11_for_a_book_longer_than_its_buffer() {
+    let sheets = [
+        (extremes::with_book_bytes(paper::PROGRAM_BUFFER_BYTES), false),
+        (extremes::with_book_bytes(paper::PROGRAM_BUFFER_BYTES + 1), true),
+        (extremes::with_long_book(&mut Random::from_seed(1)), true),
+        (extremes::with_longest_book(), true),
+    ];
+    for (draft, is_refused) in sheets {
+        let sheet = draft.bytes();
+        let text = printed("rolebook", &["0"], &sheet);
+        assert_eq!(text, expected_book(&sheet, 0));
+        assert_eq!(text == "11\n", is_refused);
     }
 }
 
@@ -115,14 +142,63 @@ fn check_program_refuses_books_that_are_too_long() {
     }
 }
 
+/// The longest book, with a bound of so many digits that the book has this many bytes.
+fn book_of_bytes(book: &str, bytes: usize) -> Vec<u8> {
+    let bound = |digits: usize| book.replacen("\n128,128,", &format!("\n128,{},", "7".repeat(digits)), 1);
+    bound(bytes - bound(0).len()).into_bytes()
+}
+
+/// The check program and the play program read one byte more of a sheet and of a book than there may be: what is at
+/// the limit is judged by its other rules, and what is longer is too long.
+#[test]
+fn longest_sheets_and_books_are_judged_alike() {
+    let folder = folder("longest");
+    let (sheet_path, book_path) = (folder.join("sheet"), folder.join("book"));
+    let paths = [&sheet_path, &book_path].map(|path| path.to_str().expect("the path is plain text"));
+    let draft = extremes::with_longest_book();
+    let mut session = Session::fresh();
+    session.load(&draft.bytes()).expect("the sheet is acceptable");
+    let book = session.accepted().map(|accepted| accepted.book_bytes()).unwrap_or_default();
+    let text = String::from_utf8_lossy(&book);
+    let books = [
+        book.clone(),
+        book_of_bytes(&text, paper::BOOK_BYTES),
+        book_of_bytes(&text, paper::BOOK_BYTES + 1),
+        book_of_bytes(&text, 1 << 20),
+    ];
+    let filled = |bytes| extremes::filled(&mut Random::from_seed(7), 252, 128, bytes).bytes();
+    let sheets = [
+        draft.bytes(),
+        filled(paper::SHEET_BYTES),
+        filled(paper::SHEET_BYTES + 1),
+        extremes::of_bytes(1 << 20),
+    ];
+    for sheet in &sheets {
+        let mut calls = vec![Call::Load(sheet.clone()), Call::Write(paper::BOOK_BYTES)];
+        for book in &books {
+            std::fs::write(&sheet_path, sheet).expect("the sheet can be written");
+            std::fs::write(&book_path, book).expect("the book can be written");
+            assert_eq!(printed("rolecheck", &paths, b"").as_bytes(), check_output(sheet, book));
+            calls.push(Call::Check { sheet: sheet.clone(), book: book.clone() });
+        }
+        assert_played(&calls, &folder);
+    }
+    assert_eq!(check_output(&sheets[0], &books[0]), b"128,128\n");
+    assert_eq!(check_output(&sheets[0], &books[1]), b"13\n");
+    assert_eq!(check_output(&sheets[0], &books[2]), b"12\n");
+    assert_eq!(check_output(&sheets[2], &books[0]), b"1\n");
+}
+
+/// The play program gives the lines that the second implementation gives.
+fn assert_played(calls: &[Call], folder: &Path) {
+    let mut session = Session::fresh();
+    let expected: String = calls.iter().map(|call| answer_line(&mut session, call) + "\n").collect();
+    let script = script(calls, folder).expect("the files can be written");
+    assert_eq!(printed("play", &[], script.as_bytes()), expected);
+}
+
 #[test]
 fn play_program_answers_whole_sequences() {
     let folder = folder("played");
-    cases(40, |random| {
-        let calls = sequence(random, 40, 8);
-        let mut session = Session::fresh();
-        let expected: String = calls.iter().map(|call| answer_line(&mut session, call) + "\n").collect();
-        let script = script(&calls, &folder).expect("the files can be written");
-        assert_eq!(printed("play", &[], script.as_bytes()), expected);
-    });
+    cases(40, |random| assert_played(&sequence(random, 40, 8), &folder));
 }

@@ -4,6 +4,7 @@
 use std::str::FromStr;
 
 use second::checker::check;
+use second::limits::PROGRAM_BUFFER_BYTES;
 use second::refusal::Refusal;
 use second::session::Session;
 
@@ -18,7 +19,8 @@ pub fn budget(argument: Option<&str>) -> u32 {
     argument.and_then(number).unwrap_or(0)
 }
 
-/// The book of the sheet after one search, or the number of the refusal and a line feed.
+/// The book of the sheet after one search, written into the program's buffer, or the number of the refusal and a
+/// line feed.
 pub fn book_output(sheet: &[u8], budget: u32) -> Vec<u8> {
     searched_book(sheet, budget).unwrap_or_else(number_line)
 }
@@ -27,7 +29,10 @@ fn searched_book(sheet: &[u8], budget: u32) -> Result<Vec<u8>, Refusal> {
     let mut session = Session::fresh();
     session.load(sheet)?;
     session.search(budget)?;
-    session.accepted().map(|accepted| accepted.book_bytes()).ok_or(Refusal::NoSheet)
+    let mut buffer = vec![0; PROGRAM_BUFFER_BYTES];
+    let count = session.write(&mut buffer)?;
+    buffer.truncate(count);
+    Ok(buffer)
 }
 
 /// Roles and witness lines, or the number of the refusal.

@@ -8,6 +8,9 @@ use second::script::answer_line;
 use second::session::Session;
 use trials::calls::{script, sequence};
 use trials::cases::cases;
+use trials::draft::Draft;
+use trials::extremes;
+use trials::random::Random;
 
 const EXAMPLE: &str = "user,rec,id,map\nann,1,1,0\nbo,0,1,1\ncy,1,1,1\n";
 
@@ -85,9 +88,27 @@ fn book_program_prints_the_number_of_a_refusal() {
     let long = |bytes: usize| format!("user,p\n{},1\n", "n".repeat(bytes - "user,p\n,1\n".len()));
     assert_eq!(book(&[], ""), "2\n");
     assert_eq!(book(&["7"], "user,p\nu,2\n"), "7\n");
-    assert_eq!(book(&[], &long(40_960)), "5\n");
-    assert_eq!(book(&[], &long(40_961)), "1\n");
+    assert_eq!(book(&[], &long(65_536)), "5\n");
+    assert_eq!(book(&[], &long(65_537)), "1\n");
     assert_eq!(book(&[], &long(400_000)), "1\n");
+    assert_eq!(book(&[], &text(&extremes::full(1, 128))).lines().nth(1), Some("1,1,witnessed"));
+    assert_eq!(book(&[], &text(&extremes::full(1, 129))), "3\n");
+}
+
+fn text(draft: &Draft) -> String {
+    String::from_utf8(draft.bytes()).expect("a sheet is plain text")
+}
+
+/// The buffer that the program lends has 65,536 bytes.
+#[test]
+fn book_program_prints_11_for_a_book_longer_than_its_buffer() {
+    let fitting = book(&[], &text(&extremes::with_book_bytes(65_536)));
+    assert_eq!((fitting.len(), fitting.lines().nth(1)), (65_536, Some("100,100,witnessed")));
+    assert_eq!(book(&[], &text(&extremes::with_book_bytes(65_537))), "11\n");
+    assert_eq!(book(&["9"], &text(&extremes::with_long_book(&mut Random::from_seed(1)))), "11\n");
+    assert_eq!(book(&[], &text(&extremes::with_longest_book())), "11\n");
+    let too_long = extremes::filled(&mut Random::from_seed(1), 252, 128, 65_537);
+    assert_eq!(book(&[], &text(&too_long)), "1\n");
 }
 
 #[test]

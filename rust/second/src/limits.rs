@@ -1,10 +1,10 @@
-//! Every limit of document 01, once.
+//! Every limit, once: those of document 01 as the requests of document 02 have moved them.
 
 /// Bytes of a sheet.
-pub const SHEET_BYTES: usize = 40_960;
+pub const SHEET_BYTES: usize = 65_536;
 
 /// Permissions of a sheet; at least one.
-pub const PERMISSIONS: usize = 64;
+pub const PERMISSIONS: usize = 128;
 
 /// Users of a sheet; at least one.
 pub const USERS: usize = 256;
@@ -19,10 +19,13 @@ pub const GRANTS: usize = 2_048;
 pub const SEARCHED_KERNEL: usize = 128;
 
 /// Roles of a book that the checker reads.
-pub const ROLES: usize = 64;
+pub const ROLES: usize = 128;
 
 /// Bytes of a book that the checker reads.
-pub const BOOK_BYTES: usize = 65_536;
+pub const BOOK_BYTES: usize = 131_072;
+
+/// Bytes of the buffer that the book program lends; a longer book is refused.
+pub const PROGRAM_BUFFER_BYTES: usize = 65_536;
 
 /// Bytes of a buffer that a script of calls may lend.
 pub const SCRIPT_BUFFER_BYTES: usize = 131_072;

@@ -8,6 +8,7 @@ use second::roles::State;
 use second::script::{Call, lent_buffer};
 use second::session::{LoadAnswer, SearchAnswer, Session};
 
+use crate::book_draft::BookDraft;
 use crate::brute;
 use crate::calls::sequence;
 use crate::cases::cases;
@@ -100,11 +101,11 @@ pub fn checked<Other: Implementation>(sheet: &[u8], book: &[u8]) -> Result<Check
     expected
 }
 
-/// Loads, searches and books of sheets of all families with at most about so many users and permissions.
-pub fn books_agree<Other: Implementation>(count: u64, size: usize) {
+/// Loads, searches and books of such sheets.
+pub fn books_agree<Other: Implementation>(count: u64, sheet: impl Fn(&mut Random) -> Draft) {
     let mut states = Tally::default();
     cases(count, |random| {
-        let mut pair = Pair::<Other>::loaded(&families::any(random, size));
+        let mut pair = Pair::<Other>::loaded(&sheet(random));
         for budget in [0, 1, random.below(20) as u32, random.below(3_000) as u32] {
             let answer = pair.search(budget).expect("a sheet is loaded");
             states.note(answer.state.word());
@@ -133,11 +134,11 @@ pub fn damaged_sheets_agree<Other: Implementation>(count: u64) {
     numbers.expect([None, Some(Refusal::FieldValue), Some(Refusal::NameTwice)], 5);
 }
 
-/// Checks of good and of damaged books.
-pub fn checks_agree<Other: Implementation>(count: u64) {
+/// Checks of good and of damaged books of such sheets.
+pub fn checks_agree<Other: Implementation>(count: u64, sheet: impl Fn(&mut Random) -> Draft) {
     let mut numbers = Tally::default();
     cases(count, |random| {
-        let draft = families::any(random, 8);
+        let draft = sheet(random);
         let mut pair = Pair::<Other>::loaded(&draft);
         pair.search(random.below(500) as u32).expect("a sheet is loaded");
         let book = pair.book();
@@ -212,7 +213,7 @@ pub fn extremes_agree<Other: Implementation>() {
     let base = families::random(&mut random, 16, 16, 30);
     let wide = families::turned(&families::with_copied_users(&mut random, &base, 16));
     large_sheets_agree::<Other>(&[
-        extremes::longest(&mut random),
+        extremes::with_longest_names(&mut random),
         extremes::full(32, 64),
         extremes::full(256, 8),
         extremes::with_grants(&mut random, 64, 64, paper::GRANTS),
@@ -230,11 +231,42 @@ pub fn extremes_agree<Other: Implementation>() {
     ]);
 }
 
+/// Sheets at the limits with more permissions than a word has bits: grants in the second word alone, and blocks that
+/// meet where the second word begins or lie across that place.
+pub fn wide_extremes_agree<Other: Implementation>() {
+    let mut random = Random::from_seed(8);
+    let half_full = extremes::with_grants(&mut random, 64, 64, paper::GRANTS);
+    large_sheets_agree::<Other>(&[
+        extremes::longest(&mut random),
+        extremes::filled(&mut random, 252, 128, paper::SHEET_BYTES),
+        extremes::filled(&mut random, 256, 126, paper::SHEET_BYTES),
+        extremes::with_long_book(&mut random),
+        extremes::with_longest_book(),
+        extremes::with_grants(&mut random, 128, 128, paper::GRANTS),
+        extremes::with_grants(&mut random, 20, 128, paper::GRANTS),
+        extremes::full(16, 128),
+        extremes::full(31, 65),
+        families::behind(64, &half_full),
+        families::behind(63, &families::crown(45)),
+        families::behind(64, &families::crown(45)),
+        families::behind(127, &extremes::full(240, 1)),
+        families::blocks(&[(16, 64), (16, 64)]),
+        families::blocks(&[(8, 63), (8, 2), (8, 63)]),
+        families::blocks(&[(1, 1); 128]),
+        families::blocks(&[(8, 16); 8]),
+        families::paired(&mut random, 128),
+        families::band(128, 2),
+        families::band(128, 16),
+        families::star(240, 128),
+        Draft::plain(240, 128, |_, _| false),
+    ]);
+}
+
 /// Random sheets between the small ones and the limits.
 pub fn random_large_sheets_agree<Other: Implementation>(count: u64) {
     cases(count, |random| {
         let users = random.between(20, 100);
-        let permissions = random.between(15, 64);
+        let permissions = random.between(15, paper::PERMISSIONS);
         let grants = random.between(100, 900.min(users * permissions / 2));
         let draft = extremes::with_grants(random, users, permissions, grants).renamed(random);
         large_sheets_agree::<Other>(&[draft]);
@@ -247,12 +279,24 @@ pub fn limits_agree<Other: Implementation>() {
     let named = |bytes| extremes::with_name_bytes(extremes::full(2, 2), bytes).bytes();
     let sized = |users, permissions| Draft::plain(users, permissions, |_, _| false).bytes();
     let mut granted = |count| extremes::with_grants(&mut random, 256, 64, count).bytes();
+    let filled = |users, permissions, bytes| {
+        extremes::filled(&mut Random::from_seed(9), users, permissions, bytes).bytes()
+    };
     let outcomes = [
         (named(paper::NAME_BYTES), None),
         (named(paper::NAME_BYTES + 1), Some(Refusal::NameLength)),
-        (sized(paper::USERS, paper::PERMISSIONS), None),
-        (sized(paper::USERS, paper::PERMISSIONS + 1), Some(Refusal::FirstLine)),
-        (sized(paper::USERS + 1, paper::PERMISSIONS), Some(Refusal::UserLines)),
+        (sized(paper::USERS, 64), None),
+        (sized(paper::USERS, 65), None),
+        (sized(200, paper::PERMISSIONS), None),
+        (sized(200, paper::PERMISSIONS + 1), Some(Refusal::FirstLine)),
+        (sized(paper::USERS + 1, 100), Some(Refusal::UserLines)),
+        (sized(paper::USERS, paper::PERMISSIONS), Some(Refusal::SheetLength)),
+        (filled(240, 128, paper::SHEET_BYTES), None),
+        (filled(240, 128, paper::SHEET_BYTES + 1), Some(Refusal::SheetLength)),
+        (filled(252, 128, paper::SHEET_BYTES), None),
+        (filled(252, 128, paper::SHEET_BYTES + 1), Some(Refusal::SheetLength)),
+        (filled(256, 126, paper::SHEET_BYTES), None),
+        (filled(256, 126, paper::SHEET_BYTES + 1), Some(Refusal::SheetLength)),
         (granted(paper::GRANTS), None),
         (granted(paper::GRANTS + 1), Some(Refusal::GrantCount)),
         (extremes::of_bytes(paper::SHEET_BYTES), Some(Refusal::NameLength)),
@@ -264,21 +308,46 @@ pub fn limits_agree<Other: Implementation>() {
     }
 }
 
-/// Kernels of 127 and 128 grants are searched, one of 129 is not.
+/// Books of as many role lines and bytes as are read, and of one more.
+pub fn book_limits_agree<Other: Implementation>() {
+    let draft = families::crown(4);
+    let book = Pair::<Other>::loaded(&draft).book();
+    let number = |book: &BookDraft| {
+        checked::<Other>(&draft.bytes(), book.text(&draft).as_bytes()).err().map_or(0, Refusal::number)
+    };
+    for (roles, expected) in [(64, 0), (65, 0), (paper::ROLES, 0), (paper::ROLES + 1, 12)] {
+        let mut book = BookDraft::made_out(&draft, &String::from_utf8_lossy(&book));
+        book.roles.resize_with(roles, Default::default);
+        book.role_count = roles.to_string();
+        assert_eq!(number(&book), expected, "{roles} role lines");
+    }
+    for (bytes, expected) in
+        [(65_536, 13), (65_537, 13), (paper::BOOK_BYTES, 13), (paper::BOOK_BYTES + 1, 12)]
+    {
+        let mut book = BookDraft::made_out(&draft, &String::from_utf8_lossy(&book));
+        let rest = book.text(&draft).len() - book.bound.len();
+        book.bound = "7".repeat(bytes - rest);
+        assert_eq!(number(&book), expected, "{bytes} bytes");
+    }
+}
+
+/// Kernels of 127 and 128 grants are searched, one of 129 is not, wherever their permissions stand.
 pub fn kernels_agree<Other: Implementation>(count: u64) {
     cases(count, |random| {
         for size in [127, paper::SEARCHED_KERNEL, 129] {
             let draft = unfinished_kernel::<Other>(random, size);
-            let mut pair = Pair::<Other>::loaded(&draft);
-            let steps = [10_000, 20_000]
-                .map(|budget| pair.search(budget).expect("a sheet is loaded").steps)
-                .into_iter()
-                .sum::<u32>();
-            assert_eq!(steps > 0, size <= paper::SEARCHED_KERNEL);
-            let book = pair.book();
-            checked::<Other>(&draft.bytes(), &book).expect("a written book is accepted");
+            kernel_agrees::<Other>(&draft, size);
+            kernel_agrees::<Other>(&families::behind(55, &draft), size);
         }
     });
+}
+
+fn kernel_agrees<Other: Implementation>(draft: &Draft, size: usize) {
+    let mut pair = Pair::<Other>::loaded(draft);
+    let steps = [10_000, 20_000].map(|budget| pair.search(budget).expect("a sheet is loaded").steps);
+    assert_eq!(steps[0] > 0, size <= paper::SEARCHED_KERNEL);
+    let book = pair.book();
+    checked::<Other>(&draft.bytes(), &book).expect("a written book is accepted");
 }
 
 /// A sheet with a kernel of this size that the first cover does not finish.

@@ -15,11 +15,11 @@ use crate::random::Random;
 /// Searches of a sequence stay below this budget unless nothing is left to search.
 const BUDGET: usize = 3_000;
 
-/// A sequence of this many calls from a fresh session. The sheets have at most about this many users and
-/// permissions.
+/// A sequence of this many calls from a fresh session. The sheets have at most about this many users, and most of
+/// them no more permissions.
 pub fn sequence(random: &mut Random, length: usize, size: usize) -> Vec<Call> {
     let count = random.between(1, 3);
-    let sheets: Vec<Draft> = (0..count).map(|_| families::any(random, size)).collect();
+    let sheets: Vec<Draft> = (0..count).map(|_| any_draft(random, size)).collect();
     let mut session = Session::fresh();
     let mut calls = Vec::new();
     for _ in 0..length {
@@ -32,6 +32,10 @@ pub fn sequence(random: &mut Random, length: usize, size: usize) -> Vec<Call> {
         calls.push(call);
     }
     calls
+}
+
+fn any_draft(random: &mut Random, size: usize) -> Draft {
+    if random.percent(15) { families::any_wide(random, size) } else { families::any(random, size) }
 }
 
 /// A call that goes well with the state of the session: a buffer just long enough, say, or one byte short.

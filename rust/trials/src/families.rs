@@ -1,6 +1,7 @@
 //! Families of sheets, random and structured.
 
 use crate::draft::Draft;
+use crate::paper;
 use crate::random::Random;
 
 /// Each user holds each permission with this chance in a hundred.
@@ -34,6 +35,20 @@ pub fn blocks(sizes: &[(usize, usize)]) -> Draft {
 /// One user holds everything, and everyone holds one permission.
 pub fn star(users: usize, permissions: usize) -> Draft {
     Draft::plain(users, permissions, |user, permission| user == 0 || permission == 0)
+}
+
+/// Each user holds their own permission and any other one.
+pub fn paired(random: &mut Random, size: usize) -> Draft {
+    let others: Vec<usize> = (0..size).map(|user| (user + random.between(1, size - 1)) % size).collect();
+    Draft::plain(size, size, |user, permission| permission == user || permission == others[user])
+}
+
+/// The same sheet behind so many permissions that nobody holds.
+pub fn behind(permissions: usize, draft: &Draft) -> Draft {
+    let all = permissions + draft.permissions.len();
+    Draft::plain(draft.users.len(), all, |user, permission| {
+        permission >= permissions && draft.held[user][permission - permissions]
+    })
 }
 
 /// Two sheets in one: no user of the one holds a permission of the other.
@@ -86,4 +101,20 @@ pub fn any(random: &mut Random, size: usize) -> Draft {
         }
     };
     draft.renamed(random)
+}
+
+/// A sheet of some family, with at most about this many users, with more permissions than a word has bits. Those put
+/// to the family's own are held by nobody or copies of these, and all stand in any order.
+pub fn any_wide(random: &mut Random, size: usize) -> Draft {
+    let narrow = any(random, size);
+    let own = narrow.permissions.len();
+    let copies = *random.pick(&[0, 20, 100]);
+    let more = random.between(65, paper::PERMISSIONS) - own;
+    let mut places: Vec<Option<usize>> = (0..own).map(Some).collect();
+    places.extend((0..more).map(|_| random.percent(copies).then(|| random.below(own))));
+    random.shuffle(&mut places);
+    let wide = Draft::plain(narrow.users.len(), places.len(), |user, permission| {
+        places[permission].is_some_and(|place| narrow.held[user][place])
+    });
+    wide.renamed(random)
 }

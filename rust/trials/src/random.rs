@@ -40,6 +40,13 @@ impl Random {
         (0..DRAWS).find_map(|_| draw(self)).expect("one of very many draws finds something")
     }
 
+    /// Puts the items in any order.
+    pub fn shuffle<Item>(&mut self, items: &mut [Item]) {
+        for place in (1..items.len()).rev() {
+            items.swap(place, self.below(place + 1));
+        }
+    }
+
     pub fn pick<'a, Item>(&mut self, items: &'a [Item]) -> &'a Item {
         &items[self.below(items.len())]
     }

@@ -6,18 +6,19 @@ use second::checker::check;
 use second::roles::{self, State};
 use trials::book_draft::BookDraft;
 use trials::cases::cases;
+use trials::draft::Draft;
 use trials::families;
+use trials::random::Random;
 use trials::restated::form::verdict;
 use trials::restated::whole::Prepared;
 use trials::tally::Tally;
 
 use crate::support::{accepted, book, check_answer, loaded};
 
-#[test]
-fn books_are_byte_for_byte_those_of_the_restated_rules() {
+fn judge_books(count: u64, sheet: impl Fn(&mut Random) -> Draft) {
     let mut states = Tally::default();
-    cases(8_000, |random| {
-        let draft = families::any(random, 8);
+    cases(count, |random| {
+        let draft = sheet(random);
         let mut session = loaded(&draft.bytes());
         let budget = *random.pick(&[0, 1, 2, 10, 100, 3_000]);
         let answer = session.search(budget).expect("a sheet is loaded");
@@ -28,6 +29,17 @@ fn books_are_byte_for_byte_those_of_the_restated_rules() {
         states.note(answer.state.word());
     });
     states.expect(State::ALL.map(State::word), 10);
+}
+
+#[test]
+fn books_are_byte_for_byte_those_of_the_restated_rules() {
+    judge_books(8_000, |random| families::any(random, 8));
+}
+
+/// Such sheets have more permissions than a word has bits.
+#[test]
+fn wide_books_are_byte_for_byte_those_of_the_restated_rules() {
+    judge_books(1_500, |random| families::any_wide(random, 5));
 }
 
 #[test]

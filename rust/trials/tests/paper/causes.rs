@@ -13,13 +13,18 @@ use crate::support::load_number;
 /// A sheet as fields of lines, so that anything can be put into it.
 type Fields = Vec<Vec<String>>;
 
-/// Forty users and sixty-four permissions, without a cause; all ones are on the diagonal.
+const USERS: usize = 40;
+
+/// With so many permissions a sheet of too many users is not yet too long.
+const PERMISSIONS: usize = 120;
+
+/// A sheet without a cause; all ones are on the diagonal.
 fn faultless() -> Fields {
     let mut lines = vec![vec!["user".to_string()]];
-    lines[0].extend((0..64).map(|permission| format!("p{permission}")));
-    for user in 0..40 {
+    lines[0].extend((0..PERMISSIONS).map(|permission| format!("p{permission}")));
+    for user in 0..USERS {
         let mut line = vec![format!("u{user}")];
-        line.extend((0..64).map(|permission| u8::from(user == permission).to_string()));
+        line.extend((0..PERMISSIONS).map(|permission| u8::from(user == permission).to_string()));
         lines.push(line);
     }
     lines
@@ -47,13 +52,13 @@ fn put_first_line(random: &mut Random, lines: &mut Fields) {
     match random.below(4) {
         0 => lines[0][0] = random.pick(&["", "User", "users", "use", "role"]).to_string(),
         1 => lines[0].truncate(1),
-        2 => lines[0].push("p64".to_string()),
+        2 => lines[0].extend((PERMISSIONS..129).map(|permission| format!("p{permission}"))),
         _ => drop(lines[0].remove(0)),
     }
 }
 
 fn add_users(random: &mut Random, lines: &mut Fields) {
-    let more = random.between(217, 220);
+    let more = random.between(257, 260) - USERS;
     let last = lines.last().cloned().unwrap_or_default();
     for user in 0..more {
         let mut line = last.clone();
@@ -65,14 +70,14 @@ fn add_users(random: &mut Random, lines: &mut Fields) {
 fn put_name(random: &mut Random, lines: &mut Fields) {
     let name = random.pick(&["", "abcdefghijklmnopq", "a.name.much-longer_than.sixteen"]).to_string();
     if random.percent(30) {
-        lines[0][random.between(1, 64)] = name;
+        lines[0][random.between(1, PERMISSIONS)] = name;
     } else {
-        lines[random.between(1, 40)][0] = name;
+        lines[random.between(1, USERS)][0] = name;
     }
 }
 
 fn put_field_count(random: &mut Random, lines: &mut Fields) {
-    let line = &mut lines[random.between(1, 40)];
+    let line = &mut lines[random.between(1, USERS)];
     match random.below(3) {
         0 => line.push("0".to_string()),
         1 => line.truncate(1),
@@ -81,16 +86,16 @@ fn put_field_count(random: &mut Random, lines: &mut Fields) {
 }
 
 fn put_value(random: &mut Random, lines: &mut Fields) {
-    let line = &mut lines[random.between(1, 40)];
-    line.truncate(64);
+    let line = &mut lines[random.between(1, USERS)];
+    line.truncate(PERMISSIONS);
     line.push(random.pick(&["", "2", "00", "01", "11", "x", "-", "user"]).to_string());
 }
 
 fn put_repeated_name(random: &mut Random, lines: &mut Fields) {
     if random.percent(50) {
-        lines[0][64] = lines[0][random.between(1, 63)].clone();
+        lines[0][PERMISSIONS] = lines[0][random.between(1, PERMISSIONS - 1)].clone();
     } else {
-        lines[40][0] = lines[random.between(1, 39)][0].clone();
+        lines[USERS][0] = lines[random.between(1, USERS - 1)][0].clone();
     }
 }
 
@@ -105,7 +110,7 @@ fn with_causes(random: &mut Random, causes: &[u32]) -> Vec<u8> {
         put_bytes(random, &mut sheet);
     }
     if causes.contains(&1) {
-        let missing = 40_961_usize.saturating_sub(sheet.len());
+        let missing = 65_537_usize.saturating_sub(sheet.len());
         sheet.splice(0..0, std::iter::repeat_n(b'x', missing));
     }
     sheet

@@ -14,7 +14,7 @@ fn answer_is_roles_and_witness_lines() {
 
 #[test]
 fn sheet_is_judged_before_anything_of_the_book() {
-    let long = "x".repeat(65_537);
+    let long = "x".repeat(131_073);
     assert_eq!(check_number("user,p\nu,2\n", &long), 7);
     assert_eq!(check_number("", ""), 2);
     assert_eq!(check_number(EXAMPLE, &long), 12);

@@ -25,7 +25,8 @@ fn judge(draft: &Draft, damaged: impl AsRef<[u8]>) -> Result<(usize, usize), u32
 fn damaged_books_get_the_same_judgement_in_the_second_way() {
     let mut seen = Tally::default();
     cases(20_000, |random| {
-        let draft = families::any(random, 6);
+        let is_wide = random.percent(10);
+        let draft = if is_wide { families::any_wide(random, 6) } else { families::any(random, 6) };
         let session = loaded(&draft.bytes());
         let text = accepted(&session).book_bytes();
         let damaged = if random.percent(70) {

@@ -102,9 +102,11 @@ fn no_bytes_give_2() {
 }
 
 #[test]
-fn sixty_four_permissions_pass_and_sixty_five_give_3() {
+fn one_hundred_and_twenty_eight_permissions_pass_and_one_more_gives_3() {
     assert_eq!(load_number(&extremes::full(1, 64).bytes()), 0);
-    assert_eq!(load_number(&extremes::full(1, 65).bytes()), 3);
+    assert_eq!(load_number(&extremes::full(1, 65).bytes()), 0);
+    assert_eq!(load_number(&extremes::full(1, 128).bytes()), 0);
+    assert_eq!(load_number(&extremes::full(1, 129).bytes()), 3);
 }
 
 #[test]
@@ -115,9 +117,11 @@ fn two_hundred_and_fifty_six_users_pass_and_one_more_gives_4() {
 
 #[test]
 fn two_thousand_and_forty_eight_grants_pass_and_one_more_gives_9() {
-    let mut draft = extremes::full(33, 64);
-    draft.held[32].fill(false);
-    assert_eq!(Session::fresh().load(&draft.bytes()).map(|answer| answer.grants), Ok(2_048));
-    draft.held[32][63] = true;
-    assert_eq!(load_number(&draft.bytes()), 9);
+    for (users, permissions) in [(32, 64), (16, 128)] {
+        let mut draft = extremes::full(users + 1, permissions);
+        draft.held[users].fill(false);
+        assert_eq!(Session::fresh().load(&draft.bytes()).map(|answer| answer.grants), Ok(2_048));
+        draft.held[users][permissions - 1] = true;
+        assert_eq!(load_number(&draft.bytes()), 9);
+    }
 }

@@ -74,21 +74,37 @@ fn state_word_is_one_of_three() {
 }
 
 #[test]
-fn sixty_four_role_lines_are_of_the_form_and_sixty_five_are_not() {
-    assert_eq!(check_number(EXAMPLE, &example_book("64,2,open", 62, "bo,map\nann,rec\n")), 0);
-    assert_eq!(check_number(EXAMPLE, &example_book("65,2,open", 63, "bo,map\nann,rec\n")), 12);
+fn one_hundred_and_twenty_eight_role_lines_are_of_the_form_and_one_more_is_not() {
+    let number = |roles: usize| {
+        let counts = format!("{roles},2,open");
+        check_number(EXAMPLE, &example_book(&counts, roles - 2, "bo,map\nann,rec\n"))
+    };
+    assert_eq!([64, 65, 99, 100, 127, 128].map(number), [0; 6]);
+    assert_eq!([129, 130, 200].map(number), [12; 3]);
+}
+
+/// The names of the roles from R100 on have three digits.
+#[test]
+fn role_names_are_decimal_without_leading_zeros() {
+    let text = example_book("128,2,open", 126, "bo,map\nann,rec\n");
+    for (name, other) in [("\nR128,", "\nR0128,"), ("\nR100,", "\nR1OO,"), (",R99,R100,", ",R99,R099,")] {
+        assert!(text.contains(name), "{name}");
+        assert_eq!(check_number(EXAMPLE, &text.replacen(name, other, 1)), 12, "{other}");
+    }
 }
 
 /// The length is judged at the limit: counts of any length fill the book up.
 #[test]
-fn book_of_65536_bytes_is_read_and_one_more_byte_gives_12() {
+fn book_of_131072_bytes_is_read_and_one_more_byte_gives_12() {
     let filled = |bytes: usize| {
         let digits = bytes - EXAMPLE_BOOK.len() + 1;
         EXAMPLE_BOOK.replacen("2,2,w", &format!("2,{},w", "7".repeat(digits)), 1)
     };
-    assert_eq!(filled(65_536).len(), 65_536);
+    assert_eq!(filled(131_072).len(), 131_072);
     assert_eq!(check_number(EXAMPLE, &filled(65_536)), 13);
-    assert_eq!(check_number(EXAMPLE, &filled(65_537)), 12);
+    assert_eq!(check_number(EXAMPLE, &filled(65_537)), 13);
+    assert_eq!(check_number(EXAMPLE, &filled(131_072)), 13);
+    assert_eq!(check_number(EXAMPLE, &filled(131_073)), 12);
 }
 
 #[test]

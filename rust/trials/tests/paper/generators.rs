@@ -9,6 +9,9 @@ use trials::extremes;
 use trials::families;
 use trials::random::Random;
 use trials::restated::causes::lowest_cause;
+use trials::tally::Tally;
+
+use crate::support::{accepted, loaded};
 
 #[test]
 fn one_seed_gives_one_sheet() {
@@ -24,6 +27,31 @@ fn sheets_of_families_are_acceptable() {
         let draft = families::any(random, 12);
         assert_eq!(lowest_cause(&draft.bytes()), None, "{draft:?}");
     });
+}
+
+/// Those with more permissions than a word has bits hold grants in both words, and in the second one alone.
+#[test]
+fn wide_sheets_of_families_are_acceptable() {
+    let mut words = Tally::default();
+    cases(500, |random| {
+        let draft = families::any_wide(random, 12);
+        assert_eq!(lowest_cause(&draft.bytes()), None, "{draft:?}");
+        assert!((65..=128).contains(&draft.permissions.len()), "{draft:?}");
+        let is_in = |word: usize| draft.grants().iter().any(|(_, permission)| permission / 64 == word);
+        words.note((is_in(0), is_in(1)));
+    });
+    words.expect([(true, true), (true, false), (false, true)], 3);
+}
+
+#[test]
+fn sheets_and_books_are_as_long_as_asked() {
+    for bytes in [65_000, 65_536, 65_537] {
+        let draft = extremes::filled(&mut Random::from_seed(1), 245, 128, bytes);
+        assert_eq!(draft.bytes().len(), bytes);
+        assert_eq!(draft.grants().len(), 2_048);
+        let session = loaded(&extremes::with_book_bytes(bytes).bytes());
+        assert_eq!(accepted(&session).book_bytes().len(), bytes);
+    }
 }
 
 #[test]

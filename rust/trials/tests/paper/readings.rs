@@ -1,7 +1,7 @@
 //! The settled readings of document 01 that are easy to miss; those on the machine, the checker and the
 //! programs are with their subject.
 
-use second::book::Book;
+use second::book::role_name;
 use second::cover;
 use second::grants::{self, fits};
 use second::roles::State;
@@ -49,15 +49,15 @@ fn name_lengths_are_judged_on_lines_with_a_wrong_field_count_too() {
 }
 
 #[test]
-fn sheet_of_40960_bytes_is_judged_by_its_other_rules() {
-    assert_eq!(load_number(&extremes::of_bytes(40_960)), 5);
-    assert_eq!(load_number(&extremes::of_bytes(40_961)), 1);
+fn sheet_of_65536_bytes_is_judged_by_its_other_rules() {
+    assert_eq!(load_number(&extremes::of_bytes(65_536)), 5);
+    assert_eq!(load_number(&extremes::of_bytes(65_537)), 1);
 }
 
 #[test]
-fn longest_acceptable_sheet_has_38213_bytes() {
+fn longest_acceptable_sheet_has_65536_bytes() {
     let sheet = extremes::longest(&mut Random::from_seed(1)).bytes();
-    assert_eq!(sheet.len(), paper::LONGEST_ACCEPTED_SHEET);
+    assert_eq!(sheet.len(), paper::SHEET_BYTES);
     assert_eq!(load_number(&sheet), 0);
 }
 
@@ -122,15 +122,18 @@ fn first_grouping_can_have_more_than_255_classes() {
 
 #[test]
 fn kernel_of_2048_grants_is_covered_and_written_but_not_searched() {
-    let draft = extremes::with_grants(&mut Random::from_seed(1), 100, 64, 2_048);
-    let mut session = Session::fresh();
-    let answer = session.load(&draft.bytes()).expect("the sheet is acceptable");
-    assert_eq!((answer.grants, answer.kernel), (2_048, 2_048));
-    let before = session.clone();
-    assert_eq!(session.search(u32::MAX), Ok(search_answer(0, 64, answer.witness, State::Open)));
-    assert_eq!(session, before);
-    let checked = second::checker::check(&draft.bytes(), &accepted(&session).book_bytes());
-    assert_eq!(checked.map(|counts| counts.roles), Ok(64));
+    for (users, permissions) in [(100, 64), (100, 96), (100, 128)] {
+        let draft = extremes::with_grants(&mut Random::from_seed(1), users, permissions, 2_048);
+        let mut session = Session::fresh();
+        let answer = session.load(&draft.bytes()).expect("the sheet is acceptable");
+        assert_eq!((answer.grants, answer.kernel), (2_048, 2_048));
+        let before = session.clone();
+        let roles = users.min(permissions);
+        assert_eq!(session.search(u32::MAX), Ok(search_answer(0, roles, answer.witness, State::Open)));
+        assert_eq!(session, before);
+        let checked = second::checker::check(&draft.bytes(), &accepted(&session).book_bytes());
+        assert_eq!(checked.map(|counts| counts.roles), Ok(roles));
+    }
 }
 
 #[test]
@@ -176,17 +179,44 @@ fn buffer_one_byte_short_gives_11_and_stays() {
     assert_eq!(session.write(&mut buffer), Ok(needed));
 }
 
-/// The longest book that the limits allow: as many users, permissions, roles and witness lines as there can
-/// be, and names as long.
+/// The longest book for so many users and permissions, if there can be such a sheet: there are no more roles than
+/// permissions, and no two witness lines have one user or one permission. Names of permissions stand in it twice, so
+/// they take what names may have of the sheet's bytes before those of the users do.
+fn longest_book(users: usize, permissions: usize) -> Option<usize> {
+    let lines = users * (2 * permissions + 1);
+    let name_bytes = paper::SHEET_BYTES.checked_sub("user\n".len() + permissions + lines)?;
+    let permission_bytes = name_bytes.checked_sub(users)?.min(permissions * paper::NAME_BYTES);
+    let user_bytes = (name_bytes - permission_bytes).min(users * paper::NAME_BYTES);
+    let role_bytes: usize = (0..permissions).map(|role| role_name(role).len()).sum();
+    let count = permissions.to_string();
+    let counts = format!("roles,bound,state\n{count},{count},witnessed\n\n").len();
+    let roles =
+        "role\n\n".len() + permissions + permission_bytes + role_bytes + permissions * (2 * permissions + 1);
+    let users_block = "user\n\n".len() + permissions + role_bytes + user_bytes + lines;
+    let witness_users = user_bytes.min(users.min(permissions) * paper::NAME_BYTES);
+    let witness = "user,permission\n".len() + 2 * permissions + witness_users + permission_bytes;
+    (permission_bytes >= permissions).then_some(counts + roles + users_block + witness)
+}
+
 #[test]
 fn every_book_is_within_the_length_that_the_checker_reads() {
-    let draft = extremes::longest(&mut Random::from_seed(1));
-    let sheet = Sheet::read(&draft.bytes()).expect("the sheet is acceptable");
-    let longest = Book {
-        bound: 64,
-        state: State::Witnessed,
-        roles: vec![Default::default(); 64],
-        witness: grants::all(&sheet)[..64].to_vec(),
-    };
-    assert_eq!(longest.render(&sheet).len(), 49_133);
+    let sizes = (1..=paper::USERS).flat_map(|users| (1..=paper::PERMISSIONS).map(move |own| (users, own)));
+    let longest = sizes.filter_map(|(users, permissions)| longest_book(users, permissions)).max();
+    assert_eq!(longest, Some(103_780));
+    let draft = extremes::with_longest_book();
+    let book = accepted(&loaded(&draft.bytes())).book_bytes();
+    assert_eq!((draft.bytes().len(), book.len()), (paper::SHEET_BYTES, 103_780));
+    let checked = second::checker::check(&draft.bytes(), &book);
+    assert_eq!(checked.map(|counts| (counts.roles, counts.witness_lines)), Ok((128, 128)));
+}
+
+/// The book program's buffer has 65,536 bytes, and there are longer books.
+#[test]
+fn book_longer_than_the_lent_buffer_gives_11() {
+    for (bytes, expected) in [(65_536, Ok(65_536)), (65_537, Err(11))] {
+        let session = loaded(&extremes::with_book_bytes(bytes).bytes());
+        let mut buffer = vec![b'#'; paper::PROGRAM_BUFFER_BYTES];
+        assert_eq!(session.write(&mut buffer).map_err(|refusal| refusal.number()), expected);
+        assert_eq!(buffer.iter().all(|byte| *byte == b'#'), expected.is_err());
+    }
 }
