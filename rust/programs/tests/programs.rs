@@ -158,7 +158,7 @@ fn play_program_stops_at_a_line_that_is_no_call() {
         "search +1\n",
         "search \n",
         "search 4294967296\n",
-        "write 131073\n",
+        "write 262145\n",
         "load\n",
         "load no-such-file\n",
         "\n",
@@ -167,7 +167,7 @@ fn play_program_stops_at_a_line_that_is_no_call() {
         assert_eq!(output.status.code(), Some(2), "{output:?}");
         assert!(output.stdout.is_empty() && !output.stderr.is_empty(), "{output:?}");
     }
-    assert!(printed(run(program, &[], b"write 131072\n")).starts_with("write 10 0 "));
+    assert!(printed(run(program, &[], b"write 262144\n")).starts_with("write 10 0 "));
 }
 
 /// The program gives the lines that the library gives.

@@ -28,4 +28,4 @@ pub const BOOK_BYTES: usize = 131_072;
 pub const PROGRAM_BUFFER_BYTES: usize = 65_536;
 
 /// Bytes of a buffer that a script of calls may lend.
-pub const SCRIPT_BUFFER_BYTES: usize = 131_072;
+pub const SCRIPT_BUFFER_BYTES: usize = 262_144;

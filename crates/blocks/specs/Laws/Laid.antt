@@ -8,7 +8,7 @@ use Rattle.spec.specs.Limits.{user-limit}
 use Rattle.spec.specs.Text.{Bytes}
 use Rattle.spec.specs.Sheet.{sheet-of, user-count, permission-count}
 use Rattle.cell_rows.specs.Rows.{row-bits}
-use Rattle.cell_rows.specs.Laws.Width.{permissions-fit as permissions-fit-a-row}
+use Rattle.cell_rows.specs.Laws.Width.{permissions-fit}
 use Rattle.rules.specs.AcceptedFacts.{Lawful, accepted-lawful}
 use Rattle.names.specs.LaidOut.{LaidOut, UsersAt, PermissionsAt}
 use Rattle.names.specs.declared.layout.Layout.{Layout}
@@ -17,13 +17,13 @@ module _ {text : Bytes} {layout : Layout} (laid : LaidOut text layout) where
   pub few-users : layout .users ≤ user-limit
   few-users = omega (arith, laid .user-total, accepted-lawful text (laid .accepts) .few-users)
 
-  pub permissions-fit : layout .permissions ≤ row-bits
-  permissions-fit =
+  pub laid-permissions-fit : layout .permissions ≤ row-bits
+  laid-permissions-fit =
       omega (
         arith,
         laid .permission-total,
         accepted-lawful text (laid .accepts) .few-permissions,
-        permissions-fit-a-row,
+        permissions-fit,
       )
 
 module _ {text : Bytes} {places : List ℕ} (at : UsersAt text places) where
@@ -50,5 +50,5 @@ module _ {text : Bytes} {places : List ℕ} (at : PermissionsAt text places) whe
         arith,
         at .names .total,
         accepted-lawful text (at .accepts) .few-permissions,
-        permissions-fit-a-row,
+        permissions-fit,
       )

@@ -16,7 +16,7 @@ use Rattle.cells.specs.Laws.CellPlace.{cell-marked}
 use Rattle.cells.specs.Laws.CellList.{cell-of, grant-of-cell}
 use Rattle.roles.specs.RolesShown.{RolesAt}
 use Rattle.book_length.specs.BookRows.{rows-book, rows-book-in}
-use Rattle.blocks.specs.Laws.Laid.{permissions-fit}
+use Rattle.blocks.specs.Laws.Laid.{laid-permissions-fit}
 use Rattle.book_lines.specs.RowsSaid.{GrantCells}
 use Rattle.book_lines.specs.declared.counts.Counts.{Counts}
 use Rattle.cell_rows.specs.Laws.Width.{permissions-fit}
@@ -43,7 +43,7 @@ part-granted {rows} {words} {sheet = sheet} shown fit part = record { held = λ 
 
 module _ {s : CodeSession} (h : Holds s) where
   room-for-permissions : permission-count (sheet-of (text-in s)) ≤ row-bits
-  room-for-permissions = let laid = h .prepared .laid in omega (arith, permissions-fit laid, laid .permission-total)
+  room-for-permissions = let laid = h .prepared .laid in omega (arith, laid-permissions-fit laid, laid .permission-total)
 
   -- the witness's cells are cells of grants
   pub witness-cells-granted : GrantCells (s .prepared .witness .cells) (sheet-of (text-in s))

@@ -9,7 +9,7 @@ use Rattle.cell_rows.specs.Rows.{row-words, row-bits}
 use Rattle.rules.specs.AcceptedFacts.{accepted-lawful}
 use Rattle.names.specs.LaidOut.{UsersAt, PermissionsAt}
 use Rattle.names.specs.declared.layout.Layout.{Layout}
-use Rattle.blocks.specs.Laws.Laid.{few-users, permissions-fit}
+use Rattle.blocks.specs.Laws.Laid.{few-users, laid-permissions-fit}
 use Rattle.book_length.specs.Laws.NameBytes.{bytes-small, role-bytes-small, users-short, permissions-short}
 use Rattle.book_length.specs.Laws.NameBytes.{users-bytes, permissions-bytes}
 use Rattle.book_length.specs.Laws.Placed.{users-placed, permissions-placed, users-lent, permissions-lent, cells-small}
@@ -77,7 +77,7 @@ lines-small : (s : tie.Start)
     × (layout s .users * (2 * roles + 1) ≤ user-limit * (2 * row-bits + 1))
 unfolding row-bits row-words user-limit
 lines-small s =
-    let fit = permissions-fit (s .pre .0) in
+    let fit = laid-permissions-fit (s .pre .0) in
     let roles = cells-small (layout s .permissions) (s .pre .1) in
     let users = cells-small (s .args .counts .roles) (few-users (s .pre .0)) in
     (s .pre .1, fit, omega arith, omega (arith, s .pre .1))
