@@ -62,7 +62,7 @@ module _ (text : Bytes) (arguments : List Bytes) where
 
   room : length zeros ≡ 65_536
   unfolding program-buffer
-  room = length-replicate program-buffer 0
+  room = length-replicate {A = ℕ} program-buffer 0
 
   -- its buffer takes a book of up to 65,536 bytes, and no longer one
   answered : So (accepted text) → length task-book ≤ 65_536 → task .answer .number ≡ 0

@@ -6,6 +6,7 @@ use native.Mathlib.Omega.{arith}
 use mathlib.Core.Path.{_≡_, sym, ap, _∙_}
 use mathlib.Core.Bool.{So}
 use mathlib.Core.List.{List}
+use Rattle.spec.specs.Limits.{role-limit}
 use Rattle.spec.specs.Sheet.{Sheet, Grant, sheet-of, permission-count, holds}
 use Rattle.spec.specs.Roles.{roles-of, role-count}
 use Rattle.spec.specs.Book.{book}
@@ -19,7 +20,6 @@ use Rattle.book_length.specs.BookRows.{rows-book, rows-book-in}
 use Rattle.blocks.specs.Laws.Laid.{laid-permissions-fit}
 use Rattle.book_lines.specs.RowsSaid.{GrantCells}
 use Rattle.book_lines.specs.declared.counts.Counts.{Counts}
-use Rattle.cell_rows.specs.Laws.Width.{permissions-fit}
 use Rattle.session.specs.CodeSession.{text-in, state-in, Holds}
 use Rattle.session.specs.Laws.Counted.{CountsIn}
 use Rattle.session.specs.Laws.CountsHeld.{roles-held, few-roles-held}
@@ -50,9 +50,10 @@ module _ {s : CodeSession} (h : Holds s) where
   witness-cells-granted = part-granted (h .prepared .shown) room-for-permissions (h .prepared .witness .part)
 
   module _ {counts : Counts} (counted : CountsIn s counts) where
-    -- a role has a place in a row of words
-    pub room-for-roles : counts .roles ≤ row-bits
-    room-for-roles = omega (arith, counted .roles, roles-held h, few-roles-held h, permissions-fit)
+    -- there is a place for each role
+    pub room-for-roles : counts .roles ≤ role-limit
+    unfolding role-limit
+    room-for-roles = omega (arith, counted .roles, roles-held h, few-roles-held h)
 
     -- what is written is the book
     pub book-held : {has gives : List ℕ} {count : ℕ}
