@@ -6,7 +6,7 @@ use std::mem::MaybeUninit;
 use super::{Loaded, Searched};
 
 /// The bytes of a session. No other place says how many they are.
-pub const SESSION_BYTES: usize = 67_976;
+pub const SESSION_BYTES: usize = 98_696;
 
 const WORD_BYTES: usize = size_of::<u64>();
 
