@@ -1,8 +1,8 @@
--- Counting by columns. The positions of a column's word are taken one after the other, and each adds the cells near
--- the grant in one word. A word that is not in the column of the grant's permission has none, so the words of the
--- column count them all.
+-- Counting by columns. The positions of a column's word are taken one after the other, and each adds the cells of a
+-- user near the grant. A user who is not in the column of the grant's permission has none, so the users of the column
+-- count them all.
 use Prim.Native.Nat.{ℕ, zero, suc, min, _+_, _*_, _/_, _%_, _≤_, _<_}
-use native.Mathlib.Nat.{not-suc-le-zero}
+use native.Mathlib.Nat.{not-suc-le-zero, mul-assoc}
 use native.Mathlib.Omega.{arith}
 use mathlib.Core.Path.{_≡_, refl, sym, ap, _∙_}
 use mathlib.Core.Logic.{⊎-elim}
@@ -13,21 +13,22 @@ use lib.Arith.{digits-lt, digits-div, digits-mod}
 use lib.Dec.{eqb}
 use lib.Bits.{bitAnd}
 use lib.ListN.{getD}
+use Rattle.spec.specs.Limits.{user-limit}
 use Rattle.bits.specs.Counting.{count-below, sum-below, Lowest}
 use Rattle.bits.specs.Laws.Below.{below-or-from, last-or-below}
 use Rattle.bits.specs.Laws.Block.{count-below-blocks}
-use Rattle.bits.specs.Laws.Count.{count-below-le, count-below-ext, count-below-none-intro}
+use Rattle.bits.specs.Laws.Count.{count-below-le, count-below-none-intro}
 use Rattle.bits.specs.Laws.Sum.{sum-below-ext, sum-below-add, sum-below-none, sum-below-le}
 use Rattle.bits.specs.Truth.{passes-or-fails}
 use Rattle.bits.specs.Bit.{bit, word-bits}
 use Rattle.bits.specs.Laws.Bit.{bit-of-zero}
 use Rattle.bits.specs.Word.{LowestDropped}
-use Rattle.cell_rows.specs.Rows.{row-words, row-bits}
-use Rattle.cell_rows.specs.CellPlaces.{cell-words, cell-limit, marked, near, FittingWord, CountedBelow}
-use Rattle.cells.specs.Laws.CellPlace.{fit-by-word}
-use Rattle.fit.specs.Laws.FitWord.{marked-in-word, near-word}
+use Rattle.cell_rows.specs.Rows.{row-words, row-bits, cell}
+use Rattle.cell_rows.specs.CellPlaces.{cell-limit, marked, near, FittingWord, CountedBelow}
+use Rattle.cell_rows.specs.Laws.Width.{rows-cells}
+use Rattle.fit.specs.Laws.FitWord.{marked-in-word, near-word, count-next-word}
 use Rattle.fit.specs.Laws.ColumnPlaces.{whole-columns, column-from}
-use Rattle.fit.specs.Columns.{column-words, held-in, near-in-word, near-if, Columns}
+use Rattle.fit.specs.Columns.{column-words, held-in, near-in-row, near-if, Columns}
 
 -- ---- the positions of a word, one after the other
 
@@ -67,65 +68,78 @@ pub column-position : (rows columns : List ℕ) → Columns rows columns → (p 
     → bit (getD columns (p * column-words + j) 0) q ≡ held-in rows p (j * word-bits + q)
 column-position rows columns made p j q k l m =
     let n = (p * column-words + j) * word-bits + q in
-    let inside : j * word-bits + q < cell-words = rw whole-columns at (digits-lt l m) in
-    let place : n ≡ p * cell-words + (j * word-bits + q) = omega (arith, column-from p) in
+    let inside : j * word-bits + q < user-limit = rw whole-columns at (digits-lt l m) in
+    let place : n ≡ p * user-limit + (j * word-bits + q) = omega (arith, column-from p) in
     sym (marked-in-word columns (p * column-words + j) q m) ∙ ap (marked columns) place
-    ∙ made .inside (p * cell-words + (j * word-bits + q)) (digits-lt k inside)
+    ∙ made .inside (p * user-limit + (j * word-bits + q)) (digits-lt k inside)
     ∙ rw (digits-div p inside, digits-mod p inside)
 
--- ---- the cells of a word near a grant
+-- ---- the cells of a user near a grant
 
 module _ (rows left : List ℕ) (it : ℕ) where
-  near-if-le : (taken : Bool) (i : ℕ) → near-if taken rows left it i ≤ word-bits
-  near-if-le true i = count-below-le word-bits (λ q. near rows left it (i * word-bits + q))
-  near-if-le false i = omega arith
+  near-if-le : (taken : Bool) (u : ℕ) → near-if taken rows left it u ≤ row-bits
+  near-if-le true u = count-below-le row-bits (λ p. near rows left it (u * row-bits + p))
+  near-if-le false u = omega arith
 
-  pub near-sum-le : (n : ℕ) (taken : ℕ → Bool) (at : ℕ → ℕ) → sum-below n (λ i. near-if (taken i) rows left it (at i))
-      ≤ n * word-bits
-  near-sum-le n taken at = sum-below-le n word-bits (λ i. near-if (taken i) rows left it (at i))
-      (λ i l. near-if-le (taken i) (at i))
+  pub near-sum-le : (n : ℕ) (taken : ℕ → Bool) (at : ℕ → ℕ) → sum-below n (λ u. near-if (taken u) rows left it (at u))
+      ≤ n * row-bits
+  near-sum-le n taken at = sum-below-le n row-bits (λ u. near-if (taken u) rows left it (at u))
+      (λ u l. near-if-le (taken u) (at u))
 
-  pub near-word-count : (i : ℕ) {word : ℕ} → FittingWord rows it i word
-      → count-below word-bits (bit (bitAnd (getD left i 0) word)) ≡ near-in-word rows left it i
-  near-word-count i {word} fitting =
-      count-below-ext word-bits (bit (bitAnd (getD left i 0) word)) (λ q. near rows left it (i * word-bits + q))
-      (near-word rows left it i fitting)
+  -- the first k words of the row that starts with this word
+  abbrev pub near-words : ℕ → ℕ → ℕ
+  near-words row k = count-below (k * word-bits) (λ p. near rows left it (row * word-bits + p))
 
-  -- the words of a permission below word i
+  pub near-words-more : (row k : ℕ) {word : ℕ} → FittingWord rows it (row + k) word
+      → near-words row (k + 1) ≡ near-words row k + count-below word-bits (bit (bitAnd (getD left (row + k) 0) word))
+  near-words-more row k {word} fitting =
+      count-next-word (λ p. near rows left it (row * word-bits + p)) k (bitAnd (getD left (row + k) 0) word)
+      (λ q l. near-word rows left it (row + k) fitting q l ∙ ap (near rows left it) (place q))
+    where
+      place : (q : ℕ) → (row + k) * word-bits + q ≡ row * word-bits + (k * word-bits + q)
+      place q = omega arith
+
+  pub near-words-all : (u : ℕ) → near-words (u * row-words) row-words ≡ near-in-row rows left it u
+  unfolding row-bits
+  near-words-all u =
+      ap (λ (n : ℕ). count-below row-bits (λ p. near rows left it (n + p))) (mul-assoc u row-words word-bits)
+
+  -- the users of a permission below n
   abbrev pub column-sum : ℕ → ℕ → ℕ
-  column-sum p n = sum-below n (λ i. near-if (held-in rows p i) rows left it i)
+  column-sum p n = sum-below n (λ u. near-if (held-in rows p u) rows left it u)
 
   pub column-next-word : (columns : List ℕ) → Columns rows columns → (p j : ℕ) → p < row-bits → j < column-words
       → column-sum p ((j + 1) * word-bits)
-      ≡ column-sum p (j * word-bits) + word-sum (λ q. near-in-word rows left it (j * word-bits + q))
+      ≡ column-sum p (j * word-bits) + word-sum (λ q. near-in-row rows left it (j * word-bits + q))
       (getD columns (p * column-words + j) 0)
   column-next-word columns made p j k l =
       let more : (j + 1) * word-bits ≡ j * word-bits + word-bits = omega arith in
-      rw (more, sum-below-add (j * word-bits) word-bits (λ i. near-if (held-in rows p i) rows left it i))
+      rw (more, sum-below-add (j * word-bits) word-bits (λ u. near-if (held-in rows p u) rows left it u))
       (ap (λ n. column-sum p (j * word-bits) + n)
       (sum-below-ext word-bits (λ q. near-if (held-in rows p (j * word-bits + q)) rows left it (j * word-bits + q))
       (λ q. near-if (bit (getD columns (p * column-words + j) 0) q) rows left it (j * word-bits + q))
       (λ q m. rw (column-position rows columns made p j q k l m))))
 
-  -- a word that is not in the column has no cell near the grant
-  none-near : (i : ℕ) → held-in rows (it % row-bits) i ≡ false → near-in-word rows left it i ≡ 0
-  none-near i e =
-      count-below-none-intro word-bits (λ q. near rows left it (i * word-bits + q))
-      (λ q l. ap (λ b. marked left (i * word-bits + q) && b)
-      (fit-by-word rows it i q l ∙ rw e (and-false (bit (getD rows (it / row-bits * row-words + i % row-words) 0) q)))
-      ∙ and-false (marked left (i * word-bits + q)))
+  -- a user who is not in the column has no cell near the grant
+  none-near : (u : ℕ) → held-in rows (it % row-bits) u ≡ false → near-in-row rows left it u ≡ 0
+  none-near u e =
+      count-below-none-intro row-bits (λ p. near rows left it (u * row-bits + p))
+      (λ p l. rw (digits-div u l)
+      (rw e (rw (and-false (cell rows (it / row-bits) ((u * row-bits + p) % row-bits)))
+      (and-false (marked left (u * row-bits + p))))))
 
-  column-or-none : (i : ℕ) → near-if (held-in rows (it % row-bits) i) rows left it i ≡ near-in-word rows left it i
-  column-or-none i = ⊎-elim (λ e. rw e) (λ e. rw e (sym (none-near i e)))
-      (passes-or-fails (held-in rows (it % row-bits) i))
+  column-or-none : (u : ℕ) → near-if (held-in rows (it % row-bits) u) rows left it u ≡ near-in-row rows left it u
+  column-or-none u = ⊎-elim (λ e. rw e) (λ e. rw e (sym (none-near u e)))
+      (passes-or-fails (held-in rows (it % row-bits) u))
 
-  -- so the words of the column count all
-  pub column-counts-all : column-sum (it % row-bits) cell-words ≡ count-below cell-limit (near rows left it)
+  -- so the users of the column count all
+  pub column-counts-all : column-sum (it % row-bits) user-limit ≡ count-below cell-limit (near rows left it)
   column-counts-all =
-      sum-below-ext cell-words (λ i. near-if (held-in rows (it % row-bits) i) rows left it i)
-      (near-in-word rows left it)
-      (λ i l. column-or-none i)
-      ∙ sym (count-below-blocks cell-words word-bits (near rows left it))
+      sum-below-ext user-limit (λ u. near-if (held-in rows (it % row-bits) u) rows left it u)
+      (near-in-row rows left it)
+      (λ u l. column-or-none u)
+      ∙ sym (count-below-blocks user-limit row-bits (near rows left it))
+      ∙ ap (λ n. count-below n (near rows left it)) (rows-cells user-limit)
 
 -- a count that goes on where another ended
 pub counted-on : {most whole n r : ℕ} (more : ℕ) → CountedBelow most whole n → CountedBelow most (n + more) r

@@ -1,5 +1,5 @@
--- Places of columns: that of word i of the rows in the column of permission p is p * cell-words + i. A number is given
--- by its quotient and its remainder, so a place is that of one word and one permission.
+-- Places of columns: that of user u in the column of permission p is p * user-limit + u. A number is given by its
+-- quotient and its remainder, so a place is that of one user and one permission.
 use Prim.Native.Nat.{ℕ, _+_, _*_, _/_, _%_, _≤_, _<_}
 use native.Mathlib.Nat.{mul-assoc, div-add-mod', le-div-iff-mul-le, div-lt-iff-lt-mul}
 use native.Mathlib.Omega.{arith}
@@ -12,20 +12,18 @@ use Rattle.spec.specs.Limits.{user-limit}
 use Rattle.bits.specs.Truth.{same-truth, and-intro, and-left, and-right}
 use Rattle.bits.specs.Bit.{word-bits}
 use Rattle.cell_rows.specs.Rows.{row-bits}
-use Rattle.cell_rows.specs.CellPlaces.{cell-words}
-use Rattle.cell_rows.specs.Laws.Width.{row-words-pos}
 use Rattle.fit.specs.Columns.{column-words, place-limit}
 
-pub some-cell-words : 0 < cell-words
+pub some-users : 0 < user-limit
 unfolding user-limit
-some-cell-words = omega (arith, row-words-pos)
+some-users = omega arith
 
--- the words of a column have a position for each word of the rows
-pub whole-columns : column-words * word-bits ≡ cell-words
+-- the words of a column have a position for each user
+pub whole-columns : column-words * word-bits ≡ user-limit
 unfolding user-limit
 whole-columns = omega arith
 
-pub column-from : (p : ℕ) → p * column-words * word-bits ≡ p * cell-words
+pub column-from : (p : ℕ) → p * column-words * word-bits ≡ p * user-limit
 column-from p = mul-assoc p column-words word-bits ∙ ap (λ n. p * n) whole-columns
 
 -- a number by its remainder and its quotient
@@ -42,8 +40,8 @@ same-digits c q r n h =
     made e f = sym (div-add-mod' n c) ∙ ap (λ m. n / c * c + m) e ∙ ap (λ m. m * c + r) f
 
 -- a place is that of a permission of a row
-pub permission-at : (n : ℕ) → n < place-limit → n / cell-words < row-bits
-permission-at n = div-lt-iff-lt-mul some-cell-words .1
+pub permission-at : (n : ℕ) → n < place-limit → n / user-limit < row-bits
+permission-at n = div-lt-iff-lt-mul some-users .1
 
 -- past the places there are no words
 pub past-places : (n : ℕ) → place-limit ≤ n → row-bits * column-words ≤ n / word-bits

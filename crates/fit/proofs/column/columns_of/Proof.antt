@@ -1,22 +1,21 @@
--- `fit::column::columns_of`: the words of the rows are put in one after the other.
+-- `fit::column::columns_of`: the users are put in one after the other.
 use Prim.Native.Nat.{_*_, _-_, _≤_}
 use native.Mathlib.Omega.{arith}
 use mathlib.Core.Path.{_≡_, refl, _∙_}
 use lib.ListN.{length}
 use Rattle.spec.specs.Limits.{user-limit}
 use Rattle.cell_rows.specs.Rows.{row-words, row-bits}
-use Rattle.cell_rows.specs.CellPlaces.{cell-words}
 use Rattle.fit.specs.Columns.{column-words}
 use Rattle.fit.specs.ColumnsMade.{PutInBelow, none-put-in, next-put-in, columns-made}
 use Rattle.fit.proofs.column.columns_of.Statement.{statement}
 use Rattle.fit.proofs.column.columns_of.Tie as tie
 
 abbrev Inv-loop : tie.InvT-loop
-Inv-loop rows columns₀ i₀ columns i =
-    (i ≤ cell-words) × (length columns ≡ row-bits * column-words) × PutInBelow rows i columns
+Inv-loop rows columns₀ u₀ columns u =
+    (u ≤ user-limit) × (length columns ≡ row-bits * column-words) × PutInBelow rows u columns
 
 abbrev μ-loop : tie.MeasureT-loop
-μ-loop rows columns₀ i₀ columns i = cell-words - i
+μ-loop rows columns₀ u₀ columns u = user-limit - u
 
 loop-holds : tie.Need-loop-holds Inv-loop μ-loop
 unfolding user-limit row-words row-bits
@@ -32,14 +31,14 @@ loop-again c =
     let at = c .before .before .before .loop in (
       omega arith,
       c .put-row .ensures .sized ∙ at .inv .1,
-      next-put-in _ (at .i) _ _ (at .inv .2) (c .put-row .ensures),
+      next-put-in _ (at .u) _ _ (at .inv .2) (c .put-row .ensures),
     )
 
 returns : tie.Need-returns Inv-loop μ-loop
 unfolding user-limit row-words
 returns c =
     let at = c .before .loop in
-    let end : at .i ≡ cell-words = omega arith in
+    let end : at .u ≡ user-limit = omega arith in
     columns-made _ (at .columns) (at .inv .1) (rw end at (at .inv .2))
 
 pub columns-of-spec : {M : Type 1} → statement M

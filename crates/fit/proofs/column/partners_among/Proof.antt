@@ -1,4 +1,4 @@
--- `fit::column::partners_among`: the positions of w are the words still to be counted. The lowest is counted next,
+-- `fit::column::partners_among`: the positions of w are the users still to be counted. The lowest is counted next,
 -- and dropped.
 use Prim.Native.Nat.{_+_, _≤_}
 use native.Mathlib.Omega.{arith}
@@ -7,33 +7,36 @@ use borrow.Author.Tests.{ltb-false}
 use Rattle.spec.specs.Limits.{user-limit}
 use Rattle.bits.specs.Bit.{bit, word-bits}
 use Rattle.bits.specs.Laws.Count.{count-below-le}
-use Rattle.cell_rows.specs.Rows.{row-words}
-use Rattle.fit.specs.Columns.{near-in-word}
-use Rattle.fit.specs.Laws.Column.{word-sum, word-sum-dropped, word-sum-of-none, near-sum-le, near-word-count}
+use Rattle.cell_rows.specs.Rows.{row-words, row-bits}
+use Rattle.fit.specs.Columns.{near-in-row}
+use Rattle.fit.specs.Laws.Column.{word-sum, word-sum-dropped, word-sum-of-none, near-sum-le}
 use Rattle.fit.proofs.column.partners_among.Statement.{statement}
 use Rattle.fit.proofs.column.partners_among.Tie as tie
 
 abbrev Inv-loop : tie.InvT-loop
 Inv-loop rows left it from some start most n₀ w₀ n w =
-    n + word-sum (λ q. near-in-word rows left (it .0) (from + q)) w ≡ start + word-sum
-    (λ q. near-in-word rows left (it .0) (from + q)) some
+    n + word-sum (λ q. near-in-row rows left (it .0) (from + q)) w ≡ start + word-sum
+    (λ q. near-in-row rows left (it .0) (from + q)) some
 
 abbrev μ-loop : tie.MeasureT-loop
 μ-loop rows left it from some start most n₀ w₀ n w = w
 
-fitting-requires : tie.Need-fitting-requires Inv-loop μ-loop
-unfolding user-limit row-words
-fitting-requires c κs = omega (arith, c .before .lowest .ensures .within)
+near-in-row-requires : tie.Need-near-in-row-requires Inv-loop μ-loop
+near-in-row-requires c κs =
+    let start = c .before .before .before .before in
+    (start .pre .0, omega (arith, start .pre .1, c .lowest .ensures .within))
 
 add-n : tie.Need-add-n Inv-loop μ-loop
-unfolding user-limit row-words
+unfolding user-limit row-words row-bits
 add-n c =
-    let at-loop = c .before .before .before .before .before .before in
+    let at-loop = c .before .before .before .before in
     let still-start = at-loop .before in
     let a = still-start .args in
-    let few : c .count .result ≤ word-bits = rw (c .count .ensures) (count-below-le word-bits _) in
+    let few : c .near-in-row .result ≤ row-bits = rw (c .near-in-row .ensures) (count-below-le row-bits _) in
     omega (
       arith,
+      few,
+      still-start .pre,
       at-loop .loop .inv,
       near-sum-le (a .rows .now) (a .left .now) (a .it .0) word-bits (bit (a .some))
           (λ q. a .from + q),
@@ -44,19 +47,16 @@ loop-less c = c .without-lowest .ensures .less
 
 loop-again : tie.Need-loop-again Inv-loop μ-loop
 loop-again c =
-    let at-lowest = c .before .before .before .before in
+    let at-lowest = c .before .before in
     let at-loop = at-lowest .before .before .before in
     let still-start = at-loop .before in
     let a = still-start .args in
-    let low = at-lowest .lowest in
-    let counted = c .before .count .ensures ∙ near-word-count (a .rows .now) (a .left .now) (a .it .0)
-    (a .from + low .result) (c .before .before .fitting .ensures) in
     omega (
       arith,
       at-loop .loop .inv,
-      counted,
-      word-sum-dropped (λ q. near-in-word (a .rows .now) (a .left .now) (a .it .0) (a .from + q)) (low .ensures)
-          (c .without-lowest .ensures),
+      c .before .near-in-row .ensures,
+      word-sum-dropped (λ q. near-in-row (a .rows .now) (a .left .now) (a .it .0) (a .from + q))
+          (at-lowest .lowest .ensures) (c .without-lowest .ensures),
     )
 
 returns : tie.Need-returns Inv-loop μ-loop
@@ -69,13 +69,12 @@ returns-2 c =
     let a = c .before .before .args in
     let none : c .before .loop .w ≡ 0 = c .loop-test .left in
     let all = rw none at (c .before .loop .inv) in
-    let nothing = word-sum-of-none (λ q. near-in-word (a .rows .now) (a .left .now) (a .it .0) (a .from + q)) in
+    let nothing = word-sum-of-none (λ q. near-in-row (a .rows .now) (a .left .now) (a .it .0) (a .from + q)) in
     record { below = λ l. omega (arith, all, nothing); not-more = omega (arith, all, nothing) }
 
 pub partners-among-spec : {M : Type 1} → statement M
 unfolding user-limit row-words
 partners-among-spec =
     tie.close (tie.spec Inv-loop μ-loop (λ c. omega arith) (λ c κs. omega arith)
-    (λ c. omega (arith, c .lowest .ensures .within)) (λ c. omega (arith, c .lowest .ensures .within))
-    (λ c. omega (arith, c .lowest .ensures .within)) fitting-requires (λ c κs. tt) add-n (λ c κs. omega arith)
-    loop-less loop-again returns returns-2)
+    (λ c. omega (arith, c .lowest .ensures .within)) near-in-row-requires add-n (λ c κs. omega arith) loop-less
+    loop-again returns returns-2)

@@ -35,7 +35,7 @@ unfolding sum-below
 loop-holds c = (omega arith, record { below = λ l. refl; not-more = omega arith })
 
 partners-among-requires : tie.Need-partners-among-requires Inv-loop μ-loop
-unfolding user-limit row-words
+unfolding user-limit row-words row-bits
 partners-among-requires c κs =
     let start = c .before .before .before .before in
     let a = start .args in

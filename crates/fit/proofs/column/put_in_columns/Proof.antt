@@ -9,10 +9,10 @@ use Rattle.fit.proofs.column.put_in_columns.Statement.{statement}
 use Rattle.fit.proofs.column.put_in_columns.Tie as tie
 
 abbrev Inv-loop : tie.InvT-loop
-Inv-loop columns₀ i k some from w₀ columns w = PuttingIn i k some w columns₀ columns
+Inv-loop columns₀ k some u from w₀ columns w = PuttingIn u k some w columns₀ columns
 
 abbrev μ-loop : tie.MeasureT-loop
-μ-loop columns₀ i k some from w₀ columns w = w
+μ-loop columns₀ k some u from w₀ columns w = w
 
 loop-holds : tie.Need-loop-holds Inv-loop μ-loop
 unfolding user-limit row-words row-bits
@@ -34,7 +34,7 @@ loop-again c =
     let at-loop = c .before .before .before .before .before in
     let start = at-loop .before in
     let put = c .before .mark .ensures in
-    one-put-in (start .args .i) (start .args .k) (start .args .some) _ _ _ (start .pre .0) (at-loop .loop .inv) (low .ensures)
+    one-put-in (start .args .user .0) (start .args .k) (start .args .some) _ _ _ (start .pre .0) (at-loop .loop .inv) (low .ensures)
     (c .without-lowest .ensures) (put .size) (put .shows)
 
 returns : tie.Need-returns Inv-loop μ-loop

@@ -1,4 +1,4 @@
--- `fit::column::put_row`: the words of the row of word i's user are gone through one after the other.
+-- `fit::column::put_row`: the words of the user's row are gone through one after the other.
 use Prim.Native.Nat.{_-_, _≤_}
 use native.Mathlib.Omega.{arith}
 use mathlib.Core.Path.{_≡_, _∙_}
@@ -9,10 +9,10 @@ use Rattle.fit.proofs.column.put_row.Statement.{statement}
 use Rattle.fit.proofs.column.put_row.Tie as tie
 
 abbrev Inv-loop : tie.InvT-loop
-Inv-loop columns₀ rows i row k₀ columns k = (k ≤ row-words) × PutWords rows i k columns₀ columns
+Inv-loop columns₀ rows user row k₀ columns k = (k ≤ row-words) × PutWords rows (user .0) k columns₀ columns
 
 abbrev μ-loop : tie.MeasureT-loop
-μ-loop columns₀ rows i row k₀ columns k = row-words - k
+μ-loop columns₀ rows user row k₀ columns k = row-words - k
 
 loop-holds : tie.Need-loop-holds Inv-loop μ-loop
 loop-holds c = (omega arith, no-words-put _ _ _)
@@ -21,7 +21,7 @@ put-in-columns-requires : tie.Need-put-in-columns-requires Inv-loop μ-loop
 unfolding user-limit row-words
 put-in-columns-requires c κs =
     let at = c .before .before .before in
-    let start = at .before in
+    let start = at .before .before in
     (start .pre .0, omega arith, at .loop .inv .1 .sized ∙ start .pre .1)
 
 loop-again : tie.Need-loop-again Inv-loop μ-loop
