@@ -39,8 +39,7 @@ loop-again : tie.Need-loop-again Inv-loop μ-loop
 unfolding row-words
 loop-again c =
     let at = c .before .before .before .before in
-    let a = at .before .before .args in
-    (
+    let a = at .before .before .args in (
       omega arith,
       omega (
         arith,
