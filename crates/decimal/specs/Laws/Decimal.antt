@@ -130,8 +130,5 @@ decimal-length (suc k) n h =
     (omega (arith, decimal-length k (n / 10) (omega (arith, pow-suc 10 k, pow-suc 10 (suc k))))))
     (below-or-from n 10)
 
-pub decimal-length-two : (n : ℕ) → n < 100 → length (decimal n) ≤ 2
-decimal-length-two = decimal-length 1
-
 pub decimal-length-three : (n : ℕ) → n < 1_000 → length (decimal n) ≤ 3
 decimal-length-three = decimal-length 2

@@ -46,5 +46,5 @@ pub put-in-columns-spec : {M : Type 1} → statement M
 unfolding user-limit row-words
 put-in-columns-spec =
     tie.close (tie.spec Inv-loop μ-loop (λ c. omega arith) loop-holds (λ c κs. omega arith)
-    (λ c. omega (arith, c .lowest .ensures .within)) (λ c. omega (arith, c .lowest .ensures .within)) (λ c. omega (arith, c .lowest .ensures .within)) mark-requires
-    (λ c κs. omega arith) loop-less loop-again returns)
+    (λ c. omega (arith, c .lowest .ensures .within)) (λ c. omega (arith, c .lowest .ensures .within))
+    (λ c. omega (arith, c .lowest .ensures .within)) mark-requires (λ c κs. omega arith) loop-less loop-again returns)

@@ -37,6 +37,6 @@ pub union-of-spec : {M : Type 1} → statement M
 unfolding user-limit row-words
 union-of-spec =
     tie.close (tie.spec Inv-loop μ-loop (λ c. omega arith) loop-holds (λ c κs. omega arith)
-    (λ c. omega (arith, c .lowest .ensures .within)) (λ c. omega (arith, c .lowest .ensures .within)) (λ c. omega (arith, c .lowest .ensures .within))
     (λ c. omega (arith, c .lowest .ensures .within)) (λ c. omega (arith, c .lowest .ensures .within))
-    (λ c κs. omega arith) loop-less loop-again returns)
+    (λ c. omega (arith, c .lowest .ensures .within)) (λ c. omega (arith, c .lowest .ensures .within))
+    (λ c. omega (arith, c .lowest .ensures .within)) (λ c κs. omega arith) loop-less loop-again returns)
