@@ -1,5 +1,5 @@
--- `witness::counts::first_counts`: after i words the counts are those of the grants in these words.
-use Prim.Native.Nat.{_*_, _-_, _≤_}
+-- `witness::counts::first_counts`: after u users the counts are those of their grants.
+use Prim.Native.Nat.{_-_, _≤_}
 use native.Mathlib.Omega.{arith}
 use mathlib.Core.Path.{_≡_}
 use Rattle.spec.specs.Limits.{user-limit}
@@ -9,48 +9,46 @@ use Rattle.witness.proofs.counts.first_counts.Statement.{statement}
 use Rattle.witness.proofs.counts.first_counts.Tie as tie
 
 abbrev Inv-loop : tie.InvT-loop
-Inv-loop rows columns left users counts₀ i₀ counts i = (i ≤ users * row-words) × Growing rows left users i counts
+Inv-loop rows columns left users counts₀ u₀ counts u = (u ≤ users) × Growing rows left users u counts
 
 abbrev μ-loop : tie.MeasureT-loop
-μ-loop rows columns left users counts₀ i₀ counts i = users * row-words - i
+μ-loop rows columns left users counts₀ u₀ counts u = users - u
 
 loop-holds : tie.Need-loop-holds Inv-loop μ-loop
 unfolding user-limit row-words
 loop-holds c = (omega arith, growth-starts _ _ _)
 
 change-all-requires : tie.Need-change-all-requires Inv-loop μ-loop
-unfolding row-words
 change-all-requires c κs =
-    let start = c .before .before .before .before in
-    let at = c .before .before .before .loop in (
-      omega arith,
+    let at-loop = c .before .before .before in
+    let start = at-loop .before in
+    let a = start .args in
+    let at = at-loop .loop in (
+      omega (arith, start .pre .0),
       start .pre .1,
       at .inv .1 .sized,
-      growth-fits (start .args .rows .now) (start .args .left .now) (start .args .users) (at .i) (at .counts)
-          (at .inv .1) (omega arith),
+      growth-fits (a .rows .now) (a .left .now) (a .users) (at .u) (at .counts) (at .inv .1) _
+          (c .before .row-of .ensures) (omega (arith, start .pre .0)),
     )
 
 loop-again : tie.Need-loop-again Inv-loop μ-loop
-unfolding row-words
 loop-again c =
     let at-loop = c .before .before .before .before in
-    let still-start = at-loop .before in
-    let a = still-start .args in
+    let a = at-loop .before .args in
     let at = at-loop .loop in (
       omega arith,
-      growth-goes-on (a .rows .now) (a .left .now) (a .users) (at .i) (at .counts) (at .inv .1) _
-          (c .change-all .ensures),
+      growth-goes-on (a .rows .now) (a .left .now) (a .users) (at .u) (at .counts) (at .inv .1) _
+          (c .before .before .row-of .ensures) _ (c .change-all .ensures),
     )
 
 returns : tie.Need-returns Inv-loop μ-loop
-unfolding row-words
 returns c =
     let at = c .before .loop in
-    let end : at .i ≡ c .before .before .args .users * row-words = omega arith in
+    let end : at .u ≡ c .before .before .args .users = omega arith in
     growth-ends _ _ _ _ (rw end at (at .inv .1))
 
 pub first-counts-spec : {M : Type 1} → statement M
 unfolding user-limit row-words
 first-counts-spec =
-    tie.close (tie.spec Inv-loop μ-loop loop-holds (λ c. omega arith) (λ c. omega arith) (λ c. omega arith)
+    tie.close (tie.spec Inv-loop μ-loop loop-holds (λ c κs. omega arith)
     change-all-requires (λ c. omega arith) (λ c. omega arith) loop-again returns)

@@ -1,19 +1,20 @@
--- `witness::counts::change_in_words`: the counts in the words at the positions of w are still as they were. The
+-- `witness::counts::change_for_users`: the counts of the users at the positions of w are still as they were. The
 -- lowest is next, and its position is dropped.
 use native.Mathlib.Omega.{arith}
 use mathlib.Core.Path.{_∙_}
 use Rattle.spec.specs.Limits.{user-limit}
 use Rattle.cell_rows.specs.Rows.{row-words}
-use Rattle.witness.specs.CountChange.{fit-count, of-words}
+use Rattle.fit.specs.Laws.ColumnPlaces.{whole-columns}
+use Rattle.witness.specs.CountChange.{fit-count, of-users}
 use Rattle.witness.specs.Laws.CountChange.{Changing, change-starts, still-to-come, change-ends}
-use Rattle.witness.specs.Laws.FitCounts.{lowest-to-come, words-go-on, no-words-left}
-use Rattle.witness.proofs.counts.change_in_words.Statement.{statement}
-use Rattle.witness.proofs.counts.change_in_words.Tie as tie
+use Rattle.witness.specs.Laws.FitCounts.{lowest-to-come, users-go-on, no-users-left}
+use Rattle.witness.proofs.counts.change_for_users.Statement.{statement}
+use Rattle.witness.proofs.counts.change_for_users.Tie as tie
 
 abbrev Inv-loop : tie.InvT-loop
 Inv-loop counts₀ change rows left these j some from w₀ counts w =
-    Changing change (of-words left j some) (of-words left j w) (fit-count rows (these .at) (these .word)) counts₀
-    counts
+    Changing change (of-users left j some) (of-users left j w) (fit-count rows (these .user .0) (these .words))
+    counts₀ counts
 
 abbrev μ-loop : tie.MeasureT-loop
 μ-loop counts₀ change rows left these j some from w₀ counts w = w
@@ -21,18 +22,18 @@ abbrev μ-loop : tie.MeasureT-loop
 loop-holds : tie.Need-loop-holds Inv-loop μ-loop
 loop-holds c = change-starts _ _ _ _
 
-add-m : tie.Need-add-m Inv-loop μ-loop
+add-v : tie.Need-add-v Inv-loop μ-loop
 unfolding user-limit row-words
-add-m c = omega (arith, c .lowest .ensures .within)
+add-v c = omega (arith, c .lowest .ensures .within)
 
-change-in-word-requires : tie.Need-change-in-word-requires Inv-loop μ-loop
-change-in-word-requires c κs =
+change-for-user-requires : tie.Need-change-for-user-requires Inv-loop μ-loop
+change-for-user-requires c κs =
     let at-loop = c .before .before .before in
     let start = at-loop .before in
     let at = at-loop .loop in
     let low = c .before .lowest .ensures in (
       start .pre .0,
-      omega (arith, low .within, start .pre .1),
+      omega (arith, low .within, start .pre .1, whole-columns),
       at .inv .done .sized ∙ start .pre .2,
       λ n p.
           let here = lowest-to-come (start .args .left .now) (start .args .j) (at .w) low n p in
@@ -46,16 +47,16 @@ loop-again : tie.Need-loop-again Inv-loop μ-loop
 loop-again c =
     let at-loop = c .before .before .before .before .before in
     let at = at-loop .loop in
-    words-go-on (at-loop .before .args .left .now) _ (at .inv) (c .before .before .before .lowest .ensures)
-    (c .without-lowest .ensures) (c .before .change-in-word .ensures)
+    users-go-on (at-loop .before .args .left .now) _ (at .inv) (c .before .before .before .lowest .ensures)
+    (c .without-lowest .ensures) (c .before .change-for-user .ensures)
 
 returns : tie.Need-returns Inv-loop μ-loop
 returns c =
     let a = c .before .before .args in
-    change-ends (rw (c .loop-test .left) at (c .before .loop .inv)) (no-words-left (a .left .now) (a .j))
+    change-ends (rw (c .loop-test .left) at (c .before .loop .inv)) (no-users-left (a .left .now) (a .j))
 
-pub change-in-words-spec : {M : Type 1} → statement M
+pub change-for-users-spec : {M : Type 1} → statement M
 unfolding user-limit row-words
-change-in-words-spec =
-    tie.close (tie.spec Inv-loop μ-loop (λ c. omega arith) loop-holds (λ c κs. omega arith) add-m
-    change-in-word-requires (λ c κs. omega arith) loop-less loop-again returns)
+change-for-users-spec =
+    tie.close (tie.spec Inv-loop μ-loop (λ c. omega arith) loop-holds (λ c κs. omega arith) add-v
+    change-for-user-requires (λ c κs. omega arith) loop-less loop-again returns)
