@@ -1,5 +1,5 @@
--- Counts that change: at some cells each has a number added to it or taken off it, and all others stay. The counts of
--- open grants change by how many grants of one user fit them.
+-- Counts that change at some cells, while all others stay. When grants of a user are closed to choice, the count of
+-- each open grant is less by how many of them fit it.
 use Prim.Native.Nat.{ℕ, _+_, _-_, _*_, _/_, _%_, _≤_}
 use mathlib.Core.Path.{_≡_}
 use mathlib.Core.Bool.{Bool, So, _&&_, cond}
@@ -10,33 +10,25 @@ use Rattle.spec.specs.Vocabulary.{some-below}
 use Rattle.bits.specs.Counting.{count-below}
 use Rattle.bits.specs.Bit.{bit, word-bits}
 use Rattle.cell_rows.specs.Rows.{row-words, row-bits, cell}
-use Rattle.cell_rows.specs.CellPlaces.{cell-limit, grant-of, marked, fit-in}
+use Rattle.cell_rows.specs.CellPlaces.{grant-of, marked, fit-in}
 use Rattle.fit.specs.ColumnUnion.{in-union}
-use Rattle.witness.specs.declared.counts.Change.{Change}
-use Rattle.witness.specs.declared.counts.Change.the-variants.{Added, TakenOff}
-
--- the count after the change
-abbrev pub changed-by : Change → ℕ → ℕ → ℕ
-changed-by Added count by = count + by
-changed-by TakenOff count by = count - by
-
--- the count has room for it
-abbrev pub CanChange : Change → ℕ → ℕ → Type 0
-CanChange Added count by = count + by ≤ cell-limit
-CanChange TakenOff count by = by ≤ count
 
 -- cell n is at a position of some in word m
 abbrev pub at-position : ℕ → ℕ → ℕ → Bool
 at-position m some n = eqb (n / word-bits) m && bit some (n % word-bits)
 
--- the counts at the cells that pass are changed, each by its own number, and all others stay
-pub record ChangedAt (change : Change) (at : ℕ → Bool) (by : ℕ → ℕ) (before after : List ℕ) : Type 0 where
+-- the counts at the cells that pass are changed, each by the rule for its cell, and all others stay
+pub record ChangedAt (at : ℕ → Bool) (to : ℕ → ℕ → ℕ) (before after : List ℕ) : Type 0 where
   pub sized : length after ≡ length before
-  pub says : (n : ℕ) → getD after n 0 ≡ cond (at n) (changed-by change (getD before n 0) (by n)) (getD before n 0)
+  pub says : (n : ℕ) → getD after n 0 ≡ cond (at n) (to n (getD before n 0)) (getD before n 0)
 
--- these counts have room for it
-abbrev pub CanChangeAt : Change → (ℕ → Bool) → (ℕ → ℕ) → List ℕ → Type 0
-CanChangeAt change at by counts = (n : ℕ) → So (at n) → CanChange change (getD counts n 0) (by n)
+-- a number is taken off each
+abbrev pub TakenOff : (ℕ → Bool) → (ℕ → ℕ) → List ℕ → List ℕ → Type 0
+TakenOff at by before after = ChangedAt at (λ n count. count - by n) before after
+
+-- these counts are not less than what is taken off
+abbrev pub Enough : (ℕ → Bool) → (ℕ → ℕ) → List ℕ → Type 0
+Enough at by counts = (n : ℕ) → So (at n) → by n ≤ getD counts n 0
 
 -- how many grants of user u, with permissions of these words of a row, fit that at cell n
 abbrev pub fit-count : List ℕ → ℕ → List ℕ → ℕ → ℕ

@@ -4,3 +4,4 @@ pub mod CountChange
 pub mod Row
 pub mod FitCounts
 pub mod Counts
+pub mod FirstCounts

@@ -1,7 +1,7 @@
 -- How many grants of one user fit a grant: those whose permission the grant's user holds, if their user holds the
 -- grant's permission. So the counts of a user's grants that change at all change by the same number.
-use Prim.Native.Nat.{ℕ, _+_, _*_, _/_, _%_, _<_}
-use native.Mathlib.Nat.{mod-lt, div-add-mod'}
+use Prim.Native.Nat.{ℕ, _+_, _-_, _*_, _/_, _%_, _<_}
+use native.Mathlib.Nat.{sub-zero, mod-lt, div-add-mod'}
 use native.Mathlib.Omega.{arith}
 use mathlib.Core.Path.{_≡_, refl, sym, ap, _∙_}
 use mathlib.Core.Logic.{⊎-elim}
@@ -25,12 +25,11 @@ use Rattle.cell_rows.specs.Laws.Width.{user-of-cell, word-in-row, permission-be
 use Rattle.cells.specs.MadeCells.{MadeCells}
 use Rattle.cells.specs.Laws.CellPlace.{word-of-cell, position-of-cell, cell-marked}
 use Rattle.cells.specs.Laws.NextBelow.{next-below}
-use Rattle.witness.specs.CountChange.{at-position, fit-count, shared, ChangedAt}
+use Rattle.witness.specs.CountChange.{at-position, fit-count, shared, ChangedAt, TakenOff}
 use Rattle.witness.specs.CountChange.{in-row, of-user, of-users, of-users-below, in-unions}
 use Rattle.witness.specs.Laws.CountChange.{word-of-position, none-at, nothing-changed, then-changed}
 use Rattle.witness.specs.Laws.CountChange.{changed-as, Changing, change-goes-on, lowest-at, at-dropped}
 use Rattle.witness.specs.Laws.Row.{none-in-row}
-use Rattle.witness.specs.declared.counts.Change.{Change}
 use Rattle.fit.specs.Columns.{column-words, held-in, Columns}
 use Rattle.fit.specs.ColumnUnion.{in-union}
 use Rattle.fit.specs.Laws.ColumnPlaces.{whole-columns, same-digits}
@@ -77,10 +76,10 @@ word-of-user v k n l =
     ∙ and-comm (eqb (n / word-bits % row-words) k) (eqb (n / word-bits / row-words) v)
     ∙ rw (user-of-cell n, word-of-cell n)
 
-module _ (change : Change) (v : ℕ) (words : List ℕ) (by : ℕ → ℕ) where
-  pub row-starts : (before : List ℕ) → ChangedAt change (in-row-below v words 0) by before before
+module _ (v : ℕ) (words : List ℕ) (to : ℕ → ℕ → ℕ) where
+  pub row-starts : (before : List ℕ) → ChangedAt (in-row-below v words 0) to before before
   row-starts before =
-      nothing-changed change (λ n. rw (le-ltb (n % row-bits / word-bits) 0 (omega arith))
+      nothing-changed (λ n. rw (le-ltb (n % row-bits / word-bits) 0 (omega arith))
       (and-false (eqb (n / row-bits) v))) before
 
   -- the cells of word k are not in the words below it
@@ -120,14 +119,14 @@ module _ (change : Change) (v : ℕ) (words : List ℕ) (by : ℕ → ℕ) where
           ∙ rw (position-of-cell n)
 
   pub row-goes-on : (k : ℕ) (before now after : List ℕ) → k < row-words
-      → ChangedAt change (in-row-below v words k) by before now
-      → ChangedAt change (at-position (v * row-words + k) (getD words k 0)) by now after
-      → ChangedAt change (in-row-below v words (k + 1)) by before after
+      → ChangedAt (in-row-below v words k) to before now
+      → ChangedAt (at-position (v * row-words + k) (getD words k 0)) to now after
+      → ChangedAt (in-row-below v words (k + 1)) to before after
   row-goes-on k before now after l earlier here =
-      then-changed change earlier here (λ n p. word-to-come k n l p .0) (λ n. next-word k n l)
+      then-changed earlier here (λ n p. word-to-come k n l p .0) (λ n. next-word k n l)
 
-  pub row-ends : (before after : List ℕ) → ChangedAt change (in-row-below v words row-words) by before after
-      → ChangedAt change (in-row v words) by before after
+  pub row-ends : (before after : List ℕ) → ChangedAt (in-row-below v words row-words) to before after
+      → ChangedAt (in-row v words) to before after
   row-ends before after all = record {
     sized = all .sized;
     says = λ n. rw (lt-ltb (n % row-bits / word-bits) row-words (word-in-row (n % row-bits) (permission-below n))) at
@@ -135,6 +134,12 @@ module _ (change : Change) (v : ℕ) (words : List ℕ) (by : ℕ → ℕ) where
   }
 
 -- ---- the counts of one user
+
+less-by : {k m : ℕ} → k ≡ m → (count : ℕ) → count - k ≡ count - m
+less-by e count = ap (λ k. count - k) e
+
+less-by-none : {k : ℕ} → k ≡ 0 → (count : ℕ) → count - k ≡ count
+less-by-none e count = less-by e count ∙ sub-zero count
 
 -- the open grants of user v that the grants of user u can fit
 abbrev pub Reached : List ℕ → List ℕ → ℕ → ℕ → List ℕ → Type 0
@@ -157,11 +162,11 @@ module _ (rows left : List ℕ) (u : ℕ) (words : List ℕ) (v : ℕ) (own : Li
       )
 
   -- one that is open and not reached changes by nothing
-  pub user-changed : (change : Change) (before after : List ℕ)
-      → ChangedAt change (in-row v own) (λ n. shared rows words v) before after
-      → ChangedAt change (of-user left v) (fit-count rows u words) before after
-  user-changed change before after =
-      changed-as change reached-open (λ n f p. fit-count-lacked rows u words n (lacked n f p))
+  pub user-changed : (before after : List ℕ) → TakenOff (in-row v own) (λ n. shared rows words v) before after
+      → TakenOff (of-user left v) (fit-count rows u words) before after
+  user-changed before after =
+      changed-as (λ n p. let told = reached-open n p in (told .0, less-by (told .1)))
+      (λ n f p. less-by-none (fit-count-lacked rows u words n (lacked n f p)))
     where
       lacked : (n : ℕ) → in-row v own n ≡ false → So (of-user left v n) → cell rows u (n % row-bits) ≡ false
       lacked n f p =
@@ -199,10 +204,10 @@ lowest-to-come left j w {low} is-low n p =
     (marked left n) p)) (lowest-at j w is-low))
     (and-right (eqb (n / row-bits) (j * word-bits + low)) (marked left n) p)
 
-pub users-go-on : {change : Change} {all : ℕ → Bool} {by : ℕ → ℕ} (left : List ℕ) (j : ℕ) {w low rest : ℕ}
-    {before now after : List ℕ} → Changing change all (of-users left j w) by before now → Lowest word-bits (bit w) low
-    → LowestDropped w rest → ChangedAt change (of-user left (j * word-bits + low)) by now after
-    → Changing change all (of-users left j rest) by before after
+pub users-go-on : {all : ℕ → Bool} {to : ℕ → ℕ → ℕ} (left : List ℕ) (j : ℕ) {w low rest : ℕ}
+    {before now after : List ℕ} → Changing all (of-users left j w) to before now → Lowest word-bits (bit w) low
+    → LowestDropped w rest → ChangedAt (of-user left (j * word-bits + low)) to now after
+    → Changing all (of-users left j rest) to before after
 users-go-on left j {w} {low} going is-low dropped =
     change-goes-on going (lowest-to-come left j w is-low)
     (λ n. rw (at-dropped j is-low dropped (n / row-bits))
@@ -226,12 +231,13 @@ column-to-come left j some n inside p =
     )
 
 -- no grants change nothing
-pub no-grants-changed : (change : Change) (rows left : List ℕ) (u : ℕ) (words : List ℕ) (end : ℕ) (before : List ℕ)
+pub no-grants-changed : (rows left : List ℕ) (u : ℕ) (words : List ℕ) (end : ℕ) (before : List ℕ)
     → some-below row-words (λ k. not (eqb (getD words k 0) 0)) ≡ false
-    → ChangedAt change (of-users-below left end) (fit-count rows u words) before before
-no-grants-changed change rows left u words end before none =
-    changed-as change {at = λ n. false} {by = λ n. 0} (λ n p. absurd (not-both p refl))
-    (λ n f p. fit-count-of-none rows u words n (none-in-row words none)) (nothing-changed change (λ n. refl) before)
+    → TakenOff (of-users-below left end) (fit-count rows u words) before before
+no-grants-changed rows left u words end before none =
+    changed-as {at = λ n. false} {to = λ n count. count} (λ n p. absurd (not-both p refl))
+    (λ n f p. less-by-none (fit-count-of-none rows u words n (none-in-row words none)))
+    (nothing-changed (λ n. refl) before)
 
 -- a user who holds none of their permissions has no grant that fits
 fit-count-unreached : (rows columns : List ℕ) → Columns rows columns → (u : ℕ) (words : List ℕ) (j n : ℕ)
@@ -260,19 +266,19 @@ fit-count-unreached rows columns made u words j n inside column unreached =
 abbrev in-column : List ℕ → ℕ → ℕ → Bool
 in-column left j n = eqb (n / row-bits / word-bits) j && marked left n
 
-module _ (change : Change) (rows left : List ℕ) (u : ℕ) (words : List ℕ) where
-  pub none-changed-yet : (before : List ℕ) → ChangedAt change (of-users-below left 0) (fit-count rows u words) before
-      before
-  none-changed-yet before = nothing-changed change (λ n. rw (le-ltb (n / row-bits) 0 (omega arith))) before
+module _ (rows left : List ℕ) (u : ℕ) (words : List ℕ) where
+  pub none-changed-yet : (before : List ℕ) → TakenOff (of-users-below left 0) (fit-count rows u words) before before
+  none-changed-yet before = nothing-changed (λ n. rw (le-ltb (n / row-bits) 0 (omega arith))) before
 
   pub next-users-changed : (j some : ℕ) (columns before now after : List ℕ) → Columns rows columns → j < column-words
       → ((t : ℕ) → bit some t ≡ in-unions columns words j t)
-      → ChangedAt change (of-users-below left (j * word-bits)) (fit-count rows u words) before now
-      → ChangedAt change (of-users left j some) (fit-count rows u words) now after
-      → ChangedAt change (of-users-below left ((j + 1) * word-bits)) (fit-count rows u words) before after
+      → TakenOff (of-users-below left (j * word-bits)) (fit-count rows u words) before now
+      → TakenOff (of-users left j some) (fit-count rows u words) now after
+      → TakenOff (of-users-below left ((j + 1) * word-bits)) (fit-count rows u words) before after
   next-users-changed j some columns before now after made inside union earlier here =
-      then-changed change earlier
-      (changed-as change {wider = in-column left j} (λ n p. (wider n p, refl)) unreached here)
+      then-changed earlier
+      (changed-as {wider = in-column left j} (λ n p. (wider n p, λ count. refl))
+      (λ n f p. less-by-none (unreached n f p)) here)
       (λ n p. rw (le-ltb (n / row-bits) (j * word-bits) (omega (arith, column n p)))) joined
     where
       column : (n : ℕ) → So (in-column left j n) → n / row-bits / word-bits ≡ j

@@ -17,8 +17,8 @@ abbrev μ-loop : tie.MeasureT-loop
 loop-holds : tie.Need-loop-holds Inv-loop μ-loop
 loop-holds c = (omega arith, recount-starts _ _ _ _ (c .pre .3) _ (c .pre .2))
 
-change-all-requires : tie.Need-change-all-requires Inv-loop μ-loop
-change-all-requires c κs =
+take-off-requires : tie.Need-take-off-requires Inv-loop μ-loop
+take-off-requires c κs =
     let at-loop = c .before .before .before in
     let start = at-loop .before in
     let a = start .args in
@@ -38,7 +38,7 @@ loop-again c =
     let at = at-loop .loop in (
       omega arith,
       recount-goes-on (a .rows .now) (a .left .now) (a .rest .now) (a .users) (start .pre .3) (at .u) _ _
-          (at .counts) (at .inv .1) (omega arith) (c .before .before .row-apart .ensures) _ (c .change-all .ensures),
+          (at .counts) (at .inv .1) (omega arith) (c .before .before .row-apart .ensures) _ (c .take-off .ensures),
     )
 
 returns : tie.Need-returns Inv-loop μ-loop
@@ -51,5 +51,5 @@ returns c =
 pub recount-spec : {M : Type 1} → statement M
 unfolding user-limit
 recount-spec =
-    tie.close (tie.spec Inv-loop μ-loop loop-holds (λ c κs. omega arith) change-all-requires (λ c. omega arith)
+    tie.close (tie.spec Inv-loop μ-loop loop-holds (λ c κs. omega arith) take-off-requires (λ c. omega arith)
     (λ c. omega arith) loop-again returns)

@@ -1,5 +1,5 @@
--- `witness::counts::change_for_user`: the open grants that can be fit change by the same number each, and where there
--- are none nothing fits.
+-- `witness::counts::take_off_for_user`: the same number is taken off the count of each open grant that these can fit,
+-- and none of these fits another.
 use borrow.Author.Needs.{needs}
 use Prim.Native.Nat.{_≤_}
 use native.Mathlib.Omega.{arith}
@@ -8,18 +8,18 @@ use Rattle.bits.specs.Laws.Count.{count-below-le}
 use Rattle.cell_rows.specs.Rows.{row-words, row-bits}
 use Rattle.witness.specs.Laws.CountChange.{nothing-changed}
 use Rattle.witness.specs.Laws.FitCounts.{reached-open, user-changed, none-reached}
-use Rattle.witness.proofs.counts.change_for_user.Statement.{statement}
-use Rattle.witness.proofs.counts.change_for_user.Tie as tie
+use Rattle.witness.proofs.counts.take_off_for_user.Statement.{statement}
+use Rattle.witness.proofs.counts.take_off_for_user.Tie as tie
 
-cast-change-in-row : tie.Need-cast-change-in-row
+cast-take-off-in-row : tie.Need-cast-take-off-in-row
 unfolding row-bits row-words
-cast-change-in-row c =
+cast-take-off-in-row c =
     let by = c .before .before .shared-by in
     let few : by .result ≤ row-bits = rw (by .ensures) (count-below-le row-bits _) in
     omega arith
 
-change-in-row-requires : tie.Need-change-in-row-requires
-change-in-row-requires c κs =
+take-off-in-row-requires : tie.Need-take-off-in-row-requires
+take-off-in-row-requires c κs =
     let counting = c .before .before in
     let common = counting .before .before .before .before .before .before in
     let start = common .before in
@@ -38,17 +38,17 @@ returns c =
     let common = counting .before .before .before .before .before .before in
     let a = common .before .args in
     user-changed (a .rows .now) (a .left .now) (a .these .user .0) (a .these .words) (a .v .0) _
-    (common .row-common .ensures) (a .change) _ _ (rw (counting .shared-by .ensures) at (c .change-in-row .ensures))
+    (common .row-common .ensures) _ _ (rw (counting .shared-by .ensures) at (c .take-off-in-row .ensures))
 
 returns-2 : tie.Need-returns-2
 returns-2 c =
     let common = c .before .before .before in
     let a = common .before .args in
     user-changed (a .rows .now) (a .left .now) (a .these .user .0) (a .these .words) (a .v .0) _
-    (common .row-common .ensures) (a .change) _ _ (nothing-changed (a .change) (none-reached (a .v .0)
+    (common .row-common .ensures) _ _ (nothing-changed (none-reached (a .v .0)
     (common .row-common .result) (sym (c .before .has-any .ensures) ∙ c .if1 .left)) (a .counts .now))
 
-pub change-for-user-spec : {M : Type 1} → statement M
-change-for-user-spec =
-    tie.close (tie.spec (λ c κs. search needs) (λ c κs. tt) (λ c κs. search needs) cast-change-in-row
-    change-in-row-requires returns returns-2)
+pub take-off-for-user-spec : {M : Type 1} → statement M
+take-off-for-user-spec =
+    tie.close (tie.spec (λ c κs. search needs) (λ c κs. tt) (λ c κs. search needs) cast-take-off-in-row
+    take-off-in-row-requires returns returns-2)
