@@ -1,5 +1,7 @@
 -- The laws behind what contracts cite.
 pub mod WitnessTaken
 pub mod CountChange
+pub mod Row
 pub mod FitCounts
 pub mod Counts
+pub mod FirstCounts

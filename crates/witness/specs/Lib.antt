@@ -7,4 +7,5 @@ pub mod WitnessSingles
 pub mod WitnessRows
 pub mod CountChange
 pub mod Counts
+pub mod FirstCounts
 pub mod Laws

@@ -1,6 +1,8 @@
 // The witness: the greedy choice from the kernel, and the singles.
 mod choice;
 mod counts;
+mod first;
+mod row;
 mod sets;
 mod witness;
 

@@ -1,8 +1,8 @@
 // The witness: the greedy choice from the kernel, and the singles.
 use crate::choice::dropped;
 use crate::choice::fewest;
-use crate::counts::first_counts;
 use crate::counts::recount;
+use crate::first::first_counts;
 use crate::sets::counted;
 use crate::sets::put_cell;
 use cells::next_cell;

@@ -1,6 +1,6 @@
--- `witness::counts::change_at`: the counts at the positions of w are still to be changed. The lowest is next, and its
--- position is dropped.
-use Prim.Native.Nat.{_+_, _*_}
+-- `witness::counts::take_off_at`: the counts at the positions of w are still to be changed. The lowest is next, and
+-- its position is dropped.
+use Prim.Native.Nat.{_+_, _-_, _*_}
 use native.Mathlib.Omega.{arith}
 use Rattle.spec.specs.Limits.{user-limit}
 use Rattle.bits.specs.Bit.{word-bits}
@@ -8,21 +8,21 @@ use Rattle.cell_rows.specs.Rows.{row-words}
 use Rattle.witness.specs.CountChange.{at-position}
 use Rattle.witness.specs.Laws.CountChange.{Changing, change-starts, still-to-come, change-ends, none-at}
 use Rattle.witness.specs.Laws.CountChange.{lowest-at, position-changed}
-use Rattle.witness.proofs.counts.change_at.Statement.{statement}
-use Rattle.witness.proofs.counts.change_at.Tie as tie
+use Rattle.witness.proofs.counts.take_off_at.Statement.{statement}
+use Rattle.witness.proofs.counts.take_off_at.Tie as tie
 
 abbrev Inv-loop : tie.InvT-loop
-Inv-loop counts₀ change m some by w₀ counts w =
-    Changing change (at-position m some) (at-position m w) (λ n. by) counts₀ counts
+Inv-loop counts₀ m some by w₀ counts w =
+    Changing (at-position m some) (at-position m w) (λ n count. count - by) counts₀ counts
 
 abbrev μ-loop : tie.MeasureT-loop
-μ-loop counts₀ change m some by w₀ counts w = w
+μ-loop counts₀ m some by w₀ counts w = w
 
 loop-holds : tie.Need-loop-holds Inv-loop μ-loop
-loop-holds c = change-starts _ _ _ _
+loop-holds c = change-starts _ _ _
 
-changed-requires : tie.Need-changed-requires Inv-loop μ-loop
-changed-requires c κs =
+sub-counts : tie.Need-sub-counts Inv-loop μ-loop
+sub-counts c =
     let at-loop = c .before .before .before in
     let start = at-loop .before in
     let at = at-loop .loop in
@@ -35,23 +35,20 @@ loop-less c = c .without-lowest .ensures .less
 
 loop-again : tie.Need-loop-again Inv-loop μ-loop
 loop-again c =
-    let at-loop = c .before .before .before .before .before in
+    let at-loop = c .before .before .before .before in
     let start = at-loop .before in
     let at = at-loop .loop in
-    let low = c .before .before .before .lowest .ensures in
-    rw (c .before .changed .ensures)
-    (position-changed (start .args .m) (at .inv) low (c .without-lowest .ensures)
-    (omega (arith, low .within, start .pre .0, start .pre .1, at .inv .done .sized)))
+    let low = c .before .before .lowest .ensures in
+    position-changed (start .args .m) (at .inv) low (c .without-lowest .ensures)
+    (omega (arith, low .within, start .pre .0, start .pre .1, at .inv .done .sized))
 
 returns : tie.Need-returns Inv-loop μ-loop
 returns c = change-ends (rw (c .loop-test .left) at (c .before .loop .inv)) (none-at _)
 
-pub change-at-spec : {M : Type 1} → statement M
+pub take-off-at-spec : {M : Type 1} → statement M
 unfolding user-limit row-words
-change-at-spec =
+take-off-at-spec =
     tie.close (tie.spec Inv-loop μ-loop loop-holds (λ c. omega arith) (λ c κs. omega arith)
     (λ c. omega (arith, c .lowest .ensures .within)) (λ c. omega (arith, c .lowest .ensures .within))
-    (λ c. omega (arith, c .lowest .ensures .within)) changed-requires
-    (λ c. omega (arith, c .before .before .lowest .ensures .within))
-    (λ c. omega (arith, c .before .before .lowest .ensures .within)) (λ c κs. omega arith) loop-less loop-again
-    returns)
+    (λ c. omega (arith, c .lowest .ensures .within)) sub-counts
+    (λ c. omega (arith, c .before .lowest .ensures .within)) (λ c κs. omega arith) loop-less loop-again returns)
