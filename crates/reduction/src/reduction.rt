@@ -7,6 +7,7 @@ use numbers::GRANT_LIMIT;
 use numbers::ROW_WORDS;
 use numbers::UserNo;
 use verdict::Verdict;
+use verdict::has_grants;
 use verdict::insides;
 use verdict::judge;
 ghost use mathlib.Core.Path.{_≡_};
@@ -93,19 +94,24 @@ fn sweep<'a>(
         (work-of (now (left .exit)) (now (removed .exit)) (now (partner .exit)) r) ⌝ }
 {
     let mut count = count;
-    let mut i = 0;
-    while i < users * ROW_WORDS {
-        let mut w = left[i];
-        if w != 0 {
-            let inside = insides(rows, columns, left, UserNo(i / ROW_WORDS));
-            while w != 0 {
-                let n = i * WORD_BITS + bits::lowest(w);
-                let verdict = judge(rows, columns, &inside, left, users, CellNo(n));
-                count = carry_out(left, removed, partner, count, CellNo(n), verdict);
-                w = bits::without_lowest(w);
+    let mut u = 0;
+    while u < users {
+        if has_grants(left, UserNo(u)) {
+            let inside = insides(rows, columns, left, UserNo(u));
+            let mut d = 0;
+            while d < ROW_WORDS {
+                let i = u * ROW_WORDS + d;
+                let mut w = left[i];
+                while w != 0 {
+                    let n = i * WORD_BITS + bits::lowest(w);
+                    let verdict = judge(rows, columns, &inside, left, users, CellNo(n));
+                    count = carry_out(left, removed, partner, count, CellNo(n), verdict);
+                    w = bits::without_lowest(w);
+                }
+                d += 1;
             }
         }
-        i += 1;
+        u += 1;
     }
     count
 }

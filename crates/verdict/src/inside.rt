@@ -24,7 +24,7 @@ fn has_any(w: u64) -> bool
 }
 
 // Whether user x has grants of left.
-fn has_grants(left: &[u64; CELL_WORDS], x: UserNo) -> bool
+pub fn has_grants(left: &[u64; CELL_WORDS], x: UserNo) -> bool
     requires { ⌜ x .0 < user-limit ⌝ }
     ensures { λ r. ⌜ r ≡ has-cells (now (left .entry)) (x .0) ⌝ }
 {

@@ -3,6 +3,7 @@ mod domination;
 mod inside;
 mod judgement;
 
+pub use inside::has_grants;
 pub use inside::insides;
 pub use judgement::Verdict;
 pub use judgement::judge;

@@ -1,9 +1,10 @@
--- `reduction::reduction::sweep`: after i words the cells below word i were visited, of those that remained at first.
--- Within a word, the cells still to be visited are at the positions of w, and remain. The lowest is visited next, and
--- dropped. The users whose grants they can be tied to stay the same.
-use Prim.Native.Nat.{_+_, _*_, _-_, _/_, _≤_, _<_}
+-- `reduction::reduction::sweep`: after u users their cells were visited, of those that remained at first; within a
+-- user's row, after d words the cells of those words. Within a word, the cells still to be visited are at the
+-- positions of w, and remain. The lowest is visited next, and dropped. The users whose grants they can be tied to
+-- stay the same.
+use Prim.Native.Nat.{ℕ, _+_, _*_, _-_, _/_, _≤_, _<_}
 use native.Mathlib.Omega.{arith}
-use mathlib.Core.Path.{_≡_, ap, _∙_}
+use mathlib.Core.Path.{_≡_, sym, ap, _∙_}
 use mathlib.Core.Logic.{⊎-elim}
 use mathlib.Core.Bool.{So}
 use lib.Arith.{digits-lt, digits-div}
@@ -19,160 +20,185 @@ use Rattle.verdict.specs.ReductionWork.{work-of, word-cells}
 use Rattle.verdict.specs.Laws.ReductionWork.{visited-ready}
 use Rattle.reduction.specs.Laws.CarryOut.{carriable, visited}
 use Rattle.reduction.specs.Laws.ReductionSweep.{Sweeping, sweeping-at-first, sweeping-next, sweeping-done}
-use Rattle.reduction.specs.Laws.ReductionSweep.{swept-empty, Swept, swept-none, swept-next}
+use Rattle.reduction.specs.Laws.ReductionSweep.{SweepingUser, user-at-first, user-next-word, user-done}
+use Rattle.reduction.specs.Laws.ReductionSweep.{Swept, swept-none, swept-no-cells}
 use Rattle.reduction.proofs.reduction.sweep.Statement.{statement}
 use Rattle.reduction.proofs.reduction.sweep.Tie as tie
 
 -- within a word
-abbrev Inv-loop2 : tie.InvT-loop2
-Inv-loop2 rows columns left₀ removed₀ partner₀ users count count₀ i w₀ inside left removed partner count' w =
+abbrev Inv-loop3 : tie.InvT-loop3
+Inv-loop3 rows columns left₀ removed₀ partner₀ users count count₀ u inside d i w₀ left removed partner count' w =
     Sweeping rows users i (word-cells i (getD left₀ i 0)) (work-of left₀ removed₀ partner₀ count₀)
     (work-of left removed partner count') w
-    × Insides rows left (i / row-words) inside
+    × Insides rows left u inside
 
-abbrev μ-loop2 : tie.MeasureT-loop2
-μ-loop2 rows columns left₀ removed₀ partner₀ users count count₀ i w₀ inside left removed partner count' w = w
+abbrev μ-loop3 : tie.MeasureT-loop3
+μ-loop3 rows columns left₀ removed₀ partner₀ users count count₀ u inside d i w₀ left removed partner count' w = w
 
 -- from word to word
+abbrev Inv-loop2 : tie.InvT-loop2
+Inv-loop2 rows columns left₀ removed₀ partner₀ users count count₀ u inside d₀ left removed partner count' d =
+    (d ≤ row-words) × SweepingUser rows users u inside (work-of left₀ removed₀ partner₀ count₀)
+    (work-of left removed partner count') d
+
+abbrev μ-loop2 : tie.MeasureT-loop2
+μ-loop2 rows columns left₀ removed₀ partner₀ users count count₀ u inside d₀ left removed partner count' d =
+    row-words - d
+
+-- from user to user
 abbrev Inv-loop : tie.InvT-loop
-Inv-loop rows columns left₀ removed₀ partner₀ users count count₀ i₀ left removed partner count' i =
-    (i ≤ users * row-words) × Swept rows users i (work-of left₀ removed₀ partner₀ count)
+Inv-loop rows columns left₀ removed₀ partner₀ users count count₀ u₀ left removed partner count' u =
+    (u ≤ users) × Swept rows users (u * row-words) (work-of left₀ removed₀ partner₀ count)
     (work-of left removed partner count')
 
 abbrev μ-loop : tie.MeasureT-loop
-μ-loop rows columns left₀ removed₀ partner₀ users count count₀ i₀ left removed partner count' i =
-    users * row-words - i
+μ-loop rows columns left₀ removed₀ partner₀ users count count₀ u₀ left removed partner count' u = users - u
 
-loop-holds : tie.Need-loop-holds Inv-loop2 μ-loop2 Inv-loop μ-loop
+loop-holds : tie.Need-loop-holds Inv-loop3 μ-loop3 Inv-loop2 μ-loop2 Inv-loop μ-loop
+unfolding row-words
 loop-holds c = (omega arith, swept-none (c .pre .0))
 
-mul-loop : tie.Need-mul-loop Inv-loop2 μ-loop2 Inv-loop μ-loop
-unfolding user-limit
-mul-loop c = omega (arith, c .before .pre .0 .shows .few-users)
+has-grants-requires : tie.Need-has-grants-requires Inv-loop3 μ-loop3 Inv-loop2 μ-loop2 Inv-loop μ-loop
+has-grants-requires c κs = omega (arith, c .before .before .before .pre .0 .shows .few-users)
 
-mul-w : tie.Need-mul-w Inv-loop2 μ-loop2 Inv-loop μ-loop
-unfolding user-limit
-mul-w c = omega (arith, c .before .before .pre .0 .shows .few-users)
-
-element-copy-out-w : tie.Need-element-copy-out-w Inv-loop2 μ-loop2 Inv-loop μ-loop
-unfolding user-limit
-element-copy-out-w c = omega (arith, c .before .before .pre .0 .shows .few-users)
-
-insides-requires : tie.Need-insides-requires Inv-loop2 μ-loop2 Inv-loop μ-loop
+insides-requires : tie.Need-insides-requires Inv-loop3 μ-loop3 Inv-loop2 μ-loop2 Inv-loop μ-loop
 insides-requires c κs =
-    let at-loop = c .before .before .before .before in
+    let at-loop = c .before .before .before .before .before in
     let s = at-loop .before in (
       omega (arith, s .pre .0 .shows .few-users),
       visited-ready (s .pre .0) (at-loop .loop .inv .1) .part,
       s .pre .1,
     )
 
-loop2-holds : tie.Need-loop2-holds Inv-loop2 μ-loop2 Inv-loop μ-loop
-unfolding row-words
+loop2-holds : tie.Need-loop2-holds Inv-loop3 μ-loop3 Inv-loop2 μ-loop2 Inv-loop μ-loop
 loop2-holds c =
-    let at-loop = c .before .before .before .before .before in
+    let at-loop = c .before .before .before .before .before .before in
     let ready = visited-ready (at-loop .before .pre .0) (at-loop .loop .inv .1) in (
-      sweeping-at-first ready,
-      insides-found (at-loop .loop .i / row-words) (c .insides .result) (ready .part)
-          (omega (arith, ready .shows .few-users)) (c .insides .ensures),
+      omega arith,
+      user-at-first ready (insides-found (at-loop .loop .u) (c .insides .result) (ready .part)
+          (omega (arith, ready .shows .few-users)) (c .insides .ensures)),
     )
 
-mul-n : tie.Need-mul-n Inv-loop2 μ-loop2 Inv-loop μ-loop
-unfolding user-limit
-mul-n c =
-    let at-loop = c .before .before .before .before .before .before .before in
-    omega (arith, at-loop .before .pre .0 .shows .few-users)
+-- from a word back to its user
+abbrev user : tie.In-loop2 Inv-loop3 μ-loop3 Inv-loop2 μ-loop2 Inv-loop μ-loop
+    → tie.In-loop Inv-loop3 μ-loop3 Inv-loop2 μ-loop2 Inv-loop μ-loop
+user c = let found = c .before .before in found .before .before .before .before .before
+
+-- there are not too many users
+few-users : (c : tie.In-loop2 Inv-loop3 μ-loop3 Inv-loop2 μ-loop2 Inv-loop μ-loop)
+    → user c .before .before .args .users ≤ user-limit
+few-users c = user c .before .before .pre .0 .shows .few-users
+
+loop3-holds : tie.Need-loop3-holds Inv-loop3 μ-loop3 Inv-loop2 μ-loop2 Inv-loop μ-loop
+loop3-holds c =
+    let at = c .before .before .loop2 .inv .1 in (sweeping-at-first (at .ready), at .insides)
 
 -- from the position found back to its word
-abbrev word : tie.After-lowest Inv-loop2 μ-loop2 Inv-loop μ-loop → tie.In-loop Inv-loop2 μ-loop2 Inv-loop μ-loop
-word c = let at-loop2 = c .before .before in at-loop2 .before .before .before .before .before
+abbrev word : tie.After-lowest Inv-loop3 μ-loop3 Inv-loop2 μ-loop2 Inv-loop μ-loop
+    → tie.In-loop2 Inv-loop3 μ-loop3 Inv-loop2 μ-loop2 Inv-loop μ-loop
+word c = let at-loop3 = c .before .before in at-loop3 .before .before
 
-add-n : tie.Need-add-n Inv-loop2 μ-loop2 Inv-loop μ-loop
-unfolding user-limit
-add-n c = omega (arith, word c .before .before .pre .0 .shows .few-users, c .lowest .ensures .within)
+-- the cell at the position found
+abbrev cell-of : tie.After-lowest Inv-loop3 μ-loop3 Inv-loop2 μ-loop2 Inv-loop μ-loop → ℕ
+cell-of c =
+    (user (word c) .before .loop .u * row-words + word c .before .loop2 .d) * word-bits + c .lowest .result
 
--- the cell at the position found is one of these users' cells, and remains
-below : (c : tie.After-lowest Inv-loop2 μ-loop2 Inv-loop μ-loop)
-    → word c .before .loop .i * word-bits + c .lowest .result < cells-of (word c .before .before .args .users)
+-- it is one of these users' cells, and of the user's, and remains
+below : (c : tie.After-lowest Inv-loop3 μ-loop3 Inv-loop2 μ-loop2 Inv-loop μ-loop)
+    → cell-of c < cells-of (user (word c) .before .before .args .users)
 unfolding row-words
 below c = digits-lt (omega arith) (c .lowest .ensures .within)
 
--- its user is that of the word
-of-user : (c : tie.After-lowest Inv-loop2 μ-loop2 Inv-loop μ-loop)
-    → (word c .before .loop .i * word-bits + c .lowest .result) / row-bits ≡ word c .before .loop .i / row-words
+of-user : (c : tie.After-lowest Inv-loop3 μ-loop3 Inv-loop2 μ-loop2 Inv-loop μ-loop)
+    → cell-of c / row-bits ≡ user (word c) .before .loop .u
+unfolding row-words
 of-user c =
-    let n = word c .before .loop .i * word-bits + c .lowest .result in
-    user-of-cell n ∙ ap (λ i. i / row-words) (digits-div (word c .before .loop .i) (c .lowest .ensures .within))
+    let u = user (word c) .before .loop .u in
+    let d = word c .before .loop2 .d in
+    user-of-cell (cell-of c) ∙ ap (λ i. i / row-words) (digits-div (u * row-words + d) (c .lowest .ensures .within))
+    ∙ digits-div u (omega arith)
 
-remains : (c : tie.After-lowest Inv-loop2 μ-loop2 Inv-loop μ-loop)
-    → So (marked (c .before .before .loop2 .left) (word c .before .loop .i * word-bits + c .lowest .result))
+remains : (c : tie.After-lowest Inv-loop3 μ-loop3 Inv-loop2 μ-loop2 Inv-loop μ-loop)
+    → So (marked (c .before .before .loop3 .left) (cell-of c))
+unfolding row-words
 remains c =
-    c .before .before .loop2 .inv .0 .set (c .lowest .result) (c .lowest .ensures .within) (c .lowest .ensures .holds)
+    c .before .before .loop3 .inv .0 .set (c .lowest .result) (c .lowest .ensures .within) (c .lowest .ensures .holds)
 
-judge-requires : tie.Need-judge-requires Inv-loop2 μ-loop2 Inv-loop μ-loop
+judge-requires : tie.Need-judge-requires Inv-loop3 μ-loop3 Inv-loop2 μ-loop2 Inv-loop μ-loop
+unfolding row-words
 judge-requires c κs =
     let found = c .before .before in
-    let at = found .before .before .loop2 .inv in (
+    let at = found .before .before .loop3 .inv in (
       record {
         shows = at .0 .ready .shows;
         part = at .0 .ready .part;
         within = below found;
         set = remains found;
       },
-      word found .before .before .pre .1,
+      user (word found) .before .before .pre .1,
       rw (of-user found) (at .1),
     )
 
-carry-out-requires : tie.Need-carry-out-requires Inv-loop2 μ-loop2 Inv-loop μ-loop
+carry-out-requires : tie.Need-carry-out-requires Inv-loop3 μ-loop3 Inv-loop2 μ-loop2 Inv-loop μ-loop
+unfolding row-words
 carry-out-requires c κs =
     let judged = c .before .before .before in
     let found = judged .before .before .before in
-    carriable (found .before .before .loop2 .inv .0 .ready) (below found) (remains found) (judged .judge .result)
+    carriable (found .before .before .loop3 .inv .0 .ready) (below found) (remains found) (judged .judge .result)
     (judged .judge .ensures)
 
-loop2-less : tie.Need-loop2-less Inv-loop2 μ-loop2 Inv-loop μ-loop
-loop2-less c = c .without-lowest .ensures .less
+loop3-less : tie.Need-loop3-less Inv-loop3 μ-loop3 Inv-loop2 μ-loop2 Inv-loop μ-loop
+loop3-less c = c .without-lowest .ensures .less
 
-loop2-again : tie.Need-loop2-again Inv-loop2 μ-loop2 Inv-loop μ-loop
-loop2-again c =
+loop3-again : tie.Need-loop3-again Inv-loop3 μ-loop3 Inv-loop2 μ-loop2 Inv-loop μ-loop
+unfolding row-words
+loop3-again c =
     let judged = c .before .before .before .before .before in
     let found = judged .before .before .before in
-    let at = found .before .before .loop2 .inv in
+    let at = found .before .before .loop3 .inv in
     let low = found .lowest .ensures in
     let seen = visited (at .0 .ready) (below found) (remains found) (judged .judge .result) (judged .judge .ensures)
     (c .before .carry-out .ensures) in
     (sweeping-next (at .0) low seen (c .without-lowest .ensures), insides-kept (of-user found) (at .1) seen)
 
-add-i : tie.Need-add-i Inv-loop2 μ-loop2 Inv-loop μ-loop
-unfolding user-limit
-add-i c =
-    let at-loop = c .before .before .before in
-    omega (arith, at-loop .before .pre .0 .shows .few-users)
+loop2-again : tie.Need-loop2-again Inv-loop3 μ-loop3 Inv-loop2 μ-loop2 Inv-loop μ-loop
+unfolding row-words
+loop2-again c =
+    let at = c .before .loop3 .inv in (
+      omega arith,
+      user-next-word (c .before .before .before .before .loop2 .inv .1)
+          (sweeping-done (rw (c .loop3-test .left) at (at .0))) (at .1),
+    )
 
--- the word had grants left, or none
-loop-again : tie.Need-loop-again Inv-loop2 μ-loop2 Inv-loop μ-loop
+-- the user had grants left, or none
+loop-again : tie.Need-loop-again Inv-loop3 μ-loop3 Inv-loop2 μ-loop2 Inv-loop μ-loop
 unfolding row-words
 loop-again c =
-    let at-loop = c .before .before .before in
+    let tested = c .before in
+    let at-loop = tested .before .before .before in
     let at = at-loop .loop in
     let ready = visited-ready (at-loop .before .pre .0) (at .inv .1) in (
       omega arith,
-      swept-next (at .i) (at .inv .1) (⊎-elim
-          (λ w. rw (w .5, w .6, w .7, w .8) (sweeping-done (rw (w .4 .left) at (w .3 .inv .0))))
-          (λ w. rw (w .1, w .2, w .3, w .4) (swept-empty (at .i) ready (w .0 .left)))
-          (c .if1 .came)),
+      ⊎-elim
+          (λ w. rw (w .5, w .6, w .7, w .8) (user-done (w .3 .inv .0) (omega arith) (w .3 .inv .1) (at .inv .1)))
+          (λ w. rw (w .1, w .2, w .3, w .4) (swept-no-cells (at .u) ready (at .inv .1)
+          (sym (tested .has-grants .ensures) ∙ w .0 .left)))
+          (c .if1 .came),
     )
 
-returns : tie.Need-returns Inv-loop2 μ-loop2 Inv-loop μ-loop
-unfolding row-words
+returns : tie.Need-returns Inv-loop3 μ-loop3 Inv-loop2 μ-loop2 Inv-loop μ-loop
 returns c =
     let at = c .before .loop in
-    let end : at .i ≡ c .before .before .args .users * row-words = omega arith in
+    let end : at .u ≡ c .before .before .args .users = omega arith in
     rw end at (at .inv .1)
 
 pub sweep-spec : {M : Type 1} → statement M
-unfolding row-words
+unfolding user-limit row-words
 sweep-spec =
-    tie.close (tie.spec Inv-loop2 μ-loop2 Inv-loop μ-loop loop-holds mul-loop mul-w element-copy-out-w
-    insides-requires loop2-holds mul-n (λ c κs. omega arith) add-n judge-requires carry-out-requires
-    (λ c κs. omega arith) loop2-less loop2-again add-i (λ c. omega arith) loop-again returns)
+    tie.close (tie.spec Inv-loop3 μ-loop3 Inv-loop2 μ-loop2 Inv-loop μ-loop loop-holds has-grants-requires
+    insides-requires loop2-holds (λ c. omega (arith, few-users c)) (λ c. omega (arith, few-users c))
+    (λ c. omega (arith, few-users c)) (λ c. omega (arith, few-users c)) loop3-holds
+    (λ c. omega (arith, few-users (c .before .before .before))) (λ c κs. omega arith)
+    (λ c. omega (arith, few-users (word c), c .lowest .ensures .within)) judge-requires carry-out-requires
+    (λ c κs. omega arith) loop3-less loop3-again (λ c. omega arith) (λ c. omega arith) loop2-again (λ c. omega arith)
+    (λ c. omega arith) loop-again returns)
