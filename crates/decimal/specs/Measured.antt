@@ -14,10 +14,10 @@ abbrev pub piece-most : ℕ
 piece-most = 2 ^ 6
 
 abbrev pub line-most : ℕ
-line-most = 2 ^ 13
+line-most = 2 ^ 14
 
 abbrev pub block-most : ℕ
-block-most = 2 ^ 21
+block-most = 2 ^ 22
 
 -- a text's length, which is at most so much
 pub record Measured (text : Bytes) (most count : ℕ) : Type 0 where

@@ -3,21 +3,24 @@
 -- was counted is dropped from the word.
 use Prim.Native.Nat.{ℕ, _+_, _*_, _≤_, _<_}
 use native.Mathlib.Omega.{arith}
-use mathlib.Core.Path.{_≡_, sym, ap, _∙_}
+use mathlib.Core.Path.{_≡_, refl, sym, ap, _∙_}
+use mathlib.Core.Logic.{⊎-elim}
 use mathlib.Core.Bool.{Bool, false, So, not, _&&_, _||_, or-assoc}
 use mathlib.Core.List.{List}
 use borrow.Author.Tests.{ltb-true, lt-ltb}
 use lib.Arith.{digits-div, digits-mod}
-use lib.Bits.{bitAnd}
+use lib.Bits.{bitAnd, bitOr}
 use lib.Dec.{eqb, ltb}
-use lib.ListN.{length, getD}
+use lib.ListN.{length, getD, set, length-set}
+use lib.Seq.{getD-set-same, getD-set-other}
 use Rattle.spec.specs.Vocabulary.{some-below}
 use Rattle.bits.specs.Truth.{same-truth, and-intro, and-left, and-right}
 use Rattle.bits.specs.Counting.{Lowest}
-use Rattle.bits.specs.Laws.Below.{some-below-intro, some-below-elim, none-below-intro, some-below-ext, some-below-add}
+use Rattle.bits.specs.Laws.Below.{below-or-from, some-below-intro, some-below-elim, none-below-intro}
+use Rattle.bits.specs.Laws.Below.{some-below-ext, some-below-add}
 use Rattle.bits.specs.Laws.Cut.{some-below-apart}
 use Rattle.bits.specs.Bit.{bit, word-bits}
-use Rattle.bits.specs.Laws.Bit.{bit-of-zero, bit-and}
+use Rattle.bits.specs.Laws.Bit.{bit-of-zero, bit-and, bit-or}
 use Rattle.bits.specs.Word.{LowestDropped}
 use Rattle.cell_rows.specs.Rows.{row-words, row-bits, cell}
 use Rattle.form.specs.Laws.RowWithin.{row-within}
@@ -36,6 +39,44 @@ pub record GivenWithin (gives : List ℕ) (first some : ℕ) : Type 0 where
 -- one of them gives bit q of word k
 unfoldable pub some-given : List ℕ → ℕ → ℕ → ℕ → ℕ → Bool
 some-given gives first k q some = some-below word-bits (λ b. bit some b && gives-bit gives k q (first + b))
+
+-- the first n words of a role's row are joined to a row, and its other words stay
+pub record RoleJoined (row after gives : List ℕ) (role n : ℕ) : Type 0 where
+  pub size : length after ≡ length row
+  pub bits : (k q : ℕ) → k < n → bit (getD after k 0) q ≡ (bit (getD row k 0) q || gives-bit gives k q role)
+  pub rest : (k : ℕ) → n ≤ k → getD after k 0 ≡ getD row k 0
+
+-- the rows of the roles at the positions of a word are joined to a row
+pub record RolesJoined (row after gives : List ℕ) (first some : ℕ) : Type 0 where
+  pub size : length after ≡ length row
+  pub bits : (k q : ℕ) → k < row-words
+      → bit (getD after k 0) q ≡ (bit (getD row k 0) q || some-given gives first k q some)
+
+-- ---- word after word of a role's row
+
+pub join-start : (row gives : List ℕ) (role : ℕ) → RoleJoined row row gives role 0
+join-start row gives role = record { size = refl; bits = λ k q l. absurd (omega arith); rest = λ k l. refl }
+
+pub join-more : {row after gives : List ℕ} {role n : ℕ} → RoleJoined row after gives role n → n < length after
+    → RoleJoined row (set after n (bitOr (getD after n 0) (getD gives (role * row-words + n) 0))) gives role (n + 1)
+join-more {row} {after} {gives} {role} {n} joined inside =
+    record {
+      size = length-set after n word ∙ joined .size;
+      bits = λ k q l.
+          ⊎-elim
+          (λ (b : k < n).
+          ap (λ (w : ℕ). bit w q) (getD-set-other after n k word 0 (λ e. omega arith)) ∙ joined .bits k q b)
+          (λ (b : n ≤ k).
+          let last : k ≡ n = omega arith in
+          rw (last, getD-set-same after n word 0 inside)
+          (bit-or (getD after n 0) (getD gives (role * row-words + n) 0) q
+          ∙ ap (λ (w : ℕ). bit w q || gives-bit gives n q role) (joined .rest n (omega arith))))
+          (below-or-from k n);
+      rest = λ k l. getD-set-other after n k word 0 (λ e. omega arith) ∙ joined .rest k (omega arith);
+    }
+  where
+    word : ℕ
+    word = bitOr (getD after n 0) (getD gives (role * row-words + n) 0)
 
 -- ---- role after role
 

@@ -2,4 +2,5 @@
 pub mod ProductWords
 pub mod GivenRoles
 pub mod WitnessWords
+pub mod NotedLines
 pub mod BookSays

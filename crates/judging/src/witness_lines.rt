@@ -1,15 +1,20 @@
 // Whether a witness stands: every grant is held, and no two on different lines fit.
+use bits::WORD_BITS;
+use cell_rows::mark;
 use cell_text::cell_at;
 use numbers::PermissionNo;
+use numbers::ROW_BITS;
+use numbers::ROW_WORDS;
 use numbers::UserNo;
 use read_fields::Witness;
 use read_fields::WitnessLine;
 ghost use mathlib.Core.Path.{_≡_};
 ghost use Prim.Native.Nat.{_+_, _*_, _≤_, _<_};
 ghost use lib.ListN.{length};
+ghost use Rattle.bits.specs.Bit.{word-bits};
 ghost use Rattle.cell_rows.specs.Rows.{row-words, row-bits, cell};
-ghost use Rattle.judging.specs.WitnessWords.{LineWithin, LinesWithin, line-held, lines-fit, fits-earlier};
-ghost use Rattle.judging.specs.WitnessWords.{lines-stand};
+ghost use Rattle.judging.specs.WitnessWords.{LineWithin, LinesWithin, line-held, lines-stand};
+ghost use Rattle.judging.specs.NotedLines.{OwnersWithin, NotedWithin, some-owner, fits-noted};
 
 // Whether a user holds a permission.
 fn holds(rows: &[u64], user: UserNo, permission: PermissionNo) -> bool
@@ -29,49 +34,74 @@ fn held(rows: &[u64], line: WitnessLine) -> bool
     holds(rows, user, permission)
 }
 
-// Whether the grants of two lines fit.
-fn fits(rows: &[u64], a: WitnessLine, b: WitnessLine) -> bool
-    requires { ⌜ LineWithin (now rows) a × LineWithin (now rows) b ⌝ }
-    ensures { λ r. ⌜ r ≡ lines-fit (now (rows .entry)) a b ⌝ }
+// Whether the user noted for one of the permissions at the positions of some holds a permission. `first` is the
+// permission of position 0.
+fn an_owner_holds(
+    rows: &[u64],
+    owners: &[usize; ROW_BITS],
+    first: PermissionNo,
+    some: u64,
+    permission: PermissionNo,
+) -> bool
+    requires { ⌜ (first .0 + word-bits ≤ row-bits) × (permission .0 < row-bits)
+        × OwnersWithin (now rows) (now owners) (first .0) some ⌝ }
+    ensures { λ r. ⌜ r ≡ some-owner (now (rows .entry)) (now (owners .entry)) (first .0) (permission .0) some ⌝ }
 {
-    let user = a.user;
-    let permission = b.permission;
-    if !holds(rows, user, permission) {
-        return false;
-    }
-    let other_user = b.user;
-    let other_permission = a.permission;
-    holds(rows, other_user, other_permission)
-}
-
-// Whether the grant of line j fits that of an earlier line.
-fn fits_an_earlier(rows: &[u64], witness: Witness, j: usize) -> bool
-    requires { ⌜ LinesWithin (now rows) witness × (j < witness .lines) ⌝ }
-    ensures { λ r. ⌜ r ≡ fits-earlier (now (rows .entry)) witness j ⌝ }
-{
-    let mut i = 0;
-    while i < j {
-        if fits(rows, witness.first[i], witness.first[j]) {
+    let mut left = some;
+    while left != 0 {
+        let owner = owners[first.0 + bits::lowest(left)];
+        if holds(rows, UserNo(owner), permission) {
             return true;
         }
-        i += 1;
+        left = bits::without_lowest(left);
     }
     false
 }
 
-// Whether the witness stands in these rows.
+// Whether the grant of a line fits that of a line noted: the user holds a permission that was taken, and its owner
+// holds the permission of the line.
+fn fits_a_noted(
+    rows: &[u64],
+    taken: &[u64; ROW_WORDS],
+    owners: &[usize; ROW_BITS],
+    line: WitnessLine,
+) -> bool
+    requires { ⌜ LineWithin (now rows) line × NotedWithin (now rows) (now taken) (now owners) ⌝ }
+    ensures { λ r. ⌜ r ≡ fits-noted (now (rows .entry)) (now (taken .entry)) (now (owners .entry)) line ⌝ }
+{
+    let permission = line.permission;
+    let mut k = 0;
+    while k < ROW_WORDS {
+        let first = PermissionNo(k * WORD_BITS);
+        let some = rows[line.user.0 * ROW_WORDS + k] & taken[k];
+        if an_owner_holds(rows, owners, first, some, permission) {
+            return true;
+        }
+        k += 1;
+    }
+    false
+}
+
+// Whether the witness stands in these rows. No two lines that stood have one permission, so a row of words has the
+// permissions of the lines so far, and `owners` the user of the line of each.
 pub fn witness_stands(rows: &[u64], witness: Witness) -> bool
     requires { ⌜ LinesWithin (now rows) witness ⌝ }
     ensures { λ r. ⌜ r ≡ lines-stand (now (rows .entry)) witness ⌝ }
 {
+    let mut taken = [0; ROW_WORDS];
+    let mut owners = [0; ROW_BITS];
     let mut j = 0;
     while j < witness.lines {
-        if !held(rows, witness.first[j]) {
+        let line = witness.first[j];
+        if !held(rows, line) {
             return false;
         }
-        if fits_an_earlier(rows, witness, j) {
+        if fits_a_noted(rows, &taken, &owners, line) {
             return false;
         }
+        let permission = line.permission.0;
+        mark(&mut taken, permission);
+        owners[permission] = line.user.0;
         j += 1;
     }
     true

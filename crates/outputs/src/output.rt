@@ -9,7 +9,7 @@ ghost use Rattle.spec.specs.Program.{program-output};
 ghost use Rattle.text.specs.Written.{Written};
 ghost use Rattle.outputs.specs.CheckOutput.{check-output};
 
-// The bytes of the book program's buffer. The checker takes longer books, and for those the program prints 11.
+// The bytes of the book program's buffer. A session's book can be longer, and then the program prints 11.
 pub const PROGRAM_BUFFER: usize = 65_536;
 
 // Puts what the book program prints for a sheet and its argument at the front of the buffer: the book, or the number

@@ -1,4 +1,6 @@
 // A whole task in one call over bytes, as other languages link it.
+use crate::sessions::porvuund_load;
+use crate::sessions::porvuund_write;
 use answers::WriteAnswer;
 use judging::Checked;
 use session::Session;
@@ -14,7 +16,7 @@ pub extern "C" fn porvuund_book(sheet: &[u8], budget: u32, out: &mut [u8]) -> Wr
     ensures { λ r. ⌜ Books (now (sheet .entry)) budget (now (out .entry)) (write-said r) (now (out .exit)) ⌝ }
 {
     let fresh = Session::fresh();
-    let loaded = fresh.load(sheet);
+    let loaded = porvuund_load(fresh, sheet);
     let number = loaded.answer.number;
     if number != 0 {
         return WriteAnswer { number, count: 0 };
@@ -22,7 +24,7 @@ pub extern "C" fn porvuund_book(sheet: &[u8], budget: u32, out: &mut [u8]) -> Wr
     let session = loaded.session;
     let searched = session.search(budget);
     let found = searched.session;
-    found.write(out)
+    porvuund_write(found, out)
 }
 
 // Whether a book is right for a sheet.

@@ -5,6 +5,7 @@ use numbers::CELL_WORDS;
 use numbers::CellNo;
 use numbers::GRANT_LIMIT;
 use numbers::ROW_WORDS;
+use numbers::UserNo;
 use verdict::Verdict;
 use verdict::insides;
 use verdict::judge;
@@ -96,7 +97,7 @@ fn sweep<'a>(
     while i < users * ROW_WORDS {
         let mut w = left[i];
         if w != 0 {
-            let inside = insides(rows, left, users, i);
+            let inside = insides(rows, columns, left, UserNo(i / ROW_WORDS));
             while w != 0 {
                 let n = i * WORD_BITS + bits::lowest(w);
                 let verdict = judge(rows, columns, &inside, left, users, CellNo(n));

@@ -1,7 +1,7 @@
--- The limits of document 01, as document 02's first request sets them. Each stands here once, for all tests and for the machine. The rules of a sheet, what
--- makes a book right, and the demands say their numbers themselves and do not share these names: a test with another
--- limit no longer meets them. The cases compare each with the paper's number too; of the greatest budget, and of a
--- kernel above 128, they alone speak.
+-- The limits of document 01, as request [1] of document 02 sets them. Each stands here once, for all tests and for the
+-- machine. The rules of a sheet, what makes a book right, and the demands say their numbers themselves and do not share
+-- these names: a test with another limit no longer meets them. The cases compare each with the papers' number too; of
+-- the greatest budget, of a kernel above 128 and of the book program's buffer, they alone speak.
 use Rattle.spec.specs.Vocabulary.{ℕ}
 
 -- the bytes of a sheet
@@ -36,6 +36,10 @@ budget-limit = 4_294_967_295
 unfoldable pub role-limit : ℕ
 unfolding permission-limit
 role-limit = permission-limit
+
+-- the bytes of the book program's buffer: a session's book can be longer, and then 11 is printed
+unfoldable pub program-buffer : ℕ
+program-buffer = 65_536
 
 -- the bytes of a book that the checker takes
 unfoldable pub book-limit : ℕ

@@ -2,7 +2,7 @@
 -- standard output.
 use Rattle.spec.specs.Vocabulary.{ℕ, Bool, _&&_, not, cond, List, [], _∷_, _++_, eqb, leb, take, replicate}
 use Rattle.spec.specs.Vocabulary.{empty, all}
-use Rattle.spec.specs.Limits.{budget-limit}
+use Rattle.spec.specs.Limits.{budget-limit, program-buffer}
 use Rattle.spec.specs.Text.{Bytes, line-feed}
 use Rattle.spec.specs.Decimal.{decimal, is-digit, number-of}
 use Rattle.spec.specs.Session.{Session, fresh}
@@ -17,10 +17,6 @@ is-budget word = not (empty word) && all is-digit word && leb (number-of word) b
 unfoldable pub budget-of : List Bytes → ℕ
 budget-of [] = 0
 budget-of (word ∷ further) = cond (is-budget word) (number-of word) 0
-
--- the bytes of the program's buffer: the checker takes longer books, so 11 can be printed
-unfoldable pub program-buffer : ℕ
-program-buffer = 65_536
 
 -- the number of a refusal, and a line feed
 abbrev pub number-line : ℕ → Bytes

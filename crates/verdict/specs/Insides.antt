@@ -1,31 +1,40 @@
--- The words that the grants of one word can be tied to: those whose cells of left are all in the row of its user.
--- They change only with the cells of left in other words, so they are found once for all grants of a word.
+-- The users whose cells a user's grants can be tied to: those whose cells of left are all in that user's row. They
+-- change only with the cells of left of other users, so they stay the same while that user's are removed.
 use Prim.Native.Nat.{ℕ, _+_, _*_, _/_, _<_}
 use mathlib.Core.Path.{_≡_}
 use mathlib.Core.Bool.{Bool, So, _&&_}
 use mathlib.Core.List.{List}
+use lib.ListN.{getD}
+use Rattle.spec.specs.Limits.{user-limit}
 use Rattle.spec.specs.Vocabulary.{some-below, every-below}
-use Rattle.bits.specs.Bit.{bit, word-bits}
 use Rattle.bits.specs.Truth.{implies}
-use Rattle.cell_rows.specs.Rows.{row-words}
+use Rattle.cell_rows.specs.Rows.{row-words, row-bits, cell}
 use Rattle.cell_rows.specs.CellPlaces.{marked}
-use Rattle.verdict.specs.Misfits.{row-word}
+use Rattle.fit.specs.ColumnUnion.{in-union}
 
--- word k has cells of left
+-- user u has cells of left
 abbrev pub has-cells : List ℕ → ℕ → Bool
-has-cells left k = some-below word-bits (λ q. marked left (k * word-bits + q))
+has-cells left u = some-below row-bits (λ p. marked left (u * row-bits + p))
 
--- the cells of left in word k are all in the row of user u
+-- if the cell of user u and permission p is one of left, then user v holds p
+abbrev pub held-if-left : List ℕ → List ℕ → ℕ → ℕ → ℕ → Bool
+held-if-left rows left v u p = implies (marked left (u * row-bits + p)) (cell rows v p)
+
+-- the cells of user u in left are all in the row of user v
 abbrev pub in-row : List ℕ → List ℕ → ℕ → ℕ → Bool
-in-row rows left u k =
-    every-below word-bits (λ q. implies (marked left (k * word-bits + q)) (bit (row-word rows u k) q))
+in-row rows left v u = every-below row-bits (held-if-left rows left v u)
 
--- word k has cells to which a grant of user u can be tied
+-- user u has cells to which a grant of user v can be tied
 abbrev pub may-tie : List ℕ → List ℕ → ℕ → ℕ → Bool
-may-tie rows left u k = has-cells left k && in-row rows left u k
+may-tie rows left v u = has-cells left u && in-row rows left v u
 
--- the words that the grants of word i can be tied to: all others of which that holds, and word i itself if it has
--- cells of left
-pub record Insides (rows left : List ℕ) (users i : ℕ) (inside : List ℕ) : Type 0 where
-  pub others : (k : ℕ) → k < users * row-words → (k ≡ i → ⊥) → marked inside k ≡ may-tie rows left (i / row-words) k
-  pub own : (q : ℕ) → q < word-bits → So (marked left (i * word-bits + q)) → So (marked inside i)
+-- position t is in word j of the column of a permission that user v holds
+abbrev pub in-row-union : List ℕ → List ℕ → ℕ → ℕ → ℕ → Bool
+in-row-union rows columns v j t =
+    some-below row-words (λ k. in-union columns (getD rows (v * row-words + k) 0) k j t)
+
+-- the users whose cells the grants of user v can be tied to: all others of whom that holds, and v if v has cells of
+-- left
+pub record Insides (rows left : List ℕ) (v : ℕ) (inside : List ℕ) : Type 0 where
+  pub others : (u : ℕ) → u < user-limit → (u ≡ v → ⊥) → marked inside u ≡ may-tie rows left v u
+  pub own : (n : ℕ) → n / row-bits ≡ v → So (marked left n) → So (marked inside v)

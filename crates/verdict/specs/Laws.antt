@@ -7,6 +7,7 @@ pub mod Candidate
 pub mod TieWalk
 pub mod ReductionVerdict
 pub mod Single
+pub mod Sift
 pub mod Inside
 pub mod ReductionWork
 pub mod ReductionRemove

@@ -1,5 +1,5 @@
-// What keeps the grant at a cell from dominating another: grants that fit the other one and not it. They are in the
-// words of the users who hold the other's permission, and in its user's row.
+// What keeps the grant at a cell from dominating another: grants that fit the other one and not it. They are of users
+// who hold the other's permission, and in its user's row.
 use bits::WORD_BITS;
 use cells::permission_of;
 use cells::user_of;
@@ -17,18 +17,18 @@ ghost use Prim.Native.Nat.{ℕ, _+_, _*_, _≤_, _<_};
 ghost use Rattle.spec.specs.Limits.{user-limit};
 ghost use Rattle.bits.specs.Counting.{NextFrom};
 ghost use Rattle.bits.specs.Bit.{bit, word-bits};
-ghost use Rattle.cell_rows.specs.Rows.{row-words, row-bits};
-ghost use Rattle.cell_rows.specs.CellPlaces.{cell-words, cell-limit};
+ghost use Rattle.cell_rows.specs.Rows.{row-bits};
+ghost use Rattle.cell_rows.specs.CellPlaces.{cell-limit};
 ghost use Rattle.fit.specs.Columns.{Columns};
 ghost use Rattle.verdict.specs.Misfits.{row-fits, misfit-at, is-holder, is-suspect};
 
-// Word j of the column of a permission, as far as the users' words go.
+// Word j of the column of a permission, as far as the users go.
 pub fn holders(columns: &[u64; PLACE_WORDS], users: usize, p: PermissionNo, j: usize) -> u64
-    requires { ⌜ (users ≤ user-limit) × (p .0 < row-bits) × (j * word-bits < users * row-words) ⌝ }
+    requires { ⌜ (users ≤ user-limit) × (p .0 < row-bits) × (j * word-bits < users) ⌝ }
     ensures { λ r. ⌜ ((q : ℕ) → q < word-bits → bit r q ≡ is-holder (now (columns .entry)) users (p .0) j q) ⌝ }
 {
     let word = columns[p.0 * COLUMN_WORDS + j];
-    let count = users * ROW_WORDS - j * WORD_BITS;
+    let count = users - j * WORD_BITS;
     if WORD_BITS <= count {
         return word;
     }
@@ -38,7 +38,7 @@ pub fn holders(columns: &[u64; PLACE_WORDS], users: usize, p: PermissionNo, j: u
 // Word j of the column of the other grant's permission, without users who cannot have a grant that fits it and not
 // the grant at a cell: where both have one user, those who hold both permissions.
 fn suspects(columns: &[u64; PLACE_WORDS], users: usize, it: CellNo, other: CellNo, j: usize) -> u64
-    requires { ⌜ (users ≤ user-limit) × (j * word-bits < users * row-words) ⌝ }
+    requires { ⌜ (users ≤ user-limit) × (j * word-bits < users) ⌝ }
     ensures { λ r. ⌜ ((q : ℕ) → q < word-bits
         → bit r q ≡ is-suspect (now (columns .entry)) users (it .0) (other .0) j q) ⌝ }
 {
@@ -49,22 +49,29 @@ fn suspects(columns: &[u64; PLACE_WORDS], users: usize, it: CellNo, other: CellN
     bits::apart(held, holders(columns, users, permission_of(it), j))
 }
 
-// Whether the grants of left in word j that are in the row of user v all fit the grant at a cell.
+// Whether the grants of user x in left that are in the row of user v all fit the grant at a cell.
 fn row_fits<'a>(
     rows: &'a [u64; CELL_WORDS],
     left: &'a [u64; CELL_WORDS],
     it: CellNo,
     v: UserNo,
-    j: usize,
+    x: UserNo,
 ) -> bool
-    requires { ⌜ (it .0 < cell-limit) × (v .0 < user-limit) × (j < cell-words) ⌝ }
-    ensures { λ r. ⌜ r ≡ row-fits (now (rows .entry)) (now (left .entry)) (it .0) (v .0) j ⌝ }
+    requires { ⌜ (it .0 < cell-limit) × (v .0 < user-limit) × (x .0 < user-limit) ⌝ }
+    ensures { λ r. ⌜ r ≡ row-fits (now (rows .entry)) (now (left .entry)) (it .0) (v .0) (x .0) ⌝ }
 {
-    let row = rows[v.0 * ROW_WORDS + j % ROW_WORDS];
-    bits::within(left[j] & row, fitting(rows, it, j))
+    let mut d = 0;
+    while d < ROW_WORDS {
+        let i = x.0 * ROW_WORDS + d;
+        if !bits::within(left[i] & rows[v.0 * ROW_WORDS + d], fitting(rows, it, i)) {
+            return false;
+        }
+        d += 1;
+    }
+    true
 }
 
-// The first position of some whose word has a grant of left in the row of user v that does not fit the grant at a
+// The first position of some whose user has a grant of left in the row of user v that does not fit the grant at a
 // cell, else the end of a word.
 fn misfit_among<'a>(
     rows: &'a [u64; CELL_WORDS],
@@ -74,14 +81,14 @@ fn misfit_among<'a>(
     from: usize,
     some: u64,
 ) -> usize
-    requires { ⌜ (it .0 < cell-limit) × (v .0 < user-limit) × (from + word-bits ≤ cell-words) ⌝ }
+    requires { ⌜ (it .0 < cell-limit) × (v .0 < user-limit) × (from + word-bits ≤ user-limit) ⌝ }
     ensures { λ r. ⌜ NextFrom (λ (q : ℕ). bit some q && not (row-fits (now (rows .entry)) (now (left .entry))
         (it .0) (v .0) (from + q))) 0 word-bits r ⌝ }
 {
     let mut w = some;
     while w != 0 {
         let q = bits::lowest(w);
-        if !row_fits(rows, left, it, v, from + q) {
+        if !row_fits(rows, left, it, v, UserNo(from + q)) {
             return q;
         }
         w = bits::without_lowest(w);
@@ -89,8 +96,8 @@ fn misfit_among<'a>(
     WORD_BITS
 }
 
-// The first word with a grant of left that fits the other grant and does not fit the grant at a cell, else the end of
-// the users' words.
+// The first user with a grant of left that fits the other grant and does not fit the grant at a cell, else the end of
+// the users.
 pub fn misfit<'a>(
     rows: &'a [u64; CELL_WORDS],
     columns: &'a [u64; PLACE_WORDS],
@@ -101,12 +108,11 @@ pub fn misfit<'a>(
 ) -> usize
     requires { ⌜ (users ≤ user-limit) × (it .0 < cell-limit) × (other .0 < cell-limit)
         × Columns (now rows) (now columns) ⌝ }
-    ensures { λ r. ⌜ NextFrom (misfit-at (now (rows .entry)) (now (left .entry)) (it .0) (other .0))
-        0 (users * row-words) r ⌝ }
+    ensures { λ r. ⌜ NextFrom (misfit-at (now (rows .entry)) (now (left .entry)) (it .0) (other .0)) 0 users r ⌝ }
 {
     let v = user_of(other);
     let mut j = 0;
-    while j * WORD_BITS < users * ROW_WORDS {
+    while j * WORD_BITS < users {
         let some = suspects(columns, users, it, other, j);
         let q = misfit_among(rows, left, it, v, j * WORD_BITS, some);
         if q < WORD_BITS {
@@ -114,5 +120,5 @@ pub fn misfit<'a>(
         }
         j += 1;
     }
-    users * ROW_WORDS
+    users
 }

@@ -9,6 +9,7 @@ use fit::partners_in_column;
 use numbers::CELL_WORDS;
 use numbers::CellNo;
 use numbers::ROW_WORDS;
+use numbers::UserNo;
 ghost use mathlib.Core.Path.{_≡_};
 ghost use mathlib.Core.Bool.{So, not, _&&_};
 ghost use Prim.Native.Nat.{ℕ, _+_, _*_, _/_, _<_, _≤_};
@@ -16,11 +17,11 @@ ghost use lib.Dec.{eqb};
 ghost use Rattle.spec.specs.Limits.{user-limit};
 ghost use Rattle.bits.specs.Counting.{count-below};
 ghost use Rattle.bits.specs.Bit.{bit, word-bits};
-ghost use Rattle.cell_rows.specs.Rows.{row-words};
+ghost use Rattle.cell_rows.specs.Rows.{row-words, row-bits};
 ghost use Rattle.cell_rows.specs.CellPlaces.{cell-words, cell-limit, marked, near, Part, cells-of};
 ghost use Rattle.fit.specs.Columns.{Columns};
 ghost use Rattle.verdict.specs.Insides.{Insides};
-ghost use Rattle.verdict.specs.Misfits.{words-before};
+ghost use Rattle.verdict.specs.Misfits.{users-before};
 ghost use Rattle.verdict.specs.NearCells.{tie-at};
 ghost use Rattle.verdict.specs.ReductionVerdict.{FoundIn, Judgeable, GrantJudged};
 
@@ -77,8 +78,8 @@ fn candidates(left: &[u64; CELL_WORDS], it: CellNo, i: usize) -> u64
     }
 }
 
-// The lowest cell of word i to which the grant at a cell is tied. A word that keeps it from one candidate keeps it
-// from all that the word's user holds.
+// The lowest cell of word i to which the grant at a cell is tied. A user who keeps it from one candidate keeps it
+// from all whose permissions that user holds.
 fn tie_in<'a>(
     rows: &'a [u64; CELL_WORDS],
     columns: &'a [u64; PLACE_WORDS],
@@ -95,17 +96,41 @@ fn tie_in<'a>(
     let mut w = candidates(left, it, i);
     while w != 0 {
         let other = i * WORD_BITS + bits::lowest(w);
-        let j = misfit(rows, columns, left, users, it, CellNo(other));
-        if j == users * ROW_WORDS {
+        let x = misfit(rows, columns, left, users, it, CellNo(other));
+        if x == users {
             return Found::At(CellNo(other));
         }
-        w = bits::apart(w, rows[j / ROW_WORDS * ROW_WORDS + i % ROW_WORDS]);
+        w = bits::apart(w, rows[x * ROW_WORDS + i % ROW_WORDS]);
     }
     Found::Nothing
 }
 
-// The lowest cell to which the grant at a cell is tied, among the users' words at word j of the columns. Only a word
-// in its row, of a user who holds its permission, has one.
+// The lowest cell of user x to which the grant at a cell is tied.
+fn tie_of_user<'a>(
+    rows: &'a [u64; CELL_WORDS],
+    columns: &'a [u64; PLACE_WORDS],
+    left: &'a [u64; CELL_WORDS],
+    users: usize,
+    it: CellNo,
+    x: UserNo,
+) -> Found
+    requires { ⌜ (users ≤ user-limit) × (it .0 < cell-limit) × (x .0 < users) × Columns (now rows) (now columns) ⌝ }
+    ensures { λ r. ⌜ FoundIn (tie-at (now (rows .entry)) (now (left .entry)) users (it .0)) (x .0 * row-bits)
+        ((x .0 + 1) * row-bits) r ⌝ }
+{
+    let mut d = 0;
+    while d < ROW_WORDS {
+        let found = tie_in(rows, columns, left, users, it, x.0 * ROW_WORDS + d);
+        if let Found::At(other) = found {
+            return Found::At(other);
+        }
+        d += 1;
+    }
+    Found::Nothing
+}
+
+// The lowest cell to which the grant at a cell is tied, among those of the users at word j of the columns. Only a
+// user who holds its permission, and whose grants are all in its row, has one.
 fn tie_among<'a>(
     rows: &'a [u64; CELL_WORDS],
     columns: &'a [u64; PLACE_WORDS],
@@ -115,17 +140,17 @@ fn tie_among<'a>(
     it: CellNo,
     j: usize,
 ) -> Found
-    requires { ⌜ (users ≤ user-limit) × (it .0 < cell-limit) × (j * word-bits < users * row-words)
+    requires { ⌜ (users ≤ user-limit) × (it .0 < cell-limit) × (j * word-bits < users)
         × Part (now left) (now rows)
-        × Columns (now rows) (now columns) × Insides (now rows) (now left) users (it .0 / word-bits) (now inside)
+        × Columns (now rows) (now columns) × Insides (now rows) (now left) (it .0 / row-bits) (now inside)
         × So (marked (now left) (it .0)) ⌝ }
     ensures { λ r. ⌜ FoundIn (tie-at (now (rows .entry)) (now (left .entry)) users (it .0))
-        (words-before users j * word-bits) (words-before users (j + 1) * word-bits) r ⌝ }
+        (users-before users j * row-bits) (users-before users (j + 1) * row-bits) r ⌝ }
 {
     let mut w = holders(columns, users, permission_of(it), j) & inside[j];
     while w != 0 {
-        let i = j * WORD_BITS + bits::lowest(w);
-        let found = tie_in(rows, columns, left, users, it, i);
+        let x = j * WORD_BITS + bits::lowest(w);
+        let found = tie_of_user(rows, columns, left, users, it, UserNo(x));
         if let Found::At(other) = found {
             return Found::At(other);
         }
@@ -145,11 +170,11 @@ fn tie<'a>(
 ) -> Found
     requires { ⌜ (users ≤ user-limit) × (it .0 < cell-limit) × Part (now left) (now rows)
         × Columns (now rows) (now columns)
-        × Insides (now rows) (now left) users (it .0 / word-bits) (now inside) × So (marked (now left) (it .0)) ⌝ }
+        × Insides (now rows) (now left) (it .0 / row-bits) (now inside) × So (marked (now left) (it .0)) ⌝ }
     ensures { λ r. ⌜ FoundIn (tie-at (now (rows .entry)) (now (left .entry)) users (it .0)) 0 (cells-of users) r ⌝ }
 {
     let mut j = 0;
-    while j * WORD_BITS < users * ROW_WORDS {
+    while j * WORD_BITS < users {
         let found = tie_among(rows, columns, inside, left, users, it, j);
         if let Found::At(other) = found {
             return Found::At(other);
@@ -169,7 +194,7 @@ pub fn judge<'a>(
     it: CellNo,
 ) -> Verdict
     requires { ⌜ Judgeable (now rows) (now left) users (it .0) × Columns (now rows) (now columns)
-        × Insides (now rows) (now left) users (it .0 / word-bits) (now inside) ⌝ }
+        × Insides (now rows) (now left) (it .0 / row-bits) (now inside) ⌝ }
     ensures { λ r. ⌜ GrantJudged (now (rows .entry)) (now (left .entry)) users (it .0) r ⌝ }
 {
     if is_single(rows, columns, left, it) {

@@ -54,6 +54,7 @@ fn book_program_takes_the_largest_sheets() {
         Draft::plain(240, 128, |_, _| false).bytes(),
         extremes::filled(&mut random, 252, 128, paper::SHEET_BYTES).bytes(),
         extremes::filled(&mut random, 252, 128, paper::SHEET_BYTES + 1).bytes(),
+        [extremes::filled(&mut random, 252, 128, paper::SHEET_BYTES).bytes(), b"a\n".to_vec()].concat(),
         extremes::full(1, paper::PERMISSIONS).bytes(),
         extremes::full(1, paper::PERMISSIONS + 1).bytes(),
         extremes::of_bytes(paper::SHEET_BYTES),

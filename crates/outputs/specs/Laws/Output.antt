@@ -9,11 +9,12 @@ use borrow.Author.Tests.{eq-eqb, ne-eqb}
 use lib.Dec.{eqb}
 use lib.ListN.{length, take, drop, replicate, length-replicate}
 use lib.Seq.{take-at}
+use Rattle.spec.specs.Limits.{program-buffer}
 use Rattle.spec.specs.Text.{Bytes}
 use Rattle.spec.specs.Session.{Session, session-book}
 use Rattle.spec.specs.Refusal.{first-number, refusal, accepted, write-causes}
 use Rattle.spec.specs.Calls.{WriteAnswer, write-refused, write-answer, buffer-after}
-use Rattle.spec.specs.Program.{budget-of, program-buffer, number-line, printed, program-output}
+use Rattle.spec.specs.Program.{budget-of, number-line, printed, program-output}
 use Rattle.bits.specs.Truth.{not-both}
 use Rattle.text.specs.Written.{Written}
 use Rattle.demands.specs.Demand1.{demand-1}

@@ -9,6 +9,7 @@ use mathlib.Core.List.{List, [], _∷_}
 use borrow.Author.Tests.{eq-eqb}
 use lib.ListN.{length, take, drop, replicate, length-replicate}
 use lib.Seq.{take-at}
+use Rattle.spec.specs.Limits.{program-buffer}
 use Rattle.spec.specs.Text.{Bytes}
 use Rattle.spec.specs.Sheet.{sheet-of}
 use Rattle.spec.specs.Machine.{State}
@@ -17,7 +18,7 @@ use Rattle.spec.specs.Book.{book}
 use Rattle.spec.specs.Session.{loaded}
 use Rattle.spec.specs.Refusal.{refusal, accepted}
 use Rattle.spec.specs.Calls.{searched-on, after-load, after-search, write-answer, CheckAnswer, check}
-use Rattle.spec.specs.Program.{budget-of, program-buffer, number-line, printed, program-output}
+use Rattle.spec.specs.Program.{budget-of, number-line, printed, program-output}
 use Rattle.spec.specs.Sequence.{WriteOutcome, brought-out}
 use Rattle.spec.specs.Demands.{Believed}
 use Rattle.text.specs.Written.{Written}

@@ -2,7 +2,7 @@
 use mathlib.Core.Path.{refl}
 use Rattle.spec.specs.Vocabulary.{ℕ, _≡_, Option, some, List, [], _∷_, _++_, map, take, length, replicate}
 use Rattle.spec.specs.Vocabulary.{lowest-below}
-use Rattle.spec.specs.Limits.{budget-limit}
+use Rattle.spec.specs.Limits.{budget-limit, program-buffer}
 use Rattle.spec.specs.Text.{Bytes, ascii}
 use Rattle.spec.specs.Sheet.{sheet-of}
 use Rattle.spec.specs.Machine.{search}
@@ -13,7 +13,7 @@ use Rattle.spec.specs.Session.{Session, fresh, session-book}
 use Rattle.spec.specs.Refusal.{refusal, write-causes}
 use Rattle.spec.specs.Calls.{after-load, SearchAnswer, search-answer, searched-on, after-search, WriteAnswer}
 use Rattle.spec.specs.Calls.{write-answer, buffer-after}
-use Rattle.spec.specs.Program.{is-budget, budget-of, program-buffer, printed, program-output}
+use Rattle.spec.specs.Program.{is-budget, budget-of, printed, program-output}
 use Rattle.spec.specs.Sequence.{Call, load, search as searching, write, last-accepted, budgets-given, enough}
 
 -- ---- the lent buffer

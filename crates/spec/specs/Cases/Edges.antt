@@ -1,7 +1,7 @@
 -- "Around the edges": the paper's edge cases and the four slips to shut out, computed together from the definitions.
 use Rattle.spec.specs.Vocabulary.{ℕ, some, List, [], _∷_, map, lowest-below}
 use mathlib.Core.Path.{_≡_, refl}
-use Rattle.spec.specs.Limits.{budget-limit}
+use Rattle.spec.specs.Limits.{budget-limit, program-buffer}
 use Rattle.spec.specs.Text.{Bytes, ascii}
 use Rattle.spec.specs.Sheet.{Grant, sheet-of}
 use Rattle.spec.specs.Reduction.{kernel}
@@ -15,7 +15,7 @@ use Rattle.spec.specs.Session.{Session, no-sheet, loaded, fresh, session
 use Rattle.spec.specs.Refusal.{refusal, write-causes}
 use Rattle.spec.specs.Calls.{LoadAnswer, load-answer, load-refused, after-load, SearchAnswer, search-answer}
 use Rattle.spec.specs.Calls.{search-refused, searched-on, after-search, write-answer, buffer-after}
-use Rattle.spec.specs.Program.{is-budget, budget-of, program-buffer, printed, program-output}
+use Rattle.spec.specs.Program.{is-budget, budget-of, printed, program-output}
 
 -- a sheet to load into a fresh session, and the budget of one search after it
 record Trial : Type 0 where

@@ -55,7 +55,11 @@ limits :
 unfolding bad-first-line bad-line-count has-name-length too-many-grants full
 limits = refl
 
--- 65,536 bytes
+-- 65,536 bytes; a longer sheet is a 1 whatever else it breaks
 long : too-long (replicate 65_536 0) ∷ too-long (replicate 65_537 0) ∷ [] ≡ false ∷ true ∷ []
 unfolding too-long
 long = refl
+
+first-of-all : refusal (replicate 65_537 0) ≡ 1
+unfolding refusal
+first-of-all = refl

@@ -1,8 +1,8 @@
--- The search for the lowest tie in a word, and from word to word. The positions not yet tried are those of a word w:
+-- The search for the lowest tie in a word, and from user to user. The positions not yet tried are those of a word w:
 -- they are cells of left, and every other cell of the word is known to fail. So the lowest position of w, where it
 -- passes, is the lowest cell of all.
 use Prim.Native.Nat.{ℕ, _+_, _-_, _*_, _/_, _≤_, _<_}
-use native.Mathlib.Nat.{add-sub-of-le}
+use native.Mathlib.Nat.{add-sub-of-le, div-add-mod', le-div-iff-mul-le, div-lt-iff-lt-mul, suc-mul}
 use native.Mathlib.Omega.{arith}
 use mathlib.Core.Path.{_≡_, sym, ap, _∙_}
 use mathlib.Core.Logic.{⊎-elim}
@@ -14,7 +14,9 @@ use Rattle.bits.specs.Laws.Bit.{bit-of-zero}
 use Rattle.bits.specs.Truth.{and-intro, and-left, and-right}
 use Rattle.bits.specs.Counting.{Lowest}
 use Rattle.bits.specs.Laws.Below.{below-or-from}
+use Rattle.cell_rows.specs.Rows.{row-bits}
 use Rattle.cell_rows.specs.CellPlaces.{marked}
+use Rattle.cell_rows.specs.Laws.Width.{row-bits-pos, permission-below}
 use Rattle.verdict.specs.NearCells.{dominates-in, tie-test, tie-at, Untried}
 use Rattle.verdict.specs.ReductionVerdict.{LowestIn, NoneIn}
 
@@ -24,7 +26,7 @@ pub each-cell : (P : ℕ → Type 0) (i m : ℕ) → ((q : ℕ) → q < word-bit
 each-cell P i m h from to = rw (add-sub-of-le from) at (h (m - i * word-bits) (omega arith))
 
 -- none of a word's positions passes
-pub none-in-word : (i : ℕ) (passes : ℕ → Bool) → ((q : ℕ) → q < word-bits → passes (i * word-bits + q) ≡ false)
+none-in-word : (i : ℕ) (passes : ℕ → Bool) → ((q : ℕ) → q < word-bits → passes (i * word-bits + q) ≡ false)
     → NoneIn passes (i * word-bits) ((i + 1) * word-bits)
 none-in-word i passes h = record { fails = λ m from to. each-cell (λ n. passes n ≡ false) i m h from to }
 
@@ -64,16 +66,30 @@ module _ (rows left : List ℕ) (users it i : ℕ) where
       ((i + 1) * word-bits)
   none-untried u = none-in-word i (tie-at rows left users it) (λ q l. u .tried q l (bit-of-zero q))
 
--- ---- from word to word
+-- ---- from user to user
 
--- what no word has, none of their cells has
-pub none-in-words : {test : ℕ → Bool} (from to : ℕ) → ((i : ℕ) → from ≤ i → i < to → NoneIn test (i * word-bits)
-    ((i + 1) * word-bits))
-    → NoneIn test (from * word-bits) (to * word-bits)
-none-in-words from to each =
+-- none of a user's cells passes
+pub none-in-row : (u : ℕ) (test : ℕ → Bool) → ((n : ℕ) → n / row-bits ≡ u → test n ≡ false)
+    → NoneIn test (u * row-bits) ((u + 1) * row-bits)
+none-in-row u test each =
     record {
-      fails = λ m begun within. each (m / word-bits) (omega arith) (omega arith) .fails m (omega arith)
-          (omega arith);
+      fails = λ m begun within. each m (omega (
+        arith,
+        le-div-iff-mul-le row-bits-pos .1 begun,
+        div-lt-iff-lt-mul {x = m} {y = u + 1} row-bits-pos .1 within,
+      ));
+    }
+
+-- what no user has, none of their cells has
+pub none-in-rows : {test : ℕ → Bool} (from to : ℕ) → ((u : ℕ) → from ≤ u → u < to → NoneIn test (u * row-bits)
+    ((u + 1) * row-bits))
+    → NoneIn test (from * row-bits) (to * row-bits)
+none-in-rows from to each =
+    record {
+      fails = λ m begun within.
+          each (m / row-bits) (le-div-iff-mul-le row-bits-pos .1 begun) (div-lt-iff-lt-mul row-bits-pos .1 within)
+          .fails m (omega (arith, div-add-mod' m row-bits))
+          (omega (arith, div-add-mod' m row-bits, permission-below m, suc-mul (m / row-bits) row-bits));
     }
 
 pub none-then-none : {test : ℕ → Bool} {from middle to : ℕ} → NoneIn test from middle → NoneIn test middle to
@@ -96,7 +112,12 @@ none-then-lowest {middle} order earlier low =
           (below-or-from m middle);
     }
 
--- the lowest of a range from the first cell on, in all cells
-pub lowest-of-all : {test : ℕ → Bool} {to all n : ℕ} → to ≤ all → LowestIn test 0 to n → LowestIn test 0 all n
-lowest-of-all more low =
+-- the lowest of a range, in one that goes further
+pub lowest-with-more : {test : ℕ → Bool} {from to end n : ℕ} → to ≤ end → LowestIn test from to n
+    → LowestIn test from end n
+lowest-with-more more low =
     record { begun = low .begun; within = omega (arith, low .within); holds = low .holds; first = low .first }
+
+-- none, in a range that does not go further
+pub none-before : {test : ℕ → Bool} {from to end : ℕ} → to ≤ end → NoneIn test from end → NoneIn test from to
+none-before less none = record { fails = λ m begun within. none .fails m begun (omega (arith, within)) }

@@ -21,7 +21,7 @@ use Rattle.bits.specs.Word.{LowestDropped}
 use Rattle.bits.specs.Laws.Word.{some-bit, dropped-count}
 use Rattle.cell_rows.specs.CellPlaces.{cell-limit, grant-of, marked, fit-in, near, Part}
 use Rattle.fit.specs.Laws.FitWord.{marked-in-word}
-use Rattle.verdict.specs.Laws.NearWord.{one-row-fits}
+use Rattle.verdict.specs.Laws.NearWord.{one-word-user, one-row-fits}
 
 -- ---- one position
 
@@ -72,7 +72,8 @@ module _ {rows left : List ℕ} (part : Part left rows) where
       near-to r k p =
           and-intro (marked left (i * word-bits + r)) (fit-in rows (grant-of (i * word-bits + q))
           (grant-of (i * word-bits + r))) p
-          (one-row-fits rows i q r l k (part .held (i * word-bits + q) set) (part .held (i * word-bits + r) p))
+          (one-row-fits rows (i * word-bits + q) (i * word-bits + r) (one-word-user i q r l k)
+          (part .held (i * word-bits + q) set) (part .held (i * word-bits + r) p))
 
   pub alone-in-word : (it : ℕ) → it < cell-limit → So (marked left it)
       → count-below cell-limit (near rows left it) ≡ 1

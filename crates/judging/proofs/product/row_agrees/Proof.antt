@@ -6,95 +6,96 @@ use borrow.Author.Needs.{needs}
 use lib.ListN.{length}
 use Rattle.cell_rows.specs.Rows.{row-words}
 use Rattle.form.specs.Laws.RowWithin.{word-below}
-use Rattle.judging.specs.ProductWords.{WordsAgree, words-start, words-more, words-end, word-differs}
+use Rattle.judging.specs.ProductWords.{GivenWord, WordsAgree, words-start, words-more, words-end, word-differs}
 use Rattle.judging.proofs.product.row_agrees.Statement.{statement}
 use Rattle.judging.proofs.product.row_agrees.Tie as tie
 
 abbrev Inv-loop : tie.InvT-loop
-Inv-loop rows has gives roles u k₀ k = (k ≤ row-words) × WordsAgree rows has gives roles (u .0) k
+Inv-loop rows has gives roles u given k₀ k = (k ≤ row-words) × WordsAgree rows has gives roles (u .0) k
 
 abbrev μ-loop : tie.MeasureT-loop
-μ-loop rows has gives roles u k₀ k = row-words - k
+μ-loop rows has gives roles u given k₀ k = row-words - k
+
+given-row-requires : tie.Need-given-row-requires Inv-loop μ-loop
+given-row-requires c κs =
+    let start = c .before .before .before in
+    (start .pre .0, start .pre .2, start .pre .3)
 
 loop-holds : tie.Need-loop-holds Inv-loop μ-loop
-loop-holds c = (
-  omega arith,
-  words-start (c .before .before .before .args .rows .now) (c .before .before .before .args .has .now)
-      (c .before .before .before .args .gives .now) (c .before .before .before .args .roles)
-      (c .before .before .before .args .u .0),
-)
+loop-holds c = (omega arith, words-start _ _ _ _ _)
 
 more : (c : tie.In-loop Inv-loop μ-loop) → c .before .loop .k < row-words
 unfolding row-words
 more c = c .loop-test .taken
 
 within : (c : tie.In-loop Inv-loop μ-loop)
-    → let start = c .before .before .before .before .before in
-    start .args .u .0 * row-words + c .before .loop .k < length (start .args .rows .now)
+    → let a = c .before .before .before .before .before .before .args in
+    a .u .0 * row-words + c .before .loop .k < length (a .rows .now)
 within c =
-    let start = c .before .before .before .before .before in
-    word-below (start .args .u .0) (start .args .u .0 + 1) (c .before .loop .k) _ (omega arith) (more c) (start .pre .1)
+    let start = c .before .before .before .before .before .before in
+    word-below (start .args .u .0) (start .args .u .0 + 1) (c .before .loop .k) _ (omega arith) (more c)
+    (start .pre .1)
 
-given-word-requires : tie.Need-given-word-requires Inv-loop μ-loop
-given-word-requires c κs =
-    let start = c .before .before .before .before .before in
-    (start .pre .0, more c, start .pre .2, start .pre .3)
+-- word k of what the roles give was read
+read : (c : tie.After-word-at Inv-loop μ-loop)
+    → let at-loop = c .before .before .before in
+    let a = at-loop .before .before .before .before .before .args in
+    GivenWord (a .has .now) (a .gives .now) (a .roles) (a .u .0) (at-loop .loop .k) (c .word-at .result)
+read c =
+    let in-loop = c .before .before in
+    rw (c .word-at .ensures) (in-loop .before .before .given-row .ensures (in-loop .before .loop .k) (more in-loop))
 
 mul-if1 : tie.Need-mul-if1 Inv-loop μ-loop
 unfolding row-words
-mul-if1 c = omega (arith, within (c .before .before))
+mul-if1 c = omega (arith, within (c .before .before .before))
 
 add-if1 : tie.Need-add-if1 Inv-loop μ-loop
 unfolding row-words
-add-if1 c = omega (arith, within (c .before .before))
+add-if1 c = omega (arith, within (c .before .before .before))
 
 mul-if1-2 : tie.Need-mul-if1-2 Inv-loop μ-loop
 unfolding row-words
-mul-if1-2 c = omega (arith, within (c .before .before))
+mul-if1-2 c = omega (arith, within (c .before .before .before))
 
 shared-slice-read-if1 : tie.Need-shared-slice-read-if1 Inv-loop μ-loop
 unfolding row-words
-shared-slice-read-if1 c = within (c .before .before .before)
+shared-slice-read-if1 c = within (c .before .before .before .before)
 
 returns : tie.Need-returns Inv-loop μ-loop
 unfolding row-words
 returns c =
-    let at-loop = c .before .before .before .before .before in
-    let start = at-loop .before .before .before .before in
+    let at-word = c .before .before .before in
+    let in-loop = at-word .before .before in
+    let a = in-loop .before .before .before .before .before .before .args in
     sym
-    (word-differs (start .args .rows .now) (start .args .has .now) (start .args .gives .now) (start .args .roles)
-    (start .args .u .0) (more (c .before .before .before .before))
-    (c .before .before .before .given-word .ensures) (search needs) (c .before .shared-slice-known4 .given
-    (start .args .u .0 * row-words + at-loop .loop .k) .fits) (c .if1 .taken))
-
-add-k : tie.Need-add-k Inv-loop μ-loop
-unfolding row-words
-add-k c = omega (arith, more (c .before .before .before .before))
+    (word-differs (a .rows .now) (a .has .now) (a .gives .now) (a .roles) (a .u .0) (more in-loop) (read at-word)
+    (search needs)
+    (c .before .shared-slice-known4 .given (a .u .0 * row-words + in-loop .before .loop .k) .fits) (c .if1 .taken))
 
 loop-less : tie.Need-loop-less Inv-loop μ-loop
-loop-less c = omega (arith, more (c .before .before .before .before))
+unfolding row-words
+loop-less c = omega arith
 
 loop-again : tie.Need-loop-again Inv-loop μ-loop
 unfolding row-words
 loop-again c =
-    let at-loop = c .before .before .before .before .before in
-    let start = at-loop .before .before .before .before in (
-      omega (arith, more (c .before .before .before .before)),
-      words-more (start .args .rows .now) (start .args .has .now) (start .args .gives .now) (start .args .roles)
-          (start .args .u .0) (at-loop .loop .inv .1) (c .before .before .before .given-word .ensures)
-          (c .if1 .left),
+    let at-word = c .before .before .before in
+    let in-loop = at-word .before .before in
+    let a = in-loop .before .before .before .before .before .before .args in (
+      omega (arith, more in-loop),
+      words-more (a .rows .now) (a .has .now) (a .gives .now) (a .roles) (a .u .0) (in-loop .before .loop .inv .1)
+          (read at-word) (c .if1 .left),
     )
 
 returns-2 : tie.Need-returns-2 Inv-loop μ-loop
 unfolding row-words
 returns-2 c =
-    let start = c .before .before .before .before .before in
+    let a = c .before .before .before .before .before .before .args in
     sym
-    (words-end (start .args .rows .now) (start .args .has .now) (start .args .gives .now) (start .args .roles)
-    (start .args .u .0) (c .before .loop .inv .1)
+    (words-end (a .rows .now) (a .has .now) (a .gives .now) (a .roles) (a .u .0) (c .before .loop .inv .1)
     (omega (arith, c .before .loop .inv .0, c .loop-test .left)))
 
 pub row-agrees-spec : {M : Type 1} → statement M
 row-agrees-spec =
-    tie.close (tie.spec Inv-loop μ-loop loop-holds given-word-requires mul-if1 add-if1 mul-if1-2 shared-slice-read-if1
-    returns add-k loop-less loop-again returns-2)
+    tie.close (tie.spec Inv-loop μ-loop given-row-requires loop-holds (λ c κs. more (c .before)) mul-if1 add-if1
+    mul-if1-2 shared-slice-read-if1 returns (λ c. omega arith) loop-less loop-again returns-2)

@@ -4,7 +4,8 @@ use native.Mathlib.Omega.{arith}
 use mathlib.Core.Path.{_≡_, sym}
 use mathlib.Core.List.{[], _∷_}
 use lib.ListN.{length}
-use Rattle.spec.specs.Program.{program-buffer, budget-of}
+use Rattle.spec.specs.Limits.{program-buffer}
+use Rattle.spec.specs.Program.{budget-of}
 use Rattle.text.specs.Written.{written-as}
 use Rattle.answers.specs.Said.{write-said}
 use Rattle.porvuund.specs.OneShot.{Books}

@@ -6,17 +6,17 @@ use Rattle.porvuund.specs.OneShot.{loaded-number, refused-by-load, writt
 use Rattle.porvuund.proofs.calls.porvuund_book.Statement.{statement}
 use Rattle.porvuund.proofs.calls.porvuund_book.Tie as tie
 
-abbrev start : tie.After-load → tie.Start
+abbrev start : tie.After-porvuund-load → tie.Start
 start c = c .before .before .before .before
 
-sheet-number : (c : tie.After-load) → c .load .result .answer .number ≡ refusal (start c .args .sheet .now)
-sheet-number c = loaded-number (start c .args .sheet .now) (c .load .ensures .0)
+sheet-number : (c : tie.After-porvuund-load) → c .porvuund-load .result .answer .number ≡ refusal (start c .args .sheet .now)
+sheet-number c = loaded-number (start c .args .sheet .now) (c .porvuund-load .ensures .0)
 
 returns : tie.Need-returns
 returns c =
     let l = c .before in
     let s = start l in
-    refused-by-load (s .args .sheet .now) (s .args .budget) (s .args .out .now) (l .load .result .answer .number)
+    refused-by-load (s .args .sheet .now) (s .args .budget) (s .args .out .now) (l .porvuund-load .result .answer .number)
     (sheet-number l) (c .if1 .taken)
 
 returns-2 : tie.Need-returns-2
@@ -27,7 +27,7 @@ returns-2 c =
     let s = start l in
     written-after (s .args .sheet .now) (s .args .budget) (s .args .out .now) (sym (sheet-number l)
     ∙ f .before .before .if1 .left)
-    (l .before .fresh .ensures .0) (l .load .ensures .0) (f .search .ensures .0) (w .write .ensures)
+    (l .before .fresh .ensures .0) (l .porvuund-load .ensures .0) (f .search .ensures .0) (w .porvuund-write .ensures)
 
 pub porvuund-book-spec : {M : Type 1} → statement M
 porvuund-book-spec =

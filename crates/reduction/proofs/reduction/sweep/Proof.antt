@@ -1,17 +1,18 @@
 -- `reduction::reduction::sweep`: after i words the cells below word i were visited, of those that remained at first.
 -- Within a word, the cells still to be visited are at the positions of w, and remain. The lowest is visited next, and
--- dropped. The words that they can be tied to stay the same.
-use Prim.Native.Nat.{_+_, _*_, _-_, _≤_, _<_}
+-- dropped. The users whose grants they can be tied to stay the same.
+use Prim.Native.Nat.{_+_, _*_, _-_, _/_, _≤_, _<_}
 use native.Mathlib.Omega.{arith}
-use mathlib.Core.Path.{_≡_}
+use mathlib.Core.Path.{_≡_, ap, _∙_}
 use mathlib.Core.Logic.{⊎-elim}
 use mathlib.Core.Bool.{So}
 use lib.Arith.{digits-lt, digits-div}
 use lib.ListN.{getD}
 use Rattle.spec.specs.Limits.{user-limit}
 use Rattle.bits.specs.Bit.{word-bits}
-use Rattle.cell_rows.specs.Rows.{row-words}
+use Rattle.cell_rows.specs.Rows.{row-words, row-bits}
 use Rattle.cell_rows.specs.CellPlaces.{cells-of, marked}
+use Rattle.cell_rows.specs.Laws.Width.{user-of-cell}
 use Rattle.verdict.specs.Insides.{Insides}
 use Rattle.verdict.specs.Laws.Inside.{insides-found, insides-kept}
 use Rattle.verdict.specs.ReductionWork.{work-of, word-cells}
@@ -27,7 +28,7 @@ abbrev Inv-loop2 : tie.InvT-loop2
 Inv-loop2 rows columns left₀ removed₀ partner₀ users count count₀ i w₀ inside left removed partner count' w =
     Sweeping rows users i (word-cells i (getD left₀ i 0)) (work-of left₀ removed₀ partner₀ count₀)
     (work-of left removed partner count') w
-    × Insides rows left users i inside
+    × Insides rows left (i / row-words) inside
 
 abbrev μ-loop2 : tie.MeasureT-loop2
 μ-loop2 rows columns left₀ removed₀ partner₀ users count count₀ i w₀ inside left removed partner count' w = w
@@ -50,19 +51,21 @@ unfolding user-limit
 mul-loop c = omega (arith, c .before .pre .0 .shows .few-users)
 
 mul-w : tie.Need-mul-w Inv-loop2 μ-loop2 Inv-loop μ-loop
-unfolding user-limit row-words
+unfolding user-limit
 mul-w c = omega (arith, c .before .before .pre .0 .shows .few-users)
 
 element-copy-out-w : tie.Need-element-copy-out-w Inv-loop2 μ-loop2 Inv-loop μ-loop
-unfolding user-limit row-words
+unfolding user-limit
 element-copy-out-w c = omega (arith, c .before .before .pre .0 .shows .few-users)
 
 insides-requires : tie.Need-insides-requires Inv-loop2 μ-loop2 Inv-loop μ-loop
-unfolding user-limit row-words
 insides-requires c κs =
     let at-loop = c .before .before .before .before in
-    let few = at-loop .before .pre .0 .shows .few-users in
-    (few, omega (arith, few))
+    let s = at-loop .before in (
+      omega (arith, s .pre .0 .shows .few-users),
+      visited-ready (s .pre .0) (at-loop .loop .inv .1) .part,
+      s .pre .1,
+    )
 
 loop2-holds : tie.Need-loop2-holds Inv-loop2 μ-loop2 Inv-loop μ-loop
 unfolding row-words
@@ -70,12 +73,12 @@ loop2-holds c =
     let at-loop = c .before .before .before .before .before in
     let ready = visited-ready (at-loop .before .pre .0) (at-loop .loop .inv .1) in (
       sweeping-at-first ready,
-      insides-found (at-loop .before .args .users) (at-loop .loop .i) (c .insides .result) (ready .part)
-          (omega arith) (c .insides .ensures),
+      insides-found (at-loop .loop .i / row-words) (c .insides .result) (ready .part)
+          (omega (arith, ready .shows .few-users)) (c .insides .ensures),
     )
 
 mul-n : tie.Need-mul-n Inv-loop2 μ-loop2 Inv-loop μ-loop
-unfolding user-limit row-words
+unfolding user-limit
 mul-n c =
     let at-loop = c .before .before .before .before .before .before .before in
     omega (arith, at-loop .before .pre .0 .shows .few-users)
@@ -85,7 +88,7 @@ abbrev word : tie.After-lowest Inv-loop2 μ-loop2 Inv-loop μ-loop → tie.In-lo
 word c = let at-loop2 = c .before .before in at-loop2 .before .before .before .before .before
 
 add-n : tie.Need-add-n Inv-loop2 μ-loop2 Inv-loop μ-loop
-unfolding user-limit row-words
+unfolding user-limit
 add-n c = omega (arith, word c .before .before .pre .0 .shows .few-users, c .lowest .ensures .within)
 
 -- the cell at the position found is one of these users' cells, and remains
@@ -93,6 +96,13 @@ below : (c : tie.After-lowest Inv-loop2 μ-loop2 Inv-loop μ-loop)
     → word c .before .loop .i * word-bits + c .lowest .result < cells-of (word c .before .before .args .users)
 unfolding row-words
 below c = digits-lt (omega arith) (c .lowest .ensures .within)
+
+-- its user is that of the word
+of-user : (c : tie.After-lowest Inv-loop2 μ-loop2 Inv-loop μ-loop)
+    → (word c .before .loop .i * word-bits + c .lowest .result) / row-bits ≡ word c .before .loop .i / row-words
+of-user c =
+    let n = word c .before .loop .i * word-bits + c .lowest .result in
+    user-of-cell n ∙ ap (λ i. i / row-words) (digits-div (word c .before .loop .i) (c .lowest .ensures .within))
 
 remains : (c : tie.After-lowest Inv-loop2 μ-loop2 Inv-loop μ-loop)
     → So (marked (c .before .before .loop2 .left) (word c .before .loop .i * word-bits + c .lowest .result))
@@ -110,7 +120,7 @@ judge-requires c κs =
         set = remains found;
       },
       word found .before .before .pre .1,
-      rw (digits-div (word found .before .loop .i) (found .lowest .ensures .within)) (at .1),
+      rw (of-user found) (at .1),
     )
 
 carry-out-requires : tie.Need-carry-out-requires Inv-loop2 μ-loop2 Inv-loop μ-loop
@@ -131,10 +141,10 @@ loop2-again c =
     let low = found .lowest .ensures in
     let seen = visited (at .0 .ready) (below found) (remains found) (judged .judge .result) (judged .judge .ensures)
     (c .before .carry-out .ensures) in
-    (sweeping-next (at .0) low seen (c .without-lowest .ensures), insides-kept (low .within) (at .1) seen)
+    (sweeping-next (at .0) low seen (c .without-lowest .ensures), insides-kept (of-user found) (at .1) seen)
 
 add-i : tie.Need-add-i Inv-loop2 μ-loop2 Inv-loop μ-loop
-unfolding user-limit row-words
+unfolding user-limit
 add-i c =
     let at-loop = c .before .before .before in
     omega (arith, at-loop .before .pre .0 .shows .few-users)

@@ -5,13 +5,12 @@ use Prim.Native.Nat.{ℕ, _+_}
 use mathlib.Core.Bool.{Bool, not}
 use mathlib.Core.List.{List}
 use Rattle.spec.specs.Limits.{user-limit}
-use Rattle.cell_rows.specs.Rows.{row-words}
 use Rattle.verdict.specs.Misfits.{row-fits}
 use Rattle.cells.specs.Laws.FirstAt.{Tried, none-tried, lowest-passes, one-tried, all-tried}
 use Rattle.verdict.proofs.domination.misfit_among.Statement.{statement}
 use Rattle.verdict.proofs.domination.misfit_among.Tie as tie
 
--- the word at a position does not fit
+-- the cells of the user at a position do not all fit
 abbrev is-misfit : List ℕ → List ℕ → ℕ → ℕ → ℕ → ℕ → Bool
 is-misfit rows left it v from q = not (row-fits rows left it v (from + q))
 
@@ -42,7 +41,7 @@ returns-2 : tie.Need-returns-2 Inv-loop μ-loop
 returns-2 c = all-tried _ _ (rw (c .loop-test .left) at (c .before .loop .inv))
 
 pub misfit-among-spec : {M : Type 1} → statement M
-unfolding user-limit row-words
+unfolding user-limit
 misfit-among-spec =
     tie.close (tie.spec Inv-loop μ-loop loop-holds (λ c κs. omega arith)
     (λ c. omega (arith, c .lowest .ensures .within)) (λ c κs. omega (arith, c .lowest .ensures .within)) returns

@@ -1,23 +1,74 @@
--- `verdict::domination::row_fits`: the word of left and that of the row together are within the fitting word.
-use borrow.Author.Needs.{needs}
+-- `verdict::domination::row_fits`: of each word passed, that of left and that of the row together are within the
+-- fitting word. A word where they are not fails the test of all.
+use Prim.Native.Nat.{_*_, _-_, _≤_}
 use native.Mathlib.Omega.{arith}
-use mathlib.Core.Path.{_∙_}
+use mathlib.Core.Path.{_≡_, refl, sym, _∙_}
+use mathlib.Core.Bool.{So}
+use borrow.Author.Tests.{not-true, not-false}
 use Rattle.spec.specs.Limits.{user-limit}
-use Rattle.cell_rows.specs.Rows.{row-words}
+use Rattle.spec.specs.Vocabulary.{every-below}
+use Rattle.bits.specs.Bit.{word-bits}
+use Rattle.cell_rows.specs.Rows.{row-words, row-bits}
+use Rattle.verdict.specs.Misfits.{fits-if-in-row}
 use Rattle.verdict.specs.Laws.Misfit.{row-fits-by-word}
+use Rattle.verdict.specs.Laws.NearWord.{every-in-word, every-next-word, every-word-fails}
 use Rattle.verdict.proofs.domination.row_fits.Statement.{statement}
 use Rattle.verdict.proofs.domination.row_fits.Tie as tie
 
-returns : tie.Need-returns
+abbrev Inv-loop : tie.InvT-loop
+Inv-loop rows left it v x d₀ d =
+    (d ≤ row-words) × So (every-below (d * word-bits) (fits-if-in-row rows left (it .0) (v .0) (x .0)))
+
+abbrev μ-loop : tie.MeasureT-loop
+μ-loop rows left it v x d₀ d = row-words - d
+
+loop-holds : tie.Need-loop-holds Inv-loop μ-loop
+unfolding every-below
+loop-holds c = (omega arith, refl)
+
+-- the test of the word is the test of its permissions
+word-test : (c : tie.After-within Inv-loop μ-loop) →
+    let at-loop = c .before .before .before .before .before .before .before in
+    let a = at-loop .before .args in
+    c .within .result ≡ every-in-word (fits-if-in-row (a .rows .now) (a .left .now) (a .it .0) (a .v .0) (a .x .0))
+    (at-loop .loop .d)
 unfolding row-words
-returns c =
-    let start = c .before .before .before .before .before in
-    let a = start .args in
-    c .within .ensures ∙ row-fits-by-word (a .rows .now) (a .left .now) (a .it .0) (a .v .0) (a .j)
+word-test c =
+    let at-loop = c .before .before .before .before .before .before .before in
+    let a = at-loop .before .args in
+    c .within .ensures
+    ∙ row-fits-by-word (a .rows .now) (a .left .now) (a .it .0) (a .v .0) (a .x .0) (at-loop .loop .d)
     (c .before .fitting .ensures)
+
+returns : tie.Need-returns Inv-loop μ-loop
+unfolding row-words row-bits
+returns c =
+    let at-loop = c .before .before .before .before .before .before .before .before in
+    let a = at-loop .before .args in
+    sym (every-word-fails (fits-if-in-row (a .rows .now) (a .left .now) (a .it .0) (a .v .0) (a .x .0))
+    (at-loop .loop .d) row-words (omega arith)
+    (sym (word-test (c .before)) ∙ not-true (c .before .within .result) (c .if1 .taken)))
+
+loop-again : tie.Need-loop-again Inv-loop μ-loop
+unfolding row-words
+loop-again c =
+    let at-loop = c .before .before .before .before .before .before .before .before in
+    let a = at-loop .before .args in
+    let at = at-loop .loop in (
+      omega arith,
+      every-next-word (fits-if-in-row (a .rows .now) (a .left .now) (a .it .0) (a .v .0) (a .x .0)) (at .d)
+          (at .inv .1) (sym (word-test (c .before)) ∙ not-false (c .before .within .result) (c .if1 .left)),
+    )
+
+returns-2 : tie.Need-returns-2 Inv-loop μ-loop
+unfolding row-words row-bits
+returns-2 c =
+    let end : c .before .loop .d ≡ row-words = omega arith in
+    sym (rw end at (c .before .loop .inv .1))
 
 pub row-fits-spec : {M : Type 1} → statement M
 unfolding user-limit row-words
 row-fits-spec =
-    tie.close (tie.spec (λ c. search needs) (λ c. search needs) (λ c. omega arith) (λ c. omega arith)
-    (λ c. omega arith) (λ c. omega arith) (λ c κs. search needs) (λ c κs. search needs) returns)
+    tie.close (tie.spec Inv-loop μ-loop loop-holds (λ c. omega arith) (λ c. omega arith) (λ c. omega arith)
+    (λ c. omega arith) (λ c. omega arith) (λ c. omega arith) (λ c. omega arith) (λ c. omega arith)
+    (λ c κs. omega arith) (λ c κs. tt) returns (λ c. omega arith) (λ c. omega arith) loop-again returns-2)

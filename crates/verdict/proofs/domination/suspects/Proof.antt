@@ -3,18 +3,16 @@
 use borrow.Author.Needs.{needs}
 use native.Mathlib.Omega.{arith}
 use mathlib.Core.Path.{sym, _∙_}
-use Rattle.spec.specs.Limits.{user-limit}
 use Rattle.cell_rows.specs.Rows.{row-words, row-bits}
 use Rattle.verdict.specs.Laws.Misfit.{suspects-all, suspects-apart}
 use Rattle.verdict.proofs.domination.suspects.Statement.{statement}
 use Rattle.verdict.proofs.domination.suspects.Tie as tie
 
 holders-requires : tie.Need-holders-requires
-unfolding user-limit row-words row-bits
+unfolding row-words row-bits
 holders-requires c κs = omega (arith, c .permission-of .ensures)
 
 returns : tie.Need-returns
-unfolding user-limit row-words row-bits
 returns c = λ q l.
     let at-other = c .before .before .before in
     let held = at-other .before .before in
@@ -24,11 +22,10 @@ returns c = λ q l.
     (λ e. c .if1 .taken (at-other .before .user-of .ensures ∙ e ∙ sym (at-other .user-of2 .ensures))) q
 
 holders-requires-2 : tie.Need-holders-requires-2
-unfolding user-limit row-words row-bits
+unfolding row-words row-bits
 holders-requires-2 c κs = omega (arith, c .permission-of2 .ensures)
 
 returns-2 : tie.Need-returns-2
-unfolding user-limit row-words row-bits
 returns-2 c = λ q l.
     let own = c .before in
     let one-user = own .before .before in

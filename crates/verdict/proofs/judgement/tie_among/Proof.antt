@@ -1,4 +1,4 @@
--- `verdict::judgement::tie_among`: the positions of w are the words still to be tried, and the others have no tie.
+-- `verdict::judgement::tie_among`: the positions of w are the users still to be tried, and the others have no tie.
 -- The lowest is tried next, so the first that has a tie has the lowest.
 use borrow.Author.Needs.{needs}
 use native.Mathlib.Omega.{arith}
@@ -26,29 +26,27 @@ abbrev μ-loop : tie.MeasureT-loop
 μ-loop rows columns inside left users it j w₀ w = w
 
 holders-requires : tie.Need-holders-requires Inv-loop μ-loop
-unfolding user-limit row-words row-bits
+unfolding row-words row-bits
 holders-requires c κs = omega (arith, c .permission-of .ensures)
 
 mul-w : tie.Need-mul-w Inv-loop μ-loop
-unfolding user-limit row-words
 mul-w c = omega arith
 
 element-copy-out-w : tie.Need-element-copy-out-w Inv-loop μ-loop
-unfolding user-limit row-words
+unfolding user-limit
 element-copy-out-w c = omega arith
 
 -- who holds the permission, as the rows say
 held-by : (c : tie.After-holders Inv-loop μ-loop) →
     let s = c .before .before in HoldersWord (s .args .rows .now) (s .args .users)
     (c .before .permission-of .result .0) (s .args .j) (c .holders .result)
-unfolding user-limit row-words row-bits
+unfolding row-words row-bits
 held-by c =
     let s = c .before .before in
     holders-word (s .pre .4) (s .pre .0) (omega (arith, c .before .permission-of .ensures)) (s .pre .2)
     (c .holders .ensures)
 
 loop-holds : tie.Need-loop-holds Inv-loop μ-loop
-unfolding row-words row-bits
 loop-holds c =
     let at-permission = c .before .before in
     let s = at-permission .before in
@@ -56,19 +54,16 @@ loop-holds c =
     let held = c .before .holders .result in
     let word = getD (a .inside .now) (a .j) 0 in
     insides-untried (a .rows .now) (a .left .now) (a .users) (a .it .0) (s .pre .3) (a .j) held (bitAnd held word)
-    (a .inside .now)
+    (a .inside .now) (s .pre .0)
     (rw (at-permission .permission-of .ensures) at (held-by (c .before)))
     (s .pre .5) (s .pre .6) (bit-and held word)
 
-add-i : tie.Need-add-i Inv-loop μ-loop
-unfolding user-limit row-words
-add-i c = omega (arith, c .lowest .ensures .within)
+add-x : tie.Need-add-x Inv-loop μ-loop
+add-x c = omega (arith, c .lowest .ensures .within)
 
--- the word to be tried is one of the users'
+-- the user to be tried is one of the users
 within : (c : tie.After-lowest Inv-loop μ-loop) →
-    let a = c .before .before .before .before .before .before .args in a .j * word-bits + c .lowest .result < a .users *
-    row-words
-unfolding row-words row-bits
+    let a = c .before .before .before .before .before .before .args in a .j * word-bits + c .lowest .result < a .users
 within c =
     let at-holders = c .before .before .before .before in
     let s = at-holders .before .before in
@@ -79,8 +74,8 @@ within c =
     (and-left (bit held q) (bit word q) (sym (bit-and held word q) ∙ c .before .before .loop .inv .kept q
     (c .lowest .ensures .holds)))
 
-tie-in-requires : tie.Need-tie-in-requires Inv-loop μ-loop
-tie-in-requires c κs =
+tie-of-user-requires : tie.Need-tie-of-user-requires Inv-loop μ-loop
+tie-of-user-requires c κs =
     let s = c .before .before .before .before .before .before in
     (s .pre .0, s .pre .1, within c, s .pre .4)
 
@@ -92,7 +87,7 @@ returns c =
     lowest-in-column (tie-at (s .args .rows .now) (s .args .left .now) (s .args .users) (s .args .it .0))
     (s .args .users) (s .args .j) (s .pre .2)
     (at-loop .loop .inv) (at-lowest .lowest .ensures) (within at-lowest)
-    (rw (c .before .found .given .1) at (c .before .before .before .tie-in .ensures))
+    (rw (c .before .found .given .1) at (c .before .before .before .tie-of-user .ensures))
 
 loop-less : tie.Need-loop-less Inv-loop μ-loop
 loop-less c = c .without-lowest .ensures .less
@@ -102,7 +97,7 @@ loop-again c =
     let at-lowest = c .before .before .before .before in
     let at-loop = at-lowest .before .before in
     walk-next (at-loop .loop .inv) (at-lowest .lowest .ensures)
-    (λ inside. rw (c .before .enum-told .given .1) at (c .before .before .before .tie-in .ensures))
+    (λ inside. rw (c .before .enum-told .given .1) at (c .before .before .before .tie-of-user .ensures))
     (c .without-lowest .ensures)
 
 returns-2 : tie.Need-returns-2 Inv-loop μ-loop
@@ -113,8 +108,8 @@ returns-2 c =
     (rw (c .loop-test .left) at (c .before .loop .inv))
 
 pub tie-among-spec : {M : Type 1} → statement M
-unfolding user-limit row-words
+unfolding user-limit
 tie-among-spec =
     tie.close (tie.spec Inv-loop μ-loop (λ c κs. search needs) holders-requires (λ c. omega arith) (λ c. omega arith)
-    loop-holds (λ c. omega arith) (λ c κs. omega arith) add-i tie-in-requires (λ c. search needs) returns
+    loop-holds (λ c. omega arith) (λ c κs. omega arith) add-x tie-of-user-requires (λ c. search needs) returns
     (λ c. search needs) (λ c κs. omega arith) loop-less loop-again returns-2)

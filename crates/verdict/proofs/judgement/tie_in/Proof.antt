@@ -1,5 +1,5 @@
 -- `verdict::judgement::tie_in`: the positions of w are the candidates still to be tried. Without a misfit the lowest
--- is the lowest tie; a misfit fails it and all others that its user holds.
+-- is the lowest tie; a misfit fails it and all others whose permissions it holds.
 use borrow.Author.Needs.{needs}
 use native.Mathlib.Omega.{arith}
 use Prim.Native.Nat.{_+_, _*_, _<_, zero-le}
@@ -24,24 +24,23 @@ loop-holds : tie.Need-loop-holds Inv-loop μ-loop
 loop-holds c = all-untried _ _ _ _ _ (c .candidates .ensures)
 
 misfit-requires : tie.Need-misfit-requires Inv-loop μ-loop
-unfolding user-limit row-words
+unfolding row-words
 misfit-requires c κs =
     let pre = c .before .before .before .before .pre in
     (pre .0, pre .1, omega (arith, c .lowest .ensures .within), pre .3)
 
 returns : tie.Need-returns Inv-loop μ-loop
-unfolding user-limit row-words
 returns c =
     let at-loop = c .before .before .before .before in
     let start = at-loop .before .before in
     let a = start .args in
     let low = c .before .before .lowest in
-    let all : c .before .misfit .result ≡ a .users * row-words = omega arith in
+    let all : c .before .misfit .result ≡ a .users = omega arith in
     lowest-untried (a .rows .now) (a .left .now) (a .users) (a .it .0) (a .i) (at-loop .loop .inv) (low .ensures)
     (unless-misfit (a .rows .now) (a .left .now) (a .it .0) (a .i * word-bits + low .result) (a .users)
     (λ n. rw all at (c .before .misfit .ensures .skipped n zero-le)))
 
--- the word that was found fails the lowest candidate, and with it all others that the word's user holds
+-- the user who was found fails the lowest candidate, and with it all others whose permissions the user holds
 failed : (c : tie.After-apart Inv-loop μ-loop) →
     let at-loop = c .before .before .before .before .before .before in
     let a = at-loop .before .before .args in
@@ -53,7 +52,7 @@ failed c =
     let at-loop = at-lowest .before .before in
     let a = at-loop .before .before .args in
     let misfit = c .before .before .before .misfit in
-    let within : misfit .result < a .users * row-words = omega (
+    let within : misfit .result < a .users = omega (
       arith,
       c .before .before .if1 .left,
       misfit .ensures .not-past,
@@ -77,7 +76,7 @@ pub tie-in-spec : {M : Type 1} → statement M
 unfolding user-limit row-words
 tie-in-spec =
     tie.close (tie.spec Inv-loop μ-loop (λ c κs. search needs) loop-holds (λ c. omega arith) (λ c κs. omega arith)
-    (λ c. omega (arith, c .lowest .ensures .within)) misfit-requires (λ c. omega arith) returns
+    (λ c. omega (arith, c .lowest .ensures .within)) misfit-requires returns
     (λ c. omega (arith, c .before .misfit .ensures .not-past))
     (λ c. omega (arith, c .before .misfit .ensures .not-past))
     (λ c. omega (arith, c .before .misfit .ensures .not-past))
