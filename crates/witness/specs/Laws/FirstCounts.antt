@@ -162,18 +162,18 @@ gathered-all rows columns left shares users n made few all =
     nothing b k none = ⊎-elim (λ e. rw e none) (λ e. rw e) (passes-or-fails b)
 
 -- the counts of one user
-module _ (rows columns left : List ℕ) (users v : ℕ) (row : List ℕ) (made : MadeCells (cell left v) row-bits row) where
+module _ (rows left : List ℕ) (users v : ℕ) (row : List ℕ) (made : MadeCells (cell left v) row-bits row) where
   own-row : (n : ℕ) → in-row v row n ≡ of-user left v n
   own-row n = ⊎-elim
       (λ e. ap (λ b. eqb (n / row-bits) v && b) (made .inside (n % row-bits) (permission-below n)
       ∙ ap (λ w. cell left w (n % row-bits)) (sym (eqb-true (n / row-bits) v e)) ∙ cell-marked left n))
       (λ e. rw e) (passes-or-fails (eqb (n / row-bits) v))
 
-  pub user-counted : (shares before after : List ℕ) → Columns rows columns → users ≤ user-limit
+  pub user-counted : (columns shares before after : List ℕ) → Columns rows columns → users ≤ user-limit
       → SharesOf rows left v users shares
       → ChangedAt (in-row v row) (λ n count. gathered columns shares (n % row-bits)) before after
       → ChangedAt (of-user left v) (λ n count. near-below rows left n users) before after
-  user-counted shares before after columns-made few all changed = record {
+  user-counted columns shares before after columns-made few all changed = record {
     sized = changed .sized;
     says = λ n. changed .says n
         ∙ ap (λ b. cond b (gathered columns shares (n % row-bits)) (getD before n 0)) (own-row n)

@@ -64,7 +64,7 @@ module _ (rows : List ℕ) (u : ℕ) (words : List ℕ) (n : ℕ) where
 
 -- ---- the counts of a row, word by word
 
--- the same in the first words of the row
+-- cell n is in the row of user v, at a position of the first k of these words
 abbrev pub in-row-below : ℕ → List ℕ → ℕ → ℕ → Bool
 in-row-below v words k n = eqb (n / row-bits) v && (ltb (n % row-bits / word-bits) k && marked words (n % row-bits))
 
@@ -76,12 +76,11 @@ word-of-user v k n l =
     ∙ and-comm (eqb (n / word-bits % row-words) k) (eqb (n / word-bits / row-words) v)
     ∙ rw (user-of-cell n, word-of-cell n)
 
-module _ (v : ℕ) (words : List ℕ) (to : ℕ → ℕ → ℕ) where
-  pub row-starts : (before : List ℕ) → ChangedAt (in-row-below v words 0) to before before
-  row-starts before =
-      nothing-changed (λ n. rw (le-ltb (n % row-bits / word-bits) 0 (omega arith))
-      (and-false (eqb (n / row-bits) v))) before
+gather : (a x y : Bool) → ((a && x) || (a && y)) ≡ (a && (x || y))
+gather true x y = refl
+gather false x y = refl
 
+module _ (v : ℕ) (words : List ℕ) where
   -- the cells of word k are not in the words below it
   pub word-to-come : (k n : ℕ) → k < row-words → So (at-position (v * row-words + k) (getD words k 0) n)
       → (in-row-below v words k n ≡ false) × So (in-row v words n)
@@ -95,10 +94,6 @@ module _ (v : ℕ) (words : List ℕ) (to : ℕ → ℕ → ℕ) where
         rw (same, le-ltb k k (omega arith)) (and-false (eqb (n / row-bits) v)),
         and-intro (eqb (n / row-bits) v) (marked words (n % row-bits)) own (rw (same, position-of-cell n) set),
       )
-
-  gather : (a x y : Bool) → ((a && x) || (a && y)) ≡ (a && (x || y))
-  gather true x y = refl
-  gather false x y = refl
 
   next-word : (k n : ℕ) → k < row-words
       → in-row-below v words (k + 1) n ≡ (in-row-below v words k n
@@ -118,20 +113,27 @@ module _ (v : ℕ) (words : List ℕ) (to : ℕ → ℕ → ℕ) where
           ∙ and-assoc (eqb (n / row-bits) v) (eqb (n % row-bits / word-bits) k) (bit (getD words k 0) (n % word-bits))
           ∙ rw (position-of-cell n)
 
-  pub row-goes-on : (k : ℕ) (before now after : List ℕ) → k < row-words
-      → ChangedAt (in-row-below v words k) to before now
-      → ChangedAt (at-position (v * row-words + k) (getD words k 0)) to now after
-      → ChangedAt (in-row-below v words (k + 1)) to before after
-  row-goes-on k before now after l earlier here =
-      then-changed earlier here (λ n p. word-to-come k n l p .0) (λ n. next-word k n l)
+  module _ (to : ℕ → ℕ → ℕ) where
+    pub row-starts : (before : List ℕ) → ChangedAt (in-row-below v words 0) to before before
+    row-starts before =
+        nothing-changed (λ n. rw (le-ltb (n % row-bits / word-bits) 0 (omega arith))
+        (and-false (eqb (n / row-bits) v))) before
 
-  pub row-ends : (before after : List ℕ) → ChangedAt (in-row-below v words row-words) to before after
-      → ChangedAt (in-row v words) to before after
-  row-ends before after all = record {
-    sized = all .sized;
-    says = λ n. rw (lt-ltb (n % row-bits / word-bits) row-words (word-in-row (n % row-bits) (permission-below n))) at
-        (all .says n);
-  }
+    pub row-goes-on : (k : ℕ) (before now after : List ℕ) → k < row-words
+        → ChangedAt (in-row-below v words k) to before now
+        → ChangedAt (at-position (v * row-words + k) (getD words k 0)) to now after
+        → ChangedAt (in-row-below v words (k + 1)) to before after
+    row-goes-on k before now after l earlier here =
+        then-changed earlier here (λ n p. word-to-come k n l p .0) (λ n. next-word k n l)
+
+    pub row-ends : (before after : List ℕ) → ChangedAt (in-row-below v words row-words) to before after
+        → ChangedAt (in-row v words) to before after
+    row-ends before after all = record {
+      sized = all .sized;
+      says = λ n.
+          rw (lt-ltb (n % row-bits / word-bits) row-words (word-in-row (n % row-bits) (permission-below n)))
+          at (all .says n);
+    }
 
 -- ---- the counts of one user
 

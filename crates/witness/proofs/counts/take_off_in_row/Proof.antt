@@ -32,7 +32,7 @@ take-off-at-requires c κs =
       omega (arith, start .pre .0),
       at .inv .1 .sized ∙ start .pre .1,
       λ n p.
-          let here = word-to-come (a .v .0) (a .own .now) (λ m count. count - a .by) (at .k) n (omega arith) p in
+          let here = word-to-come (a .v .0) (a .own .now) (at .k) n (omega arith) p in
           rw (not-changed (at .inv .1) n (here .0)) (start .pre .2 n (here .1)),
     )
 

@@ -33,7 +33,7 @@ loop-less : tie.Need-loop-less Inv-loop μ-loop
 loop-less c = c .without-lowest .ensures .less
 
 loop-again : tie.Need-loop-again Inv-loop μ-loop
-unfolding user-limit row-words
+unfolding row-words
 loop-again c =
     let at-low = c .before .before .before in
     let start = at-low .before .before .before in

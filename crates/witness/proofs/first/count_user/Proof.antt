@@ -23,14 +23,14 @@ returns c =
     let own = sharing .before .before .before .before in
     let start = own .before in
     let a = start .args in
-    user-counted (a .rows .now) (a .columns .now) (a .left .now) (a .users) (a .v .0) _ (own .row-of .ensures) _ _ _
+    user-counted (a .rows .now) (a .left .now) (a .users) (a .v .0) _ (own .row-of .ensures) (a .columns .now) _ _ _
     (start .pre .2) (start .pre .0) (sharing .shares-of .ensures) (c .count-in-row .ensures)
 
 returns-2 : tie.Need-returns-2
 returns-2 c =
     let own = c .before .before .before in
     let a = own .before .args in
-    no-user-counted (a .rows .now) (a .columns .now) (a .left .now) (a .users) (a .v .0) _ (own .row-of .ensures)
+    no-user-counted (a .rows .now) (a .left .now) (a .users) (a .v .0) _ (own .row-of .ensures)
     (none-reached (a .v .0) (own .row-of .result) (sym (c .before .has-any .ensures) ∙ c .if1 .left)) _
 
 pub count-user-spec : {M : Type 1} → statement M
