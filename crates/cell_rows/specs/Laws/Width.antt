@@ -1,7 +1,7 @@
 -- The arithmetic of rows of words, for any number of words in a row that is not 0. That it is not 0, and that a row
 -- has room for every permission and every role, is all that any law says of the number itself, and only here.
 use Prim.Native.Nat.{ℕ, _+_, _*_, _/_, _%_, _≤_, _<_}
-use native.Mathlib.Nat.{mod-lt, mul-assoc, mul-comm, div-add-mod', div-lt-iff-lt-mul, div-div-eq-div-mul}
+use native.Mathlib.Nat.{mod-lt, mul-assoc, mul-comm, div-div-eq-div-mul}
 use native.Mathlib.Omega.{arith}
 use mathlib.Core.Path.{_≡_, sym, ap, _∙_}
 use lib.Arith.{mod-mul, digits-lt}
@@ -60,20 +60,6 @@ user-of-cell n = ap (λ (m : ℕ). n / m) (mul-comm row-words word-bits) ∙ sym
 pub permission-in-word : (n : ℕ) → n % row-bits ≡ n / word-bits % row-words * word-bits + n % word-bits
 unfolding row-bits
 permission-in-word n = mod-mul n row-words-pos (lit< tt)
-
--- word i of the rows is word i % row-words of user i / row-words
-pub word-split : (i : ℕ) → i / row-words * row-words + i % row-words ≡ i
-word-split i = div-add-mod' i row-words
-
-pub word-of-row : (i : ℕ) → i % row-words < row-words
-word-of-row i = mod-lt i row-words-pos
-
--- it is a word of the first n users exactly where its user is one of them
-pub user-below : (i n : ℕ) → i < n * row-words → i / row-words < n
-user-below i n = div-lt-iff-lt-mul row-words-pos .1
-
-pub word-below : (i n : ℕ) → i / row-words < n → i < n * row-words
-word-below i n = div-lt-iff-lt-mul row-words-pos .0
 
 pub permission-below : (n : ℕ) → n % row-bits < row-bits
 permission-below n = mod-lt n row-bits-pos

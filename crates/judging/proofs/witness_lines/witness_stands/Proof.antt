@@ -93,7 +93,9 @@ returns-2 c =
 
 slice-aggregate-mark : tie.Need-slice-aggregate-mark Inv-loop μ-loop
 unfolding row-words
-slice-aggregate-mark c = sym (c .before .before .before .before .before .before .before .before .before .loop .inv .3)
+slice-aggregate-mark c =
+    let at-else = c .before in
+    sym (at-else .before .before .before .before .before .before .before .before .loop .inv .3)
 
 mark-requires : tie.Need-mark-requires Inv-loop μ-loop
 mark-requires c κs =
@@ -103,13 +105,15 @@ mark-requires c κs =
 mul-owners : tie.Need-mul-owners Inv-loop μ-loop
 unfolding row-bits row-words
 mul-owners c =
-    let in-loop = c .before .before .before .before .before .before .before .before .before .before in
+    let at-else = c .before .before .before in
+    let in-loop = at-else .before .before .before .before .before .before .before in
     omega (arith, line-there in-loop .place)
 
 array-write-owners : tie.Need-array-write-owners Inv-loop μ-loop
 unfolding row-bits row-words
 array-write-owners c =
-    let in-loop = c .before .before .before .before .before .before .before .before .before .before in
+    let at-else = c .before .before .before in
+    let in-loop = at-else .before .before .before .before .before .before .before in
     line-there in-loop .place
 
 loop-again : tie.Need-loop-again Inv-loop μ-loop
