@@ -2,7 +2,7 @@
 use Prim.Native.Nat.{ℕ}
 use mathlib.Core.Path.{_≡_, refl, sym, _∙_}
 use mathlib.Core.Logic.{_⊎_, inl, inr}
-use mathlib.Core.Bool.{Bool, true, false, So, not, _&&_, _||_, false≢true}
+use mathlib.Core.Bool.{Bool, true, false, So, not, _&&_, _||_, Bool·beq, false≢true}
 use borrow.Author.Tests.{eqb-true, eq-eqb}
 use lib.Dec.{eqb}
 
@@ -26,6 +26,17 @@ same-truth false b f g = sym (fails-unless b (λ p. false≢true (g p)))
 pub eqb-comm : (a b : ℕ) → eqb a b ≡ eqb b a
 eqb-comm a b =
     same-truth (eqb a b) (eqb b a) (λ e. eq-eqb b a (sym (eqb-true a b e))) (λ e. eq-eqb a b (sym (eqb-true b a e)))
+
+-- two truth values that are found the same are one
+pub beq-same : (a b : Bool) → So (Bool·beq a b) → a ≡ b
+beq-same true true e = refl
+beq-same true false e = absurd (false≢true e)
+beq-same false true e = absurd (false≢true e)
+beq-same false false e = refl
+
+pub beq-refl : (b : Bool) → So (Bool·beq b b)
+beq-refl true = refl
+beq-refl false = refl
 
 -- b passes where a does
 abbrev pub implies : Bool → Bool → Bool

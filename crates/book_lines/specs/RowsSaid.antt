@@ -5,17 +5,13 @@ use mathlib.Core.List.{List, _∷_}
 use Rattle.spec.specs.Vocabulary.{every-below, list-of}
 use Rattle.spec.specs.Text.{ascii, Line}
 use Rattle.spec.specs.Sheet.{Sheet, user-count, permission-count, holds, cell-text, user-name}
-use Rattle.spec.specs.RoleSet.{RoleSet}
 use Rattle.spec.specs.Roles.{Standing}
 use Rattle.spec.specs.Book.{role-name, Block, Said}
 use Rattle.bits.specs.Truth.{implies, implies-elim}
 use Rattle.bits.specs.Laws.Below.{every-below-elim}
 use Rattle.cell_rows.specs.Rows.{cell}
 use Rattle.cells.specs.CellSets.{cell-grants}
-
--- the role set of two matrices
-abbrev pub roles-in : List ℕ → List ℕ → ℕ → RoleSet
-roles-in has gives count = record { count = count; has = cell has; gives = cell gives }
+use Rattle.product.specs.RowAfter.{roles-in}
 
 -- what is said by two matrices and a witness
 abbrev pub said-by : Sheet → List ℕ → List ℕ → List ℕ → ℕ → ℕ → Standing → Said

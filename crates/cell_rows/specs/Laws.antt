@@ -1,3 +1,4 @@
 -- The laws behind what contracts cite.
 pub mod Width
+pub mod RowWithin
 pub mod PositionSet

@@ -14,7 +14,7 @@ use Rattle.spec.specs.Book.{Said, book-text}
 use Rattle.cell_rows.specs.Rows.{cell}
 use Rattle.standing.specs.StandingCases.{standing-case}
 use Rattle.decimal.specs.Laws.Count.{decimal-is-count, count-is-decimal}
-use Rattle.book_lines.specs.RowsSaid.{roles-in}
+use Rattle.product.specs.RowAfter.{roles-in}
 use Rattle.book_lines.specs.declared.counts.Counts.{Counts}
 use Rattle.read_fields.specs.declared.witness_block.Witness.{Witness}
 use Rattle.right.specs.WrittenLines.{Sayable}

@@ -1,3 +1,2 @@
 -- The laws behind what contracts cite.
-pub mod RowWithin
 pub mod Placed

@@ -20,14 +20,15 @@ use Rattle.spec.specs.Calls.{CheckAnswer, check-refused, check-counts}
 use Rattle.lists.specs.EachLaws.{Each}
 use Rattle.cell_rows.specs.Rows.{row-words, row-bits, cell, RowsOf}
 use Rattle.rules.specs.AcceptedFacts.{Lawful}
+use Rattle.product.specs.RowAfter.{roles-in}
+use Rattle.product.specs.RowAgrees.{row-agrees}
+use Rattle.product.specs.Laws.WordsAgree.{rows-are-sheet}
 use Rattle.standing.specs.StandingCases.{standing-case}
-use Rattle.book_lines.specs.RowsSaid.{roles-in}
 use Rattle.right.specs.CheckParts.{counts-agree-elim}
 use Rattle.book_lines.specs.declared.counts.Counts.{Counts}
 use Rattle.read_fields.specs.declared.witness_block.Witness.{Witness}
 use Rattle.judging.specs.declared.judgement.Checked.{Checked}
 use Rattle.digits.specs.Capped.{count-cap, capped, capped-test}
-use Rattle.judging.specs.ProductWords.{row-agrees, rows-are-sheet}
 use Rattle.read_fields.specs.WitnessList.{Collects}
 use Rattle.read_fields.specs.WitnessLineSteps.{Known}
 use Rattle.judging.specs.WitnessWords.{LinesWithin, lines-within, lines-stand, stands-by-words}

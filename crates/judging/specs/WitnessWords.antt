@@ -20,7 +20,7 @@ use Rattle.cell_rows.specs.Rows.{row-words, row-bits, cell, RowsOf}
 use Rattle.right.specs.CheckParts.{witness-stands-elim, witness-stands-intro}
 use Rattle.read_fields.specs.declared.witness_block.WitnessLine.{WitnessLine}
 use Rattle.read_fields.specs.declared.witness_block.Witness.{Witness}
-use Rattle.form.specs.Laws.RowWithin.{row-within}
+use Rattle.cell_rows.specs.Laws.RowWithin.{row-within}
 use Rattle.read_fields.specs.WitnessList.{named-grant, no-line, Collects}
 use Rattle.read_fields.specs.WitnessLineSteps.{Known}
 

@@ -1,8 +1,8 @@
 // The checker's answer: whether what was read of a book is right, and its counts.
 use crate::agree::counts_agree;
-use crate::product::rows_agree;
 use crate::witness_lines::witness_stands;
 use book_lines::Counts;
+use product::rows_agree;
 use read_fields::Witness;
 ghost use mathlib.Core.Path.{_≡_};
 ghost use mathlib.Core.Bool.{So};

@@ -2,7 +2,6 @@
 // applies.
 mod agree;
 mod judgement;
-mod product;
 mod witness_lines;
 
 pub use judgement::Checked;

@@ -20,7 +20,7 @@ use Rattle.spec.specs.Book.{Said}
 use Rattle.spec.specs.Right.{BoundAgrees, CountsAgree, WitnessStands}
 use Rattle.spec.specs.Refusal.{bound-agrees, counts-agree, product-agrees, some-fit, witness-agrees}
 use Rattle.bits.specs.Truth.{and-intro, and-left, and-right, or-fails, or-fails-left, or-fails-right, not-passes}
-use Rattle.bits.specs.Truth.{not-fails}
+use Rattle.bits.specs.Truth.{not-fails, beq-same, beq-refl}
 use Rattle.bits.specs.Laws.Below.{every-below-intro, every-below-elim}
 use Rattle.lists.specs.TestLaws.{all-intro, all-elim, none-intro, none-elim, member-at, place-of}
 
@@ -73,16 +73,6 @@ counts-agree-intro book c =
 
 -- ---- the product
 
-pub same-cell : (a b : Bool) → So (Bool·beq a b) → a ≡ b
-same-cell true true e = refl
-same-cell true false e = absurd (false≢true e)
-same-cell false true e = absurd (false≢true e)
-same-cell false false e = refl
-
-pub cell-same : (b : Bool) → So (Bool·beq b b)
-cell-same true = refl
-cell-same false = refl
-
 -- the test of a cell, and of a row
 cell-agrees : Sheet → RoleSet → ℕ → ℕ → Bool
 cell-agrees sheet roles u p = Bool·beq (product roles u p) (holds sheet u p)
@@ -96,7 +86,7 @@ unfolding product-agrees cell-agrees row-agrees
 product-agrees-elim sheet roles e =
     record {
       cell = λ u p h k.
-          same-cell (product roles u p) (holds sheet u p)
+          beq-same (product roles u p) (holds sheet u p)
           (every-below-elim (permission-count sheet) (cell-agrees sheet roles u)
           (every-below-elim (user-count sheet) (row-agrees sheet roles) e h) k);
     }
@@ -106,7 +96,7 @@ unfolding product-agrees cell-agrees row-agrees
 product-agrees-intro sheet roles m =
     every-below-intro (user-count sheet) (row-agrees sheet roles) (λ u h.
     every-below-intro (permission-count sheet) (cell-agrees sheet roles u) (λ p k.
-    rw (m .cell u p h k) (cell-same (holds sheet u p))))
+    rw (m .cell u p h k) (beq-refl (holds sheet u p))))
 
 -- ---- the witness
 

@@ -4,7 +4,7 @@
 use Prim.Native.Nat.{ℕ, _<_}
 use mathlib.Core.Path.{_≡_, ap, _∙_}
 use mathlib.Core.Logic.{_↔_}
-use mathlib.Core.Bool.{So, _&&_}
+use mathlib.Core.Bool.{So}
 use borrow.Author.Tests.{eqb-true, eq-eqb}
 use lib.ListN.{length}
 use Rattle.spec.specs.Limits.{book-limit, role-limit}
@@ -17,8 +17,8 @@ use Rattle.spec.specs.Form.{said}
 use Rattle.spec.specs.Right.{OfForm, Right}
 use Rattle.spec.specs.Refusal.{refusal, accepted, counts-agree}
 use Rattle.spec.specs.Calls.{check-counts, check}
-use Rattle.bits.specs.Laws.Below.{some-below-ext}
 use Rattle.rules.specs.Accepted.{accepted-keeps, accepts-sheets, reads-sheets}
+use Rattle.product.specs.Laws.OrOverRoles.{same-product}
 use Rattle.right.specs.NameLaws.{GoodSheet, good-names}
 use Rattle.right.specs.WrittenLines.{Sayable}
 use Rattle.right.specs.ReadBack.{SaysSame, written-has-form, read-back}
@@ -57,11 +57,8 @@ counts-agree-same sheet read written s =
 pub product-same : (sheet : Sheet) (read written : Said) → SaysSame sheet read written → (u p : ℕ)
     → u < user-count sheet
     → p < permission-count sheet → product (read .roles) u p ≡ product (written .roles) u p
-unfolding product
 product-same sheet read written s u p h k =
-    rw (s .roles)
-    (some-below-ext (written .roles .count) (λ r. read .roles .has u r && read .roles .gives r p)
-    (λ r. written .roles .has u r && written .roles .gives r p) (λ r l. rw (s .has u r h l, s .gives r p l k)))
+    same-product (read .roles) (written .roles) u p (s .roles) (λ r l. rw (s .has u r h l, s .gives r p l k))
 
 multiplies-same : (sheet : Sheet) (read written : Said) → SaysSame sheet read written → Multiplies (written .roles)
     sheet

@@ -14,9 +14,9 @@ use Rattle.spec.specs.Cover.{grant-at}
 use Rattle.spec.specs.RoleSet.{RoleSet, product}
 use Rattle.spec.specs.Roles.{paired, role-set}
 use Rattle.bits.specs.Truth.{and-intro, and-left, and-right}
-use Rattle.bits.specs.Laws.Below.{some-below-intro, some-below-elim}
 use Rattle.lists.specs.TestLaws.{any-intro, any-elim}
 use Rattle.lists.specs.Classing.{class-in}
+use Rattle.product.specs.Laws.OrOverRoles.{opened-intro, opened-elim}
 use Rattle.roles.specs.Laws.Paired.{paired-has, paired-only}
 
 -- the roles of a placement of some grants
@@ -109,24 +109,14 @@ opened a b =
 module _ (grants : List Grant) (placed : List ℕ) (count : ℕ) (whole : length grants ≡ length placed) where
   -- a cell that the product opens comes from two grants of one role
   pub product-elim : (u p : ℕ) → So (product (placed-roles grants placed count) u p) → OpenedBy grants placed u p
-  unfolding product
   product-elim u p e =
-      let roles = placed-roles grants placed count in
-      let found = some-below-elim count (λ r. roles .has u r && roles .gives r p) e in
-      let r = found .place in
-      opened
-      (has-role-elim grants placed count whole u r (and-left (roles .has u r) (roles .gives r p) (found .holds)))
-      (gives-permission-elim grants placed count whole r p (and-right (roles .has u r) (roles .gives r p)
-      (found .holds)))
+      let by = opened-elim (placed-roles grants placed count) u p e in
+      opened (has-role-elim grants placed count whole u (by .role) (by .has))
+      (gives-permission-elim grants placed count whole (by .role) p (by .gives))
 
   -- the product opens every grant whose role is counted
   pub product-intro : (i : ℕ) → i < length placed → class-in placed i < count
       → So (product (placed-roles grants placed count) (grant-at grants i .user) (grant-at grants i .permission))
-  unfolding product
   product-intro i l k =
-      let roles = placed-roles grants placed count in
-      some-below-intro count (λ r. roles .has (grant-at grants i .user) r
-      && roles .gives r (grant-at grants i .permission)) k
-      (and-intro (roles .has (grant-at grants i .user) (class-in placed i)) (roles .gives (class-in placed i)
-      (grant-at grants i .permission))
-      (user-has-role grants placed count whole i l) (role-gives-permission grants placed count whole i l))
+      opened-intro (placed-roles grants placed count) (grant-at grants i .user) (grant-at grants i .permission) k
+      (user-has-role grants placed count whole i l) (role-gives-permission grants placed count whole i l)

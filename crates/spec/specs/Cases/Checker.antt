@@ -2,11 +2,12 @@
 -- the form.
 use Prim.Native.String.{String}
 use mathlib.Core.Path.{refl}
-use Rattle.spec.specs.Vocabulary.{ℕ, _≡_, Bool, true, false, List, [], _∷_, _++_, map, some-below, every-below}
+use Rattle.spec.specs.Vocabulary.{ℕ, _≡_, Bool, true, false, List, [], _∷_, _++_, map, every-below}
 use Rattle.spec.specs.Vocabulary.{lowest-below, list-of}
 use Rattle.spec.specs.Limits.{permission-limit, role-limit}
 use Rattle.spec.specs.Text.{Bytes, ascii}
 use Rattle.spec.specs.Sheet.{Sheet}
+use Rattle.spec.specs.RoleSet.{cell-after}
 use Rattle.spec.specs.Book.{role-name}
 use Rattle.spec.specs.Form.{roles-form}
 use Rattle.spec.specs.Calls.{CheckAnswer, check}
@@ -74,7 +75,7 @@ good : map checked
     ∷ with-counts "2,1,open" one ∷ [])
     ≡ record { number = 0; roles = 2; witness-lines = 2 } ∷ record { number = 0; roles = 2; witness-lines = 2 }
     ∷ record { number = 0; roles = 2; witness-lines = 1 } ∷ record { number = 0; roles = 2; witness-lines = 1 } ∷ []
-unfolding checked with-counts with-witness two one some-below every-below lowest-below
+unfolding checked with-counts with-witness two one cell-after every-below lowest-below
 good = refl
 
 with-heading : String → Parts
@@ -85,7 +86,7 @@ with-heading heading =
 -- block 1: another heading
 heading-off : numbers (with-heading "roles,bound,state" ∷ with-heading "role,bound,state" ∷ with-heading "roles,bound"
     ∷ []) ≡ 0 ∷ 12 ∷ 12 ∷ []
-unfolding numbers with-heading some-below every-below lowest-below
+unfolding numbers with-heading cell-after every-below lowest-below
 heading-off = refl
 
 -- block 1: a leading zero in either count, no state word, a field too few and one too many, a line more
@@ -94,7 +95,7 @@ counts-off : numbers
     "2,2" two
     ∷ with-counts "2,2,witnessed,2" two ∷ with-counts "2,2,witnessed\n2" two ∷ [])
     ≡ 12 ∷ 12 ∷ 12 ∷ 12 ∷ 12 ∷ 12 ∷ []
-unfolding numbers with-counts two some-below every-below lowest-below
+unfolding numbers with-counts two cell-after every-below lowest-below
 counts-off = refl
 
 -- block 2: another heading, permissions in another order, no role of that number, a line too short, a cell that is no
@@ -104,7 +105,7 @@ roles-off : numbers
     ∷ with-roles "role,rec,id,map\nR2,1,1,0\nR1,0,1,1" ∷ with-roles "role,rec,id,map\nR1,1,1\nR2,0,1,1"
     ∷ with-roles "role,rec,id,map\nR1,1,1,2\nR2,0,1,1" ∷ [])
     ≡ 12 ∷ 12 ∷ 12 ∷ 12 ∷ 12 ∷ []
-unfolding numbers with-roles some-below every-below lowest-below
+unfolding numbers with-roles cell-after every-below lowest-below
 roles-off = refl
 
 -- 128 roles are of the form, 129 are not
@@ -126,7 +127,7 @@ users-off : numbers
     ∷ with-users "user,R1,R2\nann,1,0\nbo,0,1\ncy,1,1\ndi,0,0" ∷ with-users "user,R1,R2\nann,1,0,0\nbo,0,1\ncy,1,1"
     ∷ with-users "user,R1,R2\nann,1,2\nbo,0,1\ncy,1,1" ∷ [])
     ≡ 12 ∷ 12 ∷ 12 ∷ 12 ∷ 12 ∷ 12 ∷ 12 ∷ []
-unfolding numbers with-users some-below every-below lowest-below
+unfolding numbers with-users cell-after every-below lowest-below
 users-off = refl
 
 -- block 4: another heading, names exchanged, a name that is only a user's and one that is only a permission's, a field
@@ -137,7 +138,7 @@ witness-off : numbers
     ∷ with-witness "user,permission\nann,rec,1\nbo,map\n" ∷ with-witness "user,permission\nann,rec\nbo,map"
     ∷ with-witness "user,permission\nann,rec\nbo,map\n\n" ∷ [])
     ≡ 12 ∷ 12 ∷ 12 ∷ 12 ∷ 12 ∷ 12 ∷ 12 ∷ []
-unfolding numbers with-witness some-below every-below lowest-below
+unfolding numbers with-witness cell-after every-below lowest-below
 witness-off = refl
 
 -- counts that disagree: another number of roles; `witnessed` with another bound, and with fewer lines; `searched` with
@@ -147,14 +148,14 @@ counts-disagree : numbers
     "2,2,searched" two
     ∷ with-counts "2,1,searched" one ∷ with-counts "2,2,open" one ∷ with-counts "2,2,open" two ∷ [])
     ≡ 13 ∷ 13 ∷ 13 ∷ 13 ∷ 13 ∷ 13 ∷ 13 ∷ []
-unfolding numbers with-counts two one some-below every-below lowest-below
+unfolding numbers with-counts two one cell-after every-below lowest-below
 counts-disagree = refl
 
 -- a permission too many, and one too few
 product-differs : numbers
     (with-roles "role,rec,id,map\nR1,1,1,1\nR2,0,1,1" ∷ with-roles "role,rec,id,map\nR1,1,0,0\nR2,0,1,1" ∷ []) ≡ 14 ∷
     14 ∷ []
-unfolding numbers with-roles some-below every-below lowest-below
+unfolding numbers with-roles cell-after every-below lowest-below
 product-differs = refl
 
 -- a grant that is not held, the same grant twice, two that fit
@@ -162,7 +163,7 @@ witness-fails : numbers
     (with-witness "user,permission\nann,map\nbo,map\n" ∷ with-witness "user,permission\nann,rec\nann,rec\n"
     ∷ with-witness "user,permission\nann,rec\ncy,rec\n" ∷ [])
     ≡ 15 ∷ 15 ∷ 15 ∷ []
-unfolding numbers with-witness some-below every-below lowest-below
+unfolding numbers with-witness cell-after every-below lowest-below
 witness-fails = refl
 
 -- three users each lacking only their own permission: with `z,b` the first and the last of three witness lines fit,
@@ -175,5 +176,5 @@ crown last =
     ++ ascii "user,R1,R2,R3\nx,0,1,1\ny,1,0,1\nz,1,1,0\n\nuser,permission\nx,b\ny,c\n" ++ ascii last)
 
 crowns : map (λ last. crown last .number) ("z,a\n" ∷ "z,b\n" ∷ []) ≡ 0 ∷ 15 ∷ []
-unfolding crown some-below every-below lowest-below
+unfolding crown cell-after every-below lowest-below
 crowns = refl

@@ -8,7 +8,7 @@ use Rattle.spec.specs.Vocabulary.{some-below}
 use Rattle.bits.specs.Truth.{or-fails}
 use Rattle.bits.specs.Bit.{word-bits}
 use Rattle.cell_rows.specs.Rows.{row-words, row-bits}
-use Rattle.form.specs.Laws.RowWithin.{word-below}
+use Rattle.cell_rows.specs.Laws.RowWithin.{word-below}
 use Rattle.judging.specs.NotedLines.{crosses, fits-noted, word-owners, word-crosses, word-found}
 use Rattle.judging.proofs.witness_lines.fits_a_noted.Statement.{statement}
 use Rattle.judging.proofs.witness_lines.fits_a_noted.Tie as tie

@@ -9,7 +9,7 @@ use lib.Seq.{length-take-le}
 use Rattle.spec.specs.Limits.{role-limit}
 use Rattle.spec.specs.Book.{role-name}
 use Rattle.cell_rows.specs.Laws.Width.{roles-fit}
-use Rattle.form.specs.Laws.RowWithin.{row-within}
+use Rattle.cell_rows.specs.Laws.RowWithin.{row-within}
 use Rattle.form.specs.RowSteps.{LinesBelow, lines-start, lines-more}
 use Rattle.book_lines.specs.Laws.LineWritten.{front-written}
 use Rattle.read_rows.specs.Laws.RoleNames.{role-name-short, name-within}

@@ -5,7 +5,7 @@ use mathlib.Core.Path.{_≡_, refl, _∙_}
 use borrow.Author.Needs.{needs}
 use lib.ListN.{length}
 use Rattle.spec.specs.Sheet.{sheet-of, user-count, user-name}
-use Rattle.form.specs.Laws.RowWithin.{row-within}
+use Rattle.cell_rows.specs.Laws.RowWithin.{row-within}
 use Rattle.form.specs.RowSteps.{LinesBelow, lines-start, lines-more}
 use Rattle.read_rows.specs.UserSteps.{users-off}
 use Rattle.read_rows.proofs.users_block.user_lines.Statement.{statement}

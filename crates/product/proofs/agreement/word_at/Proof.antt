@@ -1,9 +1,9 @@
--- `product::word_at`: the row has as many words.
+-- `product::agreement::word_at`: the row has as many words.
 use native.Mathlib.Omega.{arith}
 use borrow.Author.Needs.{needs}
 use Rattle.cell_rows.specs.Rows.{row-words}
-use Rattle.judging.proofs.product.word_at.Statement.{statement}
-use Rattle.judging.proofs.product.word_at.Tie as tie
+use Rattle.product.proofs.agreement.word_at.Statement.{statement}
+use Rattle.product.proofs.agreement.word_at.Tie as tie
 
 mul-result : tie.Need-mul-result
 unfolding row-words

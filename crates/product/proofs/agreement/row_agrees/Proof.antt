@@ -1,14 +1,15 @@
--- `product::row_agrees`: the cells of the words below k agree; a word that is another has a cell that does not.
-use Prim.Native.Nat.{_+_, _*_, _-_, _≤_, _<_}
+-- `product::agreement::row_agrees`: the cells of the words below k agree; a word that is another has a cell that does not.
+use Prim.Native.Nat.{_+_, _*_, _-_, _^_, _≤_, _<_}
 use native.Mathlib.Omega.{arith}
 use mathlib.Core.Path.{sym}
 use borrow.Author.Needs.{needs}
 use lib.ListN.{length}
+use Rattle.bits.specs.Bit.{word-bits}
 use Rattle.cell_rows.specs.Rows.{row-words}
-use Rattle.form.specs.Laws.RowWithin.{word-below}
-use Rattle.judging.specs.ProductWords.{GivenWord, WordsAgree, words-start, words-more, words-end, word-differs}
-use Rattle.judging.proofs.product.row_agrees.Statement.{statement}
-use Rattle.judging.proofs.product.row_agrees.Tie as tie
+use Rattle.cell_rows.specs.Laws.RowWithin.{word-below}
+use Rattle.product.specs.Laws.WordsAgree.{WordsAgree, words-start, words-more, words-end, word-differs}
+use Rattle.product.proofs.agreement.row_agrees.Statement.{statement}
+use Rattle.product.proofs.agreement.row_agrees.Tie as tie
 
 abbrev Inv-loop : tie.InvT-loop
 Inv-loop rows has gives roles u given k₀ k = (k ≤ row-words) × WordsAgree rows has gives roles (u .0) k
@@ -16,8 +17,8 @@ Inv-loop rows has gives roles u given k₀ k = (k ≤ row-words) × WordsAgree r
 abbrev μ-loop : tie.MeasureT-loop
 μ-loop rows has gives roles u given k₀ k = row-words - k
 
-given-row-requires : tie.Need-given-row-requires Inv-loop μ-loop
-given-row-requires c κs =
+row-after-requires : tie.Need-row-after-requires Inv-loop μ-loop
+row-after-requires c κs =
     let start = c .before .before .before in
     (start .pre .0, start .pre .2, start .pre .3)
 
@@ -35,15 +36,6 @@ within c =
     let start = c .before .before .before .before .before .before in
     word-below (start .args .u .0) (start .args .u .0 + 1) (c .before .loop .k) _ (omega arith) (more c)
     (start .pre .1)
-
--- word k of what the roles give was read
-read : (c : tie.After-word-at Inv-loop μ-loop)
-    → let at-loop = c .before .before .before in
-    let a = at-loop .before .before .before .before .before .args in
-    GivenWord (a .has .now) (a .gives .now) (a .roles) (a .u .0) (at-loop .loop .k) (c .word-at .result)
-read c =
-    let in-loop = c .before .before in
-    rw (c .word-at .ensures) (in-loop .before .before .given-row .ensures (in-loop .before .loop .k) (more in-loop))
 
 mul-if1 : tie.Need-mul-if1 Inv-loop μ-loop
 unfolding row-words
@@ -67,10 +59,13 @@ returns c =
     let at-word = c .before .before .before in
     let in-loop = at-word .before .before in
     let a = in-loop .before .before .before .before .before .before .args in
+    let given = in-loop .before .before .row-after .ensures in
+    let small : at-word .word-at .result < 2 ^ word-bits = search needs in
     sym
-    (word-differs (a .rows .now) (a .has .now) (a .gives .now) (a .roles) (a .u .0) (more in-loop) (read at-word)
-    (search needs)
-    (c .before .shared-slice-known4 .given (a .u .0 * row-words + in-loop .before .loop .k) .fits) (c .if1 .taken))
+    (word-differs (a .rows .now) (a .has .now) (a .gives .now) (a .roles) (a .u .0) given (more in-loop)
+    (rw (at-word .word-at .ensures) at small)
+    (c .before .shared-slice-known4 .given (a .u .0 * row-words + in-loop .before .loop .k) .fits)
+    (rw (at-word .word-at .ensures) at (c .if1 .taken)))
 
 loop-less : tie.Need-loop-less Inv-loop μ-loop
 unfolding row-words
@@ -84,7 +79,7 @@ loop-again c =
     let a = in-loop .before .before .before .before .before .before .args in (
       omega (arith, more in-loop),
       words-more (a .rows .now) (a .has .now) (a .gives .now) (a .roles) (a .u .0) (in-loop .before .loop .inv .1)
-          (read at-word) (c .if1 .left),
+          (in-loop .before .before .row-after .ensures) (more in-loop) (rw (at-word .word-at .ensures) at (c .if1 .left)),
     )
 
 returns-2 : tie.Need-returns-2 Inv-loop μ-loop
@@ -97,5 +92,5 @@ returns-2 c =
 
 pub row-agrees-spec : {M : Type 1} → statement M
 row-agrees-spec =
-    tie.close (tie.spec Inv-loop μ-loop given-row-requires loop-holds (λ c κs. more (c .before)) mul-if1 add-if1
+    tie.close (tie.spec Inv-loop μ-loop row-after-requires loop-holds (λ c κs. more (c .before)) mul-if1 add-if1
     mul-if1-2 shared-slice-read-if1 returns (λ c. omega arith) loop-less loop-again returns-2)

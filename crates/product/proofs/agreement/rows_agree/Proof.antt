@@ -1,4 +1,4 @@
--- `product::rows_agree`: the rows of the users below u agree.
+-- `product::agreement::rows_agree`: the rows of the users below u agree.
 use Prim.Native.Nat.{ℕ, _-_, _≤_}
 use native.Mathlib.Omega.{arith}
 use mathlib.Core.Path.{_≡_, refl, sym, _∙_}
@@ -8,11 +8,11 @@ use Rattle.spec.specs.Vocabulary.{every-below}
 use Rattle.bits.specs.Laws.Below.{missed-below-intro}
 use Rattle.bits.specs.Laws.Step.{every-below-step}
 use Rattle.bits.specs.Truth.{and-intro}
-use Rattle.book_lines.specs.RowsSaid.{roles-in}
-use Rattle.form.specs.Laws.RowWithin.{row-within}
-use Rattle.judging.specs.ProductWords.{row-agrees}
-use Rattle.judging.proofs.product.rows_agree.Statement.{statement}
-use Rattle.judging.proofs.product.rows_agree.Tie as tie
+use Rattle.product.specs.RowAfter.{roles-in}
+use Rattle.cell_rows.specs.Laws.RowWithin.{row-within}
+use Rattle.product.specs.RowAgrees.{row-agrees}
+use Rattle.product.proofs.agreement.rows_agree.Statement.{statement}
+use Rattle.product.proofs.agreement.rows_agree.Tie as tie
 
 abbrev Inv-loop : tie.InvT-loop
 Inv-loop rows has gives roles users u₀ u = (u ≤ users) × So (every-below u (row-agrees rows (roles-in has gives roles)))

@@ -1,32 +1,33 @@
--- `product::join_role`: the words below k of the role's row are joined.
+-- `product::role_steps::take_role`: the words below k have taken the role.
 use Prim.Native.Nat.{_+_, _*_, _-_, _≤_, _<_}
 use native.Mathlib.Omega.{arith}
 use mathlib.Core.Path.{_≡_}
 use lib.ListN.{length}
 use Rattle.cell_rows.specs.Rows.{row-words}
-use Rattle.form.specs.Laws.RowWithin.{word-below}
-use Rattle.judging.specs.GivenRoles.{RoleJoined, join-start, join-more}
-use Rattle.judging.proofs.product.join_role.Statement.{statement}
-use Rattle.judging.proofs.product.join_role.Tie as tie
+use Rattle.cell_rows.specs.Laws.RowWithin.{word-below}
+use Rattle.product.specs.RowAfter.{RoleTaken}
+use Rattle.product.specs.Laws.RoleSteps.{take-start, take-more}
+use Rattle.product.proofs.role_steps.take_role.Statement.{statement}
+use Rattle.product.proofs.role_steps.take_role.Tie as tie
 
 abbrev Inv-loop : tie.InvT-loop
-Inv-loop row₀ gives role k₀ row k = (k ≤ row-words) × RoleJoined row₀ row gives (role .0) k
+Inv-loop row₀ gives role has all k₀ row k = (k ≤ row-words) × RoleTaken row₀ row gives (role .0) has k
 
 abbrev μ-loop : tie.MeasureT-loop
-μ-loop row₀ gives role k₀ row k = row-words - k
+μ-loop row₀ gives role has all k₀ row k = row-words - k
 
 loop-holds : tie.Need-loop-holds Inv-loop μ-loop
-loop-holds c = (omega arith, join-start _ _ _)
+loop-holds c = (omega arith, take-start _ _ _ _)
 
 more : (c : tie.In-loop Inv-loop μ-loop) → c .before .loop .k < row-words
 unfolding row-words
 more c = c .loop-test .taken
 
 word-there : (c : tie.In-loop Inv-loop μ-loop)
-    → let a = c .before .before .args in
+    → let a = c .before .before .before .before .args in
     a .role .0 * row-words + c .before .loop .k < length (a .gives .now)
 word-there c =
-    let start = c .before .before in
+    let start = c .before .before .before .before in
     word-below (start .args .role .0) (start .args .role .0 + 1) (c .before .loop .k) _ (omega arith) (more c)
     (start .pre .1)
 
@@ -55,9 +56,11 @@ unfolding row-words
 loop-again c =
     let in-loop = c .before .before .before in
     let at-loop = in-loop .before in
-    let joined = at-loop .loop .inv .1 in (
+    let start = at-loop .before .before .before in
+    let taken = at-loop .loop .inv .1 in (
       omega (arith, more in-loop),
-      join-more joined (omega (arith, joined .size, at-loop .before .pre .0, more in-loop)),
+      take-more taken _ (at-loop .before .all-if .ensures)
+          (omega (arith, taken .size, start .pre .0, more in-loop)),
     )
 
 returns : tie.Need-returns Inv-loop μ-loop
@@ -66,7 +69,8 @@ returns c =
     let all : c .before .loop .k ≡ row-words = omega (arith, c .before .loop .inv .0, c .loop-test .left) in
     rw all at (c .before .loop .inv .1)
 
-pub join-role-spec : {M : Type 1} → statement M
-join-role-spec =
-    tie.close (tie.spec Inv-loop μ-loop loop-holds (λ c. omega arith) (λ c. omega arith) mul-row-2 add-row mul-row-3
-    shared-slice-read-row (λ c. omega arith) (λ c. omega arith) (λ c. omega arith) loop-less loop-again returns)
+pub take-role-spec : {M : Type 1} → statement M
+take-role-spec =
+    tie.close (tie.spec Inv-loop μ-loop (λ c κs. omega arith) loop-holds (λ c. omega arith) (λ c. omega arith) mul-row-2
+    add-row mul-row-3 shared-slice-read-row (λ c. omega arith) (λ c. omega arith) (λ c. omega arith) loop-less
+    loop-again returns)

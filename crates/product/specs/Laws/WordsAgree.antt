@@ -1,66 +1,38 @@
--- The product of two matrices of words, row by row and word by word. A word that has the bits of all roles that the
--- user has is the row's word exactly where all its cells agree, since two words are one where their bits are. Cells
--- beyond the permissions are set on neither side.
+-- The product of two matrices of words beside the rows of a sheet, row by row and word by word. A user's row after all
+-- roles has the cells of the product, so a word of it is the sheet's word exactly where all its cells agree, since two
+-- words are one where their bits are. Cells beyond the permissions are set on neither side.
 use Prim.Native.Nat.{ℕ, _+_, _*_, _^_, _≤_, _<_}
 use native.Mathlib.Omega.{arith}
-use mathlib.Core.Path.{_≡_, refl, sym, ap, _∙_}
+use mathlib.Core.Path.{_≡_, refl, sym, _∙_}
 use mathlib.Core.Logic.{⊎-elim}
 use mathlib.Core.Bool.{Bool, false, So, _&&_, and-false, Bool·beq}
 use mathlib.Core.List.{List, []}
 use lib.Arith.{digits-lt, digits-div, digits-mod}
 use lib.ListN.{getD, List·getD-eq-default}
-use Rattle.spec.specs.Vocabulary.{some-below, every-below}
+use Rattle.spec.specs.Vocabulary.{every-below}
 use Rattle.spec.specs.Sheet.{Sheet, user-count, permission-count, holds}
 use Rattle.spec.specs.RoleSet.{RoleSet, product}
 use Rattle.spec.specs.Refusal.{product-agrees}
-use Rattle.bits.specs.Truth.{fails-unless, same-truth, and-intro}
-use Rattle.bits.specs.Laws.Below.{below-or-from, some-below-ext, none-below-intro, every-below-intro}
-use Rattle.bits.specs.Laws.Below.{every-below-elim, every-below-ext, every-below-add}
+use Rattle.bits.specs.Truth.{fails-unless, same-truth, and-intro, beq-same, beq-refl}
+use Rattle.bits.specs.Laws.Below.{below-or-from, every-below-intro, every-below-elim, every-below-ext, every-below-add}
 use Rattle.bits.specs.Bit.{bit, word-bits}
 use Rattle.bits.specs.Laws.Bit.{bit-ext}
 use Rattle.cell_rows.specs.Rows.{row-words, row-bits, cell, RowsOf}
 use Rattle.rules.specs.AcceptedFacts.{Lawful}
-use Rattle.book_lines.specs.RowsSaid.{roles-in}
-use Rattle.right.specs.CheckParts.{same-cell, cell-same}
-
--- a cell of a row agrees with the product
-abbrev pub cell-agrees : List ℕ → RoleSet → ℕ → ℕ → Bool
-cell-agrees rows roles u p = Bool·beq (product roles u p) (cell rows u p)
-
--- all cells of a row do
-unfoldable pub row-agrees : List ℕ → RoleSet → ℕ → Bool
-row-agrees rows roles u = every-below row-bits (cell-agrees rows roles u)
-
--- word k of a role's row has this bit
-abbrev pub gives-bit : List ℕ → ℕ → ℕ → ℕ → Bool
-gives-bit gives k q r = bit (getD gives (r * row-words + k) 0) q
-
--- word k of what the roles of a user give together
-pub record GivenWord (has gives : List ℕ) (roles u k word : ℕ) : Type 0 where
-  pub bits : (q : ℕ) → bit word q ≡ some-below roles (λ r. cell has u r && gives-bit gives k q r)
+use Rattle.product.specs.RowAfter.{roles-in, RowAfter}
+use Rattle.product.specs.RowAgrees.{cell-agrees, row-agrees}
+use Rattle.product.specs.Laws.OrOverRoles.{none-opens}
 
 -- ---- cell by cell of a word
 
--- a cell by its word and its position
-cell-in-word : (words : List ℕ) (u k q : ℕ) → q < word-bits → cell words u (k * word-bits + q) ≡ bit
-    (getD words (u * row-words + k) 0) q
-cell-in-word words u k q h = rw (digits-div k h, digits-mod k h)
-
-product-in-word : (has gives : List ℕ) (roles u k q : ℕ) → q < word-bits
-    → product (roles-in has gives roles) u (k * word-bits + q) ≡ some-below roles (λ r. cell has u r
-    && gives-bit gives k q r)
-unfolding product
-product-in-word has gives roles u k q h =
-    some-below-ext roles (λ r. cell has u r && cell gives r (k * word-bits + q)) (λ r. cell has u r
-    && gives-bit gives k q r)
-    (λ r l. ap (λ (b : Bool). cell has u r && b) (cell-in-word gives r k q h))
-
 module _ (rows has gives : List ℕ) (roles u : ℕ) where
   -- the cell at a position of word k agrees exactly where the two bits do
-  word-cell : (k word q : ℕ) → GivenWord has gives roles u k word → q < word-bits
-      → cell-agrees rows (roles-in has gives roles) u (k * word-bits + q) ≡ Bool·beq (bit word q)
+  word-cell : {row : List ℕ} → RowAfter has gives u roles row → (k q : ℕ) → k < row-words → q < word-bits
+      → cell-agrees rows (roles-in has gives roles) u (k * word-bits + q) ≡ Bool·beq (bit (getD row k 0) q)
       (bit (getD rows (u * row-words + k) 0) q)
-  word-cell k word q g h = rw (product-in-word has gives roles u k q h, cell-in-word rows u k q h, g .bits q)
+  unfolding product row-bits
+  word-cell given k q h l =
+      rw (← given .cells roles (k * word-bits + q) (digits-lt h l), digits-div k l, digits-mod k l)
 
   -- the cells of the words below k agree
   pub record WordsAgree (k : ℕ) : Type 0 where
@@ -70,9 +42,9 @@ module _ (rows has gives : List ℕ) (roles u : ℕ) where
   unfolding every-below
   words-start = record { cells = refl }
 
-  pub words-more : {k word : ℕ} → WordsAgree k → GivenWord has gives roles u k word
-      → word ≡ getD rows (u * row-words + k) 0 → WordsAgree (k + 1)
-  words-more {k} {word} a g same =
+  pub words-more : {k : ℕ} {row : List ℕ} → WordsAgree k → RowAfter has gives u roles row → k < row-words
+      → getD row k 0 ≡ getD rows (u * row-words + k) 0 → WordsAgree (k + 1)
+  words-more {k} {row} a given h same =
       let longer : (k + 1) * word-bits ≡ k * word-bits + word-bits = omega arith in
       record {
         cells =
@@ -80,8 +52,7 @@ module _ (rows has gives : List ℕ) (roles u : ℕ) where
             (and-intro (every-below (k * word-bits) (cell-agrees rows (roles-in has gives roles) u))
             (every-below word-bits (λ q. cell-agrees rows (roles-in has gives roles) u (k * word-bits + q))) (a .cells)
             (every-below-intro word-bits (λ q. cell-agrees rows (roles-in has gives roles) u (k * word-bits + q))
-            (λ q h.
-            word-cell k word q g h ∙ rw (← same) (cell-same (bit word q)))));
+            (λ q l. word-cell given k q h l ∙ rw (← same) (beq-refl (bit (getD row k 0) q)))));
       }
 
   pub words-end : {k : ℕ} → WordsAgree k → k ≡ row-words → So (row-agrees rows (roles-in has gives roles) u)
@@ -89,15 +60,15 @@ module _ (rows has gives : List ℕ) (roles u : ℕ) where
   words-end a e = rw e at (a .cells)
 
   -- a word that is another has a cell that does not agree
-  pub word-differs : {k word : ℕ} → k < row-words → GivenWord has gives roles u k word → word < 2 ^ word-bits
-      → getD rows (u * row-words + k) 0 < 2 ^ word-bits → (word ≡ getD rows (u * row-words + k) 0 → ⊥)
+  pub word-differs : {k : ℕ} {row : List ℕ} → RowAfter has gives u roles row → k < row-words
+      → getD row k 0 < 2 ^ word-bits → getD rows (u * row-words + k) 0 < 2 ^ word-bits → (getD row k 0 ≡ getD rows (u * row-words + k) 0 → ⊥)
       → row-agrees rows (roles-in has gives roles) u ≡ false
   unfolding row-agrees row-bits
-  word-differs {k} {word} h g small other differ =
+  word-differs {k} {row} given h small other differ =
       fails-unless (every-below (row-words * word-bits) (cell-agrees rows (roles-in has gives roles) u)) (λ all.
-      differ (bit-ext word-bits word (getD rows (u * row-words + k) 0) small other (λ q l.
-      same-cell (bit word q) (bit (getD rows (u * row-words + k) 0) q)
-      (sym (word-cell k word q g l)
+      differ (bit-ext word-bits (getD row k 0) (getD rows (u * row-words + k) 0) small other (λ q l.
+      beq-same (bit (getD row k 0) q) (bit (getD rows (u * row-words + k) 0) q)
+      (sym (word-cell given k q h l)
       ∙ every-below-elim (row-words * word-bits) (cell-agrees rows (roles-in has gives roles) u) all (digits-lt h l)))))
 
 -- ---- the rows are the sheet's
@@ -106,10 +77,8 @@ module _ (sheet : Sheet) (lawful : Lawful sheet) (rows has gives : List ℕ) (ro
     (beyond : (r p : ℕ) → r < roles → permission-count sheet ≤ p → p < row-bits → cell gives r p ≡ false) where
   -- no cell beyond the permissions is set
   nothing-given : (u p : ℕ) → permission-count sheet ≤ p → p < row-bits → product (roles-in has gives roles) u p ≡ false
-  unfolding product
   nothing-given u p h k =
-      none-below-intro roles (λ r. cell has u r && cell gives r p)
-      (λ r l. rw (beyond r p l h k) (and-false (cell has u r)))
+      none-opens (roles-in has gives roles) u p (λ r l. rw (beyond r p l h k) (and-false (cell has u r)))
 
   nothing-held : (u p : ℕ) → u < user-count sheet → permission-count sheet ≤ p → holds sheet u p ≡ false
   nothing-held u p h k = List·getD-eq-default (getD (sheet .rows) u []) false (let e = lawful .a-cell-each u h

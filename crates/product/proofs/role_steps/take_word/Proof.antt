@@ -1,0 +1,98 @@
+-- `product::role_steps::take_word`: b roles of the word are taken, and the positions of left are those not yet looked
+-- at. A role is at the place of its number only if all roles before it are taken, so they come in their order.
+use borrow.Author.Needs.{needs}
+use Prim.Native.Nat.{_+_, _*_, _-_, _≤_, _<_}
+use native.Mathlib.Omega.{arith}
+use mathlib.Core.Path.{_≡_, refl, _∙_}
+use lib.ListN.{length}
+use Rattle.bits.specs.Bit.{word-bits}
+use Rattle.cell_rows.specs.Rows.{row-words}
+use Rattle.cell_rows.specs.RowWords.{in-word, before-word}
+use Rattle.cell_rows.specs.Laws.RowWithin.{row-within, word-below}
+use Rattle.product.specs.Laws.RoleSteps.{LeftFrom, left-start, left-more, WordTaken, word-start, word-more}
+use Rattle.product.proofs.role_steps.take_word.Statement.{statement}
+use Rattle.product.proofs.role_steps.take_word.Tie as tie
+
+abbrev Inv-loop : tie.InvT-loop
+Inv-loop row₀ has gives j r first count left₀ b₀ row left b =
+    (b ≤ count) × LeftFrom left₀ b left × WordTaken has gives j left₀ (before-word r j) b row₀ row
+
+abbrev μ-loop : tie.MeasureT-loop
+μ-loop row₀ has gives j r first count left₀ b₀ row left b = count - b
+
+mul-first : tie.Need-mul-first Inv-loop μ-loop
+unfolding row-words
+mul-first c = omega arith
+
+word-there : (c : tie.Start Inv-loop μ-loop) → c .args .u .0 * row-words + c .args .j < length (c .args .has .now)
+word-there c = word-below (c .args .u .0) (c .args .u .0 + 1) (c .args .j) _ (omega arith) (c .pre .0 .1) (c .pre .0 .2)
+
+mul-left : tie.Need-mul-left Inv-loop μ-loop
+unfolding row-words
+mul-left c = omega (arith, word-there (c .before .before .before .before))
+
+add-left : tie.Need-add-left Inv-loop μ-loop
+unfolding row-words
+add-left c = omega (arith, word-there (c .before .before .before .before))
+
+mul-left-2 : tie.Need-mul-left-2 Inv-loop μ-loop
+unfolding row-words
+mul-left-2 c = omega (arith, word-there (c .before .before .before .before))
+
+shared-slice-read-left : tie.Need-shared-slice-read-left Inv-loop μ-loop
+unfolding row-words
+shared-slice-read-left c = word-there (c .before .before .before .before .before)
+
+loop-holds : tie.Need-loop-holds Inv-loop μ-loop
+loop-holds c = (omega arith, left-start _, word-start _ _ _ _ _ _)
+
+-- the next role of the word is one of the first r
+role-below : (c : tie.In-loop Inv-loop μ-loop)
+    → let a = c .before .before .before .before .before .before .before .args in
+    a .j * word-bits + c .before .loop .b < a .r
+role-below c = omega (arith, c .loop-test .taken, c .before .before .before .before .cells-in-word .ensures)
+
+-- and at a position of the word
+position-below : (c : tie.In-loop Inv-loop μ-loop) → c .before .loop .b < word-bits
+position-below c = omega (arith, c .loop-test .taken, c .before .before .before .before .cells-in-word .ensures)
+
+add-role : tie.Need-add-t19 Inv-loop μ-loop
+unfolding row-words
+add-role c = omega (arith, position-below (c .before))
+
+take-role-requires : tie.Need-take-role-requires Inv-loop μ-loop
+take-role-requires c κs =
+    let in-loop = c .before in
+    let at-loop = in-loop .before in
+    let start = at-loop .before .before .before .before .before .before in (
+      at-loop .loop .inv .2 .size ∙ start .pre .0 .0,
+      row-within (start .args .j * word-bits + at-loop .loop .b) (start .args .r) _ (role-below in-loop)
+          (start .pre .0 .3),
+    )
+
+loop-again : tie.Need-loop-again Inv-loop μ-loop
+unfolding row-words
+loop-again c =
+    let in-loop = c .before .before in
+    let inv = in-loop .before .loop .inv in (
+      omega (arith, in-loop .loop-test .taken),
+      left-more (inv .1),
+      word-more (inv .2) (inv .1) (omega (arith, role-below in-loop)) (position-below in-loop) (c .take-role .ensures),
+    )
+
+returns : tie.Need-returns Inv-loop μ-loop
+unfolding row-words
+returns c =
+    let at-loop = c .before in
+    let start = at-loop .before .before .before .before .before .before in
+    let taken = at-loop .loop .inv .2 in
+    let all : before-word (start .args .r) (start .args .j) + at-loop .loop .b
+    ≡ before-word (start .args .r) (start .args .j + 1) =
+    omega (arith, at-loop .loop .inv .0, c .loop-test .left, at-loop .before .before .before .cells-in-word .ensures) in
+    (taken .size ∙ start .pre .0 .0, rw all at (taken .steps (start .args .u .0) refl (start .pre .1)))
+
+pub take-word-spec : {M : Type 1} → statement M
+take-word-spec =
+    tie.close (tie.spec Inv-loop μ-loop mul-first (λ c κs. search needs) mul-left add-left mul-left-2
+    shared-slice-read-left loop-holds add-role take-role-requires (λ c. omega arith) (λ c. omega arith) loop-again
+    returns)

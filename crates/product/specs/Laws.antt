@@ -1,0 +1,4 @@
+-- The laws behind what contracts cite.
+pub mod OrOverRoles
+pub mod RoleSteps
+pub mod WordsAgree
