@@ -1,5 +1,5 @@
 -- Four cells, each behind a comma, read from the eight bytes of one number, the lowest byte first. Assumes nothing.
-use Prim.Native.Nat.{ℕ, _+_, _*_, _%_, _^_, _<_}
+use Prim.Native.Nat.{ℕ, _+_, _*_, _/_, _%_, _^_, _<_}
 use native.Mathlib.Nat.{zero-mul, one-mul}
 use native.Mathlib.Omega.{arith}
 use mathlib.Core.Path.{_≡_, refl, sym, ap, _∙_}
@@ -73,6 +73,16 @@ word-read n = four-set (bit n 0) (bit n 1) (bit n 2) (bit n 3)
 pub word-digits : (a b c d : Bool) → word-read (four-word a b c d) ≡ four-set a b c d
 unfolding bit
 word-digits = each-four (λ a b c d. word-read (four-word a b c d)) four-set refl
+
+-- the positions of four cells as the code brings them side by side
+abbrev pub brought-together : ℕ → ℕ
+brought-together n = ((n + n / 2 ^ 15) / 2 ^ 8 + (n + n / 2 ^ 15) / 2 ^ 38) % 16
+
+pub together : (a b c d : Bool) → brought-together (four-set a b c d) ≡ four-word a b c d
+together = each-four (λ a b c d. brought-together (four-set a b c d)) four-word refl
+
+pub set-small : (a b c d : Bool) → four-set a b c d < 2 ^ 57
+set-small a b c d = omega (arith, one-if-small a, one-if-small b, one-if-small c, one-if-small d)
 
 pub word-small : (a b c d : Bool) → four-word a b c d < 2 ^ 4
 word-small a b c d = omega (arith, one-if-small a, one-if-small b, one-if-small c, one-if-small d)

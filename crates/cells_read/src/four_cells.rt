@@ -1,7 +1,5 @@
 // Four cells read at once: their eight bytes as one number.
 use crate::line_cells::CellsWord;
-use crate::number::NO_CELLS;
-use crate::number::digit_at;
 ghost use mathlib.Core.Path.{_≡_};
 ghost use Prim.Native.Nat.{_+_, _*_, _^_, _≤_, _<_};
 ghost use lib.Dec.{eqb};
@@ -11,6 +9,9 @@ ghost use Rattle.bits.specs.Bit.{bit, word-bits};
 ghost use Rattle.cells_read.specs.CellsWord.{WordOfCells};
 ghost use Rattle.cell_text.specs.FourCells.{four-word};
 ghost use Rattle.cells_read.specs.FourRead.{four-set, FourBytes, FourOf};
+
+// Four cells that are not set, each behind a comma: the bytes `,0,0,0,0`, the first the lowest.
+const NO_CELLS: u64 = 0x302c_302c_302c_302c;
 
 // A number without its other positions.
 fn kept_at(n: u64, p: usize) -> u64
@@ -31,15 +32,14 @@ fn sets_cells(n: u64) -> bool
     n == first + second + third + fourth
 }
 
-// The positions of four cells, side by side.
+// The positions of four cells, side by side, of a number that has no others: the second is brought beside the first
+// and the fourth beside the third, then the two pairs side by side.
 fn side_by_side(n: u64) -> u64
+    requires { ⌜ n ≡ four-set (bit n 8) (bit n 24) (bit n 40) (bit n 56) ⌝ }
     ensures { λ r. ⌜ r ≡ four-word (bit n 8) (bit n 24) (bit n 40) (bit n 56) ⌝ }
 {
-    let first = digit_at(n, 8);
-    let second = digit_at(n, 24) * 2;
-    let third = digit_at(n, 40) * 4;
-    let fourth = digit_at(n, 56) * 8;
-    first + second + third + fourth
+    let pairs = n + (n >> 15);
+    ((pairs >> 8) + (pairs >> 38)) % 16
 }
 
 // The four cells that a number says.

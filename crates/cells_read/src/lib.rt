@@ -1,7 +1,6 @@
 // Cells read from a line of text: into a word, four at a time, and into a row of words.
 mod four_cells;
 mod line_cells;
-mod number;
 mod row_cells;
 
 pub use row_cells::read_cells;

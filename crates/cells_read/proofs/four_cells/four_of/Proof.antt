@@ -5,7 +5,7 @@ use Prim.Native.Nat.{_-_}
 use native.Mathlib.Omega.{arith}
 use mathlib.Core.Path.{refl, sym, _∙_}
 use mathlib.Core.Bool.{false≢true, true≢false}
-use borrow.Author.Tests.{not-false}
+use borrow.Author.Tests.{not-false, eqb-true}
 use Rattle.bits.specs.Truth.{not-fails}
 use Rattle.bits.specs.Bit.{bit}
 use Rattle.cells_read.specs.FourRead.{no-cells, four-unset, four-good, word-small}
@@ -33,6 +33,10 @@ returns-2 c =
       blank = λ f. refl;
     }
 
+-- what is more than no cells has the positions of the cells alone
+side-by-side-requires : tie.Need-side-by-side-requires
+side-by-side-requires c κs = eqb-true _ _ (sym (c .before .sets-cells .ensures) ∙ not-false _ (c .if2 .left))
+
 returns-3 : tie.Need-returns-3
 returns-3 c =
     let over = c .before .before .before in
@@ -48,4 +52,4 @@ returns-3 c =
 
 pub four-of-spec : {M : Type 1} → statement M
 four-of-spec =
-    tie.close (tie.spec returns (λ c κs. search needs) returns-2 (λ c κs. search needs) returns-3)
+    tie.close (tie.spec returns (λ c κs. search needs) returns-2 side-by-side-requires returns-3)
