@@ -18,7 +18,7 @@ ghost use Rattle.cell_rows.specs.Rows.{row-words, row-bits};
 ghost use Rattle.cell_rows.specs.CellPlaces.{cell-limit, near, CountedBelow};
 ghost use Rattle.fit.specs.Columns.{column-words, near-in-row, near-if, Columns};
 ghost use Rattle.fit.specs.ColumnsMade.{PutIn, PutRow};
-ghost use Rattle.fit.specs.ColumnUnion.{in-union};
+ghost use Rattle.fit.specs.ColumnUnion.{in-union, in-row-union};
 
 // The words of a permission: a position for each user.
 pub const COLUMN_WORDS: usize = USER_LIMIT / WORD_BITS;
@@ -79,6 +79,20 @@ pub fn union_of(columns: &[u64; PLACE_WORDS], word: u64, k: usize, j: usize) -> 
         w = bits::without_lowest(w);
     }
     some
+}
+
+// Word j of the columns of the permissions of a row of words, all together.
+pub fn union_of_row(columns: &[u64; PLACE_WORDS], words: &[u64], row: usize, j: usize) -> u64
+    requires { ⌜ ((row + 1) * row-words ≤ length (now words)) × (j < column-words) ⌝ }
+    ensures { λ r. ⌜ ((t : ℕ) → bit r t ≡ in-row-union (now (columns .entry)) (now (words .entry)) row j t) ⌝ }
+{
+    let mut joined = 0;
+    let mut k = 0;
+    while k < ROW_WORDS {
+        joined = joined | union_of(columns, words[row * ROW_WORDS + k], k, j);
+        k += 1;
+    }
+    joined
 }
 
 // How many grants of left fit the grant at a cell, of those of a user.

@@ -4,13 +4,11 @@ use Prim.Native.Nat.{ℕ, _+_, _*_, _/_, _<_}
 use mathlib.Core.Path.{_≡_}
 use mathlib.Core.Bool.{Bool, So, _&&_}
 use mathlib.Core.List.{List}
-use lib.ListN.{getD}
 use Rattle.spec.specs.Limits.{user-limit}
 use Rattle.spec.specs.Vocabulary.{some-below, every-below}
 use Rattle.bits.specs.Truth.{implies}
-use Rattle.cell_rows.specs.Rows.{row-words, row-bits, cell}
+use Rattle.cell_rows.specs.Rows.{row-bits, cell}
 use Rattle.cell_rows.specs.CellPlaces.{marked}
-use Rattle.fit.specs.ColumnUnion.{in-union}
 
 -- user u has cells of left
 abbrev pub has-cells : List ℕ → ℕ → Bool
@@ -27,11 +25,6 @@ in-row rows left v u = every-below row-bits (held-if-left rows left v u)
 -- user u has cells to which a grant of user v can be tied
 abbrev pub may-tie : List ℕ → List ℕ → ℕ → ℕ → Bool
 may-tie rows left v u = has-cells left u && in-row rows left v u
-
--- position t is in word j of the column of a permission that user v holds
-abbrev pub in-row-union : List ℕ → List ℕ → ℕ → ℕ → ℕ → Bool
-in-row-union rows columns v j t =
-    some-below row-words (λ k. in-union columns (getD rows (v * row-words + k) 0) k j t)
 
 -- the users whose cells the grants of user v can be tied to: all others of whom that holds, and v if v has cells of
 -- left

@@ -2,7 +2,7 @@
 use bits::WORD_BITS;
 use fit::COLUMN_WORDS;
 use fit::PLACE_WORDS;
-use fit::union_of;
+use fit::union_of_row;
 use numbers::CELL_WORDS;
 use numbers::ROW_WORDS;
 use numbers::UserNo;
@@ -14,7 +14,7 @@ ghost use Rattle.bits.specs.Bit.{bit, word-bits};
 ghost use Rattle.cell_rows.specs.CellPlaces.{Part};
 ghost use Rattle.cells.specs.MadeCells.{MadeCells};
 ghost use Rattle.fit.specs.Columns.{column-words, Columns};
-ghost use Rattle.verdict.specs.Insides.{has-cells, in-row, may-tie, in-row-union};
+ghost use Rattle.verdict.specs.Insides.{has-cells, in-row, may-tie};
 
 // Whether w has a position.
 fn has_any(w: u64) -> bool
@@ -74,25 +74,6 @@ fn is_inside<'a>(
     in_row(rows, left, v, x)
 }
 
-// Word j of the columns of the permissions that user v holds, all together.
-fn union_of_row<'a>(
-    rows: &'a [u64; CELL_WORDS],
-    columns: &'a [u64; PLACE_WORDS],
-    v: UserNo,
-    j: usize,
-) -> u64
-    requires { ⌜ (v .0 < user-limit) × (j < column-words) ⌝ }
-    ensures { λ r. ⌜ ((t : ℕ) → bit r t ≡ in-row-union (now (rows .entry)) (now (columns .entry)) (v .0) j t) ⌝ }
-{
-    let mut some = 0;
-    let mut k = 0;
-    while k < ROW_WORDS {
-        some = some | union_of(columns, rows[v.0 * ROW_WORDS + k], k, j);
-        k += 1;
-    }
-    some
-}
-
 // The users at word j of the columns who have grants of left, all in the row of user v. They hold permissions of that
 // row.
 fn inside_among<'a>(
@@ -107,7 +88,7 @@ fn inside_among<'a>(
     ensures { λ r. ⌜ ((q : ℕ) → q < word-bits
         → bit r q ≡ may-tie (now (rows .entry)) (now (left .entry)) (v .0) (j * word-bits + q)) ⌝ }
 {
-    let mut inside = union_of_row(rows, columns, v, j);
+    let mut inside = union_of_row(columns, rows, v.0, j);
     let mut w = inside;
     while w != 0 {
         let q = bits::lowest(w);

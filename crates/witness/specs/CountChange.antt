@@ -6,12 +6,10 @@ use mathlib.Core.Bool.{Bool, So, _&&_, cond}
 use mathlib.Core.List.{List}
 use lib.Dec.{eqb, ltb}
 use lib.ListN.{length, getD}
-use Rattle.spec.specs.Vocabulary.{some-below}
 use Rattle.bits.specs.Counting.{count-below}
 use Rattle.bits.specs.Bit.{bit, word-bits}
-use Rattle.cell_rows.specs.Rows.{row-words, row-bits, cell}
+use Rattle.cell_rows.specs.Rows.{row-bits, cell}
 use Rattle.cell_rows.specs.CellPlaces.{grant-of, marked, fit-in}
-use Rattle.fit.specs.ColumnUnion.{in-union}
 
 -- cell n is at a position of some in word m
 abbrev pub at-position : ℕ → ℕ → ℕ → Bool
@@ -54,7 +52,3 @@ of-users left j some n = at-position j some (n / row-bits) && marked left n
 -- the same of the users below an end
 abbrev pub of-users-below : List ℕ → ℕ → ℕ → Bool
 of-users-below left end n = ltb (n / row-bits) end && marked left n
-
--- position t is in word j of the column of a permission of these words of a row
-abbrev pub in-unions : List ℕ → List ℕ → ℕ → ℕ → Bool
-in-unions columns words j t = some-below row-words (λ k. in-union columns (getD words k 0) k j t)

@@ -7,7 +7,7 @@ use crate::row::shared_by;
 use bits::WORD_BITS;
 use fit::COLUMN_WORDS;
 use fit::PLACE_WORDS;
-use fit::union_of;
+use fit::union_of_row;
 use numbers::CELL_LIMIT;
 use numbers::CELL_WORDS;
 use numbers::ROW_WORDS;
@@ -19,8 +19,7 @@ ghost use lib.ListN.{length, getD};
 ghost use Rattle.spec.specs.Limits.{user-limit};
 ghost use Rattle.cell_rows.specs.CellPlaces.{cell-words, cell-limit, marked};
 ghost use Rattle.witness.specs.CountChange.{Enough, TakenOff, at-position};
-ghost use Rattle.witness.specs.CountChange.{in-row, fit-count, of-user, of-users, of-users-below, in-unions};
-ghost use Rattle.bits.specs.Bit.{bit};
+ghost use Rattle.witness.specs.CountChange.{in-row, fit-count, of-user, of-users, of-users-below};
 ghost use Rattle.fit.specs.Columns.{column-words, Columns};
 ghost use Rattle.witness.specs.Counts.{Counted};
 
@@ -106,20 +105,6 @@ fn take_off_for_users<'a>(
     }
 }
 
-// Word j of the columns of the permissions of a row, all together.
-fn holders(columns: &[u64; PLACE_WORDS], row: &[u64; ROW_WORDS], j: usize) -> u64
-    requires { ⌜ j < column-words ⌝ }
-    ensures { λ r. ⌜ ((t : ℕ) → bit r t ≡ in-unions (now (columns .entry)) (now (row .entry)) j t) ⌝ }
-{
-    let mut some = 0;
-    let mut k = 0;
-    while k < ROW_WORDS {
-        some = some | union_of(columns, row[k], k, j);
-        k += 1;
-    }
-    some
-}
-
 // The same for all users. Only those who hold a permission of these grants have any that fit.
 fn take_off<'a>(
     counts: &mut [u16; CELL_LIMIT],
@@ -140,7 +125,7 @@ fn take_off<'a>(
     }
     let mut j = 0;
     while j < COLUMN_WORDS {
-        let some = holders(columns, &words, j);
+        let some = union_of_row(columns, &words, 0, j);
         take_off_for_users(counts, rows, left, these, j, some);
         j += 1;
     }

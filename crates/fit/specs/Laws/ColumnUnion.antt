@@ -2,18 +2,20 @@
 -- reaches every user who holds one of the permissions.
 use Prim.Native.Nat.{ℕ, _+_, _*_, _<_}
 use mathlib.Core.Path.{_≡_, sym, ap, _∙_}
-use mathlib.Core.Bool.{Bool, So, not, _&&_, _||_, or-assoc, or-false}
+use mathlib.Core.Bool.{Bool, So, not, _&&_, _||_, or-assoc, or-comm, or-false}
 use mathlib.Core.List.{List}
 use lib.Arith.{digits-lt}
 use lib.Bits.{bitOr}
 use lib.Dec.{eqb}
 use lib.ListN.{getD}
+use Rattle.spec.specs.Vocabulary.{some-below}
 use Rattle.bits.specs.Truth.{and-intro}
 use Rattle.bits.specs.Counting.{Lowest}
 use Rattle.bits.specs.Bit.{bit, word-bits}
 use Rattle.bits.specs.Laws.Below.{some-below-intro, some-below-ext, none-below-intro}
 use Rattle.bits.specs.Laws.Bit.{bit-or, bit-of-zero}
 use Rattle.bits.specs.Laws.Cut.{some-below-apart}
+use Rattle.bits.specs.Laws.Step.{some-below-step}
 use Rattle.bits.specs.Word.{LowestDropped}
 use Rattle.cell_rows.specs.Rows.{row-words, row-bits}
 use Rattle.fit.specs.Columns.{column-words, held-in, Columns}
@@ -53,6 +55,12 @@ module _ (columns : List ℕ) (word k j : ℕ) where
       (sym (none-below-intro word-bits (λ q. bit 0 q && bit (getD columns ((k * word-bits + q) * column-words + j) 0) t)
       (λ q l. ap (λ b. b && bit (getD columns ((k * word-bits + q) * column-words + j) 0) t) (bit-of-zero q))))
       ∙ all t
+
+-- a union of some words' columns, and that of the next word's
+pub union-joined : (test : ℕ → Bool) (k some next t : ℕ) → bit some t ≡ some-below k test → bit next t ≡ test k
+    → bit (bitOr some next) t ≡ some-below (k + 1) test
+union-joined test k some next t so-far here =
+    bit-or some next t ∙ rw (so-far, here) (or-comm (some-below k test) (test k) ∙ sym (some-below-step k test))
 
 -- who holds a permission at a position of the word is in the union of the columns of the rows
 pub union-reaches : (rows columns : List ℕ) → Columns rows columns → (word k j t q : ℕ) → k < row-words

@@ -4,27 +4,24 @@ use Prim.Native.Nat.{ℕ, _+_, _*_, _/_, _%_, _≤_, _<_}
 use native.Mathlib.Nat.{mod-lt, lt-of-lt-of-le, div-add-mod', div-lt-iff-lt-mul}
 use mathlib.Core.Path.{_≡_, refl, sym, ap, subst, _∙_}
 use mathlib.Core.Logic.{⊎-elim}
-use mathlib.Core.Bool.{Bool, false, So, _&&_, or-comm}
+use mathlib.Core.Bool.{false, So, _&&_}
 use mathlib.Core.List.{List, [], _∷_, List·Memᴰ·eq-of-singleton}
 use lib.Arith.{digits-lt, digits-div, digits-mod}
-use lib.Bits.{bitOr}
 use lib.Dec.{lit<}
 use lib.ListN.{getD}
 use Rattle.spec.specs.Limits.{user-limit}
 use Rattle.spec.specs.Vocabulary.{some-below, every-below}
 use Rattle.bits.specs.Bit.{bit, word-bits}
-use Rattle.bits.specs.Laws.Bit.{bit-or}
 use Rattle.bits.specs.Truth.{implies, implies-intro, implies-elim, passes-or-fails, fails-unless, not-both}
 use Rattle.bits.specs.Truth.{and-intro, and-left, and-right}
 use Rattle.bits.specs.Laws.Below.{some-below-intro, some-below-elim, some-below-ext, none-below-intro}
 use Rattle.bits.specs.Laws.Below.{none-below-elim, every-below-intro, every-below-elim, every-below-ext}
-use Rattle.bits.specs.Laws.Step.{some-below-step}
 use Rattle.cell_rows.specs.Rows.{row-words, row-bits, cell}
 use Rattle.cell_rows.specs.CellPlaces.{marked, Part, cells-of}
 use Rattle.cell_rows.specs.Laws.Width.{row-bits-pos, rows-cells, cell-word, word-in-row, permission-below}
 use Rattle.cells.specs.MadeCells.{MadeCells}
 use Rattle.cells.specs.Laws.CellPlace.{cell-marked, user-below}
-use Rattle.fit.specs.ColumnUnion.{in-union}
+use Rattle.fit.specs.ColumnUnion.{in-union, in-row-union}
 use Rattle.fit.specs.Columns.{column-words, Columns}
 use Rattle.fit.specs.Laws.ColumnUnion.{union-reaches}
 use Rattle.fit.specs.Laws.FitWord.{marked-in-word}
@@ -35,7 +32,7 @@ use Rattle.bits.specs.Laws.Walk.{Walk, walk-begun}
 use Rattle.verdict.specs.Laws.Misfit.{HoldersWord, no-holder}
 use Rattle.verdict.specs.Laws.TieWalk.{NoneAt}
 use Rattle.verdict.specs.ReductionWork.{Work, Visited}
-use Rattle.verdict.specs.Insides.{has-cells, held-if-left, in-row, may-tie, in-row-union, Insides}
+use Rattle.verdict.specs.Insides.{has-cells, held-if-left, in-row, may-tie, Insides}
 
 -- ---- the words of a user
 
@@ -69,12 +66,6 @@ in-row-by-word rows left v u d =
 
 -- ---- found
 
--- a union of some words' columns, and that of the next word's
-pub union-joined : (test : ℕ → Bool) (k some next t : ℕ) → bit some t ≡ some-below k test → bit next t ≡ test k
-    → bit (bitOr some next) t ≡ some-below (k + 1) test
-union-joined test k some next t so-far here =
-    bit-or some next t ∙ rw (so-far, here) (or-comm (some-below k test) (test k) ∙ sym (some-below-step k test))
-
 -- a cell of left is held
 held-if-part : {rows left : List ℕ} → Part left rows → (u p : ℕ) → p < row-bits → So (marked left (u * row-bits + p))
     → So (cell rows u p)
@@ -84,7 +75,7 @@ held-if-part {rows} part u p l set =
 
 -- who has cells in the row holds one of its permissions
 pub unless-in-union : {rows columns left : List ℕ} → Columns rows columns → Part left rows → (v j t : ℕ)
-    → j < column-words → t < word-bits → in-row-union rows columns v j t ≡ false
+    → j < column-words → t < word-bits → in-row-union columns rows v j t ≡ false
     → may-tie rows left v (j * word-bits + t) ≡ false
 unless-in-union {rows} {columns} {left} made part v j t inside l fails =
     fails-unless (may-tie rows left v u) (λ tied.

@@ -1,7 +1,7 @@
 -- How many grants of one user fit a grant: those whose permission the grant's user holds, if their user holds the
 -- grant's permission. So the counts of a user's grants that change at all change by the same number.
 use Prim.Native.Nat.{ℕ, _+_, _-_, _*_, _/_, _%_, _<_}
-use native.Mathlib.Nat.{sub-zero, mod-lt, div-add-mod'}
+use native.Mathlib.Nat.{zero-add, zero-mul, sub-zero, mod-lt, div-add-mod'}
 use native.Mathlib.Omega.{arith}
 use mathlib.Core.Path.{_≡_, refl, sym, ap, _∙_}
 use mathlib.Core.Logic.{⊎-elim}
@@ -26,12 +26,12 @@ use Rattle.cells.specs.MadeCells.{MadeCells}
 use Rattle.cells.specs.Laws.CellPlace.{word-of-cell, position-of-cell, cell-marked}
 use Rattle.cells.specs.Laws.NextBelow.{next-below}
 use Rattle.witness.specs.CountChange.{at-position, fit-count, shared, ChangedAt, TakenOff}
-use Rattle.witness.specs.CountChange.{in-row, of-user, of-users, of-users-below, in-unions}
+use Rattle.witness.specs.CountChange.{in-row, of-user, of-users, of-users-below}
 use Rattle.witness.specs.Laws.CountChange.{word-of-position, none-at, nothing-changed, then-changed}
 use Rattle.witness.specs.Laws.CountChange.{changed-as, Changing, change-goes-on, lowest-at, at-dropped}
 use Rattle.witness.specs.Laws.Row.{none-in-row}
 use Rattle.fit.specs.Columns.{column-words, held-in, Columns}
-use Rattle.fit.specs.ColumnUnion.{in-union}
+use Rattle.fit.specs.ColumnUnion.{in-union, in-row-union}
 use Rattle.fit.specs.Laws.ColumnPlaces.{whole-columns, same-digits}
 use Rattle.fit.specs.Laws.ColumnUnion.{union-reaches}
 
@@ -244,15 +244,16 @@ no-grants-changed rows left u words end before none =
 -- a user who holds none of their permissions has no grant that fits
 fit-count-unreached : (rows columns : List ℕ) → Columns rows columns → (u : ℕ) (words : List ℕ) (j n : ℕ)
     → j < column-words → n / row-bits / word-bits ≡ j
-    → in-unions columns words j (n / row-bits % word-bits) ≡ false → fit-count rows u words n ≡ 0
+    → in-row-union columns words 0 j (n / row-bits % word-bits) ≡ false → fit-count rows u words n ≡ 0
 fit-count-unreached rows columns made u words j n inside column unreached =
     count-below-none-intro row-bits (λ p. marked words p && fit-in rows (grant-of n) (grant-of (u * row-bits + p)))
     (λ p l. fails-unless (marked words p && fit-in rows (grant-of n) (grant-of (u * row-bits + p))) (λ both. not-both
     (some-below-intro row-words
-    (λ k. in-union columns (getD words k 0) k j (n / row-bits % word-bits)) (word-in-row p l)
+    (λ k. in-union columns (getD words (0 * row-words + k) 0) k j (n / row-bits % word-bits)) (word-in-row p l)
+    (rw (zero-mul row-words, zero-add (p / word-bits))
     (union-reaches rows columns made (getD words (p / word-bits) 0) (p / word-bits) j (n / row-bits % word-bits)
     (p % word-bits) (word-in-row p l) inside (mod-lt (n / row-bits) (lit< tt)) (mod-lt p (lit< tt))
-    (and-left (marked words p) (fit-in rows (grant-of n) (grant-of (u * row-bits + p))) both) (held p l both)))
+    (and-left (marked words p) (fit-in rows (grant-of n) (grant-of (u * row-bits + p))) both) (held p l both))))
     unreached))
   where
     held : (p : ℕ) → p < row-bits → So (marked words p && fit-in rows (grant-of n) (grant-of (u * row-bits + p)))
@@ -273,7 +274,7 @@ module _ (rows left : List ℕ) (u : ℕ) (words : List ℕ) where
   none-changed-yet before = nothing-changed (λ n. rw (le-ltb (n / row-bits) 0 (omega arith))) before
 
   pub next-users-changed : (j some : ℕ) (columns before now after : List ℕ) → Columns rows columns → j < column-words
-      → ((t : ℕ) → bit some t ≡ in-unions columns words j t)
+      → ((t : ℕ) → bit some t ≡ in-row-union columns words 0 j t)
       → TakenOff (of-users-below left (j * word-bits)) (fit-count rows u words) before now
       → TakenOff (of-users left j some) (fit-count rows u words) now after
       → TakenOff (of-users-below left ((j + 1) * word-bits)) (fit-count rows u words) before after

@@ -1,22 +1,20 @@
 -- The words of one row: a set of permissions.
 use Prim.Native.Nat.{ℕ, _+_, _*_, _/_, _%_, _<_}
-use mathlib.Core.Path.{_≡_, sym, ap, ap₂, _∙_}
-use mathlib.Core.Bool.{false, not, _&&_, _||_, or-comm}
+use mathlib.Core.Path.{_≡_, ap, _∙_}
+use mathlib.Core.Bool.{false, not, _&&_}
 use mathlib.Core.List.{List}
 use borrow.Author.Tests.{eqb-true, not-false}
 use lib.Arith.{digits-div, digits-mod}
-use lib.Bits.{bitAnd, bitOr}
+use lib.Bits.{bitAnd}
 use lib.Dec.{eqb}
 use lib.ListN.{getD}
 use Rattle.spec.specs.Vocabulary.{some-below}
 use Rattle.bits.specs.Laws.Below.{none-below-elim}
-use Rattle.bits.specs.Laws.Step.{some-below-step}
 use Rattle.bits.specs.Bit.{bit, word-bits}
-use Rattle.bits.specs.Laws.Bit.{bit-and, bit-or, bit-of-zero}
+use Rattle.bits.specs.Laws.Bit.{bit-and, bit-of-zero}
 use Rattle.cell_rows.specs.Rows.{row-words, row-bits, cell}
 use Rattle.cell_rows.specs.CellPlaces.{marked}
 use Rattle.cell_rows.specs.Laws.Width.{word-in-row, cell-word, cell-position}
-use Rattle.fit.specs.ColumnUnion.{in-union}
 use Rattle.fit.specs.Laws.FitWord.{marked-in-word}
 
 -- the cell of user u and permission p, by its number
@@ -36,16 +34,6 @@ none-in-row row none p l =
     (not-false (eqb (getD row (p / word-bits) 0) 0)
     (none-below-elim row-words (λ k. not (eqb (getD row k 0) 0)) none (word-in-row p l))))
     ∙ bit-of-zero (p % word-bits)
-
--- one more union of columns is joined
-pub union-joined : (columns row : List ℕ) (j k some union t : ℕ)
-    → bit some t ≡ some-below k (λ i. in-union columns (getD row i 0) i j t)
-    → bit union t ≡ in-union columns (getD row k 0) k j t
-    → bit (bitOr some union) t ≡ some-below (k + 1) (λ i. in-union columns (getD row i 0) i j t)
-union-joined columns row j k some union t earlier here =
-    bit-or some union t ∙ ap₂ (λ a b. a || b) earlier here
-    ∙ or-comm (some-below k (λ i. in-union columns (getD row i 0) i j t)) (in-union columns (getD row k 0) k j t)
-    ∙ sym (some-below-step k (λ i. in-union columns (getD row i 0) i j t))
 
 -- the permissions of word k of a row that user v holds
 pub shared-word : (rows row : List ℕ) (v k q : ℕ) → q < word-bits

@@ -9,6 +9,7 @@ use mathlib.Core.List.{List}
 use borrow.Author.Tests.{not-true, not-false}
 use Rattle.spec.specs.Limits.{user-limit}
 use Rattle.bits.specs.Bit.{word-bits}
+use Rattle.cell_rows.specs.Rows.{row-words}
 use Rattle.verdict.specs.Insides.{may-tie}
 use Rattle.verdict.specs.Laws.Inside.{unless-in-union}
 use Rattle.verdict.specs.Laws.Sift.{Sifting, none-sifted, sifted-kept, sifted-out, all-sifted}
@@ -27,7 +28,7 @@ abbrev μ-loop : tie.MeasureT-loop
 
 loop-holds : tie.Need-loop-holds Inv-loop μ-loop
 loop-holds c =
-    let s = c .before in
+    let s = c .before .before in
     none-sifted _ _ (λ q l e. unless-in-union (s .pre .3) (s .pre .2) (s .args .v .0) (s .args .j) q (s .pre .1) l
     (sym (c .union-of-row .ensures q) ∙ e))
 
@@ -50,7 +51,7 @@ returns : tie.Need-returns Inv-loop μ-loop
 returns c = all-sifted _ _ (rw (c .loop-test .left) at (c .before .loop .inv))
 
 pub inside-among-spec : {M : Type 1} → statement M
-unfolding user-limit
+unfolding user-limit row-words
 inside-among-spec =
     tie.close (tie.spec Inv-loop μ-loop (λ c κs. omega arith) loop-holds (λ c κs. omega arith)
     (λ c. omega arith) (λ c. omega (arith, c .lowest .ensures .within))

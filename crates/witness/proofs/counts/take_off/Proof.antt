@@ -1,11 +1,14 @@
 -- `witness::counts::take_off`: the words of the columns are passed one after the other. The counts of the
 -- users still to come are as they were, and a user whom no column reaches has no grant that fits.
+use borrow.Author.Needs.{needs}
 use Prim.Native.Nat.{_*_, _-_, _≤_}
 use native.Mathlib.Omega.{arith}
 use mathlib.Core.Path.{_≡_, sym, _∙_}
+use lib.ListN.{length}
 use Rattle.spec.specs.Limits.{user-limit}
 use Rattle.bits.specs.Truth.{not-fails}
 use Rattle.bits.specs.Bit.{word-bits}
+use Rattle.cell_rows.specs.Rows.{row-words}
 use Rattle.fit.specs.Columns.{column-words}
 use Rattle.witness.specs.Laws.CountChange.{not-changed}
 use Rattle.witness.specs.CountChange.{TakenOff, fit-count, of-users-below}
@@ -22,6 +25,10 @@ Inv-loop counts₀ rows columns left these words j₀ counts j =
 abbrev μ-loop : tie.MeasureT-loop
 μ-loop counts₀ rows columns left these words j₀ counts j = column-words - j
 
+sized : (c : tie.Start Inv-loop μ-loop) → length (c .args .these .words) ≡ row-words
+unfolding row-words
+sized c = search needs
+
 returns : tie.Need-returns Inv-loop μ-loop
 returns c =
     let a = c .before .before .before .before .args in
@@ -33,6 +40,13 @@ loop-holds c =
     let a = c .before .before .before .before .args in
     (omega arith, none-changed-yet (a .rows .now) (a .left .now) (a .these .user .0) (a .these .words) _)
 
+union-of-row-requires : tie.Need-union-of-row-requires Inv-loop μ-loop
+unfolding user-limit
+union-of-row-requires c κs =
+    let at-loop = c .before .before in
+    let start = at-loop .before .before .before .before .before in
+    omega (arith, sized start)
+
 take-off-for-users-requires : tie.Need-take-off-for-users-requires Inv-loop μ-loop
 unfolding user-limit
 take-off-for-users-requires c κs =
@@ -43,7 +57,7 @@ take-off-for-users-requires c κs =
       omega arith,
       at .inv .1 .sized ∙ start .pre .2,
       λ n p.
-          let some = c .before .holders .result in
+          let some = c .before .union-of-row .result in
           let here = column-to-come (start .args .left .now) (at .j) some n (omega arith) p in
           rw (not-changed (at .inv .1) n (here .0)) (start .pre .3 n (here .1)),
     )
@@ -55,7 +69,7 @@ loop-again c =
     let start = at-loop .before .before .before .before .before in
     let a = start .args in
     let at = at-loop .loop in
-    let found = c .before .before .holders in (
+    let found = c .before .before .union-of-row in (
       omega arith,
       next-users-changed (a .rows .now) (a .left .now) (a .these .user .0) (a .these .words) (at .j)
           (found .result) (a .columns .now) _ (at .counts) _ (start .pre .1) (omega arith) (found .ensures)
@@ -72,5 +86,5 @@ returns-2 c =
 pub take-off-spec : {M : Type 1} → statement M
 unfolding user-limit
 take-off-spec =
-    tie.close (tie.spec Inv-loop μ-loop (λ c κs. tt) returns loop-holds (λ c κs. omega arith)
-    take-off-for-users-requires (λ c. omega arith) (λ c. omega arith) loop-again returns-2)
+    tie.close (tie.spec Inv-loop μ-loop (λ c κs. tt) returns loop-holds (λ c. search needs)
+    union-of-row-requires take-off-for-users-requires (λ c. omega arith) (λ c. omega arith) loop-again returns-2)

@@ -1,4 +1,4 @@
--- `verdict::inside::union_of_row`: the union of the words passed, to which that of the next word is joined.
+-- `fit::column::union_of_row`: the union of the words passed, to which that of the next word is joined.
 use Prim.Native.Nat.{ℕ, _+_, _*_, _-_, _≤_}
 use native.Mathlib.Omega.{arith}
 use mathlib.Core.Path.{_≡_}
@@ -8,18 +8,18 @@ use Rattle.spec.specs.Vocabulary.{some-below}
 use Rattle.bits.specs.Bit.{bit}
 use Rattle.bits.specs.Laws.Bit.{bit-of-zero}
 use Rattle.cell_rows.specs.Rows.{row-words}
 use Rattle.fit.specs.ColumnUnion.{in-union}
-use Rattle.verdict.specs.Laws.Inside.{union-joined}
-use Rattle.verdict.proofs.inside.union_of_row.Statement.{statement}
-use Rattle.verdict.proofs.inside.union_of_row.Tie as tie
+use Rattle.fit.specs.Laws.ColumnUnion.{union-joined}
+use Rattle.fit.proofs.column.union_of_row.Statement.{statement}
+use Rattle.fit.proofs.column.union_of_row.Tie as tie
 
 abbrev Inv-loop : tie.InvT-loop
-Inv-loop rows columns v j some₀ k₀ some k =
-    (k ≤ row-words) × ((t : ℕ) → bit some t ≡ some-below k (λ d. in-union columns
-    (getD rows (v .0 * row-words + d) 0) d j t))
+Inv-loop columns words row j joined₀ k₀ joined k =
+    (k ≤ row-words) × ((t : ℕ) → bit joined t ≡ some-below k (λ d. in-union columns
+    (getD words (row * row-words + d) 0) d j t))
 
 abbrev μ-loop : tie.MeasureT-loop
-μ-loop rows columns v j some₀ k₀ some k = row-words - k
+μ-loop columns words row j joined₀ k₀ joined k = row-words - k
 
 loop-holds : tie.Need-loop-holds Inv-loop μ-loop
 unfolding some-below
@@ -28,12 +28,12 @@ loop-holds c = (omega arith, bit-of-zero)
 loop-again : tie.Need-loop-again Inv-loop μ-loop
 unfolding row-words
 loop-again c =
-    let at-loop = c .before .before .before .before in
+    let at-loop = c .before .before .before in
     let at = at-loop .loop in
-    let a = at-loop .before .args in (
+    let a = at-loop .before .before .args in (
       omega arith,
-      λ t. union-joined (λ d. in-union (a .columns .now) (getD (a .rows .now) (a .v .0 * row-words + d) 0) d (a .j) t)
-          (at .k) (at .some) (c .union-of .result) t (at .inv .1 t) (c .union-of .ensures t),
+      λ t. union-joined (λ d. in-union (a .columns .now) (getD (a .words .now) (a .row * row-words + d) 0) d (a .j) t)
+          (at .k) (at .joined) (c .union-of .result) t (at .inv .1 t) (c .union-of .ensures t),
     )
 
 returns : tie.Need-returns Inv-loop μ-loop
