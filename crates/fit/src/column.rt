@@ -67,7 +67,7 @@ pub fn columns_of(rows: &[u64; CELL_WORDS]) -> [u64; PLACE_WORDS]
 }
 
 // Word j of the columns of the permissions at the positions of a word, which is word k of a row, all together.
-pub fn union_of(columns: &[u64; PLACE_WORDS], word: u64, k: usize, j: usize) -> u64
+fn union_of(columns: &[u64; PLACE_WORDS], word: u64, k: usize, j: usize) -> u64
     requires { ⌜ (k < row-words) × (j < column-words) ⌝ }
     ensures { λ r. ⌜ ((t : ℕ) → bit r t ≡ in-union (now (columns .entry)) word k j t) ⌝ }
 {

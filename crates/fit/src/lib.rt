@@ -6,6 +6,5 @@ pub use column::COLUMN_WORDS;
 pub use column::PLACE_WORDS;
 pub use column::columns_of;
 pub use column::partners_in_column;
-pub use column::union_of;
 pub use column::union_of_row;
 pub use fit::fitting;
