@@ -1,4 +1,5 @@
--- Four cells, each behind a comma, read from the eight bytes of one number, the lowest byte first. Assumes nothing.
+-- Four cells, each behind a comma, read from the eight bytes of one number, the lowest byte first; and the positions
+-- of twice four cells brought side by side. Assumes nothing.
 use Prim.Native.Nat.{ℕ, _+_, _*_, _/_, _%_, _^_, _<_}
 use native.Mathlib.Nat.{zero-mul, one-mul}
 use native.Mathlib.Omega.{arith}
@@ -6,14 +7,16 @@ use mathlib.Core.Path.{_≡_, refl, sym, ap, _∙_}
 use mathlib.Core.Logic.{⊎-elim}
 use mathlib.Core.Bool.{Bool, true, false, So, _&&_, and-false}
 use borrow.Author.Tests.{eqb-true, eq-eqb}
-use lib.Bits.{bitAnd, and-lt}
+use lib.Bits.{bitAnd, bitOr, and-lt, or-lt, or-zero-r}
 use lib.Dec.{eqb}
+use lib.ListN.{getD}
 use lib.Pow.{pow-pos, pow-lt}
 use Rattle.bits.specs.Truth.{not-both, passes-or-fails, and-left, and-right}
 use Rattle.bits.specs.Laws.Bit.{bit-and, bit-ext, bit-of-zero, bit-one-shifted, one-shifted}
 use Rattle.bits.specs.Counting.{one-if}
 use Rattle.bits.specs.Bit.{bit}
 use Rattle.cell_text.specs.FourCells.{four-word, one-if-small}
+use Rattle.spec.specs.Text.{Bytes}
 use Rattle.cells_read.specs.declared.line_cells.CellsWord.{CellsWord}
 
 -- four cells that are not set: the bytes `,0,0,0,0`
@@ -32,31 +35,51 @@ pub record FourBytes (a b c d n : ℕ) : Type 0 where
   pub fourth : d < 256
   pub sum : n ≡ a + b * 256 + c * 65536 + d * 16777216
 
--- what reading a number gives: the word of four cells, or that it says no four cells, and then no position
-pub record FourOf (n : ℕ) (r : CellsWord) : Type 0 where
-  pub small : r .word < 2 ^ 4
-  pub good : So (r .good) → n ≡ no-cells + four-set (bit (r .word) 0) (bit (r .word) 1) (bit (r .word) 2)
-      (bit (r .word) 3)
+-- eight bytes of a text from a place on as one number
+pub record EightBytes (text : Bytes) (at n : ℕ) : Type 0 where
+  pub low : ℕ
+  pub high : ℕ
+  pub first : FourBytes (getD text at 0) (getD text (at + 1) 0) (getD text (at + 2) 0) (getD text (at + 3) 0) low
+  pub second : FourBytes (getD text (at + 4) 0) (getD text (at + 5) 0) (getD text (at + 6) 0) (getD text (at + 7) 0)
+      high
+  pub sum : n ≡ low + high * 4294967296
+
+-- a number has no position but those of four cells
+abbrev pub SetsCells : ℕ → Type 0
+SetsCells n = n ≡ four-set (bit n 8) (bit n 24) (bit n 40) (bit n 56)
+
+-- the word of the cells that it sets
+abbrev pub set-word : ℕ → ℕ
+set-word n = four-word (bit n 8) (bit n 24) (bit n 40) (bit n 56)
+
+-- what a number sets beside those of four cells that are not set, or that it says no four cells, and then nothing
+pub record SetOf (n : ℕ) (r : CellsWord) : Type 0 where
+  pub good : So (r .good) → (n ≡ no-cells + r .word) × SetsCells (r .word)
   pub off : r .good ≡ false → (a b c d : Bool) → n ≡ no-cells + four-set a b c d → ⊥
   pub blank : r .good ≡ false → r .word ≡ 0
 
--- a test that passes in each of the sixteen cases
+-- a test of four truth values that passes in each of the sixteen cases
 abbrev each : (Bool → Bool) → Bool
 each test = test true && test false
+
+abbrev each-four : (Bool → Bool → Bool → Bool → Bool) → Bool
+each-four test = each (λ a. each (λ b. each (λ c. each (λ d. test a b c d))))
 
 in-each : (test : Bool → Bool) → So (each test) → (b : Bool) → So (test b)
 in-each test e true = and-left (test true) (test false) e
 in-each test e false = and-right (test true) (test false) e
 
-each-four : (f g : Bool → Bool → Bool → Bool → ℕ)
-    → So (each (λ a. each (λ b. each (λ c. each (λ d. eqb (f a b c d) (g a b c d)))))) → (a b c d : Bool)
-    → f a b c d ≡ g a b c d
-each-four f g e a b c d =
-    eqb-true (f a b c d) (g a b c d)
-    (in-each (λ d. eqb (f a b c d) (g a b c d))
-    (in-each (λ c. each (λ d. eqb (f a b c d) (g a b c d)))
-    (in-each (λ b. each (λ c. each (λ d. eqb (f a b c d) (g a b c d))))
-    (in-each (λ a. each (λ b. each (λ c. each (λ d. eqb (f a b c d) (g a b c d))))) e a) b) c) d)
+in-each-four : (test : Bool → Bool → Bool → Bool → Bool) → So (each-four test) → (a b c d : Bool) → So (test a b c d)
+in-each-four test e a b c d =
+    in-each (λ d. test a b c d)
+    (in-each (λ c. each (λ d. test a b c d))
+    (in-each (λ b. each (λ c. each (λ d. test a b c d)))
+    (in-each (λ a. each (λ b. each (λ c. each (λ d. test a b c d)))) e a) b) c) d
+
+same-in-each : (f g : Bool → Bool → Bool → Bool → ℕ) → So (each-four (λ a b c d. eqb (f a b c d) (g a b c d)))
+    → (a b c d : Bool) → f a b c d ≡ g a b c d
+same-in-each f g e a b c d =
+    eqb-true (f a b c d) (g a b c d) (in-each-four (λ a b c d. eqb (f a b c d) (g a b c d)) e a b c d)
 
 -- the positions of four cells say which are set
 abbrev set-read : ℕ → ℕ
@@ -64,28 +87,63 @@ set-read n = four-set (bit n 8) (bit n 24) (bit n 40) (bit n 56)
 
 pub set-digits : (a b c d : Bool) → set-read (four-set a b c d) ≡ four-set a b c d
 unfolding bit
-set-digits = each-four (λ a b c d. set-read (four-set a b c d)) four-set refl
+set-digits = same-in-each (λ a b c d. set-read (four-set a b c d)) four-set refl
 
 -- so do the positions of their word
-abbrev word-read : ℕ → ℕ
+abbrev pub word-read : ℕ → ℕ
 word-read n = four-set (bit n 0) (bit n 1) (bit n 2) (bit n 3)
 
 pub word-digits : (a b c d : Bool) → word-read (four-word a b c d) ≡ four-set a b c d
 unfolding bit
-word-digits = each-four (λ a b c d. word-read (four-word a b c d)) four-set refl
+word-digits = same-in-each (λ a b c d. word-read (four-word a b c d)) four-set refl
 
--- the positions of four cells as the code brings them side by side
-abbrev pub brought-together : ℕ → ℕ
-brought-together n = ((n + n / 2 ^ 15) / 2 ^ 8 + (n + n / 2 ^ 15) / 2 ^ 38) % 16
+-- the positions of twice four cells as the code brings them side by side, computed in each of the cases
+abbrev pub brought-together : ℕ → ℕ → ℕ
+brought-together first second =
+    let all : ℕ = first + second * 16 in
+    let pairs : ℕ = all + all / 2 ^ 15 in
+    (pairs / 2 ^ 8 + pairs / 2 ^ 38) % 256
 
-pub together : (a b c d : Bool) → brought-together (four-set a b c d) ≡ four-word a b c d
-together = each-four (λ a b c d. brought-together (four-set a b c d)) four-word refl
+abbrev both-words : ℕ → ℕ → ℕ
+both-words first second = bitOr first (second * 2 ^ 4)
 
-pub set-small : (a b c d : Bool) → four-set a b c d < 2 ^ 57
-set-small a b c d = omega (arith, one-if-small a, one-if-small b, one-if-small c, one-if-small d)
+together : (a b c d e f g h : Bool) → brought-together (four-set a b c d) (four-set e f g h) ≡ both-words
+    (four-word a b c d) (four-word e f g h)
+together a b c d =
+    same-in-each (λ e f g h. brought-together (four-set a b c d) (four-set e f g h)) (λ e f g h. both-words
+    (four-word a b c d) (four-word e f g h))
+    (in-each-four (λ a b c d. each-four (λ e f g h.
+    eqb (brought-together (four-set a b c d) (four-set e f g h)) (both-words (four-word a b c d) (four-word e f g h))))
+    refl a b c d)
+
+pub sets-together : (first second : ℕ) → SetsCells first → SetsCells second
+    → brought-together first second ≡ bitOr (set-word first) (set-word second * 2 ^ 4)
+sets-together first second e f =
+    ap (λ (n : ℕ). brought-together n second) e
+    ∙ ap (λ (n : ℕ). brought-together (four-set (bit first 8) (bit first 24) (bit first 40) (bit first 56)) n) f
+    ∙ together (bit first 8) (bit first 24) (bit first 40) (bit first 56) (bit second 8) (bit second 24) (bit second 40)
+    (bit second 56)
 
 pub word-small : (a b c d : Bool) → four-word a b c d < 2 ^ 4
 word-small a b c d = omega (arith, one-if-small a, one-if-small b, one-if-small c, one-if-small d)
+
+-- where the second has none, the first's are left
+pub none-set : SetsCells 0
+unfolding bit
+none-set = refl
+
+pub word-alone : (n : ℕ) → bitOr (set-word n) (set-word 0 * 2 ^ 4) ≡ set-word n
+unfolding bit
+word-alone n = or-zero-r (set-word n)
+
+pub words-small : (first second : ℕ) → bitOr (set-word first) (set-word second * 2 ^ 4) < 2 ^ 8
+words-small first second =
+    let low = word-small (bit first 8) (bit first 24) (bit first 40) (bit first 56) in
+    let high = word-small (bit second 8) (bit second 24) (bit second 40) (bit second 56) in
+    or-lt 8 (set-word first) (set-word second * 2 ^ 4) (omega arith) (omega arith)
+
+pub set-small : (a b c d : Bool) → four-set a b c d < 2 ^ 57
+set-small a b c d = omega (arith, one-if-small a, one-if-small b, one-if-small c, one-if-small d)
 
 -- a digit at its place has that position alone
 bit-placed : (b : Bool) (p q : ℕ) → bit (one-if b * 2 ^ p) q ≡ (b && eqb q p)
@@ -118,11 +176,5 @@ four-unset s f a b c d e =
     ∙ ap (λ (m : ℕ). four-set (bit m 8) (bit m 24) (bit m 40) (bit m 56)) (sym e))) f
 
 -- one that has none says those of its word
-pub four-good : (n s word : ℕ) → n ≡ no-cells + s → So (eqb s (four-set (bit s 8) (bit s 24) (bit s 40) (bit s 56)))
-    → word ≡ four-word (bit s 8) (bit s 24) (bit s 40) (bit s 56)
-    → n ≡ no-cells + four-set (bit word 0) (bit word 1) (bit word 2) (bit word 3)
-four-good n s word e p w =
-    e ∙ ap (λ (m : ℕ). no-cells + m)
-    (eqb-true s (four-set (bit s 8) (bit s 24) (bit s 40) (bit s 56)) p
-    ∙ sym (word-digits (bit s 8) (bit s 24) (bit s 40) (bit s 56))
-    ∙ ap (λ (m : ℕ). four-set (bit m 0) (bit m 1) (bit m 2) (bit m 3)) (sym w))
+pub set-says : (s : ℕ) → SetsCells s → s ≡ word-read (set-word s)
+set-says s e = e ∙ sym (word-digits (bit s 8) (bit s 24) (bit s 40) (bit s 56))

@@ -1,67 +1,52 @@
--- `four_cells::fours_word`: the loop reads four cells a turn into the word (`CellsIn`).
-use Prim.Native.Nat.{_+_, _-_, _*_, _≤_}
+-- `four_cells::fours_word`: the eights are read, and where the number of fours is odd the last four behind them.
+use Prim.Native.Nat.{_+_, _*_, _/_, _%_}
 use native.Mathlib.Omega.{arith}
-use mathlib.Core.Path.{_≡_, refl}
-use mathlib.Core.Bool.{false≢true, true≢false}
+use mathlib.Core.Path.{_≡_}
 use borrow.Author.Tests.{not-false}
-use lib.ListN.{length}
 use Rattle.bits.specs.Truth.{not-fails}
-use Rattle.cells_read.specs.CellsWord.{CellsIn}
-use Rattle.cells_read.specs.Laws.CellsWord.{cells-start}
-use Rattle.cells_read.specs.Laws.FourRead.{fours-more, stand-from}
+use Rattle.cells_read.specs.Laws.FourRead.{cells-behind, read-off, read-on, stand-first, stand-from}
 use Rattle.cells_read.proofs.four_cells.fours_word.Statement.{statement}
 use Rattle.cells_read.proofs.four_cells.fours_word.Tie as tie
 
-abbrev Inv-loop : tie.InvT-loop
-Inv-loop s at fours word₀ i₀ word i =
-    (i ≤ fours) × (at + 2 * (4 * fours) ≤ length s) × (4 * fours ≤ 64) × CellsIn s at (4 * i) word
-
-abbrev μ-loop : tie.MeasureT-loop
-μ-loop s at fours word₀ i₀ word i = fours - i
-
-loop-holds : tie.Need-loop-holds Inv-loop μ-loop
-loop-holds c =
-    (omega arith, omega arith, omega arith, cells-start (c .before .args .s .now) (c .before .args .at) (omega arith))
-
-returns : tie.Need-returns Inv-loop μ-loop
+returns : tie.Need-returns
 returns c =
-    let four = c .before .before in
-    let loop = four .before .before .loop in
-    let start = four .before .before .before .before in
-    record {
-      good = λ p. absurd (false≢true p);
-      off = λ f ones stand.
-          four .four-cells .ensures .1 .off (not-fails _ (c .if1 .taken)) (λ j. ones (4 * loop .i + j))
-          (stand-from (4 * loop .i) 4 (start .args .at + 8 * loop .i) (omega arith) (omega arith) stand);
-      blank = λ f. refl;
-    }
+    let read = c .before .before in
+    let start = read .before .before in
+    let fails = not-fails _ (c .if1 .taken) in
+    read-off (read .eights-word .result) fails (read .eights-word .ensures .blank fails) (λ ones stand.
+    read .eights-word .ensures .off fails ones (stand-first (8 * (start .args .fours / 2)) (omega arith) stand))
 
-loop-again : tie.Need-loop-again Inv-loop μ-loop
-loop-again c =
-    let four = c .before .before .before in
-    let loop = four .before .before .loop in
-    let start = four .before .before .before .before in (
-      omega arith,
-      omega arith,
-      omega arith,
-      fours-more (start .args .s .now) (start .args .at) (loop .i) (loop .word) (four .four-cells .result .word)
-          (loop .inv .3)
-          (four .four-cells .ensures .1 .good (not-false _ (c .before .if1 .left))) (four .four-cells .ensures .0)
-          (omega arith),
-    )
-
-returns-2 : tie.Need-returns-2 Inv-loop μ-loop
+returns-2 : tie.Need-returns-2
 returns-2 c =
-    let loop = c .before .loop in
-    let all : loop .i ≡ c .before .before .before .args .fours = omega arith in
-    record {
-      good = λ p. rw all at (loop .inv .3);
-      off = λ f. absurd (true≢false f);
-      blank = λ f. absurd
-          (true≢false f);
-    }
+    let read = c .before .before .before in
+    let start = read .before .before in
+    let all : 4 * start .args .fours ≡ 8 * (start .args .fours / 2) = omega (arith, c .if2 .taken) in
+    rw all (read .eights-word .ensures)
+
+returns-3 : tie.Need-returns-3
+returns-3 c =
+    let last = c .before .before in
+    let start = last .before .before .before .before .before .before in
+    let fails = not-fails _ (c .if3 .taken) in
+    read-off (last .four-cells .result) fails (last .four-cells .ensures .1 .blank fails) (λ ones stand.
+    last .four-cells .ensures .1 .off fails (λ j. ones (8 * (start .args .fours / 2) + j))
+    (stand-from (8 * (start .args .fours / 2)) 4 _ (omega (arith, last .before .if2 .left)) (omega arith) stand))
+
+returns-4 : tie.Need-returns-4
+returns-4 c =
+    let last = c .before .before .before .before in
+    let read = last .before .before .before .before in
+    let start = read .before .before in
+    let all : 4 * start .args .fours ≡ 8 * (start .args .fours / 2) + 4 = omega (arith, last .before .if2 .left) in
+    rw all
+    (read-on (cells-behind (start .args .s .now) (start .args .at) (8 * (start .args .fours / 2))
+    (start .args .at + 16 * (start .args .fours / 2)) 4 (read .eights-word .result .word)
+    (last .four-cells .result .word)
+    (read .eights-word .ensures .good (not-false _ (last .before .before .if1 .left)))
+    (last .four-cells .ensures .1 .good (not-false _ (c .before .before .if3 .left))) (omega arith)
+    (last .four-cells .ensures .0) (omega (arith, start .pre .1, last .before .if2 .left))))
 
 pub fours-word-spec : {M : Type 1} → statement M
 fours-word-spec =
-    tie.close (tie.spec Inv-loop μ-loop loop-holds (λ c. omega arith) (λ c. omega arith) (λ c κs. omega arith) returns
-    (λ c. omega arith) (λ c. omega arith) (λ c. omega arith) (λ c. omega arith) loop-again returns-2)
+    tie.close (tie.spec (λ c κs. omega arith) returns returns-2 (λ c. omega arith) (λ c. omega arith)
+    (λ c κs. omega arith) returns-3 (λ c. omega arith) (λ c. omega arith) returns-4)
