@@ -2,13 +2,20 @@
 -- recursion on the bound that looks at the last number below it, so a loop that counts up meets one clause a turn.
 -- Assumes nothing.
 use mathlib.Core.Path.{_≡_}
-use mathlib.Core.Bool.{Bool, true, false, So}
+use mathlib.Core.Bool.{Bool, true, false, So, _||_}
 use Prim.Native.Nat.{ℕ, zero, suc, _+_, _≤_, _<_}
 
 -- 1 where the test passes, and 0 where it fails
 abbrev pub one-if : Bool → ℕ
 one-if true = 1
 one-if false = 0
+
+-- some number below n passes f
+unfoldable pub some-below : ℕ → (ℕ → Bool) → Bool
+some-below zero f = false
+some-below (suc n) f =
+    let earlier : Bool = some-below n f in
+    f n || earlier
 
 -- how many numbers below n pass f
 unfoldable pub count-below : ℕ → (ℕ → Bool) → ℕ

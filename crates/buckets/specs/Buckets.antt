@@ -5,7 +5,7 @@ use mathlib.Core.Bool.{Bool, So, _&&_}
 use mathlib.Core.List.{List, [], _∷_}
 use lib.ListN.{length, getD}
 use mathlib.Core.Path.{_≡_}
-use Rattle.spec.specs.Vocabulary.{some-below}
+use Rattle.bits.specs.Counting.{some-below}
 use Rattle.spec.specs.Text.{Bytes, same-name}
 use Rattle.bits.specs.Bit.{bit, word-bits}
 use Rattle.names.specs.NamesAt.{PartThere, name-there}

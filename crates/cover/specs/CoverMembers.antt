@@ -13,11 +13,11 @@ use borrow.Author.Tests.{eqb-true, eq-eqb}
 use lib.Dec.{eqb}
 use lib.ListN.{length, getD, set, replicate, length-replicate, getD-replicate}
 use lib.Seq.{getD-set-same, getD-set-other}
-use Rattle.spec.specs.Vocabulary.{some-below, every-below}
+use Rattle.spec.specs.Vocabulary.{every-below}
 use Rattle.spec.specs.Cover.{joins}
 use Rattle.bits.specs.Truth.{passes-or-fails, not-both, fails-unless, same-truth, implies, implies-intro}
 use Rattle.bits.specs.Truth.{implies-elim, not-passes, not-fails, and-intro, and-left, and-right}
-use Rattle.bits.specs.Counting.{Found}
+use Rattle.bits.specs.Counting.{some-below, Found}
 use Rattle.bits.specs.Laws.Below.{some-below-intro, some-below-elim, some-below-ext, every-below-intro}
 use Rattle.bits.specs.Laws.Below.{every-below-elim}
 use Rattle.bits.specs.Bit.{word-bits}

@@ -14,9 +14,9 @@ use lib.Bits.{bitAnd}
 use lib.Dec.{eqb}
 use lib.ListN.{length, getD, set}
 use lib.Seq.{getD-set-same, getD-set-other}
-use Rattle.spec.specs.Vocabulary.{some-below, every-below}
+use Rattle.spec.specs.Vocabulary.{every-below}
 use Rattle.bits.specs.Truth.{same-truth, not-both, and-intro, and-left, and-right, or-left, or-right, or-cases}
-use Rattle.bits.specs.Counting.{Found, Lowest}
+use Rattle.bits.specs.Counting.{some-below, Found, Lowest}
 use Rattle.bits.specs.Laws.Below.{below-or-from, some-below-intro, some-below-elim, none-below-intro}
 use Rattle.bits.specs.Laws.Below.{none-below-elim, some-below-ext, some-below-add, some-below-more, every-below-elim}
 use Rattle.bits.specs.Laws.Cut.{some-below-apart}

@@ -6,7 +6,8 @@ use mathlib.Core.Path.{_≡_, sym, ap, _∙_}
 use mathlib.Core.Bool.{Bool, false, So, _&&_, not}
 use mathlib.Core.List.{List, List·Memᴰ}
 use lib.ListN.{length, getD}
-use Rattle.spec.specs.Vocabulary.{some-below, every-below}
+use Rattle.spec.specs.Vocabulary.{every-below}
+use Rattle.bits.specs.Counting.{some-below}
 use Rattle.spec.specs.Limits.{role-limit}
 use Rattle.spec.specs.Sheet.{Sheet, Grant, user-count, permission-count, holds, held}
 use Rattle.spec.specs.Fit.{fits}

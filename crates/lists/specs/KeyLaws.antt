@@ -11,10 +11,9 @@ use native.Mathlib.Omega.{arith}
 use borrow.Author.Tests.{eqb-true, eqb-false, eq-eqb, ne-eqb}
 use lib.Dec.{eqb}
 use lib.ListN.{length}
-use Rattle.spec.specs.Vocabulary.{some-below}
 use Rattle.spec.specs.Cover.{used, joins, grouping}
 use Rattle.bits.specs.Truth.{passes-or-fails, not-both, fails-unless, or-right}
-use Rattle.bits.specs.Counting.{count-below, Lowest}
+use Rattle.bits.specs.Counting.{some-below, count-below, Lowest}
 use Rattle.bits.specs.Laws.Below.{last-or-below, below-or-from, some-below-intro, some-below-elim, none-below-intro}
 use Rattle.bits.specs.Laws.Lowest.{lowest-below-intro}
 use Rattle.bits.specs.Laws.Count.{count-below-le, count-below-ext, count-below-none-intro, count-below-all-intro}

@@ -5,8 +5,8 @@ use native.Mathlib.Nat.{le-of-suc-le-suc, not-suc-le-zero}
 use native.Mathlib.Omega.{arith}
 use mathlib.Core.Path.{_≡_, refl, sym}
 use mathlib.Core.Logic.{_⊎_, inl, inr, ⊎-elim}
-use mathlib.Core.Bool.{Bool, true, false, So, false≢true}
-use mathlib.Core.List.{List, [], _∷_, List·Memᴰ, List·Memᴰ·head, List·Memᴰ·tail, List·Memᴰ·not-nil}
+use mathlib.Core.Bool.{Bool, true, false, So, _||_, or-false, or-assoc, false≢true}
+use mathlib.Core.List.{List, [], _∷_, _++_, List·Memᴰ, List·Memᴰ·head, List·Memᴰ·tail, List·Memᴰ·not-nil}
 use mathlib.Core.List.{List·Memᴰ·cases-cons, Memᴰ·cast}
 use mathlib.Core.Option.{none, some}
 use borrow.Author.Tests.{eqb-true, eq-eqb}
@@ -54,6 +54,11 @@ module _ {A : Type 0} where
       choose later (inl p) = record { element = b; member = List·Memᴰ·head refl; passes = p }
       choose later (inr q) =
           let r = later q in record { element = r .element; member = List·Memᴰ·tail (r .member); passes = r .passes }
+
+  -- one element more at the end
+  pub any-last : (test : A → Bool) (l : List A) (a : A) → any test (l ++ a ∷ []) ≡ (any test l || test a)
+  any-last test [] a = or-false (test a)
+  any-last test (b ∷ rest) a = rw (any-last test rest a) (sym (or-assoc (test b) (any test rest) (test a)))
 
   pub none-intro : (test : A → Bool) (l : List A) → ((a : A) → List·Memᴰ a l → test a ≡ false) → any test l ≡ false
   none-intro test l h =

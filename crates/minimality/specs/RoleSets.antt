@@ -14,17 +14,17 @@ use Rattle.spec.specs.Vocabulary.{lowest-below}
 use Rattle.spec.specs.Sheet.{Sheet, Grant, holds, user-count, permission-count, grants}
 use Rattle.spec.specs.Fit.{fits}
 use Rattle.spec.specs.Cover.{grant-at}
-use Rattle.spec.specs.RoleSet.{RoleSet, opens, or-over-roles, Multiplies}
-use Rattle.bits.specs.Truth.{not-both, and-left, and-right}
+use Rattle.spec.specs.RoleSet.{RoleSet, opens, product, Multiplies}
+use Rattle.bits.specs.Truth.{not-both, and-intro, and-left, and-right}
 use Rattle.bits.specs.Counting.{Lowest}
-use Rattle.bits.specs.Laws.Below.{below-or-from}
+use Rattle.bits.specs.Laws.Below.{some-below-intro, below-or-from}
 use Rattle.bits.specs.Laws.Lowest.{lowest-below-found, lowest-below-intro}
 use Rattle.bits.specs.Laws.Count.{count-below-all-intro}
 use Rattle.bits.specs.Laws.CountJoin.{count-below-injects}
 use Rattle.cells.specs.Laws.Grant.{grant-held, held-user-below, held-permission-below}
 use Rattle.fit.specs.Laws.Fit.{Held, fits-intro}
 use Rattle.cells.specs.Laws.Number.{grant-at-member}
-use Rattle.product.specs.Laws.OrOverRoles.{product-is-the-or-over-all-roles, opened-intro}
+use Rattle.product.specs.Laws.OrOverRoles.{opened-intro, opened-elim}
 use Rattle.minimality.specs.GrantClassing.{Even, ClassingOf, Independent}
 
 -- ---- the cells of an even sheet
@@ -57,22 +57,24 @@ covers-elim roles g r e = (
 pub held-is-covered : {roles : RoleSet} {sheet : Sheet} → Even sheet → Multiplies roles sheet → (g : Grant)
     → Held sheet g
     → Lowest (roles .count) (covers roles g) (covering-role roles g)
-unfolding covering-role
+unfolding covering-role product
 held-is-covered {roles} {sheet} even multiplies g held =
     let i = even-user-below even (g .user) (g .permission) held in
     let j = even-permission-below even (g .user) (g .permission) held in
-    let opened : So (or-over-roles roles (g .user) (g .permission) (roles .count)) =
-    sym (product-is-the-or-over-all-roles roles (g .user) (g .permission))
-    ∙ multiplies .cell (g .user) (g .permission) i j ∙ held in
-    let w = lowest-below-found (roles .count) (covers roles g) opened in
+    let by = opened-elim roles (g .user) (g .permission) (roles .count)
+    (multiplies .cell (g .user) (g .permission) i j ∙ held) in
+    let some = some-below-intro (roles .count) (covers roles g) (by .within) (and-intro (roles .has (g .user) (by .role))
+    (roles .gives (by .role) (g .permission)) (by .has) (by .gives)) in
+    let w = lowest-below-found (roles .count) (covers roles g) some in
     rw (lowest-below-intro (roles .count) (covers roles g) (w .1)) (w .1)
 
 -- what a role opens is held, within the sheet
 pub role-opens : {roles : RoleSet} {sheet : Sheet} → Multiplies roles sheet → (u p : ℕ) → u < user-count sheet
     → p < permission-count sheet
     → {r : ℕ} → r < roles .count → So (roles .has u r) → So (roles .gives r p) → So (holds sheet u p)
+unfolding product
 role-opens {roles} {sheet} multiplies u p i j l has gives =
-    sym (multiplies .cell u p i j) ∙ opened-intro roles u p l has gives
+    sym (multiplies .cell u p i j) ∙ opened-intro roles u p (roles .count) l has gives
 
 -- a role set that multiplies to the sheet classes all grants, each by the lowest role that covers it
 pub role-set-classes : {roles : RoleSet} {sheet : Sheet} → Even sheet → Multiplies roles sheet

@@ -18,17 +18,17 @@ fn word_at(row: &[u64; ROW_WORDS], k: usize) -> u64
     row[k]
 }
 
-// Whether the roles of a user give together what the user's row has.
+// Whether a user's row after all roles is the user's row of the sheet.
 fn row_agrees(rows: &[u64], has: &[u64], gives: &[u64], roles: usize, u: UserNo) -> bool
     requires { ⌜ (roles ≤ row-bits) × ((u .0 + 1) * row-words ≤ length (now rows))
         × ((u .0 + 1) * row-words ≤ length (now has)) × (roles * row-words ≤ length (now gives)) ⌝ }
     ensures { λ r. ⌜ r ≡ row-agrees (now (rows .entry)) (roles-in (now (has .entry)) (now (gives .entry)) roles)
         (u .0) ⌝ }
 {
-    let given = row_after(has, gives, u, roles);
+    let after = row_after(has, gives, u, roles);
     let mut k = 0;
     while k < ROW_WORDS {
-        if word_at(&given, k) != rows[u.0 * ROW_WORDS + k] {
+        if word_at(&after, k) != rows[u.0 * ROW_WORDS + k] {
             return false;
         }
         k += 1;
@@ -36,7 +36,7 @@ fn row_agrees(rows: &[u64], has: &[u64], gives: &[u64], roles: usize, u: UserNo)
     true
 }
 
-// Whether the roles of each user give together what the user's row has.
+// Whether that is so for each user.
 pub fn rows_agree(rows: &[u64], has: &[u64], gives: &[u64], roles: usize, users: usize) -> bool
     requires { ⌜ (roles ≤ row-bits) × (users * row-words ≤ length (now rows)) × (users * row-words ≤ length (now has))
         × (roles * row-words ≤ length (now gives)) ⌝ }

@@ -8,23 +8,35 @@ ghost use mathlib.Core.Path.{_≡_};
 ghost use Prim.Native.Nat.{ℕ, _+_, _*_, _≤_, _<_};
 ghost use lib.ListN.{length};
 ghost use Rattle.bits.specs.Bit.{bit, word-bits};
-ghost use Rattle.cell_rows.specs.Rows.{row-words, row-bits};
+ghost use Rattle.cell_rows.specs.Rows.{row-words, row-bits, cell};
 ghost use Rattle.cell_rows.specs.RowWords.{before-word};
-ghost use Rattle.product.specs.RowAfter.{RoleTaken, RowAfter};
+ghost use Rattle.product.specs.RowAfter.{RowAfter};
 
-// All positions, or none.
+// A word with every position if yes, else with none.
 fn all_if(yes: bool) -> u64
     ensures { λ r. ⌜ ((q : ℕ) → q < word-bits → bit r q ≡ yes) ⌝ }
 {
     if yes { !0 } else { 0 }
 }
 
-// A row takes one role more: a permission is in it that was, or that the role holds, if the user has the role.
-fn take_role(row: &mut [u64; ROW_WORDS], gives: &[u64], role: RoleNo, has: bool)
-    requires { ⌜ (length (now row) ≡ row-words) × ((role .0 + 1) * row-words ≤ length (now gives)) ⌝ }
-    ensures { λ _. ⌜ RoleTaken (now (row .entry)) (now (row .exit)) (now (gives .entry)) (role .0) has row-words ⌝ }
+// One step: a user's row after all roles before this one takes this one, and is the row after one role more. A
+// permission is in it if it was, or if the user has the role and the role holds it. Whether the user has the role is
+// handed in (`owned`), since who walks over the roles of a word knows it.
+fn take_role(
+    row: &mut [u64; ROW_WORDS],
+    has: &[u64],
+    gives: &[u64],
+    u: UserNo,
+    role: RoleNo,
+    owned: bool,
+)
+    requires { ⌜ (length (now row) ≡ row-words) × ((role .0 + 1) * row-words ≤ length (now gives))
+        × (owned ≡ cell (now has) (u .0) (role .0)) ⌝ }
+    requires { ⌜ RowAfter (now has) (now gives) (u .0) (role .0) (now row) ⌝ }
+    ensures { λ _. ⌜ (length (now (row .exit)) ≡ row-words)
+        × RowAfter (now (has .entry)) (now (gives .entry)) (u .0) (role .0 + 1) (now (row .exit)) ⌝ }
 {
-    let all = all_if(has);
+    let all = all_if(owned);
     let mut k = 0;
     while k < ROW_WORDS {
         row[k] = row[k] | (all & gives[role.0 * ROW_WORDS + k]);
@@ -32,8 +44,9 @@ fn take_role(row: &mut [u64; ROW_WORDS], gives: &[u64], role: RoleNo, has: bool)
     }
 }
 
-// A user's row takes the roles at the positions of word j, as far as they are among the first r, one after the other:
-// it was the row after all roles before them.
+// A user's row after all roles of the words before word j takes the roles of word j too, as far as they are among the
+// first r: each of them in its turn, whether the user has it or not. `left` is the user's word without its lowest b
+// positions, so its lowest one says whether the user has role first + b.
 fn take_word(row: &mut [u64; ROW_WORDS], has: &[u64], gives: &[u64], u: UserNo, j: usize, r: usize)
     requires { ⌜ (length (now row) ≡ row-words) × (j < row-words) × ((u .0 + 1) * row-words ≤ length (now has))
         × (r * row-words ≤ length (now gives)) ⌝ }
@@ -46,13 +59,15 @@ fn take_word(row: &mut [u64; ROW_WORDS], has: &[u64], gives: &[u64], u: UserNo, 
     let mut left = has[u.0 * ROW_WORDS + j];
     let mut b = 0;
     while b < count {
-        take_role(row, gives, RoleNo(first + b), left % 2 == 1);
+        let role = first + b;
+        take_role(row, has, gives, u, RoleNo(role), left % 2 == 1);
         left = left / 2;
         b += 1;
     }
 }
 
-// What a user's row has after the first r roles: role 0, 1, 2, .. are taken one after the other, every one of them.
+// What a user's row has after the first r roles, which are document 001's roles 1 to r: they are taken one after the
+// other from number 0 on, every one of them, also those that the user does not have.
 pub fn row_after(has: &[u64], gives: &[u64], u: UserNo, r: usize) -> [u64; ROW_WORDS]
     requires { ⌜ (r ≤ row-bits) × ((u .0 + 1) * row-words ≤ length (now has))
         × (r * row-words ≤ length (now gives)) ⌝ }

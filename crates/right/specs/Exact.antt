@@ -18,7 +18,7 @@ use Rattle.spec.specs.Right.{OfForm, Right}
 use Rattle.spec.specs.Refusal.{refusal, accepted, counts-agree}
 use Rattle.spec.specs.Calls.{check-counts, check}
 use Rattle.rules.specs.Accepted.{accepted-keeps, accepts-sheets, reads-sheets}
-use Rattle.product.specs.Laws.OrOverRoles.{same-product}
+use Rattle.product.specs.Laws.OrOverRoles.{same-opens}
 use Rattle.right.specs.NameLaws.{GoodSheet, good-names}
 use Rattle.right.specs.WrittenLines.{Sayable}
 use Rattle.right.specs.ReadBack.{SaysSame, written-has-form, read-back}
@@ -57,8 +57,10 @@ counts-agree-same sheet read written s =
 pub product-same : (sheet : Sheet) (read written : Said) → SaysSame sheet read written → (u p : ℕ)
     → u < user-count sheet
     → p < permission-count sheet → product (read .roles) u p ≡ product (written .roles) u p
+unfolding product
 product-same sheet read written s u p h k =
-    same-product (read .roles) (written .roles) u p (s .roles) (λ r l. rw (s .has u r h l, s .gives r p l k))
+    rw (s .roles)
+    (same-opens (read .roles) (written .roles) u p (written .roles .count) (λ r l. rw (s .has u r h l, s .gives r p l k)))
 
 multiplies-same : (sheet : Sheet) (read written : Said) → SaysSame sheet read written → Multiplies (written .roles)
     sheet

@@ -1,21 +1,21 @@
--- "Roles and state", a role set: any user-to-role and any role-to-permission matrix, with any number of roles, and
--- their and/or product as source document 001 has it, taken role after role.
-use Rattle.spec.specs.Vocabulary.{ℕ, zero, suc, _<_, _≡_, Bool, false, _&&_, _||_, some-below}
+-- "Roles and state", a role set: any user-to-role and any role-to-permission matrix, with any number of roles ("The
+-- sequence of demand 3"), and their and/or product as source document 001 has it, role after role.
+use Rattle.spec.specs.Vocabulary.{ℕ, zero, suc, _<_, _≡_, Bool, false, _&&_, _||_, List, any, list-of}
 use Rattle.spec.specs.Sheet.{Sheet, user-count, permission-count, holds}
 
--- user u has role r; role r holds permission p; roles are numbered from 0, so the paper's roles 1 to r are those below
--- r
+-- user u has role h; role h holds permission p. Users, permissions and roles are numbered from 0: role h is document
+-- 001's role h + 1 and a book's R(h + 1), and `has` u h is its URA[u + 1][h + 1], `gives` h p its RPA[h + 1][p + 1]
 pub record RoleSet : Type 0 where
   pub count : ℕ
   pub has : ℕ → ℕ → Bool
   pub gives : ℕ → ℕ → Bool
 
--- "user has it and it holds the permission", of user u, permission p and role r
+-- role h opens the cell of user u and permission p: "user has it and it holds the permission"
 abbrev pub opens : RoleSet → ℕ → ℕ → ℕ → Bool
-opens roles u p r = roles .has u r && roles .gives r p
+opens roles u p h = roles .has u h && roles .gives h p
 
--- what a cell has after r roles: after none it is no; after one role more it is what it was, or "user has it and it
--- holds the permission"
+-- what the cell of user u and permission p has after r roles: after none it is no; after r + 1 it is what it was after
+-- r, or "user has it and it holds the permission" of role r, which is the next
 unfoldable pub cell-after : RoleSet → ℕ → ℕ → ℕ → Bool
 cell-after roles u p zero = false
 cell-after roles u p (suc r) = cell-after roles u p r || opens roles u p r
@@ -24,9 +24,13 @@ cell-after roles u p (suc r) = cell-after roles u p r || opens roles u p r
 unfoldable pub product : RoleSet → ℕ → ℕ → Bool
 product roles u p = cell-after roles u p (roles .count)
 
--- the "or" over roles 1 to r of "user has it and it holds the permission"
+-- document 001's roles 1 to r, by their numbers here: 0, 1, .. r - 1
+abbrev pub roles-1-to : ℕ → List ℕ
+roles-1-to r = list-of r (λ h. h)
+
+-- the "or" over roles 1 to r of "user has it and it holds the permission", written out from role 1 on
 abbrev pub or-over-roles : RoleSet → ℕ → ℕ → ℕ → Bool
-or-over-roles roles u p r = some-below r (opens roles u p)
+or-over-roles roles u p r = any (opens roles u p) (roles-1-to r)
 
 -- the product is the sheet, cell for cell
 pub record Multiplies (roles : RoleSet) (sheet : Sheet) : Type 0 where

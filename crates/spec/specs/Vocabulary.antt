@@ -16,13 +16,6 @@ pub use lib.ListN.{length, getD, take, drop, replicate}
 abbrev pub implies : Bool → Bool → Bool
 implies a b = not a || b
 
--- some number below n passes f
-unfoldable pub some-below : ℕ → (ℕ → Bool) → Bool
-some-below zero f = false
-some-below (suc n) f =
-    let earlier : Bool = some-below n f in
-    f n || earlier
-
 -- every number below n passes f
 unfoldable pub every-below : ℕ → (ℕ → Bool) → Bool
 every-below zero f = true

@@ -19,7 +19,7 @@ ghost use mathlib.Core.List.{map};
 ghost use Prim.Native.Nat.{ℕ, _/_, _%_, _≤_, _<_};
 ghost use lib.Dec.{eqb};
 ghost use lib.ListN.{length, getD, take};
-ghost use Rattle.spec.specs.Vocabulary.{some-below};
+ghost use Rattle.bits.specs.Counting.{some-below};
 ghost use Rattle.spec.specs.Sheet.{Sheet};
 ghost use Rattle.spec.specs.Reduction.{kernel};
 ghost use Rattle.bits.specs.Bit.{word-bits};

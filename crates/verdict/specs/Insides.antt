@@ -5,7 +5,8 @@ use mathlib.Core.Path.{_≡_}
 use mathlib.Core.Bool.{Bool, So, _&&_}
 use mathlib.Core.List.{List}
 use Rattle.spec.specs.Limits.{user-limit}
-use Rattle.spec.specs.Vocabulary.{some-below, every-below}
+use Rattle.spec.specs.Vocabulary.{every-below}
+use Rattle.bits.specs.Counting.{some-below}
 use Rattle.bits.specs.Truth.{implies}
 use Rattle.cell_rows.specs.Rows.{row-bits, cell}
 use Rattle.cell_rows.specs.CellPlaces.{marked}

@@ -9,7 +9,7 @@ use numbers::UserNo;
 ghost use mathlib.Core.Path.{_≡_};
 ghost use Prim.Native.Nat.{ℕ, _+_, _*_, _<_};
 ghost use Rattle.spec.specs.Limits.{user-limit};
-ghost use Rattle.spec.specs.Vocabulary.{some-below};
+ghost use Rattle.bits.specs.Counting.{some-below};
 ghost use Rattle.bits.specs.Bit.{bit, word-bits};
 ghost use Rattle.cell_rows.specs.CellPlaces.{Part};
 ghost use Rattle.cells.specs.MadeCells.{MadeCells};

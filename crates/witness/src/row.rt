@@ -7,7 +7,7 @@ ghost use mathlib.Core.Bool.{not, _&&_};
 ghost use Prim.Native.Nat.{ℕ, _<_};
 ghost use lib.Dec.{eqb};
 ghost use lib.ListN.{getD};
-ghost use Rattle.spec.specs.Vocabulary.{some-below};
+ghost use Rattle.bits.specs.Counting.{some-below};
 ghost use Rattle.spec.specs.Limits.{user-limit};
 ghost use Rattle.cell_rows.specs.Rows.{row-words, row-bits, cell};
 ghost use Rattle.cells.specs.MadeCells.{MadeCells};

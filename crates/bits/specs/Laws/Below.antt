@@ -8,11 +8,11 @@ use native.Mathlib.Nat.{add-zero, add-suc, le-refl, le-step, le-of-suc-le-suc, n
 use native.Mathlib.Omega.{arith}
 use borrow.Author.Tests.{not-false, ltb-true, ltb-false}
 use lib.Dec.{ltb}
-use Rattle.spec.specs.Vocabulary.{some-below, every-below}
+use Rattle.spec.specs.Vocabulary.{every-below}
 use Rattle.bits.specs.Truth.{passes-or-fails, not-both, fails-unless, same-truth, and-intro, and-left}
 use Rattle.bits.specs.Truth.{and-right, and-left-comm, or-left, or-right, or-cases, or-left-comm, not-passes}
 use Rattle.bits.specs.Truth.{not-fails}
-use Rattle.bits.specs.Counting.{Found}
+use Rattle.bits.specs.Counting.{some-below, Found}
 
 -- a number below suc n
 pub last-or-below : {i n : ℕ} → i < suc n → (i ≡ n) ⊎ (i < n)

@@ -4,8 +4,8 @@ use mathlib.Core.Bool.{true, false}
 use mathlib.Core.Option.{none, some}
 use Prim.Native.Nat.{_*_}
 use lib.Dec.{eqb, ltb}
-use Rattle.spec.specs.Vocabulary.{some-below, every-below, lowest-below}
-use Rattle.bits.specs.Counting.{count-below, sum-below}
+use Rattle.spec.specs.Vocabulary.{every-below, lowest-below}
+use Rattle.bits.specs.Counting.{some-below, count-below, sum-below}
 use Rattle.bits.specs.Bit.{bit, word-bits}
 
 -- 22, in digits 10110, has the positions 1, 2 and 4

@@ -9,10 +9,10 @@ use native.Mathlib.Nat.{lt-of-lt-of-le, lt-trans}
 use native.Mathlib.Omega.{arith}
 use borrow.Author.Tests.{eqb-true}
 use lib.Dec.{eqb}
-use Rattle.spec.specs.Vocabulary.{some-below, lowest-below}
+use Rattle.spec.specs.Vocabulary.{lowest-below}
 use Rattle.bits.specs.Truth.{passes-or-fails, not-both, same-truth, and-intro, and-left, and-right, or-left}
 use Rattle.bits.specs.Truth.{or-right, or-cases, not-passes}
-use Rattle.bits.specs.Counting.{Lowest}
+use Rattle.bits.specs.Counting.{some-below, Lowest}
 use Rattle.bits.specs.Laws.Below.{below-or-from, some-below-intro, some-below-elim}
 use Rattle.bits.specs.Laws.Lowest.{lowest-below-intro, lowest-below-none-intro, lowest-below-cases}
 

@@ -4,8 +4,8 @@ use mathlib.Core.Path.{_≡_}
 use mathlib.Core.Bool.{Bool, _&&_, _||_}
 use Prim.Native.Nat.{ℕ, _+_}
 use native.Mathlib.Numerals.{add-one}
-use Rattle.spec.specs.Vocabulary.{some-below, every-below}
-use Rattle.bits.specs.Counting.{sum-below}
+use Rattle.spec.specs.Vocabulary.{every-below}
+use Rattle.bits.specs.Counting.{some-below, sum-below}
 
 pub sum-below-step : (n : ℕ) (g : ℕ → ℕ) → sum-below (n + 1) g ≡ sum-below n g + g n
 unfolding sum-below

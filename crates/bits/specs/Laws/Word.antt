@@ -11,9 +11,9 @@ use borrow.Author.Tests.{eq-eqb, eqb-true}
 use lib.Dec.{eqb, eqb·suc-zero, eqb·suc-suc}
 use lib.Bits.{bitAnd, and-le-l, and-le-r}
 use lib.Count.{ones, ones-step, ones-le, trailingZeros}
-use Rattle.spec.specs.Vocabulary.{some-below, every-below}
+use Rattle.spec.specs.Vocabulary.{every-below}
 use Rattle.bits.specs.Truth.{implies, implies-intro, and-absorbs, and-right, not-both, same-truth}
-use Rattle.bits.specs.Counting.{one-if, count-below, Lowest}
+use Rattle.bits.specs.Counting.{some-below, one-if, count-below, Lowest}
 use Rattle.bits.specs.Laws.Below.{some-below-intro, every-below-intro, every-below-elim}
 use Rattle.bits.specs.Laws.Lowest.{lowest-ext, lowest-at-zero, lowest-next}
 use Rattle.bits.specs.Laws.Count.{count-below-ext, count-below-first}

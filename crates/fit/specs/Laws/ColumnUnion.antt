@@ -8,9 +8,8 @@ use lib.Arith.{digits-lt}
 use lib.Bits.{bitOr}
 use lib.Dec.{eqb}
 use lib.ListN.{getD}
-use Rattle.spec.specs.Vocabulary.{some-below}
 use Rattle.bits.specs.Truth.{and-intro}
-use Rattle.bits.specs.Counting.{Lowest}
+use Rattle.bits.specs.Counting.{some-below, Lowest}
 use Rattle.bits.specs.Bit.{bit, word-bits}
 use Rattle.bits.specs.Laws.Below.{some-below-intro, some-below-ext, none-below-intro}
 use Rattle.bits.specs.Laws.Bit.{bit-or, bit-of-zero}

@@ -9,7 +9,7 @@ use native.Mathlib.Omega.{arith}
 use mathlib.Core.Logic.{⊎-elim}
 use lib.Dec.{eqb}
 use lib.ListN.{length, getD}
-use Rattle.spec.specs.Vocabulary.{some-below}
+use Rattle.bits.specs.Counting.{some-below}
 use Rattle.spec.specs.Cover.{used, joins}
 use Rattle.bits.specs.Laws.Below.{last-or-below}
 use Rattle.lists.specs.Classing.{Grown}

@@ -1,64 +1,83 @@
--- What a cell has after r roles is the "or" over roles 1 to r: each role more is one more that may open it. So the cell
--- is open after r roles exactly where one of these roles opens it, and the product is the "or" over all roles.
+-- What a cell has after r roles is the "or" over roles 1 to r: a role more is one more at the end of the "or". So the cell
+-- is yes after r roles exactly where one of them opens it; and after all roles, which is the product, the "or" is over
+-- all of them.
 use Prim.Native.Nat.{ℕ, zero, suc, _<_}
-use mathlib.Core.Path.{_≡_, refl, sym, _∙_}
-use mathlib.Core.Bool.{false, So, or-comm}
-use Rattle.spec.specs.Vocabulary.{some-below}
-use Rattle.spec.specs.RoleSet.{RoleSet, opens, cell-after, product, or-over-roles}
+use native.Mathlib.Nat.{le-refl, le-step}
+use mathlib.Core.Path.{_≡_, refl, sym, ap, _∙_}
+use mathlib.Core.Logic.{_↔_}
+use mathlib.Core.Bool.{Bool, false, So, _||_}
+use Rattle.spec.specs.Vocabulary.{any}
+use Rattle.spec.specs.RoleSet.{RoleSet, opens, cell-after, product, roles-1-to, or-over-roles}
 use Rattle.bits.specs.Truth.{and-intro, and-left, and-right}
-use Rattle.bits.specs.Laws.Below.{some-below-intro, some-below-elim, none-below-intro, some-below-ext}
+use Rattle.lists.specs.ListOfLaws.{list-of-last, list-of-member, list-of-element}
+use Rattle.lists.specs.TestLaws.{any-intro, any-elim, any-last}
 
+-- roles 1 to r are those of the numbers below r
 pub what-a-cell-has-after-r-roles-is-the-or-over-roles-1-to-r : (roles : RoleSet) (u p r : ℕ)
     → cell-after roles u p r ≡ or-over-roles roles u p r
-unfolding cell-after some-below
+unfolding cell-after
 what-a-cell-has-after-r-roles-is-the-or-over-roles-1-to-r roles u p zero = refl
 what-a-cell-has-after-r-roles-is-the-or-over-roles-1-to-r roles u p (suc r) =
-    rw (what-a-cell-has-after-r-roles-is-the-or-over-roles-1-to-r roles u p r)
-    (or-comm (or-over-roles roles u p r) (opens roles u p r))
+    ap (λ (b : Bool). b || opens roles u p r) (what-a-cell-has-after-r-roles-is-the-or-over-roles-1-to-r roles u p r)
+    ∙ sym (any-last (opens roles u p) (roles-1-to r) r)
+    ∙ ap (any (opens roles u p)) (sym (list-of-last r (λ h. h)))
 
--- after all roles
 pub product-is-the-or-over-all-roles : (roles : RoleSet) (u p : ℕ)
     → product roles u p ≡ or-over-roles roles u p (roles .count)
 unfolding product
 product-is-the-or-over-all-roles roles u p =
     what-a-cell-has-after-r-roles-is-the-or-over-roles-1-to-r roles u p (roles .count)
 
--- ---- the product, by the roles that open a cell
+-- ---- by the roles that open a cell
 
--- a role that the user has and that holds the permission
-pub record OpeningRole (roles : RoleSet) (u p : ℕ) : Type 0 where
+-- one of the first r roles, which the user has and which holds the permission
+pub record OpeningRole (roles : RoleSet) (u p r : ℕ) : Type 0 where
   pub role : ℕ
-  pub within : role < roles .count
+  pub within : role < r
   pub has : So (roles .has u role)
   pub gives : So (roles .gives role p)
 
-pub opened-intro : (roles : RoleSet) (u p : ℕ) {r : ℕ} → r < roles .count → So (roles .has u r) → So (roles .gives r p)
-    → So (product roles u p)
-opened-intro roles u p {r} l has gives =
-    product-is-the-or-over-all-roles roles u p
-    ∙ some-below-intro (roles .count) (opens roles u p) l (and-intro (roles .has u r) (roles .gives r p) has gives)
+pub opened-intro : (roles : RoleSet) (u p r : ℕ) {h : ℕ} → h < r → So (roles .has u h) → So (roles .gives h p)
+    → So (cell-after roles u p r)
+opened-intro roles u p r {h} l has gives =
+    what-a-cell-has-after-r-roles-is-the-or-over-roles-1-to-r roles u p r
+    ∙ any-intro (opens roles u p) (roles-1-to r) (list-of-member r (λ h. h) h l) (and-intro (roles .has u h)
+    (roles .gives h p) has gives)
 
-pub opened-elim : (roles : RoleSet) (u p : ℕ) → So (product roles u p) → OpeningRole roles u p
-opened-elim roles u p e =
-    let found = some-below-elim (roles .count) (opens roles u p) (sym (product-is-the-or-over-all-roles roles u p) ∙ e) in
-    let r = found .place in
+pub opened-elim : (roles : RoleSet) (u p r : ℕ) → So (cell-after roles u p r) → OpeningRole roles u p r
+opened-elim roles u p r e =
+    let found = any-elim (opens roles u p) (roles-1-to r) (sym
+    (what-a-cell-has-after-r-roles-is-the-or-over-roles-1-to-r roles u p r)
+    ∙ e) in
+    let at = list-of-element r (λ h. h) (found .member) in
+    let opening : So (opens roles u p (at .place)) = rw (at .there) (found .passes) in
     record {
-      role = r;
-      within = found .within;
-      has = and-left (roles .has u r) (roles .gives r p) (found .holds);
-      gives = and-right (roles .has u r) (roles .gives r p) (found .holds);
+      role = at .place;
+      within = at .within;
+      has = and-left (roles .has u (at .place)) (roles .gives (at .place) p) opening;
+      gives = and-right (roles .has u (at .place)) (roles .gives (at .place) p) opening;
     }
 
--- where no role opens a cell, it is no
-pub none-opens : (roles : RoleSet) (u p : ℕ) → ((r : ℕ) → r < roles .count → opens roles u p r ≡ false)
-    → product roles u p ≡ false
-none-opens roles u p none =
-    product-is-the-or-over-all-roles roles u p ∙ none-below-intro (roles .count) (opens roles u p) none
+-- a cell is yes after r roles exactly where one of them opens it
+pub yes-exactly-where-one-opens : (roles : RoleSet) (u p r : ℕ) → So (cell-after roles u p r)
+    ↔ OpeningRole roles u p r
+yes-exactly-where-one-opens roles u p r = (
+  opened-elim roles u p r,
+  λ o. opened-intro roles u p r (o .within) (o .has) (o .gives),
+)
 
--- as many roles that open the same have the same product
-pub same-product : (first second : RoleSet) (u p : ℕ) → first .count ≡ second .count
-    → ((r : ℕ) → r < second .count → opens first u p r ≡ opens second u p r) → product first u p ≡ product second u p
-same-product first second u p count same =
-    product-is-the-or-over-all-roles first u p
-    ∙ rw count (some-below-ext (second .count) (opens first u p) (opens second u p) same)
-    ∙ sym (product-is-the-or-over-all-roles second u p)
+-- where no role opens a cell it is no
+pub none-opens : (roles : RoleSet) (u p r : ℕ) → ((h : ℕ) → h < r → opens roles u p h ≡ false)
+    → cell-after roles u p r ≡ false
+unfolding cell-after
+none-opens roles u p zero none = refl
+none-opens roles u p (suc r) none =
+    rw (none-opens roles u p r (λ h l. none h (le-step l)), none r (le-refl (suc r)))
+
+-- two role sets whose first r roles open the same
+pub same-opens : (first second : RoleSet) (u p r : ℕ) → ((h : ℕ) → h < r → opens first u p h ≡ opens second u p h)
+    → cell-after first u p r ≡ cell-after second u p r
+unfolding cell-after
+same-opens first second u p zero same = refl
+same-opens first second u p (suc r) same =
+    rw (same-opens first second u p r (λ h l. same h (le-step l)), same r (le-refl (suc r)))

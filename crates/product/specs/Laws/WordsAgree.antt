@@ -77,8 +77,9 @@ module _ (sheet : Sheet) (lawful : Lawful sheet) (rows has gives : List ℕ) (ro
     (beyond : (r p : ℕ) → r < roles → permission-count sheet ≤ p → p < row-bits → cell gives r p ≡ false) where
   -- no cell beyond the permissions is set
   nothing-given : (u p : ℕ) → permission-count sheet ≤ p → p < row-bits → product (roles-in has gives roles) u p ≡ false
+  unfolding product
   nothing-given u p h k =
-      none-opens (roles-in has gives roles) u p (λ r l. rw (beyond r p l h k) (and-false (cell has u r)))
+      none-opens (roles-in has gives roles) u p roles (λ r l. rw (beyond r p l h k) (and-false (cell has u r)))
 
   nothing-held : (u p : ℕ) → u < user-count sheet → permission-count sheet ≤ p → holds sheet u p ≡ false
   nothing-held u p h k = List·getD-eq-default (getD (sheet .rows) u []) false (let e = lawful .a-cell-each u h

@@ -109,14 +109,16 @@ opened a b =
 module _ (grants : List Grant) (placed : List ℕ) (count : ℕ) (whole : length grants ≡ length placed) where
   -- a cell that the product opens comes from two grants of one role
   pub product-elim : (u p : ℕ) → So (product (placed-roles grants placed count) u p) → OpenedBy grants placed u p
+  unfolding product
   product-elim u p e =
-      let by = opened-elim (placed-roles grants placed count) u p e in
+      let by = opened-elim (placed-roles grants placed count) u p count e in
       opened (has-role-elim grants placed count whole u (by .role) (by .has))
       (gives-permission-elim grants placed count whole (by .role) p (by .gives))
 
   -- the product opens every grant whose role is counted
   pub product-intro : (i : ℕ) → i < length placed → class-in placed i < count
       → So (product (placed-roles grants placed count) (grant-at grants i .user) (grant-at grants i .permission))
+  unfolding product
   product-intro i l k =
-      opened-intro (placed-roles grants placed count) (grant-at grants i .user) (grant-at grants i .permission) k
+      opened-intro (placed-roles grants placed count) (grant-at grants i .user) (grant-at grants i .permission) count k
       (user-has-role grants placed count whole i l) (role-gives-permission grants placed count whole i l)

@@ -1,7 +1,7 @@
 -- State, bound and roles on small sheets, computed from the definitions. Three users of whom the third holds all: the
 -- class opened first, by the single (1,2) put back first, has (1,1) as its lowest grant, and the other has (0,0); so
 -- the first becomes R2. Then the product of these roles, role after role.
-use Rattle.spec.specs.Vocabulary.{ℕ, suc, Bool, true, false, List, [], _∷_, some-below, lowest-below, list-of}
+use Rattle.spec.specs.Vocabulary.{ℕ, suc, Bool, true, false, List, [], _∷_, lowest-below, list-of}
 use mathlib.Core.Path.{_≡_, refl}
 use Rattle.spec.specs.Text.{ascii}
 use Rattle.spec.specs.Sheet.{Sheet}
@@ -59,8 +59,7 @@ worked-roles : tables 3 3 (roles-of worked [])
 unfolding tables roles-of reduction classes-of worked lowest-below
 worked-roles = refl
 
--- what the cells of each user are after 0 roles, after one, and so on to all, by a way to say what a cell has after r
--- roles
+-- what the cells of each user are after no role, after one, and so on to all; `after` says what a cell has after r roles
 steps : (RoleSet → ℕ → ℕ → ℕ → Bool) → ℕ → ℕ → RoleSet → List (List (List Bool))
 steps after users permissions roles =
     list-of users (λ u. list-of (suc (roles .count)) (λ r. list-of permissions (λ p. after roles u p r)))
@@ -77,7 +76,7 @@ worked-product : steps cell-after 3 3 (roles-of worked []) ≡ worked-steps
 unfolding steps worked-steps roles-of reduction classes-of worked lowest-below cell-after
 worked-product = refl
 
--- the same by the "or" over roles 1 to r
+-- the "or" over roles 1 to r says the same
 worked-or : steps or-over-roles 3 3 (roles-of worked []) ≡ worked-steps
-unfolding steps worked-steps roles-of reduction classes-of worked lowest-below some-below
+unfolding steps worked-steps roles-of reduction classes-of worked lowest-below
 worked-or = refl

@@ -10,7 +10,8 @@ use lib.Arith.{digits-lt, digits-div, digits-mod}
 use lib.Dec.{lit<}
 use lib.ListN.{getD}
 use Rattle.spec.specs.Limits.{user-limit}
-use Rattle.spec.specs.Vocabulary.{some-below, every-below}
+use Rattle.spec.specs.Vocabulary.{every-below}
+use Rattle.bits.specs.Counting.{some-below}
 use Rattle.bits.specs.Bit.{bit, word-bits}
 use Rattle.bits.specs.Truth.{implies, implies-intro, implies-elim, passes-or-fails, fails-unless, not-both}
 use Rattle.bits.specs.Truth.{and-intro, and-left, and-right}

@@ -12,9 +12,8 @@ use lib.Arith.{digits-div, digits-mod}
 use lib.Dec.{lit<, eqb, ltb}
 use lib.ListN.{getD}
 use Rattle.spec.specs.Limits.{user-limit}
-use Rattle.spec.specs.Vocabulary.{some-below}
 use Rattle.bits.specs.Truth.{not-both, fails-unless, and-intro, and-left, and-right}
-use Rattle.bits.specs.Counting.{Lowest}
+use Rattle.bits.specs.Counting.{some-below, Lowest}
 use Rattle.bits.specs.Laws.Below.{below-or-from, some-below-intro}
 use Rattle.bits.specs.Laws.Count.{count-below-ext, count-below-none-intro}
 use Rattle.bits.specs.Bit.{bit, word-bits}

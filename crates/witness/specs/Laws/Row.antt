@@ -8,7 +8,7 @@ use lib.Arith.{digits-div, digits-mod}
 use lib.Bits.{bitAnd}
 use lib.Dec.{eqb}
 use lib.ListN.{getD}
-use Rattle.spec.specs.Vocabulary.{some-below}
+use Rattle.bits.specs.Counting.{some-below}
 use Rattle.bits.specs.Laws.Below.{none-below-elim}
 use Rattle.bits.specs.Bit.{bit, word-bits}
 use Rattle.bits.specs.Laws.Bit.{bit-and, bit-of-zero}

@@ -5,7 +5,7 @@ use mathlib.Core.Path.{_≡_, refl, sym, _∙_}
 use mathlib.Core.Bool.{Bool, false}
 use mathlib.Core.List.{List}
 use lib.ListN.{getD}
-use Rattle.spec.specs.Vocabulary.{some-below}
+use Rattle.bits.specs.Counting.{some-below}
 use Rattle.spec.specs.Text.{Bytes}
 use Rattle.bits.specs.Truth.{or-fails}
 use Rattle.bits.specs.Laws.Below.{some-below-intro}

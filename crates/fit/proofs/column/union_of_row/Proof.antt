@@ -4,7 +4,7 @@ use native.Mathlib.Omega.{arith}
 use mathlib.Core.Path.{_≡_}
 use lib.ListN.{getD}
 use Rattle.spec.specs.Limits.{user-limit}
-use Rattle.spec.specs.Vocabulary.{some-below}
+use Rattle.bits.specs.Counting.{some-below}
 use Rattle.bits.specs.Bit.{bit}
 use Rattle.bits.specs.Laws.Bit.{bit-of-zero}
 use Rattle.cell_rows.specs.Rows.{row-words}

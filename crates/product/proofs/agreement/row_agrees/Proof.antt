@@ -12,10 +12,10 @@ use Rattle.product.proofs.agreement.row_agrees.Statement.{statement}
 use Rattle.product.proofs.agreement.row_agrees.Tie as tie
 
 abbrev Inv-loop : tie.InvT-loop
-Inv-loop rows has gives roles u given k₀ k = (k ≤ row-words) × WordsAgree rows has gives roles (u .0) k
+Inv-loop rows has gives roles u after k₀ k = (k ≤ row-words) × WordsAgree rows has gives roles (u .0) k
 
 abbrev μ-loop : tie.MeasureT-loop
-μ-loop rows has gives roles u given k₀ k = row-words - k
+μ-loop rows has gives roles u after k₀ k = row-words - k
 
 row-after-requires : tie.Need-row-after-requires Inv-loop μ-loop
 row-after-requires c κs =

@@ -32,7 +32,7 @@ take-word-requires c κs =
     let at-loop = c .before .before in
     let start = at-loop .before .before .before in
     let inv = at-loop .loop .inv in
-    ((inv .1, c .before .loop-test .taken, start .pre .1, start .pre .2), inv .2)
+    ((inv .1, omega (arith, c .before .loop-test .taken), start .pre .1, start .pre .2), inv .2)
 
 loop-again : tie.Need-loop-again Inv-loop μ-loop
 unfolding row-words

@@ -1,24 +1,26 @@
 -- `product::role_steps::take_word`: b roles of the word are taken, and the positions of left are those not yet looked
--- at. A role is at the place of its number only if all roles before it are taken, so they come in their order.
+-- at. The next role is that after all roles taken, as the step asks.
 use borrow.Author.Needs.{needs}
 use Prim.Native.Nat.{_+_, _*_, _-_, _≤_, _<_}
 use native.Mathlib.Omega.{arith}
-use mathlib.Core.Path.{_≡_, refl, _∙_}
+use mathlib.Core.Path.{_≡_}
 use lib.ListN.{length}
 use Rattle.bits.specs.Bit.{word-bits}
 use Rattle.cell_rows.specs.Rows.{row-words}
 use Rattle.cell_rows.specs.RowWords.{in-word, before-word}
 use Rattle.cell_rows.specs.Laws.RowWithin.{row-within, word-below}
-use Rattle.product.specs.Laws.RoleSteps.{LeftFrom, left-start, left-more, WordTaken, word-start, word-more}
+use Rattle.product.specs.RowAfter.{RowAfter}
+use Rattle.product.specs.Laws.RoleSteps.{LeftFrom, left-start, left-more, left-lowest}
 use Rattle.product.proofs.role_steps.take_word.Statement.{statement}
 use Rattle.product.proofs.role_steps.take_word.Tie as tie
 
 abbrev Inv-loop : tie.InvT-loop
-Inv-loop row₀ has gives j r first count left₀ b₀ row left b =
-    (b ≤ count) × LeftFrom left₀ b left × WordTaken has gives j left₀ (before-word r j) b row₀ row
+Inv-loop row₀ has gives u j r first count left₀ b₀ row left b =
+    (b ≤ count) × (length row ≡ row-words) × LeftFrom left₀ b left
+    × RowAfter has gives (u .0) (before-word r j + b) row
 
 abbrev μ-loop : tie.MeasureT-loop
-μ-loop row₀ has gives j r first count left₀ b₀ row left b = count - b
+μ-loop row₀ has gives u j r first count left₀ b₀ row left b = count - b
 
 mul-first : tie.Need-mul-first Inv-loop μ-loop
 unfolding row-words
@@ -44,7 +46,11 @@ unfolding row-words
 shared-slice-read-left c = word-there (c .before .before .before .before .before)
 
 loop-holds : tie.Need-loop-holds Inv-loop μ-loop
-loop-holds c = (omega arith, left-start _, word-start _ _ _ _ _ _)
+loop-holds c =
+    let start = c .before .before .before .before .before in
+    let none : before-word (start .args .r) (start .args .j) + 0 ≡ before-word (start .args .r) (start .args .j) =
+    omega arith in
+    (omega arith, start .pre .0 .0, left-start _, rw none (start .pre .1))
 
 -- the next role of the word is one of the first r
 role-below : (c : tie.In-loop Inv-loop μ-loop)
@@ -56,40 +62,48 @@ role-below c = omega (arith, c .loop-test .taken, c .before .before .before .bef
 position-below : (c : tie.In-loop Inv-loop μ-loop) → c .before .loop .b < word-bits
 position-below c = omega (arith, c .loop-test .taken, c .before .before .before .before .cells-in-word .ensures)
 
-add-role : tie.Need-add-t19 Inv-loop μ-loop
+add-role : tie.Need-add-role Inv-loop μ-loop
 unfolding row-words
-add-role c = omega (arith, position-below (c .before))
+add-role c = omega (arith, position-below c)
 
 take-role-requires : tie.Need-take-role-requires Inv-loop μ-loop
+unfolding row-words
 take-role-requires c κs =
     let in-loop = c .before in
-    let at-loop = in-loop .before in
-    let start = at-loop .before .before .before .before .before .before in (
-      at-loop .loop .inv .2 .size ∙ start .pre .0 .0,
-      row-within (start .args .j * word-bits + at-loop .loop .b) (start .args .r) _ (role-below in-loop)
-          (start .pre .0 .3),
+    let at = in-loop .before .loop in
+    let start = in-loop .before .before .before .before .before .before .before in
+    let a = start .args in
+    let next : before-word (a .r) (a .j) + at .b ≡ a .j * word-bits + at .b = omega (arith, role-below in-loop) in (
+      (
+        at .inv .1,
+        row-within (a .j * word-bits + at .b) (a .r) _ (role-below in-loop) (start .pre .0 .3),
+        left-lowest (a .has .now) (a .u .0) (a .j) (at .b) (at .left) (at .inv .2) (position-below in-loop),
+      ),
+      rw next at (at .inv .3),
     )
 
 loop-again : tie.Need-loop-again Inv-loop μ-loop
 unfolding row-words
 loop-again c =
     let in-loop = c .before .before in
-    let inv = in-loop .before .loop .inv in (
+    let at = in-loop .before .loop in
+    let a = in-loop .before .before .before .before .before .before .before .args in
+    let next : before-word (a .r) (a .j) + (at .b + 1) ≡ a .j * word-bits + at .b + 1 =
+    omega (arith, role-below in-loop) in (
       omega (arith, in-loop .loop-test .taken),
-      left-more (inv .1),
-      word-more (inv .2) (inv .1) (omega (arith, role-below in-loop)) (position-below in-loop) (c .take-role .ensures),
+      c .take-role .ensures .0,
+      left-more (at .inv .2),
+      rw next (c .take-role .ensures .1),
     )
 
 returns : tie.Need-returns Inv-loop μ-loop
 unfolding row-words
 returns c =
     let at-loop = c .before in
-    let start = at-loop .before .before .before .before .before .before in
-    let taken = at-loop .loop .inv .2 in
-    let all : before-word (start .args .r) (start .args .j) + at-loop .loop .b
-    ≡ before-word (start .args .r) (start .args .j + 1) =
+    let a = at-loop .before .before .before .before .before .before .args in
+    let all : before-word (a .r) (a .j) + at-loop .loop .b ≡ before-word (a .r) (a .j + 1) =
     omega (arith, at-loop .loop .inv .0, c .loop-test .left, at-loop .before .before .before .cells-in-word .ensures) in
-    (taken .size ∙ start .pre .0 .0, rw all at (taken .steps (start .args .u .0) refl (start .pre .1)))
+    (at-loop .loop .inv .1, rw all at (at-loop .loop .inv .3))
 
 pub take-word-spec : {M : Type 1} → statement M
 take-word-spec =

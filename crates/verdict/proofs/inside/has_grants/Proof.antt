@@ -6,7 +6,7 @@ use mathlib.Core.Logic.{⊎-elim}
 use mathlib.Core.Bool.{false}
 use lib.ListN.{getD}
 use Rattle.spec.specs.Limits.{user-limit}
-use Rattle.spec.specs.Vocabulary.{some-below}
+use Rattle.bits.specs.Counting.{some-below}
 use Rattle.bits.specs.Bit.{bit, word-bits}
 use Rattle.bits.specs.Laws.Below.{below-or-from}
 use Rattle.cell_rows.specs.Rows.{row-words}

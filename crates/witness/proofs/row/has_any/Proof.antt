@@ -6,7 +6,7 @@ use mathlib.Core.Bool.{false, not}
 use borrow.Author.Tests.{ne-eqb}
 use lib.Dec.{eqb}
 use lib.ListN.{getD}
-use Rattle.spec.specs.Vocabulary.{some-below}
+use Rattle.bits.specs.Counting.{some-below}
 use Rattle.bits.specs.Laws.Below.{some-below-intro}
 use Rattle.bits.specs.Laws.Step.{some-below-step}
 use Rattle.cell_rows.specs.Rows.{row-words}
