@@ -11,7 +11,7 @@ use Rattle.spec.specs.Limits.{book-limit, role-limit}
 use Rattle.spec.specs.Text.{Bytes}
 use Rattle.spec.specs.Sheet.{Sheet, sheet-of, user-count, permission-count}
 use Rattle.spec.specs.Rules.{Keeps}
-use Rattle.spec.specs.RoleSet.{product, Multiplies}
+use Rattle.spec.specs.RoleSet.{cell-after, product, Multiplies}
 use Rattle.spec.specs.Book.{Said}
 use Rattle.spec.specs.Form.{said}
 use Rattle.spec.specs.Right.{OfForm, Right}
@@ -59,8 +59,9 @@ pub product-same : (sheet : Sheet) (read written : Said) → SaysSame sheet read
     → p < permission-count sheet → product (read .roles) u p ≡ product (written .roles) u p
 unfolding product
 product-same sheet read written s u p h k =
-    rw (s .roles)
-    (same-opens (read .roles) (written .roles) u p (written .roles .count) (λ r l. rw (s .has u r h l, s .gives r p l k)))
+    ap (cell-after (read .roles) u p) (s .roles)
+    ∙ same-opens (read .roles) (written .roles) u p (written .roles .count)
+    (λ r l. rw (s .has u r h l, s .gives r p l k))
 
 multiplies-same : (sheet : Sheet) (read written : Said) → SaysSame sheet read written → Multiplies (written .roles)
     sheet
