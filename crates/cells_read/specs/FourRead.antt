@@ -82,12 +82,17 @@ same-in-each f g e a b c d =
     eqb-true (f a b c d) (g a b c d) (in-each-four (λ a b c d. eqb (f a b c d) (g a b c d)) e a b c d)
 
 -- the positions of four cells say which are set
-abbrev set-read : ℕ → ℕ
+abbrev pub set-read : ℕ → ℕ
 set-read n = four-set (bit n 8) (bit n 24) (bit n 40) (bit n 56)
 
 pub set-digits : (a b c d : Bool) → set-read (four-set a b c d) ≡ four-set a b c d
 unfolding bit
 set-digits = same-in-each (λ a b c d. set-read (four-set a b c d)) four-set refl
+
+-- so they do in the number of the cells
+pub set-of-cells : (a b c d : Bool) → set-read (no-cells + four-set a b c d) ≡ four-set a b c d
+unfolding bit
+set-of-cells = same-in-each (λ a b c d. set-read (no-cells + four-set a b c d)) four-set refl
 
 -- so do the positions of their word
 abbrev pub word-read : ℕ → ℕ
@@ -168,13 +173,6 @@ kept-digit n p f h =
     (λ q l. bit-and n (2 ^ p) q ∙ ap (λ (b : Bool). bit n q && b) (bit-one-shifted p q) ∙ same-position n p q
     ∙ sym (bit-placed (bit n p) p q)))
 
--- a number that has other positions says no four cells
-pub four-unset : (s : ℕ) → eqb s (four-set (bit s 8) (bit s 24) (bit s 40) (bit s 56)) ≡ false → (a b c d : Bool)
-    → s ≡ four-set a b c d → ⊥
-four-unset s f a b c d e =
-    not-both (eq-eqb s (four-set (bit s 8) (bit s 24) (bit s 40) (bit s 56)) (e ∙ sym (set-digits a b c d)
-    ∙ ap (λ (m : ℕ). four-set (bit m 8) (bit m 24) (bit m 40) (bit m 56)) (sym e))) f
-
--- one that has none says those of its word
+-- a number that has no position but those of four cells says those of its word
 pub set-says : (s : ℕ) → SetsCells s → s ≡ word-read (set-word s)
 set-says s e = e ∙ sym (word-digits (bit s 8) (bit s 24) (bit s 40) (bit s 56))

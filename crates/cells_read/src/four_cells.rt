@@ -3,7 +3,6 @@ use crate::line_cells::CellsWord;
 ghost use mathlib.Core.Path.{_≡_};
 ghost use Prim.Native.Nat.{_+_, _*_, _^_, _≤_, _<_};
 ghost use lib.Bits.{bitOr};
-ghost use lib.Dec.{eqb};
 ghost use lib.ListN.{length};
 ghost use Rattle.bits.specs.Counting.{one-if};
 ghost use Rattle.bits.specs.Bit.{bit, word-bits};
@@ -21,29 +20,23 @@ fn kept_at(n: u64, p: usize) -> u64
     n & (1 << p)
 }
 
-// Whether a number has no position but those of four cells.
-fn sets_cells(n: u64) -> bool
-    ensures { λ r. ⌜ r ≡ eqb n (four-set (bit n 8) (bit n 24) (bit n 40) (bit n 56)) ⌝ }
+// A number without its positions but those of four cells.
+fn kept_cells(n: u64) -> u64
+    ensures { λ r. ⌜ r ≡ four-set (bit n 8) (bit n 24) (bit n 40) (bit n 56) ⌝ }
 {
     let first = kept_at(n, 8);
     let second = kept_at(n, 24);
     let third = kept_at(n, 40);
     let fourth = kept_at(n, 56);
-    n == first + second + third + fourth
+    first + second + third + fourth
 }
 
 // What a number sets beside those of four cells that are not set. Where it says no four cells, it is off.
 fn set_of(n: u64) -> CellsWord
     ensures { λ r. ⌜ SetOf n r ⌝ }
 {
-    if n < NO_CELLS {
-        return CellsWord {
-            good: false,
-            word: 0,
-        };
-    }
-    let set = n - NO_CELLS;
-    if !sets_cells(set) {
+    let set = kept_cells(n);
+    if n != NO_CELLS + set {
         return CellsWord {
             good: false,
             word: 0,

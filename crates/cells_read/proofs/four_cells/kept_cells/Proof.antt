@@ -1,11 +1,11 @@
--- `four_cells::sets_cells`: each position is kept alone, so that their sum fits a word.
+-- `four_cells::kept_cells`: each position is kept alone, so that their sum fits a word.
 use borrow.Author.Needs.{needs}
 use Prim.Native.Nat.{_+_, _^_, _≤_, _<_}
 use native.Mathlib.Omega.{arith}
 use Rattle.bits.specs.Bit.{bit}
 use Rattle.cell_text.specs.FourCells.{one-if-small}
-use Rattle.cells_read.proofs.four_cells.sets_cells.Statement.{statement}
-use Rattle.cells_read.proofs.four_cells.sets_cells.Tie as tie
+use Rattle.cells_read.proofs.four_cells.kept_cells.Statement.{statement}
+use Rattle.cells_read.proofs.four_cells.kept_cells.Tie as tie
 
 first-small : (c : tie.After-kept-at) → c .kept-at .result ≤ 2 ^ 8
 first-small c = rw (c .kept-at .ensures) (omega (arith, one-if-small (bit (c .before .args .n) 8)))
@@ -43,7 +43,7 @@ returns c =
       c .kept-at4 .ensures,
     )
 
-pub sets-cells-spec : {M : Type 1} → statement M
-sets-cells-spec =
+pub kept-cells-spec : {M : Type 1} → statement M
+kept-cells-spec =
     tie.close (tie.spec (λ c κs. search needs) (λ c κs. search needs) (λ c κs. search needs) (λ c κs. search needs)
     (λ c. omega (arith, sum-small c)) (λ c. omega (arith, sum-small c)) (λ c. omega (arith, sum-small c)) returns)
