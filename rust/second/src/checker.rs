@@ -86,12 +86,13 @@ impl<'a> Claim<'a> {
         })
     }
 
-    /// Whether some role of the user holds the permission.
+    /// The cell of the product: no before the first role; after each role, in their order, what it was, or "the
+    /// user has the role and the role holds the permission".
     fn opens(&self, user: User, permission: Permission) -> bool {
         self.gives
             .iter()
             .zip(&self.has[user.0])
-            .any(|(permissions, has_role)| *has_role && permissions[permission.0])
+            .fold(false, |cell, (permissions, has_role)| cell || (*has_role && permissions[permission.0]))
     }
 
     fn witness_stands(&self, sheet: &Sheet) -> bool {

@@ -13,14 +13,16 @@ use lib.Bits.{bitAnd, bitOr}
 use lib.Dec.{eqb, lit<}
 use lib.ListN.{length, getD, set, replicate, length-set}
 use lib.Seq.{getD-set-same, getD-set-other}
-use Rattle.spec.specs.RoleSet.{opens, cell-after}
+use Rattle.spec.specs.RoleSet.{opens, cell-after, or-over-roles}
 use Rattle.bits.specs.Laws.Below.{below-or-from}
 use Rattle.bits.specs.Bit.{bit, word-bits}
 use Rattle.bits.specs.Laws.Bit.{bit-and, bit-or, bit-first, bit-next}
 use Rattle.cell_rows.specs.Rows.{row-words, row-bits, cell}
+use Rattle.cell_rows.specs.CellPlaces.{marked}
 use Rattle.cell_rows.specs.Laws.Width.{word-in-row}
 use Rattle.cells.specs.Laws.MadeCells.{no-cells}
 use Rattle.product.specs.RowAfter.{roles-in, RowAfter}
+use Rattle.product.specs.Laws.OrOverRoles.{what-a-cell-has-after-r-roles-is-the-or-over-roles-1-to-r}
 
 -- ---- word after word of a role's row
 
@@ -82,6 +84,13 @@ row-more {has} {gives} {row} {after} {u} {r} had taken own =
           ((rw own at taken) .bits (p / word-bits) (p % word-bits) (word-in-row p l) (mod-lt p (lit< tt))
           ∙ ap (λ (b : Bool). b || opens (roles-in has gives count) u p r) (had .cells count p l));
     }
+
+-- so a row after r roles is the "or" over roles 1 to r, at each permission
+pub row-is-the-or-over-roles : {has gives row : List ℕ} {u r : ℕ} → RowAfter has gives u r row → (count p : ℕ)
+    → p < row-bits → marked row p ≡ or-over-roles (roles-in has gives count) u p r
+row-is-the-or-over-roles {has} {gives} {row} {u} {r} after count p l =
+    after .cells count p l
+    ∙ what-a-cell-has-after-r-roles-is-the-or-over-roles-1-to-r (roles-in has gives count) u p r
 
 -- ---- the roles of a word, from its lowest position on
 
