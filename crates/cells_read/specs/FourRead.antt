@@ -6,12 +6,12 @@ use native.Mathlib.Omega.{arith}
 use mathlib.Core.Path.{_≡_, refl, sym, ap, _∙_}
 use mathlib.Core.Logic.{⊎-elim}
 use mathlib.Core.Bool.{Bool, true, false, So, _&&_, and-false}
-use borrow.Author.Tests.{eqb-true, eq-eqb}
+use borrow.Author.Tests.{eqb-true}
 use lib.Bits.{bitAnd, bitOr, and-lt, or-lt, or-zero-r}
 use lib.Dec.{eqb}
 use lib.ListN.{getD}
 use lib.Pow.{pow-pos, pow-lt}
-use Rattle.bits.specs.Truth.{not-both, passes-or-fails, and-left, and-right}
+use Rattle.bits.specs.Truth.{passes-or-fails, and-left, and-right}
 use Rattle.bits.specs.Laws.Bit.{bit-and, bit-ext, bit-of-zero, bit-one-shifted, one-shifted}
 use Rattle.bits.specs.Counting.{one-if}
 use Rattle.bits.specs.Bit.{bit}

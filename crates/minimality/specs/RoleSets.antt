@@ -6,7 +6,7 @@ use Prim.Native.Nat.{ℕ, _≤_, _<_}
 use native.Mathlib.Omega.{arith}
 use mathlib.Core.Path.{_≡_, refl, sym, _∙_}
 use mathlib.Core.Logic.{⊎-elim}
-use mathlib.Core.Bool.{Bool, true, So, _&&_}
+use mathlib.Core.Bool.{Bool, true, So}
 use mathlib.Core.List.{List, List·Memᴰ}
 use mathlib.Core.Option.{Option·getD}
 use lib.ListN.{length}

@@ -5,13 +5,13 @@ use Prim.Native.Nat.{ℕ, _+_, _*_, _^_, _≤_, _<_}
 use native.Mathlib.Omega.{arith}
 use mathlib.Core.Path.{_≡_, refl, sym, _∙_}
 use mathlib.Core.Logic.{⊎-elim}
-use mathlib.Core.Bool.{Bool, false, So, _&&_, and-false, Bool·beq}
+use mathlib.Core.Bool.{Bool, false, So, and-false, Bool·beq}
 use mathlib.Core.List.{List, []}
 use lib.Arith.{digits-lt, digits-div, digits-mod}
 use lib.ListN.{getD, List·getD-eq-default}
 use Rattle.spec.specs.Vocabulary.{every-below}
 use Rattle.spec.specs.Sheet.{Sheet, user-count, permission-count, holds}
-use Rattle.spec.specs.RoleSet.{RoleSet, product}
+use Rattle.spec.specs.RoleSet.{product}
 use Rattle.spec.specs.Refusal.{product-agrees}
 use Rattle.bits.specs.Truth.{fails-unless, same-truth, and-intro, beq-same, beq-refl}
 use Rattle.bits.specs.Laws.Below.{below-or-from, every-below-intro, every-below-elim, every-below-ext, every-below-add}

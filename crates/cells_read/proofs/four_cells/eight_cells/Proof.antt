@@ -1,8 +1,7 @@
 -- `four_cells::eight_cells`: twice four cells, the second four behind the first.
 use borrow.Author.Needs.{needs}
-use Prim.Native.Nat.{_+_, _≤_}
+use Prim.Native.Nat.{_+_}
 use native.Mathlib.Omega.{arith}
-use mathlib.Core.Path.{_≡_, _∙_}
 use borrow.Author.Tests.{not-false}
 use Rattle.bits.specs.Truth.{not-fails}
 use Rattle.cells_read.specs.FourRead.{words-small}

@@ -1,13 +1,10 @@
 -- `four_cells::four_cells`: the eight bytes are read from the text, and what their number sets says the cells.
 use borrow.Author.Needs.{needs}
-use Prim.Native.Nat.{_*_, _^_}
-use native.Mathlib.Nat.{zero-mul}
-use mathlib.Core.Path.{_≡_, refl, ap, _∙_}
+use mathlib.Core.Path.{_≡_, _∙_}
 use borrow.Author.Tests.{not-false}
-use lib.Bits.{bitOr}
 use Rattle.bits.specs.Truth.{not-fails}
 use Rattle.bits.specs.Bit.{bit}
-use Rattle.cells_read.specs.FourRead.{SetsCells, set-word, word-small, word-alone, none-set}
+use Rattle.cells_read.specs.FourRead.{set-word, word-small, word-alone, none-set}
 use Rattle.cells_read.specs.Laws.FourRead.{four-stands, four-off, read-off, read-on, blank-small}
 use Rattle.cells_read.proofs.four_cells.four_cells.Statement.{statement}
 use Rattle.cells_read.proofs.four_cells.four_cells.Tie as tie

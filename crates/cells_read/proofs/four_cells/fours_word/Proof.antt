@@ -1,5 +1,5 @@
 -- `four_cells::fours_word`: the eights are read, and where the number of fours is odd the last four behind them.
-use Prim.Native.Nat.{_+_, _*_, _/_, _%_}
+use Prim.Native.Nat.{_+_, _*_, _/_}
 use native.Mathlib.Omega.{arith}
 use mathlib.Core.Path.{_≡_}
 use borrow.Author.Tests.{not-false}

@@ -1,5 +1,4 @@
 -- `product::role_steps::all_if`: a word with every position, and the word 0.
-use native.Mathlib.Omega.{arith}
 use mathlib.Core.Path.{_∙_, sym}
 use borrow.Author.Tests.{lt-ltb}
 use Rattle.bits.specs.Bit.{word-bits}

@@ -1,10 +1,8 @@
 -- `product::role_steps::row_after`: the row has what the user's cells have after the roles of the words below j.
-use borrow.Author.Needs.{needs}
 use Prim.Native.Nat.{_-_, _≤_}
 use native.Mathlib.Omega.{arith}
 use mathlib.Core.Path.{_≡_, refl}
 use lib.ListN.{length}
-use Rattle.bits.specs.Bit.{word-bits}
 use Rattle.cell_rows.specs.Rows.{row-words, row-bits}
 use Rattle.cell_rows.specs.RowWords.{before-word}
 use Rattle.product.specs.RowAfter.{RowAfter}

@@ -7,7 +7,7 @@ use mathlib.Core.Path.{_≡_}
 use lib.ListN.{length}
 use Rattle.bits.specs.Bit.{word-bits}
 use Rattle.cell_rows.specs.Rows.{row-words}
-use Rattle.cell_rows.specs.RowWords.{in-word, before-word}
+use Rattle.cell_rows.specs.RowWords.{before-word}
 use Rattle.cell_rows.specs.Laws.RowWithin.{row-within, word-below}
 use Rattle.product.specs.RowAfter.{RowAfter}
 use Rattle.product.specs.Laws.RoleSteps.{LeftFrom, left-start, left-more, left-lowest}
