@@ -52,13 +52,14 @@ SetsCells n = n ≡ four-set (bit n 8) (bit n 24) (bit n 40) (bit n 56)
 abbrev pub set-word : ℕ → ℕ
 set-word n = four-word (bit n 8) (bit n 24) (bit n 40) (bit n 56)
 
--- what a number sets beside those of four cells that are not set, or that it says no four cells, and then nothing
+-- what the number of four cells has beyond that of cells that are not set; or that it is the number of no four cells,
+-- and then nothing
 pub record SetOf (n : ℕ) (r : CellsWord) : Type 0 where
   pub good : So (r .good) → (n ≡ no-cells + r .word) × SetsCells (r .word)
   pub off : r .good ≡ false → (a b c d : Bool) → n ≡ no-cells + four-set a b c d → ⊥
   pub blank : r .good ≡ false → r .word ≡ 0
 
--- a test of four truth values that passes in each of the sixteen cases
+-- a test that passes in both cases, and one of four truth values that passes in all sixteen
 abbrev each : (Bool → Bool) → Bool
 each test = test true && test false
 
@@ -102,7 +103,7 @@ pub word-digits : (a b c d : Bool) → word-read (four-word a b c d) ≡ four-se
 unfolding bit
 word-digits = same-in-each (λ a b c d. word-read (four-word a b c d)) four-set refl
 
--- the positions of twice four cells as the code brings them side by side, computed in each of the cases
+-- the positions of twice four cells as the code brings them side by side
 abbrev pub brought-together : ℕ → ℕ → ℕ
 brought-together first second =
     let all : ℕ = first + second * 16 in
@@ -112,6 +113,7 @@ brought-together first second =
 abbrev both-words : ℕ → ℕ → ℕ
 both-words first second = bitOr first (second * 2 ^ 4)
 
+-- computed in each of the 256 cases
 together : (a b c d e f g h : Bool) → brought-together (four-set a b c d) (four-set e f g h) ≡ both-words
     (four-word a b c d) (four-word e f g h)
 together a b c d =
@@ -132,7 +134,7 @@ sets-together first second e f =
 pub word-small : (a b c d : Bool) → four-word a b c d < 2 ^ 4
 word-small a b c d = omega (arith, one-if-small a, one-if-small b, one-if-small c, one-if-small d)
 
--- where the second has none, the first's are left
+-- a number of no cells; beside it only the other's cells are left
 pub none-set : SetsCells 0
 unfolding bit
 none-set = refl

@@ -2,7 +2,7 @@
 -- other, and where some of them do not stand, no such cells do.
 use Prim.Native.Nat.{ℕ, _+_, _-_, _*_, _≤_, _<_}
 use native.Mathlib.Omega.{arith}
-use mathlib.Core.Path.{_≡_, sym, ap, _∙_}
+use mathlib.Core.Path.{_≡_, refl, sym, ap, _∙_}
 use mathlib.Core.Logic.{⊎-elim}
 use mathlib.Core.Bool.{Bool}
 use mathlib.Core.List.{List}
@@ -13,6 +13,7 @@ use Rattle.bits.specs.Bit.{word-bits}
 use Rattle.cell_rows.specs.Rows.{row-words, cell}
 use Rattle.cells_read.specs.CellsWord.{cell-byte, cells-text, CellsStand, CellsIn}
 use Rattle.cells_read.specs.Laws.CellsStanding.{stands-cells, cells-stand}
+use Rattle.cells_read.specs.Laws.FourRead.{stand-from}
 use Rattle.cell_text.specs.CellsText.{cell-field}
 use Rattle.cell_text.specs.Laws.CellsWritten.{cell-field-length}
 use Rattle.steps.specs.Laws.Aligned.{Aligned, aligned-length, aligned-listed}
@@ -43,19 +44,6 @@ cells-text-aligned count a b =
     aligned-listed count (λ i. cell-field (a i)) (λ i. cell-field (b i)) (λ i h. cells-aligned (a i) (b i))
 
 -- ---- cells that stand one after the other
-
--- some of them, from cell i on
-stand-from : {text : Bytes} {at count : ℕ} {ones : ℕ → Bool} (i n : ℕ) → i + n ≤ count → CellsStand text at count ones
-    → CellsStand text (at + 2 * i) n (λ j. ones (i + j))
-stand-from {text} {at} {count} {ones} i n h c =
-    record {
-      within = omega (arith, c .within);
-      commas = λ j l. rw (place j) (c .commas (i + j) (omega arith));
-      cells = λ j l. rw (place j) (c .cells (i + j) (omega arith));
-    }
-  where
-    place : (j : ℕ) → at + 2 * i + 2 * j ≡ at + 2 * (i + j)
-    place j = omega arith
 
 -- those before cell i, and those from it on
 stand-more : {text : Bytes} {at i n : ℕ} {f g : ℕ → Bool} (all : ℕ → Bool) → CellsStand text at i f
@@ -122,5 +110,5 @@ pub reading-off : {text : Bytes} {at : ℕ} (i n count : ℕ) → at ≤ length 
 reading-off {text} {at} i n count h few none cells =
     record {
       misses = λ rest e. none (λ j. cells (i + j))
-          (stand-from i n few (cells-stand text at count cells rest h e));
+          (stand-from i n (at + 2 * i) few refl (cells-stand text at count cells rest h e));
     }

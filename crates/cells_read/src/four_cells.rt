@@ -12,7 +12,7 @@ ghost use Rattle.cells_read.specs.FourRead.{four-set, SetsCells, set-wor
 // Four cells that are not set, each behind a comma: the bytes `,0,0,0,0`, the first the lowest.
 const NO_CELLS: u64 = 0x302c_302c_302c_302c;
 
-// A number without its other positions.
+// Position p of a number, and no other.
 fn kept_at(n: u64, p: usize) -> u64
     requires { ⌜ p < word-bits ⌝ }
     ensures { λ r. ⌜ r ≡ one-if (bit n p) * 2 ^ p ⌝ }
@@ -20,7 +20,7 @@ fn kept_at(n: u64, p: usize) -> u64
     n & (1 << p)
 }
 
-// A number without its positions but those of four cells.
+// Positions 8, 24, 40 and 56 of a number, and no others: in the number of four cells, those of the cells that are set.
 fn kept_cells(n: u64) -> u64
     ensures { λ r. ⌜ r ≡ four-set (bit n 8) (bit n 24) (bit n 40) (bit n 56) ⌝ }
 {
@@ -31,7 +31,8 @@ fn kept_cells(n: u64) -> u64
     first + second + third + fourth
 }
 
-// What a number sets beside those of four cells that are not set. Where it says no four cells, it is off.
+// What the number of four cells has beyond `NO_CELLS`: the positions 8, 24, 40, 56 of those that are set, not yet side
+// by side. Where it is the number of no four cells, it is off.
 fn set_of(n: u64) -> CellsWord
     ensures { λ r. ⌜ SetOf n r ⌝ }
 {
@@ -48,9 +49,9 @@ fn set_of(n: u64) -> CellsWord
     }
 }
 
-// The positions of twice four cells, side by side, of two numbers that have no others. The second number's are moved
-// beside the first's, by four; then the second and the fourth cell beside the first and the third, and these beside
-// those.
+// The positions of twice four cells, side by side, of two numbers that have no others. The second number's are moved up
+// by four; then each cell is put beside the one before it, so that a number's second stands by its first and its fourth
+// by its third, and the later pair is put beside the earlier. The remainder drops what else was moved.
 fn side_by_side(first: u64, second: u64) -> u64
     requires { ⌜ SetsCells first × SetsCells second ⌝ }
     ensures { λ r. ⌜ r ≡ bitOr (set-word first) (set-word second * 2 ^ 4) ⌝ }
@@ -111,7 +112,7 @@ fn eight_cells(s: &[u8], at: usize) -> CellsWord
     }
 }
 
-// Reads cells eight by eight from a place on.
+// Reads so many times eight cells from a place on.
 fn eights_word(s: &[u8], at: usize, eights: usize) -> CellsWord
     requires { ⌜ (at + 2 * (8 * eights) ≤ length (now s)) × (8 * eights ≤ word-bits) ⌝ }
     ensures { λ r. ⌜ WordOfCells (now (s .entry)) at (8 * eights) r ⌝ }
@@ -129,7 +130,7 @@ fn eights_word(s: &[u8], at: usize, eights: usize) -> CellsWord
     CellsWord { good: true, word }
 }
 
-// Reads cells eight by eight from a place on, and four behind them where their number is odd.
+// Reads so many times four cells from a place on: eight by eight, and the last four where the number of fours is odd.
 pub fn fours_word(s: &[u8], at: usize, fours: usize) -> CellsWord
     requires { ⌜ (at + 2 * (4 * fours) ≤ length (now s)) × (4 * fours ≤ word-bits) ⌝ }
     ensures { λ r. ⌜ WordOfCells (now (s .entry)) at (4 * fours) r ⌝ }

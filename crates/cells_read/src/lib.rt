@@ -1,4 +1,4 @@
-// Cells read from a line of text: into a word, four at a time, and into a row of words.
+// Cells read from a line of text: into a word, eight at a time, and into a row of words.
 mod four_cells;
 mod line_cells;
 mod row_cells;

@@ -6,8 +6,8 @@ use Rattle.spec.specs.RoleSet.{RoleSet, cell-after}
 use Rattle.cell_rows.specs.Rows.{row-bits, cell}
 use Rattle.cell_rows.specs.CellPlaces.{marked}
 
--- the role set of two matrices, a row of words for each user and for each role; it has at most as many roles as a row
--- has bits, since past them a cell is one of the next row
+-- the role set of two matrices, a row of words for each user and for each role. It is meant for at most as many roles
+-- as a row has bits, which the contracts require: past them a cell is one of the next row
 abbrev pub roles-in : List ℕ → List ℕ → ℕ → RoleSet
 roles-in has gives count = record { count = count; has = cell has; gives = cell gives }
 

@@ -36,7 +36,7 @@ fn row_agrees(rows: &[u64], has: &[u64], gives: &[u64], roles: usize, u: UserNo)
     true
 }
 
-// Whether that is so for each user.
+// Whether, for each of the first `users` users, the row after all roles is the user's row of the sheet.
 pub fn rows_agree(rows: &[u64], has: &[u64], gives: &[u64], roles: usize, users: usize) -> bool
     requires { ⌜ (roles ≤ row-bits) × (users * row-words ≤ length (now rows)) × (users * row-words ≤ length (now has))
         × (roles * row-words ≤ length (now gives)) ⌝ }

@@ -21,7 +21,7 @@ fn all_if(yes: bool) -> u64
 
 // One step: a user's row after all roles before this one takes this one, and is the row after one role more. A
 // permission is in it if it was, or if the user has the role and the role holds it. Whether the user has the role is
-// handed in (`owned`), since who walks over the roles of a word knows it.
+// handed in (`owned`), since `take_word` reads it off the user's word; `has` and `u` are there for the contract.
 fn take_role(
     row: &mut [u64; ROW_WORDS],
     has: &[u64],
@@ -44,9 +44,9 @@ fn take_role(
     }
 }
 
-// A user's row after all roles of the words before word j takes the roles of word j too, as far as they are among the
-// first r: each of them in its turn, whether the user has it or not. `left` is the user's word without its lowest b
-// positions, so its lowest one says whether the user has role first + b.
+// A user's row after those of the first r roles that stand before word j takes those of word j too. The text has each of
+// them in its turn, also one that the user does not have. `rest` is the user's word without its lowest b positions, so
+// that position 0 of it says whether the user has role first + b.
 fn take_word(row: &mut [u64; ROW_WORDS], has: &[u64], gives: &[u64], u: UserNo, j: usize, r: usize)
     requires { ⌜ (length (now row) ≡ row-words) × (j < row-words) × ((u .0 + 1) * row-words ≤ length (now has))
         × (r * row-words ≤ length (now gives)) ⌝ }
@@ -56,18 +56,18 @@ fn take_word(row: &mut [u64; ROW_WORDS], has: &[u64], gives: &[u64], u: UserNo, 
 {
     let first = j * WORD_BITS;
     let count = cells_in_word(r, j);
-    let mut left = has[u.0 * ROW_WORDS + j];
+    let mut rest = has[u.0 * ROW_WORDS + j];
     let mut b = 0;
     while b < count {
         let role = first + b;
-        take_role(row, has, gives, u, RoleNo(role), left % 2 == 1);
-        left = left / 2;
+        take_role(row, has, gives, u, RoleNo(role), rest % 2 == 1);
+        rest = rest / 2;
         b += 1;
     }
 }
 
-// What a user's row has after the first r roles, which are document 001's roles 1 to r: they are taken one after the
-// other from number 0 on, every one of them, also those that the user does not have.
+// What a user's row has after the first r roles, which are document 001's roles 1 to r. The text takes them one after
+// the other from number 0 on, every one of them.
 pub fn row_after(has: &[u64], gives: &[u64], u: UserNo, r: usize) -> [u64; ROW_WORDS]
     requires { ⌜ (r ≤ row-bits) × ((u .0 + 1) * row-words ≤ length (now has))
         × (r * row-words ≤ length (now gives)) ⌝ }

@@ -4,7 +4,8 @@ use Rattle.spec.specs.Vocabulary.{ℕ, zero, suc, _<_, _≡_, Bool, fals
 use Rattle.spec.specs.Sheet.{Sheet, user-count, permission-count, holds}
 
 -- user u has role h; role h holds permission p. Users, permissions and roles are numbered from 0: role h is document
--- 001's role h + 1 and a book's R(h + 1), and `has` u h is its URA[u + 1][h + 1], `gives` h p its RPA[h + 1][p + 1]
+-- 001's role h + 1 and a book's R(h + 1); in document 001, `has` u h is URA[u + 1][h + 1], `gives` h p is
+-- RPA[h + 1][p + 1] and `count` is k
 pub record RoleSet : Type 0 where
   pub count : ℕ
   pub has : ℕ → ℕ → Bool

@@ -74,7 +74,7 @@ none-opens roles u p zero none = refl
 none-opens roles u p (suc r) none =
     rw (none-opens roles u p r (λ h l. none h (le-step l)), none r (le-refl (suc r)))
 
--- two role sets whose first r roles open the same
+-- two role sets whose first r roles open the same have the same cell after r roles
 pub same-opens : (first second : RoleSet) (u p r : ℕ) → ((h : ℕ) → h < r → opens first u p h ≡ opens second u p h)
     → cell-after first u p r ≡ cell-after second u p r
 unfolding cell-after

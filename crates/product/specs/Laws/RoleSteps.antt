@@ -94,20 +94,20 @@ row-is-the-or-over-roles {has} {gives} {row} {u} {r} after count p l =
 
 -- ---- the roles of a word, from its lowest position on
 
--- the positions of a word that are left when b of them are gone
-pub record LeftFrom (word b left : ℕ) : Type 0 where
-  pub bits : (q : ℕ) → bit left q ≡ bit word (b + q)
+-- a word without its lowest b positions, moved down by b
+pub record RestOf (word b rest : ℕ) : Type 0 where
+  pub bits : (q : ℕ) → bit rest q ≡ bit word (b + q)
 
-pub left-start : (word : ℕ) → LeftFrom word 0 word
-left-start word = record { bits = λ q. ap (bit word) (omega arith) }
+pub rest-start : (word : ℕ) → RestOf word 0 word
+rest-start word = record { bits = λ q. ap (bit word) (omega arith) }
 
-pub left-more : {word b left : ℕ} → LeftFrom word b left → LeftFrom word (b + 1) (left / 2)
-left-more {word} {b} {left} from =
-    record { bits = λ q. rw (← bit-next left q) (from .bits (suc q) ∙ ap (bit word) (omega arith)) }
+pub rest-more : {word b rest : ℕ} → RestOf word b rest → RestOf word (b + 1) (rest / 2)
+rest-more {word} {b} {rest} from =
+    record { bits = λ q. rw (← bit-next rest q) (from .bits (suc q) ∙ ap (bit word) (omega arith)) }
 
--- the lowest one that is left says whether the user has the role at that position
-pub left-lowest : (has : List ℕ) (u j b left : ℕ) → LeftFrom (getD has (u * row-words + j) 0) b left → b < word-bits
-    → eqb (left % 2) 1 ≡ cell has u (j * word-bits + b)
-left-lowest has u j b left from l =
-    rw (← bit-first left, digits-div j l, digits-mod j l)
+-- position 0 of what is left of the user's word says whether the user has the role of the lowest position left
+pub rest-lowest : (has : List ℕ) (u j b rest : ℕ) → RestOf (getD has (u * row-words + j) 0) b rest → b < word-bits
+    → eqb (rest % 2) 1 ≡ cell has u (j * word-bits + b)
+rest-lowest has u j b rest from l =
+    rw (← bit-first rest, digits-div j l, digits-mod j l)
     (from .bits 0 ∙ ap (bit (getD has (u * row-words + j) 0)) (omega arith))

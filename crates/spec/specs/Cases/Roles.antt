@@ -72,9 +72,9 @@ worked-steps =
     ∷ ((false ∷ false ∷ false ∷ []) ∷ (true ∷ true ∷ false ∷ []) ∷ (true ∷ true ∷ true ∷ []) ∷ [])
     ∷ []
 
-worked-product : steps cell-after 3 3 (roles-of worked []) ≡ worked-steps
+worked-cells-after : steps cell-after 3 3 (roles-of worked []) ≡ worked-steps
 unfolding steps worked-steps roles-of reduction classes-of worked lowest-below cell-after
-worked-product = refl
+worked-cells-after = refl
 
 -- the "or" over roles 1 to r says the same
 worked-or : steps or-over-roles 3 3 (roles-of worked []) ≡ worked-steps

@@ -1,4 +1,4 @@
--- `product::role_steps::take_word`: b roles of the word are taken, and the positions of left are those not yet looked
+-- `product::role_steps::take_word`: b roles of the word are taken, and the positions of rest are those not yet looked
 -- at. The next role is that after all roles taken, as the step asks.
 use borrow.Author.Needs.{needs}
 use Prim.Native.Nat.{_+_, _*_, _-_, _≤_, _<_}
@@ -10,17 +10,17 @@ use Rattle.cell_rows.specs.Rows.{row-words}
 use Rattle.cell_rows.specs.RowWords.{before-word}
 use Rattle.cell_rows.specs.Laws.RowWithin.{row-within, word-below}
 use Rattle.product.specs.RowAfter.{RowAfter}
-use Rattle.product.specs.Laws.RoleSteps.{LeftFrom, left-start, left-more, left-lowest}
+use Rattle.product.specs.Laws.RoleSteps.{RestOf, rest-start, rest-more, rest-lowest}
 use Rattle.product.proofs.role_steps.take_word.Statement.{statement}
 use Rattle.product.proofs.role_steps.take_word.Tie as tie
 
 abbrev Inv-loop : tie.InvT-loop
-Inv-loop row₀ has gives u j r first count left₀ b₀ row left b =
-    (b ≤ count) × (length row ≡ row-words) × LeftFrom left₀ b left
+Inv-loop row₀ has gives u j r first count rest₀ b₀ row rest b =
+    (b ≤ count) × (length row ≡ row-words) × RestOf rest₀ b rest
     × RowAfter has gives (u .0) (before-word r j + b) row
 
 abbrev μ-loop : tie.MeasureT-loop
-μ-loop row₀ has gives u j r first count left₀ b₀ row left b = count - b
+μ-loop row₀ has gives u j r first count rest₀ b₀ row rest b = count - b
 
 mul-first : tie.Need-mul-first Inv-loop μ-loop
 unfolding row-words
@@ -29,28 +29,28 @@ mul-first c = omega arith
 word-there : (c : tie.Start Inv-loop μ-loop) → c .args .u .0 * row-words + c .args .j < length (c .args .has .now)
 word-there c = word-below (c .args .u .0) (c .args .u .0 + 1) (c .args .j) _ (omega arith) (c .pre .0 .1) (c .pre .0 .2)
 
-mul-left : tie.Need-mul-left Inv-loop μ-loop
+mul-rest : tie.Need-mul-rest Inv-loop μ-loop
 unfolding row-words
-mul-left c = omega (arith, word-there (c .before .before .before .before))
+mul-rest c = omega (arith, word-there (c .before .before .before .before))
 
-add-left : tie.Need-add-left Inv-loop μ-loop
+add-rest : tie.Need-add-rest Inv-loop μ-loop
 unfolding row-words
-add-left c = omega (arith, word-there (c .before .before .before .before))
+add-rest c = omega (arith, word-there (c .before .before .before .before))
 
-mul-left-2 : tie.Need-mul-left-2 Inv-loop μ-loop
+mul-rest-2 : tie.Need-mul-rest-2 Inv-loop μ-loop
 unfolding row-words
-mul-left-2 c = omega (arith, word-there (c .before .before .before .before))
+mul-rest-2 c = omega (arith, word-there (c .before .before .before .before))
 
-shared-slice-read-left : tie.Need-shared-slice-read-left Inv-loop μ-loop
+shared-slice-read-rest : tie.Need-shared-slice-read-rest Inv-loop μ-loop
 unfolding row-words
-shared-slice-read-left c = word-there (c .before .before .before .before .before)
+shared-slice-read-rest c = word-there (c .before .before .before .before .before)
 
 loop-holds : tie.Need-loop-holds Inv-loop μ-loop
 loop-holds c =
     let start = c .before .before .before .before .before in
     let none : before-word (start .args .r) (start .args .j) + 0 ≡ before-word (start .args .r) (start .args .j) =
     omega arith in
-    (omega arith, start .pre .0 .0, left-start _, rw none (start .pre .1))
+    (omega arith, start .pre .0 .0, rest-start _, rw none (start .pre .1))
 
 -- the next role of the word is one of the first r
 role-below : (c : tie.In-loop Inv-loop μ-loop)
@@ -77,7 +77,7 @@ take-role-requires c κs =
       (
         at .inv .1,
         row-within (a .j * word-bits + at .b) (a .r) _ (role-below in-loop) (start .pre .0 .3),
-        left-lowest (a .has .now) (a .u .0) (a .j) (at .b) (at .left) (at .inv .2) (position-below in-loop),
+        rest-lowest (a .has .now) (a .u .0) (a .j) (at .b) (at .rest) (at .inv .2) (position-below in-loop),
       ),
       rw next at (at .inv .3),
     )
@@ -92,7 +92,7 @@ loop-again c =
     omega (arith, role-below in-loop) in (
       omega (arith, in-loop .loop-test .taken),
       c .take-role .ensures .0,
-      left-more (at .inv .2),
+      rest-more (at .inv .2),
       rw next (c .take-role .ensures .1),
     )
 
@@ -107,6 +107,6 @@ returns c =
 
 pub take-word-spec : {M : Type 1} → statement M
 take-word-spec =
-    tie.close (tie.spec Inv-loop μ-loop mul-first (λ c κs. search needs) mul-left add-left mul-left-2
-    shared-slice-read-left loop-holds add-role take-role-requires (λ c. omega arith) (λ c. omega arith) loop-again
+    tie.close (tie.spec Inv-loop μ-loop mul-first (λ c κs. search needs) mul-rest add-rest mul-rest-2
+    shared-slice-read-rest loop-holds add-role take-role-requires (λ c. omega arith) (λ c. omega arith) loop-again
     returns)
