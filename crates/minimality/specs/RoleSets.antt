@@ -15,16 +15,16 @@ use Rattle.spec.specs.Sheet.{Sheet, Grant, holds, user-count, permission-count,
 use Rattle.spec.specs.Fit.{fits}
 use Rattle.spec.specs.Cover.{grant-at}
 use Rattle.spec.specs.RoleSet.{RoleSet, opens, product, Multiplies}
-use Rattle.bits.specs.Truth.{not-both, and-intro, and-left, and-right}
+use Rattle.bits.specs.Truth.{not-both, and-left, and-right}
 use Rattle.bits.specs.Counting.{Lowest}
-use Rattle.bits.specs.Laws.Below.{some-below-intro, below-or-from}
+use Rattle.bits.specs.Laws.Below.{below-or-from}
 use Rattle.bits.specs.Laws.Lowest.{lowest-below-found, lowest-below-intro}
 use Rattle.bits.specs.Laws.Count.{count-below-all-intro}
 use Rattle.bits.specs.Laws.CountJoin.{count-below-injects}
 use Rattle.cells.specs.Laws.Grant.{grant-held, held-user-below, held-permission-below}
 use Rattle.fit.specs.Laws.Fit.{Held, fits-intro}
 use Rattle.cells.specs.Laws.Number.{grant-at-member}
-use Rattle.product.specs.Laws.OrOverRoles.{opened-intro, opened-elim}
+use Rattle.product.specs.Laws.OrOverRoles.{product-as-it-was, opened-intro}
 use Rattle.minimality.specs.GrantClassing.{Even, ClassingOf, Independent}
 
 -- ---- the cells of an even sheet
@@ -57,15 +57,13 @@ covers-elim roles g r e = (
 pub held-is-covered : {roles : RoleSet} {sheet : Sheet} → Even sheet → Multiplies roles sheet → (g : Grant)
     → Held sheet g
     → Lowest (roles .count) (covers roles g) (covering-role roles g)
-unfolding covering-role product
+unfolding covering-role
 held-is-covered {roles} {sheet} even multiplies g held =
     let i = even-user-below even (g .user) (g .permission) held in
     let j = even-permission-below even (g .user) (g .permission) held in
-    let by = opened-elim roles (g .user) (g .permission) (roles .count)
-    (multiplies .cell (g .user) (g .permission) i j ∙ held) in
-    let some = some-below-intro (roles .count) (covers roles g) (by .within) (and-intro (roles .has (g .user) (by .role))
-    (roles .gives (by .role) (g .permission)) (by .has) (by .gives)) in
-    let w = lowest-below-found (roles .count) (covers roles g) some in
+    let opened = sym (product-as-it-was roles (g .user) (g .permission)) ∙ multiplies .cell (g .user) (g .permission) i j
+    ∙ held in
+    let w = lowest-below-found (roles .count) (covers roles g) opened in
     rw (lowest-below-intro (roles .count) (covers roles g) (w .1)) (w .1)
 
 -- what a role opens is held, within the sheet

@@ -5,10 +5,11 @@ use Prim.Native.Nat.{ℕ, zero, suc, _<_}
 use native.Mathlib.Nat.{le-refl, le-step}
 use mathlib.Core.Path.{_≡_, refl, sym, ap, _∙_}
 use mathlib.Core.Logic.{_↔_}
-use mathlib.Core.Bool.{Bool, false, So, _||_}
+use mathlib.Core.Bool.{Bool, false, So, _&&_, _||_, or-comm}
 use Rattle.spec.specs.Vocabulary.{any}
 use Rattle.spec.specs.RoleSet.{RoleSet, opens, cell-after, product, roles-1-to, or-over-roles}
 use Rattle.bits.specs.Truth.{and-intro, and-left, and-right}
+use Rattle.bits.specs.Counting.{some-below}
 use Rattle.lists.specs.ListOfLaws.{list-of-last, list-of-member, list-of-element}
 use Rattle.lists.specs.TestLaws.{any-intro, any-elim, any-last}
 
@@ -27,6 +28,19 @@ pub product-is-the-or-over-all-roles : (roles : RoleSet) (u p : ℕ)
 unfolding product
 product-is-the-or-over-all-roles roles u p =
     what-a-cell-has-after-r-roles-is-the-or-over-roles-1-to-r roles u p (roles .count)
+
+-- ---- as some role that opens a cell
+
+some-after : (roles : RoleSet) (u p r : ℕ) → cell-after roles u p r ≡ some-below r (opens roles u p)
+unfolding cell-after some-below
+some-after roles u p zero = refl
+some-after roles u p (suc r) = rw (some-after roles u p r) (or-comm (some-below r (opens roles u p)) (opens roles u p r))
+
+-- the text that was the definition of the product before request [2]: its value is the same
+pub product-as-it-was : (roles : RoleSet) (u p : ℕ)
+    → product roles u p ≡ some-below (roles .count) (λ h. roles .has u h && roles .gives h p)
+unfolding product
+product-as-it-was roles u p = some-after roles u p (roles .count)
 
 -- ---- by the roles that open a cell
 
