@@ -62,7 +62,9 @@ began=$SECONDS
 printf 'user,a\nann,2\n' >"$log/broken sheet"
 front 0 "$(cat crates/rolecheck/data/roosts.book)" book examples/roosts.csv
 front 0 5,5 check examples/roosts.csv crates/rolecheck/data/roosts.book
+front 0 2,2 check crates/play/data/paper.csv crates/play/data/spelled.book
 front 1 7 book "$log/broken sheet"
+front 1 8 book crates/play/data/one-name.csv
 front 1 11 book crates/play/data/wide.csv
 front 1 12 check examples/roosts.csv examples/roosts.csv
 front 2 '' book "$log/no such sheet"

@@ -104,7 +104,7 @@ module _ (sheet : Sheet) (words : List ℕ) where
 
   -- block 4
   pub witness-parts : Lawful sheet → GrantCells words sheet
-      → text-of (witness-block sheet (cell-grants sheet words))
+      → text-of (witness-block (map (witness-line sheet) (cell-grants sheet words)))
       ≡ ascii "user,permission\n" ++ listed (user-count sheet) (witness-row sheet words)
   witness-parts lawful within =
       ap (λ (l : Bytes). ascii "user,permission\n" ++ l)

@@ -7,10 +7,11 @@ use numbers::PermissionNo;
 use numbers::UserNo;
 use text::put_bytes;
 ghost use Prim.Native.Nat.{_*_, _≤_, _<_};
+ghost use mathlib.Core.List.{map};
 ghost use lib.ListN.{length};
 ghost use Rattle.spec.specs.Text.{text-of};
 ghost use Rattle.spec.specs.Sheet.{sheet-of, user-count};
-ghost use Rattle.spec.specs.Book.{witness-block};
+ghost use Rattle.spec.specs.Book.{witness-line, witness-block};
 ghost use Rattle.lists.specs.Listed.{listed};
 ghost use Rattle.cell_rows.specs.Rows.{row-words};
 ghost use Rattle.names.specs.LaidOut.{UsersAt, PermissionsAt};
@@ -83,10 +84,11 @@ pub fn put_witness<'a, 'b>(
     requires { ⌜ UsersAt (now s) (now users) × PermissionsAt (now s) (now permissions)
         × (user-count (sheet-of (now s)) * row-words ≤ length (now witness)) × GrantCells (now witness)
         (sheet-of (now s)) ⌝ }
-    requires { ⌜ length (text-of (witness-block (sheet-of (now s)) (cell-grants (sheet-of (now s)) (now witness)))) ≤
+    requires { ⌜ length (text-of (witness-block (map (witness-line (sheet-of (now s)))
+        (cell-grants (sheet-of (now s)) (now witness))))) ≤
         length (now out) ⌝ }
-    ensures { λ r. ⌜ Written (text-of (witness-block (sheet-of (now (s .entry)))
-        (cell-grants (sheet-of (now (s .entry))) (now (witness .entry)))))
+    ensures { λ r. ⌜ Written (text-of (witness-block (map (witness-line (sheet-of (now (s .entry))))
+        (cell-grants (sheet-of (now (s .entry))) (now (witness .entry))))))
         (now (out .entry)) (now (out .exit)) r ⌝ }
 {
     let lines = put_bytes(out, b"user,permission\n");

@@ -4,7 +4,7 @@
 use Prim.Native.Nat.{ℕ, _≤_}
 use native.Mathlib.Nat.{lt-of-lt-of-le}
 use mathlib.Core.Path.{_≡_, ap, _∙_}
-use mathlib.Core.List.{List, [], _∷_, _++_}
+use mathlib.Core.List.{List, [], _∷_, _++_, map}
 use Rattle.spec.specs.Vocabulary.{list-of}
 use Rattle.spec.specs.Text.{ascii, Bytes, Line, text-of}
 use Rattle.spec.specs.Sheet.{Sheet, Grant, sheet-of, user-count, permission-count, cell-text, user-name}
@@ -13,7 +13,7 @@ use Rattle.spec.specs.Machine.{State}
 use Rattle.spec.specs.RoleSet.{RoleSet}
 use Rattle.spec.specs.Roles.{Standing, roles-of, role-count, standing, bound}
 use Rattle.spec.specs.Book.{role-name, Block, text-of-blocks, counts-block, roles-block, users-block, witness-block}
-use Rattle.spec.specs.Book.{blocks-saying, book-text, said-in, book}
+use Rattle.spec.specs.Book.{witness-line, blocks-saying, book-text, said-in, book}
 use Rattle.lists.specs.ListOfLaws.{list-of-same}
 use Rattle.cell_rows.specs.Rows.{row-bits}
 use Rattle.cells.specs.CellSets.{cell-grants}
@@ -37,20 +37,21 @@ pub book-parts : (text : Bytes) (has gives witness : List ℕ) (counts : Counts)
     → rows-book text has gives witness counts
     ≡ (((((counts-text counts ++ line-end) ++ text-of (shown-roles (sheet-of text) gives (counts .roles))) ++ line-end)
     ++ text-of (shown-users (sheet-of text) has (counts .roles))) ++ line-end)
-    ++ text-of (witness-block (sheet-of text) (cell-grants (sheet-of text) witness))
+    ++ text-of (witness-block (map (witness-line (sheet-of text)) (cell-grants (sheet-of text) witness)))
 unfolding book-text blocks-saying
 book-parts text has gives witness counts =
     four-blocks
     (counts-block (counts .roles) (counts .bound) (standing-case (counts .standing)))
     (shown-roles (sheet-of text) gives (counts .roles))
     (shown-users (sheet-of text) has (counts .roles))
-    (witness-block (sheet-of text) (cell-grants (sheet-of text) witness))
+    (witness-block (map (witness-line (sheet-of text)) (cell-grants (sheet-of text) witness)))
 
 -- ---- the book of a role set
 
 -- the two blocks spell the role set that the rows hold
 roles-shown : (sheet : Sheet) {has gives : List ℕ} {users : ℕ} {roles : RoleSet} → RoleRows has gives users roles
-    → permission-count sheet ≤ row-bits → shown-roles sheet gives (roles .count) ≡ roles-block sheet roles
+    → permission-count sheet ≤ row-bits
+    → shown-roles sheet gives (roles .count) ≡ roles-block (sheet .permissions) roles
 unfolding role-name
 roles-shown sheet {roles} rows fit =
     ap (λ (lines : Block). (ascii "role" ∷ sheet .permissions) ∷ lines)
@@ -59,7 +60,7 @@ roles-shown sheet {roles} rows fit =
     (list-of-same (permission-count sheet) _ _ (λ p k. ap cell-text (rows .gives-shown r p h (lt-of-lt-of-le k fit))))))
 
 users-shown : (sheet : Sheet) {has gives : List ℕ} {roles : RoleSet} → RoleRows has gives (user-count sheet) roles
-    → shown-users sheet has (roles .count) ≡ users-block sheet roles
+    → shown-users sheet has (roles .count) ≡ users-block (sheet .users) roles
 users-shown sheet {roles} rows =
     ap (λ (lines : Block). (ascii "user" ∷ list-of (roles .count) role-name) ∷ lines)
     (list-of-same (user-count sheet) _ _ (λ u h.
@@ -84,15 +85,15 @@ unfolding book-text blocks-saying
 rows-book-says text {has} {gives} words counts {roles} {grants} at fit e =
     let sheet : Sheet = sheet-of text in
     let first : Block = counts-block (roles .count) (counts .bound) (standing-case (counts .standing)) in
+    let last : Block = witness-block (map (witness-line sheet) grants) in
     ap (λ (n : ℕ). book-text sheet (said-by sheet has gives words n (counts .bound)
     (standing-case (counts .standing)))) (at .total)
     ∙ ap (λ (l : List Grant).
     text-of-blocks (first ∷ shown-roles sheet gives (roles .count) ∷ shown-users sheet has (roles .count) ∷
-    witness-block sheet l ∷ [])) e
-    ∙ ap (λ (b : Block). text-of-blocks (first ∷ b ∷ shown-users sheet has (roles .count) ∷ witness-block sheet grants
-    ∷ []))
+    witness-block (map (witness-line sheet) l) ∷ [])) e
+    ∙ ap (λ (b : Block). text-of-blocks (first ∷ b ∷ shown-users sheet has (roles .count) ∷ last ∷ []))
     (roles-shown sheet (at .rows) fit)
-    ∙ ap (λ (b : Block). text-of-blocks (first ∷ roles-block sheet roles ∷ b ∷ witness-block sheet grants ∷ []))
+    ∙ ap (λ (b : Block). text-of-blocks (first ∷ roles-block (sheet .permissions) roles ∷ b ∷ last ∷ []))
     (users-shown sheet (at .rows))
 
 -- and it is the book of the sheet in a state of its search, where the counts, the roles and the witness are those of

@@ -10,8 +10,8 @@ ghost use Rattle.book_lines.specs.Lines.{permissions-line};
 // The bytes of `user`, the first field of a sheet.
 const USER_BYTES: usize = 4;
 
-// The first line of an accepted sheet from behind its `user` on, which is the line of names of block 2 from behind its
-// `role` on: the permissions, a comma before each, and the line feed.
+// The first line of an accepted sheet from behind its `user` on: the permissions, a comma before each, and the line
+// feed. A writing has it in block 2 behind `role`.
 pub fn permissions_line(sheet: &[u8]) -> &[u8]
     requires { ⌜ So (accepted (now sheet)) ⌝ }
     ensures { λ r. ⌜ now r ≡ permissions-line (sheet-of (now (sheet .entry))) ⌝ }

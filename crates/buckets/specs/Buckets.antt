@@ -22,10 +22,14 @@ bucket-words = 4
 abbrev pub spread : ℕ
 spread = 9
 
+-- a byte counts by what is left when it is divided by this: the same for a capital and its small letter
+abbrev pub letters : ℕ
+letters = 32
+
 -- the bucket of bytes that follow others, whose bucket is h
 abbrev pub bucket-after : ℕ → Bytes → ℕ
 bucket-after h [] = h
-bucket-after h (b ∷ rest) = bucket-after ((h * spread + b) % bucket-count) rest
+bucket-after h (b ∷ rest) = bucket-after ((h * spread + b % letters) % bucket-count) rest
 
 -- the bucket of a name
 unfoldable pub bucket-of : Bytes → ℕ

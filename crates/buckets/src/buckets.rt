@@ -3,16 +3,18 @@
 use bits::WORD_BITS;
 use names::part_at;
 use numbers::USER_LIMIT;
+use text::LETTERS;
 use text::same_name;
 ghost use mathlib.Core.Path.{_≡_};
 ghost use mathlib.Core.Bool.{So};
-ghost use Prim.Native.Nat.{ℕ, _+_, _≤_, _<_};
+ghost use Prim.Native.Nat.{ℕ, _+_, _%_, _≤_, _<_};
 ghost use lib.ListN.{length};
 ghost use Rattle.spec.specs.Vocabulary.{repeats};
 ghost use Rattle.spec.specs.Text.{same-name};
 ghost use Rattle.bits.specs.Bit.{bit, word-bits};
 ghost use Rattle.names.specs.NamesAt.{Inside, PartThere, all-names};
-ghost use Rattle.buckets.specs.Buckets.{bucket-count, bucket-words, bucket-of, BitsNamed, meets-word, meets-bucket};
+ghost use Rattle.buckets.specs.Buckets.{bucket-count, bucket-words, letters, bucket-of, BitsNamed, meets-word};
+ghost use Rattle.buckets.specs.Buckets.{meets-bucket};
 
 // How many buckets there are.
 const BUCKETS: usize = 128;
@@ -36,17 +38,17 @@ fn bucket_of(name: &[u8]) -> usize
     let mut h = 0;
     let mut i = 0;
     while i < name.len() {
-        h = (h * SPREAD + wide(name[i])) % BUCKETS;
+        h = (h * SPREAD + letter(name[i])) % BUCKETS;
         i += 1;
     }
     h
 }
 
-// A byte as a number.
-fn wide(b: u8) -> usize
-    ensures { λ r. ⌜ (r ≡ b) × (r < 256) ⌝ }
+// What a byte of a name counts for in its bucket: the same for a capital and its small letter.
+fn letter(b: u8) -> usize
+    ensures { λ r. ⌜ (r ≡ b % letters) × (r < letters) ⌝ }
 {
-    b as usize
+    (b % LETTERS) as usize
 }
 
 // Whether a name equals one of those whose numbers are in a word, where position 0 is the number `first`.

@@ -12,7 +12,7 @@ use Rattle.spec.specs.Text.{Bytes}
 use Rattle.spec.specs.Sheet.{Sheet, sheet-of}
 use Rattle.spec.specs.Witness.{witness}
 use Rattle.spec.specs.Roles.{Standing, witnessed, searched, unsettled, role-count, standing}
-use Rattle.spec.specs.Book.{said-in, book}
+use Rattle.spec.specs.Book.{said-in, book-text, book}
 use Rattle.spec.specs.Right.{WitnessStands, Right}
 use Rattle.spec.specs.Refusal.{accepted}
 use Rattle.spec.specs.Calls.{searched-on}
@@ -69,6 +69,11 @@ not-open s (inl e) o = let z : _≡_ {A = ℕ} 0 1 = cc in omega arith
 not-open s (inr e) o = let z : _≡_ {A = ℕ} 0 1 = cc in omega arith
 
 module _ (text : Bytes) (takes : So (accepted text)) (given : ℕ) where
+  book-written : book (sheet-of text) (reached text given) ≡ book-text (sheet-of text)
+      (said-in (sheet-of text) (reached text given))
+  unfolding book
+  book-written = refl
+
   book-right : Right (sheet-of text) (book (sheet-of text) (reached text given))
       (said-in (sheet-of text) (reached text given))
   book-right = own-book-right text takes (reached text given) (own-facts text takes given)
@@ -80,6 +85,7 @@ module _ (text : Bytes) (takes : So (accepted text)) (given : ℕ) where
       let even = accepted-even text takes in
       record {
         says = said-in (sheet-of text) (reached text given);
+        written = book-written;
         right = book-right;
         bounded = bound-bounds (sheet-of text) (reached text given) searching even;
         smallest = λ settled roles multiplies.

@@ -25,5 +25,5 @@ demand-2 =
       own-books = λ buffer written earlier session led e.
           let owed = demand-3 .owed (record { call = write buffer; outcome = written } ∷ earlier) session led .0 .book
           e in
-          (owed .text, owed .believed .says, owed .last, owed .believed .right);
+          (owed .text, owed .believed .says, owed .last, owed .believed .right, owed .believed .written);
     }

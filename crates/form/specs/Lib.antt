@@ -1,4 +1,4 @@
--- Lines of a book: a row cleared, a line of a name and cells, and the parts of which a book is made.
+-- Lines of a book: a row cleared, a line behind its name, and the parts of which a book is made.
 pub mod Pieces
 pub mod RowCleared
 pub mod LineSteps

@@ -1,17 +1,18 @@
 -- A book as the bytes that follow one another: the parts that a reader meets, each with the empty line that ends its
 -- block. Assumes nothing.
 use Prim.Native.Nat.{ℕ}
-use mathlib.Core.Path.{_≡_, ap, _∙_}
+use mathlib.Core.Path.{_≡_, refl, _∙_}
 use mathlib.Core.Bool.{Bool}
-use mathlib.Core.List.{List, [], _∷_, _++_, map, map-map, append-assoc}
+use mathlib.Core.List.{List, [], _∷_, _++_, map, append-assoc}
+use lib.ListN.{length, getD}
 use Rattle.spec.specs.Vocabulary.{list-of, concat}
 use Rattle.spec.specs.Text.{ascii, Bytes, Line, comma, line-feed, line-text, text-of}
-use Rattle.spec.specs.Sheet.{Sheet, Grant, cell-text, user-count, permission-count, user-name}
+use Rattle.spec.specs.Sheet.{cell-text}
 use Rattle.spec.specs.RoleSet.{RoleSet}
 use Rattle.spec.specs.Roles.{Standing}
 use Rattle.spec.specs.Decimal.{decimal}
 use Rattle.spec.specs.Book.{standing-word, role-name, Block, Said, counts-block, roles-block, users-block}
-use Rattle.spec.specs.Book.{witness-line, witness-block, blocks-saying, book-text}
+use Rattle.spec.specs.Book.{witness-block, Spelling, blocks-spelled, text-of-blocks}
 use Rattle.lists.specs.Listed.{listed, listed-same}
 use Rattle.cells_read.specs.CellsWord.{cells-text}
 use Rattle.text.specs.Line.{behind-comma, line-end}
@@ -23,9 +24,13 @@ use Rattle.text.specs.Laws.Line.{line-parts, block-parts, four-blocks}
 abbrev pub role-fields : ℕ → Bytes
 role-fields count = listed count (λ r. behind-comma (role-name r))
 
+-- what stands behind the name of a line: cells and the end of the line
+abbrev pub row-text : ℕ → (ℕ → Bool) → Bytes
+row-text count cells = cells-text count cells ++ line-end
+
 -- a line of a name and cells
 abbrev pub named-text : Bytes → ℕ → (ℕ → Bool) → Bytes
-named-text name count cells = name ++ (cells-text count cells ++ line-end)
+named-text name count cells = name ++ row-text count cells
 
 -- such lines by number
 abbrev pub named-texts : (ℕ → Bytes) → ℕ → (ℕ → ℕ → Bool) → ℕ → Bytes
@@ -41,30 +46,27 @@ counts-part role-digits bound-digits standing =
     ++ ((bound-digits ++ comma ∷ []) ++ ((standing-word standing ++ line-feed ∷ []) ++ line-end)))
 
 -- block 2: its line of names, and a line for each role
-abbrev pub roles-heading : Sheet → Bytes
-roles-heading sheet = line-text (ascii "role" ∷ sheet .permissions)
+abbrev pub roles-heading : List Bytes → Bytes
+roles-heading permissions = line-text (ascii "role" ∷ permissions)
 
-abbrev pub roles-part : Sheet → ℕ → (ℕ → ℕ → Bool) → Bytes
-roles-part sheet count gives =
-    roles-heading sheet ++ (named-texts role-name (permission-count sheet) gives count ++ line-end)
+abbrev pub roles-part : List Bytes → ℕ → (ℕ → ℕ → Bool) → Bytes
+roles-part permissions count gives =
+    roles-heading permissions ++ (named-texts role-name (length permissions) gives count ++ line-end)
 
 -- block 3: its line of names, and a line for each user
 abbrev pub users-heading : ℕ → Bytes
 users-heading count = (ascii "user" ++ role-fields count) ++ line-end
 
-abbrev pub users-part : Sheet → ℕ → (ℕ → ℕ → Bool) → Bytes
-users-part sheet count has =
-    users-heading count ++ (named-texts (user-name sheet) count has (user-count sheet) ++ line-end)
+abbrev pub users-part : List Bytes → ℕ → (ℕ → ℕ → Bool) → Bytes
+users-part users count has =
+    users-heading count ++ (named-texts (λ u. getD users u []) count has (length users) ++ line-end)
 
--- block 4: its line of names, and the witness
-abbrev pub witness-text : Sheet → Grant → Bytes
-witness-text sheet g = line-text (witness-line sheet g)
+-- block 4: its line of names, and the lines of the witness
+abbrev pub witness-texts : List Line → Bytes
+witness-texts lines = concat (map line-text lines)
 
-abbrev pub witness-texts : Sheet → List Grant → Bytes
-witness-texts sheet grants = concat (map (witness-text sheet) grants)
-
-abbrev pub witness-part : Sheet → List Grant → Bytes
-witness-part sheet grants = ascii "user,permission\n" ++ witness-texts sheet grants
+abbrev pub witness-part : List Line → Bytes
+witness-part lines = ascii "user,permission\n" ++ witness-texts lines
 
 -- ---- the blocks are these parts
 
@@ -90,22 +92,17 @@ block-in-parts heading name width cells count =
     )
     (append-assoc (line-text heading) (named-texts name width cells count) line-end)
 
-roles-in-parts : (sheet : Sheet) (roles : RoleSet)
-    → text-of (roles-block sheet roles) ++ line-end ≡ roles-part sheet (roles .count) (roles .gives)
-roles-in-parts sheet roles =
-    block-in-parts (ascii "role" ∷ sheet .permissions) role-name (permission-count sheet) (roles .gives) (roles .count)
+roles-in-parts : (permissions : List Bytes) (roles : RoleSet)
+    → text-of (roles-block permissions roles) ++ line-end ≡ roles-part permissions (roles .count) (roles .gives)
+roles-in-parts permissions roles =
+    block-in-parts (ascii "role" ∷ permissions) role-name (length permissions) (roles .gives) (roles .count)
 
-users-in-parts : (sheet : Sheet) (roles : RoleSet)
-    → text-of (users-block sheet roles) ++ line-end ≡ users-part sheet (roles .count) (roles .has)
-users-in-parts sheet roles =
-    block-in-parts (ascii "user" ∷ list-of (roles .count) role-name) (user-name sheet) (roles .count) (roles .has)
-    (user-count sheet)
+users-in-parts : (users : List Bytes) (roles : RoleSet)
+    → text-of (users-block users roles) ++ line-end ≡ users-part users (roles .count) (roles .has)
+users-in-parts users roles =
+    block-in-parts (ascii "user" ∷ list-of (roles .count) role-name) (λ u. getD users u []) (roles .count)
+    (roles .has) (length users)
     ∙ rw (line-parts (ascii "user") (roles .count) role-name)
-
-witness-in-parts : (sheet : Sheet) (grants : List Grant) → text-of (witness-block sheet grants) ≡ witness-part sheet
-    grants
-witness-in-parts sheet grants =
-    ap (λ l. ascii "user,permission\n" ++ concat l) (map-map line-text (witness-line sheet) grants)
 
 grouped : (a b c d e : Bytes) → (((((a ++ e) ++ b) ++ e) ++ c) ++ e) ++ d ≡ (a ++ e) ++ ((b ++ e) ++ ((c ++ e) ++ d))
 grouped a b c d e = simp append-assoc
@@ -114,19 +111,19 @@ same-parts : {a b c d a′ b′ c′ d′ : Bytes} → a ≡ a′ → b ≡ b′
     (b′ ++ (c′ ++ d′))
 same-parts p q r s = cc
 
--- a book is its four parts
-pub book-in-parts : (sheet : Sheet) (says : Said)
-    → book-text sheet says
+-- a book is its four parts, however it spells the names
+pub book-in-parts : (spelling : Spelling) (says : Said)
+    → text-of-blocks (blocks-spelled spelling says)
     ≡ counts-part (decimal (says .count)) (decimal (says .bound)) (says .standing)
-    ++ (roles-part sheet (says .roles .count) (says .roles .gives)
-    ++ (users-part sheet (says .roles .count) (says .roles .has) ++ witness-part sheet (says .witness)))
-unfolding book-text blocks-saying
-book-in-parts sheet says =
+    ++ (roles-part (spelling .permissions) (says .roles .count) (says .roles .gives)
+    ++ (users-part (spelling .users) (says .roles .count) (says .roles .has) ++ witness-part (spelling .witness)))
+unfolding blocks-spelled
+book-in-parts spelling says =
     let counts : Block = counts-block (says .count) (says .bound) (says .standing) in
-    let roles : Block = roles-block sheet (says .roles) in
-    let users : Block = users-block sheet (says .roles) in
-    let witness : Block = witness-block sheet (says .witness) in
+    let roles : Block = roles-block (spelling .permissions) (says .roles) in
+    let users : Block = users-block (spelling .users) (says .roles) in
+    let witness : Block = witness-block (spelling .witness) in
     four-blocks counts roles users witness
     ∙ grouped (text-of counts) (text-of roles) (text-of users) (text-of witness) line-end
-    ∙ same-parts (counts-in-parts (says .count) (says .bound) (says .standing)) (roles-in-parts sheet (says .roles))
-    (users-in-parts sheet (says .roles)) (witness-in-parts sheet (says .witness))
+    ∙ same-parts (counts-in-parts (says .count) (says .bound) (says .standing))
+    (roles-in-parts (spelling .permissions) (says .roles)) (users-in-parts (spelling .users) (says .roles)) refl

@@ -1,4 +1,4 @@
--- Reading lines of known names and cells, one after the other, into the rows of as many words. Assumes nothing.
+-- Reading lines of names and cells, one after the other, into the rows of as many words. Assumes nothing.
 use Prim.Native.Nat.{ℕ, _+_, _*_, _/_, _%_, _≤_, _<_}
 use native.Mathlib.Omega.{arith}
 use mathlib.Core.Path.{_≡_, sym, ap, _∙_}
@@ -17,7 +17,7 @@ use Rattle.text.specs.Line.{line-end}
 use Rattle.cell_text.specs.CellsText.{cell-field}
 use Rattle.cells_read.specs.RowGrown.{Blank}
 use Rattle.steps.specs.Stands.{Stands}
-use Rattle.steps.specs.Laws.Stands.{stands-nothing}
+use Rattle.steps.specs.Laws.Stands.{stands-nothing, stands-then}
 use Rattle.steps.specs.Laws.Step.{stands-more}
 use Rattle.form.specs.Pieces.{named-text, named-texts}
 use Rattle.form.specs.LineSteps.{LineRead}
@@ -47,13 +47,28 @@ pub lines-start : {text : Bytes} {at : ℕ} (name : ℕ → Bytes) (width : ℕ)
 lines-start {text} {at} name width h b =
     record { reads = stands-nothing text at h; blank = λ row l. b .rows row; beyond = λ row p l. absurd (omega arith) }
 
-pub lines-more : {text : Bytes} {at : ℕ} {name : ℕ → Bytes} {width i next last : ℕ} {words after : List ℕ}
+-- the same names said by another function
+pub lines-renamed : {text : Bytes} {at width i next : ℕ} {words : List ℕ} (f g : ℕ → Bytes)
+    → ((row : ℕ) → row < i → f row ≡ g row)
+    → LinesBelow text at f width words i next → LinesBelow text at g width words i next
+lines-renamed {width = width} {i} {words = words} f g same b =
+    record { reads = rw lines at (b .reads); blank = b .blank; beyond = b .beyond }
+  where
+    lines : named-texts f width (cell words) i ≡ named-texts g width (cell words) i
+    lines =
+        listed-same i (λ row. named-text (f row) width (cell words row)) (λ row. named-text (g row) width
+        (cell words row)) (λ row h. ap (λ (name : Bytes). named-text name width (cell words row)) (same row h))
+
+-- with the next name there and its cells behind it, one line more has been read
+pub lines-more : {text : Bytes} {at : ℕ} {name : ℕ → Bytes} {width i next cells last : ℕ} {words after : List ℕ}
     → width ≤ row-bits
-    → LinesBelow text at name width words i next → LineRead text next (name i) i width words after last
+    → LinesBelow text at name width words i next → Stands text next (name i) cells
+    → LineRead text cells i width words after last
     → LinesBelow text at name width after (i + 1) last
-lines-more {text} {at} {name} {width} {i} {next} {last} {words} {after} h b l =
+lines-more {text} {at} {name} {width} {i} {next} {cells} {last} {words} {after} h b named l =
     record {
-      reads = stands-more i (λ row. named-text (name row) width (cell after row)) (rw same at (b .reads)) (l .reads);
+      reads = stands-more i (λ row. named-text (name row) width (cell after row)) (rw same at (b .reads))
+          (stands-then named (l .reads));
       blank = λ row k. record { none = λ p m. kept row p (omega arith) m ∙ b .blank row (omega arith) .none p m };
       beyond = λ row p k m n. ⊎-elim
           (λ (below : row < i). kept row p (omega arith) n ∙ b .beyond row p below m n)

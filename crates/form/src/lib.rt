@@ -1,4 +1,4 @@
-// Lines of a book: a name and cells, read into a row of words.
+// Lines of a book: the cells behind a name, read into a row of words.
 mod clear;
 mod line;
 

@@ -8,13 +8,13 @@ use Rattle.names.specs.NamesAt.{name-there}
 use Rattle.names.specs.declared.lookup.Found.{Found}
 use Rattle.names.specs.declared.lookup.Found.the-variants.{At, Nothing}
 
--- the name stands at number i, which is from low up to high
+-- an equal name has number i, which is from low up to high
 pub record StandsAt (text : Bytes) (places : List ℕ) (name : Bytes) (low high i : ℕ) : Type 0 where
   pub from : low ≤ i
   pub below : i < high
   pub equal : So (same-name name (name-there text places i))
 
--- no number from low up to high is that of the name
+-- no number from low up to high is that of an equal name
 pub record StandsNowhere (text : Bytes) (places : List ℕ) (name : Bytes) (low high : ℕ) : Type 0 where
   pub unlike : (i : ℕ) → low ≤ i → i < high → same-name name (name-there text places i) ≡ false
 

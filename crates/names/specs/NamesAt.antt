@@ -39,7 +39,7 @@ abbrev pub Apart : Bytes → List ℕ → ℕ → Type 0
 Apart text places n =
     (i j : ℕ) → i < j → j < n → same-name (name-there text places i) (name-there text places j) ≡ false
 
--- the lowest number of a name in a list of names
+-- the lowest number of a name in a list of names that is equal to this one
 abbrev pub name-number : List Bytes → Bytes → Option ℕ
 name-number names name = lowest-below (length names) (λ i. same-name name (getD names i []))
 

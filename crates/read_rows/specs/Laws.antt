@@ -1,2 +1,3 @@
 -- The laws behind what contracts cite.
 pub mod RoleNames
+pub mod Respelled

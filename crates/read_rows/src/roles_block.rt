@@ -10,6 +10,7 @@ use numbers::RoleNo;
 use steps::Step;
 use steps::expect;
 use steps::expect_byte;
+use steps::expect_name;
 ghost use Prim.Native.Nat.{_*_, _≤_};
 ghost use lib.ListN.{length};
 ghost use mathlib.Core.Bool.{So};
@@ -18,9 +19,8 @@ ghost use Rattle.spec.specs.Sheet.{sheet-of};
 ghost use Rattle.spec.specs.Refusal.{accepted};
 ghost use Rattle.cell_rows.specs.Rows.{row-words, row-bits};
 ghost use Rattle.names.specs.LaidOut.{LaidOut};
-ghost use Rattle.steps.specs.Steps.{Expects};
-ghost use Rattle.form.specs.Pieces.{roles-heading};
 ghost use Rattle.form.specs.RowSteps.{AllBlank};
+ghost use Rattle.read_rows.specs.HeadingSteps.{HeadingReads};
 ghost use Rattle.read_rows.specs.RoleSteps.{RoleLinesRead, RolesReads};
 
 // What reading the lines of roles finds: how many there are, and where to go on.
@@ -47,7 +47,10 @@ fn role_lines(book: &[u8], at: usize, gives: &mut [u64], permissions: usize) -> 
         }
         let mut name = [0u8; ROLE_NAME_BYTES];
         let n = put_role_name(&mut name, RoleNo(r));
-        let Step::On(after) = read_line(book, next, &name[..n], gives, r, permissions) else {
+        let Step::On(cells) = expect(book, next, &name[..n]) else {
+            return RolesRead::Off;
+        };
+        let Step::On(after) = read_line(book, cells, gives, r, permissions) else {
             return RolesRead::Off;
         };
         next = after;
@@ -56,15 +59,16 @@ fn role_lines(book: &[u8], at: usize, gives: &mut [u64], permissions: usize) -> 
 }
 
 // Reads the line of names of block 2: `role`, and the sheet's own first line from behind its `user` on, which has the
-// permissions.
+// permissions. That part is read in whatever case, as a whole: commas and line feeds have no case, and no other byte is
+// equal to one, so each name is read in its own case.
 fn roles_heading<'a>(book: &'a [u8], at: usize, sheet: &'a [u8]) -> Step
     requires { ⌜ (at ≤ length (now book)) × So (accepted (now sheet)) ⌝ }
-    ensures { λ r. ⌜ Expects (now (book .entry)) at (roles-heading (sheet-of (now (sheet .entry)))) r ⌝ }
+    ensures { λ r. ⌜ HeadingReads (sheet-of (now (sheet .entry))) (now (book .entry)) at r ⌝ }
 {
     let Step::On(names) = expect(book, at, b"role") else {
         return Step::Off;
     };
-    expect(book, names, permissions_line(sheet))
+    expect_name(book, names, permissions_line(sheet))
 }
 
 // Reads block 2 and the empty line behind it into rows that have none set, and leaves none set where there is no

@@ -9,6 +9,7 @@ use numbers::UserNo;
 use steps::Step;
 use steps::expect;
 use steps::expect_byte;
+use steps::expect_name;
 ghost use Prim.Native.Nat.{_*_, _≤_};
 ghost use lib.ListN.{length};
 ghost use Rattle.spec.specs.Limits.{role-limit};
@@ -56,8 +57,9 @@ fn users_heading(book: &[u8], at: usize, roles: usize) -> Step
     expect_byte(book, end, b'\n')
 }
 
-// Reads the lines of the users in order; `places` are those of their names. Where they do not stand, some may have been
-// read: what the rows then have is of no use, and the caller clears them.
+// Reads the lines of the users in order, each name in whatever case; `places` are those of the names in the sheet.
+// Where the lines do not stand, some may have been read: what the rows then have is of no use, and the caller clears
+// them.
 fn user_lines<'a, 'b>(
     book: &'a [u8],
     at: usize,
@@ -74,7 +76,10 @@ fn user_lines<'a, 'b>(
     let mut u = 0;
     while u < places.len() {
         let name = names::user_name_in(sheet, places, UserNo(u));
-        let Step::On(after) = read_line(book, next, name, has, u, roles) else {
+        let Step::On(cells) = expect_name(book, next, name) else {
+            return Step::Off;
+        };
+        let Step::On(after) = read_line(book, cells, has, u, roles) else {
             return Step::Off;
         };
         next = after;

@@ -31,13 +31,14 @@ use Rattle.right.specs.LengthLaws.{field-length, line-length, block-leng
 pub book-length : (sheet : Sheet) (book : Said)
     → length (book-text sheet book)
     ≡ block-length (counts-block (book .count) (book .bound) (book .standing))
-    + suc (block-length (roles-block sheet (book .roles)))
-    + suc (block-length (users-block sheet (book .roles)))
-    + suc (block-length (witness-block sheet (book .witness)))
+    + suc (block-length (roles-block (sheet .permissions) (book .roles)))
+    + suc (block-length (users-block (sheet .users) (book .roles)))
+    + suc (block-length (witness-block (map (witness-line sheet) (book .witness))))
 unfolding book-text blocks-saying
 book-length sheet book =
     rw (blocks-length (counts-block (book .count) (book .bound) (book .standing))
-    (roles-block sheet (book .roles) ∷ users-block sheet (book .roles) ∷ witness-block sheet (book .witness) ∷ []))
+    (roles-block (sheet .permissions) (book .roles) ∷ users-block (sheet .users) (book .roles)
+    ∷ witness-block (map (witness-line sheet) (book .witness)) ∷ []))
     (omega arith)
 
 -- ---- within the limits
@@ -104,7 +105,7 @@ counts-length count bound s h k =
 -- each role line: a role name and a cell for each permission
 roles-length : (sheet : Sheet) (roles : RoleSet) → permission-count sheet ≤ permission-limit
     → Each (λ name. length name ≤ name-limit) (sheet .permissions) → roles .count ≤ role-limit
-    → block-length (roles-block sheet roles) ≤ 5 + permission-limit * suc name-limit + role-limit *
+    → block-length (roles-block (sheet .permissions) roles) ≤ 5 + permission-limit * suc name-limit + role-limit *
     (2 + most-digits + permission-limit * 2)
 roles-length sheet roles few short-names few-roles =
     rw (line-length-fields (ascii "role") (sheet .permissions))
@@ -137,7 +138,7 @@ roles-length sheet roles few short-names few-roles =
 users-length : (sheet : Sheet) (roles : RoleSet) → user-count sheet ≤ user-limit
     → Each (λ name. length name ≤ name-limit) (sheet .users)
     → roles .count ≤ role-limit
-    → block-length (users-block sheet roles) ≤ 5 + role-limit * (2 + most-digits) + user-limit *
+    → block-length (users-block (sheet .users) roles) ≤ 5 + role-limit * (2 + most-digits) + user-limit *
     (suc name-limit + role-limit * 2)
 users-length sheet roles few short-names few-roles =
     rw (line-length-fields (ascii "user") (list-of (roles .count) role-name))
@@ -172,7 +173,7 @@ users-length sheet roles few short-names few-roles =
 -- each witness line: two names
 witness-length : (sheet : Sheet) (grants : List Grant) → Each (λ name. length name ≤ name-limit) (sheet .users)
     → Each (λ name. length name ≤ name-limit) (sheet .permissions) → length grants ≤ role-limit
-    → block-length (witness-block sheet grants) ≤ 16 + role-limit * (2 * suc name-limit)
+    → block-length (witness-block (map (witness-line sheet) grants)) ≤ 16 + role-limit * (2 * suc name-limit)
 witness-length sheet grants short-users short-permissions few =
     rw (line-length-fields (ascii "user") (ascii "permission" ∷ []))
     (omega (arith, lines))

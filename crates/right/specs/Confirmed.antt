@@ -11,7 +11,7 @@ use Rattle.spec.specs.Text.{Bytes}
 use Rattle.spec.specs.Sheet.{Sheet, sheet-of, permission-count}
 use Rattle.spec.specs.RoleSet.{Multiplies}
 use Rattle.spec.specs.Roles.{Standing, witnessed, searched, unsettled}
-use Rattle.spec.specs.Book.{Said, book-text}
+use Rattle.spec.specs.Book.{Said, sheet-spelling, book-text}
 use Rattle.spec.specs.Right.{BoundAgrees, CountsAgree, WitnessStands, Right}
 use Rattle.spec.specs.Refusal.{accepted}
 use Rattle.cells.specs.Laws.Grant.{held-user-below, held-permission-below}
@@ -52,12 +52,14 @@ module _ (text : Bytes) (takes : So (accepted text)) (book : Said) (s : SoundBoo
       }
 
   pub sound-is-right : Right (sheet-of text) (book-text (sheet-of text) book) book
-  unfolding role-limit book-limit
+  unfolding role-limit book-limit book-text
   sound-is-right =
       let kept = accepted-keeps text takes in
       record {
         of-form = record {
+          spelling = sheet-spelling (sheet-of text) book;
           written = refl;
+          same-names = record { permissions = refl; users = refl; witness = refl };
           short = book-within-limit (sheet-of text) book sound-small;
           few-roles = s .few-roles;
           known-users = λ g m.

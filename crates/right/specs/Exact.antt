@@ -22,7 +22,7 @@ use Rattle.product.specs.Laws.OrOverRoles.{same-opens}
 use Rattle.right.specs.NameLaws.{GoodSheet, good-names}
 use Rattle.right.specs.WrittenLines.{Sayable}
 use Rattle.right.specs.ReadBack.{SaysSame, written-has-form, read-back}
-use Rattle.right.specs.ReadForm.{form-is-written, form-is-sayable}
+use Rattle.right.specs.ReadForm.{spelling-read, form-is-written, form-is-spelled, form-is-sayable}
 use Rattle.right.specs.CheckParts.{counts-agree-elim, counts-agree-intro, product-agrees-elim}
 use Rattle.right.specs.CheckParts.{product-agrees-intro, witness-stands-elim, witness-stands-intro}
 use Rattle.right.specs.Verdict.{Passes, check-confirms, zero-unrefused, unrefused-zero}
@@ -35,7 +35,9 @@ passes-right sheet text p =
     let s = form-is-sayable sheet text (p .has-form) in
     record {
       of-form = record {
+        spelling = spelling-read text;
         written = form-is-written sheet text (p .has-form);
+        same-names = form-is-spelled sheet text (p .has-form);
         short = p .short;
         few-roles = s .few-roles;
         known-users = s .known-users;
@@ -82,7 +84,8 @@ of-form-sayable sheet text says f =
 pub right-read : (sheet : Sheet) → GoodSheet sheet → (text : Bytes) (says : Said) → Right sheet text says
     → SaysSame sheet (said sheet text) says
 right-read sheet good text says r =
-    rw (r .of-form .written) (read-back sheet good says (of-form-sayable sheet text says (r .of-form)))
+    let f = r .of-form in
+    rw (f .written) (read-back sheet good says (of-form-sayable sheet text says f) (f .spelling) (f .same-names))
 
 pub right-passes : (sheet : Sheet) → GoodSheet sheet → (text : Bytes) (says : Said) → Right sheet text says
     → Passes sheet text
@@ -91,8 +94,9 @@ right-passes sheet good text says r =
     let same = right-read sheet good text says r in
     record {
       short = r .of-form .short;
-      has-form = rw (r .of-form .written) (written-has-form sheet good says (of-form-sayable sheet text says
-          (r .of-form)));
+      has-form = (let f = r .of-form in
+          rw (f .written) (written-has-form sheet good says (of-form-sayable sheet text says f) (f .spelling)
+          (f .same-names)));
       counts = counts-agree-same sheet (said sheet text) says same ∙ counts-agree-intro says (r .counts);
       product = product-agrees-intro sheet (said sheet text .roles) (multiplies-same sheet (said sheet text) says same
           (r .product));

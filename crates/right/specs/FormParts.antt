@@ -1,15 +1,16 @@
 -- The test of a book's form, taken apart: what it says of the text, of each block and of each line, as facts, and
 -- back from the facts to the test.
 use Prim.Native.Nat.{ℕ, suc, _≤_, _<_}
-use mathlib.Core.Path.{_≡_}
-use mathlib.Core.Bool.{Bool, So, _&&_}
-use mathlib.Core.List.{List, _∷_, tail, List·Memᴰ}
+use native.Mathlib.Omega.{arith}
+use mathlib.Core.Path.{_≡_, refl, ap}
+use mathlib.Core.Bool.{Bool, So, _&&_, false≢true}
+use mathlib.Core.List.{List, [], _∷_, tail, List·Memᴰ, head-eq-of-cons-eq, tail-eq-of-cons-eq}
 use borrow.Author.Tests.{eqb-true, eq-eqb, leb-true, le-leb}
 use lib.Dec.{eqb}
 use lib.ListN.{length}
 use Rattle.spec.specs.Vocabulary.{every-below, all, same-by, list-of}
 use Rattle.spec.specs.Limits.{role-limit}
-use Rattle.spec.specs.Text.{ascii, same-bytes, Bytes, Line, line-feed, last-byte, same-name}
+use Rattle.spec.specs.Text.{ascii, same-bytes, Bytes, Line, line-feed, last-byte, lowered, same-name}
 use Rattle.spec.specs.Sheet.{Sheet, first-field, first-line, user-count, permission-count, is-bit, user-name}
 use Rattle.spec.specs.Decimal.{is-count}
 use Rattle.spec.specs.Book.{role-name, counts-heading, witness-heading, Block}
@@ -19,14 +20,33 @@ use Rattle.bits.specs.Truth.{and-intro, and-left, and-right}
 use Rattle.bits.specs.Laws.Below.{every-below-intro, every-below-elim}
 use Rattle.lists.specs.TestLaws.{all-intro, all-elim, same-bytes-equal, same-bytes-refl, equal-same-bytes}
 use Rattle.lists.specs.SameLaws.{same-by-equal, same-by-reflexive}
+use Rattle.text.specs.Laws.Lowered.{same-name-elim, same-name-intro}
+use Rattle.right.specs.Spelling.{Spells}
 
--- ---- equal lists of names
+-- ---- equal lines, and equal lists of names
 
-pub same-names-equal : (a b : List Bytes) → So (same-by same-name a b) → a ≡ b
-same-names-equal = same-by-equal same-bytes same-bytes-equal
+same-lines-equal : (a b : Line) → So (same-by same-bytes a b) → a ≡ b
+same-lines-equal = same-by-equal same-bytes same-bytes-equal
 
-pub equal-same-names : (a b : List Bytes) → a ≡ b → So (same-by same-name a b)
-equal-same-names a b e = rw e (same-by-reflexive same-bytes same-bytes-refl b)
+equal-same-lines : (a b : Line) → a ≡ b → So (same-by same-bytes a b)
+equal-same-lines a b e = rw e (same-by-reflexive same-bytes same-bytes-refl b)
+
+same-names-spell : (a b : List Bytes) → So (same-by same-name a b) → Spells a b
+same-names-spell [] [] e = refl
+same-names-spell [] (y ∷ b) e = absurd (false≢true e)
+same-names-spell (x ∷ a) [] e = absurd (false≢true e)
+same-names-spell (x ∷ a) (y ∷ b) e =
+    let here : lowered x ≡ lowered y = same-name-elim x y (and-left (same-name x y) (same-by same-name a b) e) in
+    let later : Spells a b = same-names-spell a b (and-right (same-name x y) (same-by same-name a b) e) in
+    cc
+
+spell-same-names : (a b : List Bytes) → Spells a b → So (same-by same-name a b)
+spell-same-names [] [] e = refl
+spell-same-names [] (y ∷ b) e = absurd (omega (arith, ap length e))
+spell-same-names (x ∷ a) [] e = absurd (omega (arith, ap length e))
+spell-same-names (x ∷ a) (y ∷ b) e =
+    and-intro (same-name x y) (same-by same-name a b) (same-name-intro x y (head-eq-of-cons-eq e))
+    (spell-same-names a b (tail-eq-of-cons-eq e))
 
 -- ---- block 1
 
@@ -44,7 +64,7 @@ unfolding counts-form
 counts-form-elim block e =
     record {
       two-lines = eqb-true (length block) 2 (search (and-left, and-right));
-      heading = same-names-equal (line-at block 0) counts-heading (search (and-left, and-right));
+      heading = same-lines-equal (line-at block 0) counts-heading (search (and-left, and-right));
       three-fields = eqb-true (length (line-at block 1)) 3 (search (and-left, and-right));
       role-count = search (and-left, and-right);
       bound-count = search (and-left, and-right);
@@ -55,32 +75,26 @@ pub counts-form-intro : (block : Block) → CountsForm block → So (counts-form
 unfolding counts-form
 counts-form-intro block f =
     let two = eq-eqb (length block) 2 (f .two-lines) in
-    let heading = equal-same-names (line-at block 0) counts-heading (f .heading) in
+    let heading = equal-same-lines (line-at block 0) counts-heading (f .heading) in
     let three = eq-eqb (length (line-at block 1)) 3 (f .three-fields) in
     search and-intro
 
 -- ---- a line of a name and cells
 
--- the line of this name, with as many cells as asked
-pub record CellsLine (line : Line) (name : Bytes) (count : ℕ) : Type 0 where
-  pub named : first-field line ≡ name
+-- a line of a field and as many cells as asked
+pub record CellsLine (line : Line) (count : ℕ) : Type 0 where
   pub fields : length line ≡ suc count
   pub cells : So (all is-bit (tail line))
 
-pub cells-line-elim : (line : Line) (name : Bytes) (count : ℕ) → So (same-bytes (first-field line) name
-    && cells-line line count)
-    → CellsLine line name count
-cells-line-elim line name count e =
+cells-line-elim : (line : Line) (count : ℕ) → So (cells-line line count) → CellsLine line count
+cells-line-elim line count e =
     record {
-      named = same-bytes-equal (first-field line) name (search (and-left));
-      fields = eqb-true (length line) (suc count) (search (and-left, and-right));
-      cells = search (and-left, and-right);
+      fields = eqb-true (length line) (suc count) (search (and-left));
+      cells = search (and-right);
     }
 
-pub cells-line-intro : (line : Line) (name : Bytes) (count : ℕ) → CellsLine line name count
-    → So (same-bytes (first-field line) name && cells-line line count)
-cells-line-intro line name count f =
-    let named = equal-same-bytes (f .named) in
+cells-line-intro : (line : Line) (count : ℕ) → CellsLine line count → So (cells-line line count)
+cells-line-intro line count f =
     let fields = eq-eqb (length line) (suc count) (f .fields) in
     search and-intro
 
@@ -89,16 +103,20 @@ cells-line-intro line name count f =
 -- `role` and the sheet's permissions, then the lines of the roles in order
 pub record RolesForm (sheet : Sheet) (block : Block) : Type 0 where
   pub heading : first-field (first-line block) ≡ ascii "role"
-  pub permissions : tail (first-line block) ≡ sheet .permissions
+  pub permissions : Spells (tail (first-line block)) (sheet .permissions)
   pub few : length (tail block) ≤ role-limit
-  pub lines : (r : ℕ) → r < length (tail block) → CellsLine (line-at (tail block) r) (role-name r)
-      (permission-count sheet)
+  pub named : (r : ℕ) → r < length (tail block) → first-field (line-at (tail block) r) ≡ role-name r
+  pub lines : (r : ℕ) → r < length (tail block) → CellsLine (line-at (tail block) r) (permission-count sheet)
 
--- the test of the line of role r
+-- the two tests of the line of role r: its name, and its cells
+abbrev role-named : Block → ℕ → Bool
+role-named block r = same-bytes (first-field (line-at (tail block) r)) (role-name r)
+
+abbrev role-cells : Sheet → Block → ℕ → Bool
+role-cells sheet block r = cells-line (line-at (tail block) r) (permission-count sheet)
+
 role-line-test : Sheet → Block → ℕ → Bool
-role-line-test sheet block r =
-    same-bytes (first-field (line-at (tail block) r)) (role-name r) && cells-line (line-at (tail block) r)
-    (permission-count sheet)
+role-line-test sheet block r = role-named block r && role-cells sheet block r
 
 pub roles-form-elim : (sheet : Sheet) (block : Block) → So (roles-form sheet block) → RolesForm sheet block
 unfolding roles-form role-line-test
@@ -106,22 +124,28 @@ roles-form-elim sheet block e =
     let each : So (every-below (length (tail block)) (role-line-test sheet block)) = search (and-right) in
     record {
       heading = same-bytes-equal (first-field (first-line block)) (ascii "role") (search (and-left, and-right));
-      permissions = same-names-equal (tail (first-line block)) (sheet .permissions) (search (and-left, and-right));
+      permissions = same-names-spell (tail (first-line block)) (sheet .permissions) (search (and-left, and-right));
       few = leb-true (length (tail block)) role-limit (search (and-left, and-right));
+      named = λ r h.
+          same-bytes-equal (first-field (line-at (tail block) r)) (role-name r)
+          (and-left (role-named block r) (role-cells sheet block r)
+          (every-below-elim (length (tail block)) (role-line-test sheet block) each h));
       lines = λ r h.
-          cells-line-elim (line-at (tail block) r) (role-name r) (permission-count sheet)
-          (every-below-elim (length (tail block)) (role-line-test sheet block) each h);
+          cells-line-elim (line-at (tail block) r) (permission-count sheet)
+          (and-right (role-named block r) (role-cells sheet block r)
+          (every-below-elim (length (tail block)) (role-line-test sheet block) each h));
     }
 
 pub roles-form-intro : (sheet : Sheet) (block : Block) → RolesForm sheet block → So (roles-form sheet block)
 unfolding roles-form role-line-test
 roles-form-intro sheet block f =
     let heading = equal-same-bytes (f .heading) in
-    let permissions = equal-same-names (tail (first-line block)) (sheet .permissions) (f .permissions) in
+    let permissions = spell-same-names (tail (first-line block)) (sheet .permissions) (f .permissions) in
     let few = le-leb (length (tail block)) role-limit (f .few) in
     let each =
     every-below-intro (length (tail block)) (role-line-test sheet block)
-    (λ r h. cells-line-intro (line-at (tail block) r) (role-name r) (permission-count sheet) (f .lines r h)) in
+    (λ r h. and-intro (role-named block r) (role-cells sheet block r) (equal-same-bytes (f .named r h))
+    (cells-line-intro (line-at (tail block) r) (permission-count sheet) (f .lines r h))) in
     search and-intro
 
 -- ---- block 3
@@ -130,12 +154,19 @@ roles-form-intro sheet block f =
 pub record UsersForm (sheet : Sheet) (roles : ℕ) (block : Block) : Type 0 where
   pub heading : first-line block ≡ ascii "user" ∷ list-of roles role-name
   pub a-line-each : length (tail block) ≡ user-count sheet
-  pub lines : (u : ℕ) → u < user-count sheet → CellsLine (line-at (tail block) u) (user-name sheet u) roles
+  pub named : (u : ℕ) → u < user-count sheet → lowered (first-field (line-at (tail block) u)) ≡ lowered
+      (user-name sheet u)
+  pub lines : (u : ℕ) → u < user-count sheet → CellsLine (line-at (tail block) u) roles
 
--- the test of the line of user u
+-- the two tests of the line of user u: its name, and its cells
+abbrev user-named : Sheet → Block → ℕ → Bool
+user-named sheet block u = same-name (first-field (line-at (tail block) u)) (user-name sheet u)
+
+abbrev user-cells : ℕ → Block → ℕ → Bool
+user-cells roles block u = cells-line (line-at (tail block) u) roles
+
 user-line-test : Sheet → ℕ → Block → ℕ → Bool
-user-line-test sheet roles block u =
-    same-name (first-field (line-at (tail block) u)) (user-name sheet u) && cells-line (line-at (tail block) u) roles
+user-line-test sheet roles block u = user-named sheet block u && user-cells roles block u
 
 pub users-form-elim : (sheet : Sheet) (roles : ℕ) (block : Block) → So (users-form sheet roles block)
     → UsersForm sheet roles block
@@ -143,23 +174,30 @@ unfolding users-form user-line-test
 users-form-elim sheet roles block e =
     let each : So (every-below (user-count sheet) (user-line-test sheet roles block)) = search (and-right) in
     record {
-      heading = same-names-equal (first-line block) (ascii "user" ∷ list-of roles role-name)
+      heading = same-lines-equal (first-line block) (ascii "user" ∷ list-of roles role-name)
           (search (and-left, and-right));
       a-line-each = eqb-true (length (tail block)) (user-count sheet) (search (and-left, and-right));
+      named = λ u h.
+          same-name-elim (first-field (line-at (tail block) u)) (user-name sheet u)
+          (and-left (user-named sheet block u) (user-cells roles block u)
+          (every-below-elim (user-count sheet) (user-line-test sheet roles block) each h));
       lines = λ u h.
-          cells-line-elim (line-at (tail block) u) (user-name sheet u) roles
-          (every-below-elim (user-count sheet) (user-line-test sheet roles block) each h);
+          cells-line-elim (line-at (tail block) u) roles
+          (and-right (user-named sheet block u) (user-cells roles block u)
+          (every-below-elim (user-count sheet) (user-line-test sheet roles block) each h));
     }
 
 pub users-form-intro : (sheet : Sheet) (roles : ℕ) (block : Block) → UsersForm sheet roles block
     → So (users-form sheet roles block)
 unfolding users-form user-line-test
 users-form-intro sheet roles block f =
-    let heading = equal-same-names (first-line block) (ascii "user" ∷ list-of roles role-name) (f .heading) in
+    let heading = equal-same-lines (first-line block) (ascii "user" ∷ list-of roles role-name) (f .heading) in
     let a-line-each = eq-eqb (length (tail block)) (user-count sheet) (f .a-line-each) in
     let each =
     every-below-intro (user-count sheet) (user-line-test sheet roles block)
-    (λ u h. cells-line-intro (line-at (tail block) u) (user-name sheet u) roles (f .lines u h)) in
+    (λ u h. and-intro (user-named sheet block u) (user-cells roles block u)
+    (same-name-intro (first-field (line-at (tail block) u)) (user-name sheet u) (f .named u h))
+    (cells-line-intro (line-at (tail block) u) roles (f .lines u h))) in
     search and-intro
 
 -- ---- block 4
@@ -199,14 +237,14 @@ unfolding witness-form witness-line-test
 witness-form-elim sheet block e =
     let each : So (all (witness-line-test sheet) (tail block)) = search (and-right) in
     record {
-      heading = same-names-equal (first-line block) witness-heading (search (and-left));
+      heading = same-lines-equal (first-line block) witness-heading (search (and-left));
       lines = λ line m. witness-line-elim sheet line (all-elim (witness-line-test sheet) (tail block) each m);
     }
 
 pub witness-form-intro : (sheet : Sheet) (block : Block) → WitnessForm sheet block → So (witness-form sheet block)
 unfolding witness-form witness-line-test
 witness-form-intro sheet block f =
-    let heading = equal-same-names (first-line block) witness-heading (f .heading) in
+    let heading = equal-same-lines (first-line block) witness-heading (f .heading) in
     let each = all-intro (witness-line-test sheet) (tail block) (λ line m. witness-line-intro sheet line
     (f .lines line m)) in
     search and-intro

@@ -13,8 +13,9 @@ use Rattle.spec.specs.Limits.{book-limit}
 use Rattle.spec.specs.Text.{Bytes}
 use Rattle.spec.specs.Sheet.{Sheet, sheet-of, user-count, permission-count, holds}
 use Rattle.spec.specs.RoleSet.{product}
-use Rattle.spec.specs.Book.{Said, book-text}
+use Rattle.spec.specs.Book.{Said, text-of-blocks, Spelling, sheet-spelling, blocks-spelled}
 use Rattle.spec.specs.Form.{form, said}
+use Rattle.spec.specs.Right.{SameNames}
 use Rattle.spec.specs.Refusal.{Cause, refuse-if, first-number, sheet-causes, refusal, counts-agree, product-agrees}
 use Rattle.spec.specs.Refusal.{witness-agrees, book-causes, check-causes}
 use Rattle.spec.specs.Calls.{CheckAnswer, check-refused, check-counts, check}
@@ -25,7 +26,7 @@ use Rattle.rules.specs.Accepted.{accepted-keeps}
 use Rattle.right.specs.NameLaws.{GoodSheet}
 use Rattle.right.specs.WrittenLines.{Sayable}
 use Rattle.right.specs.ReadBack.{SaysSame, written-has-form, read-back}
-use Rattle.right.specs.ReadForm.{form-is-written, form-is-sayable}
+use Rattle.right.specs.ReadForm.{spelling-read, form-is-written, form-is-spelled, form-is-sayable}
 use Rattle.right.specs.Exact.{counts-agree-same, product-same, keeps-good}
 
 -- the number for what a book says
@@ -85,9 +86,11 @@ too-long-book text book e h =
     refused-twelve text book e
     (or-left (ltb book-limit (length book)) (not (form (sheet-of text) book)) (lt-ltb book-limit (length book) h))
 
--- nothing that can be said is written as this book
+-- nothing that can be said is written as this book, in whatever case names are spelled
 pub record Unwritten (sheet : Sheet) (book : Bytes) : Type 0 where
-  pub none : (says : Said) → Sayable sheet says → book ≡ book-text sheet says → ⊥
+  pub none : (says : Said) → Sayable sheet says → (spelling : Spelling)
+      → SameNames spelling (sheet-spelling sheet says)
+      → book ≡ text-of-blocks (blocks-spelled spelling says) → ⊥
 
 pub unwritten-book : (text book : Bytes) → refusal text ≡ 0 → Unwritten (sheet-of text) book
     → check text book ≡ check-refused 12
@@ -96,14 +99,16 @@ unwritten-book text book e u =
     (or-right (ltb book-limit (length book)) (not (form (sheet-of text) book))
     (not-passes (form (sheet-of text) book)
     (fails-unless (form (sheet-of text) book) (λ f.
-    u .none (said (sheet-of text) book) (form-is-sayable (sheet-of text) book f) (form-is-written (sheet-of text) book
-    f)))))
+    u .none (said (sheet-of text) book) (form-is-sayable (sheet-of text) book f) (spelling-read book)
+    (form-is-spelled (sheet-of text) book f) (form-is-written (sheet-of text) book f)))))
 
 -- ---- what is written
 
--- this is said, and is written as this book
+-- this is said, and is written as this book, in whatever case names are spelled
 pub record WrittenAs (sheet : Sheet) (book : Bytes) (says : Said) : Type 0 where
-  pub written : book ≡ book-text sheet says
+  pub spelling : Spelling
+  pub same-names : SameNames spelling (sheet-spelling sheet says)
+  pub written : book ≡ text-of-blocks (blocks-spelled spelling says)
   pub sayable : Sayable sheet says
   pub short : length book ≤ book-limit
 
@@ -120,10 +125,10 @@ product-agrees-same sheet read written s =
 
 module _ (sheet : Sheet) (good : GoodSheet sheet) (book : Bytes) (says : Said) (w : WrittenAs sheet book says) where
   reads-same : SaysSame sheet (said sheet book) says
-  reads-same = rw (w .written) (read-back sheet good says (w .sayable))
+  reads-same = rw (w .written) (read-back sheet good says (w .sayable) (w .spelling) (w .same-names))
 
   has-form : So (form sheet book)
-  has-form = rw (w .written) (written-has-form sheet good says (w .sayable))
+  has-form = rw (w .written) (written-has-form sheet good says (w .sayable) (w .spelling) (w .same-names))
 
   written-number : first-number (book-causes sheet book) ≡ judged-number sheet says
   unfolding book-causes

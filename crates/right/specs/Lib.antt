@@ -3,6 +3,7 @@ pub mod WordLaws
 pub mod BlockLaws
 pub mod LengthLaws
 pub mod NameLaws
+pub mod Spelling
 pub mod FormParts
 pub mod WrittenForm
 pub mod WrittenLines

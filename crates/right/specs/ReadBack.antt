@@ -1,18 +1,20 @@
--- A written book is read as what was written: its text parts into the very blocks that were written, each of the
--- form, and each of them is read place by place.
+-- A written book is read as what was written, in whatever case its names are spelled: its text parts into the very
+-- blocks that were written, each of the form, and each of them is read place by place.
 use Prim.Native.Nat.{ℕ, suc, _<_}
 use native.Mathlib.Omega.{arith}
-use mathlib.Core.Path.{_≡_, refl, _∙_}
+use mathlib.Core.Path.{_≡_, refl, ap}
 use mathlib.Core.Bool.{Bool, true, false, So}
-use mathlib.Core.List.{[], _∷_, map-map}
+use mathlib.Core.List.{List, [], _∷_, map, List·Memᴰ·head, List·Memᴰ·tail, head-eq-of-cons-eq, tail-eq-of-cons-eq}
+use lib.ListN.{length, getD}
 use Rattle.spec.specs.Vocabulary.{list-of}
 use Rattle.spec.specs.Text.{Bytes, Line, line-feed, last-byte}
-use Rattle.spec.specs.Sheet.{Sheet, Grant, is-one, cell-text, user-count, permission-count, user-name}
+use Rattle.spec.specs.Sheet.{Sheet, Grant, is-one, cell-text, user-count, permission-count}
 use Rattle.spec.specs.Roles.{Standing, witnessed, searched, unsettled}
-use Rattle.spec.specs.Book.{standing-word, role-name, Said, counts-block, roles-block, users-block, witness-line}
-use Rattle.spec.specs.Book.{witness-block, blocks-saying, book-text}
+use Rattle.spec.specs.Book.{standing-word, role-name, Said, text-of-blocks, counts-block, roles-block, users-block}
+use Rattle.spec.specs.Book.{witness-block, Spelling, sheet-spelling, blocks-spelled}
 use Rattle.spec.specs.Form.{blocks-of, grant-of-line, line-at, field-at, standing-said, form, said-by-blocks, said}
-use Rattle.lists.specs.JoinLaws.{map-fixed}
+use Rattle.spec.specs.Right.{SameNames}
+use Rattle.lists.specs.EachLaws.{Each}
 use Rattle.lists.specs.ListOfLaws.{length-list-of, getD-list-of}
 use Rattle.decimal.specs.Laws.Decimal.{number-of-decimal}
 use Rattle.right.specs.BlockLaws.{blocks-read-as-written, blocks-end-in-feed}
@@ -20,6 +22,7 @@ use Rattle.right.specs.FormParts.{FormOf, form-intro}
 use Rattle.right.specs.WrittenForm.{counts-block-form, roles-block-form, users-block-form, witness-block-form}
 use Rattle.right.specs.WrittenLines.{Sayable, good-blocks}
 use Rattle.right.specs.NameLaws.{GoodSheet, number-among-at}
+use Rattle.right.specs.Spelling.{spells-length, SpelledLine, spelled-line, SpellsLines}
 
 -- two books say the same of a sheet: the same of each of its users and permissions and of each role
 pub record SaysSame (sheet : Sheet) (read written : Said) : Type 0 where
@@ -33,42 +36,42 @@ pub record SaysSame (sheet : Sheet) (read written : Said) : Type 0 where
       written .roles .gives r p
   pub witness : read .witness ≡ written .witness
 
--- ---- the text
+module _ (sheet : Sheet) (good : GoodSheet sheet) (book : Said) (s : Sayable sheet book) (spelling : Spelling)
+    (same : SameNames spelling (sheet-spelling sheet book)) where
+  -- ---- the text
 
-blocks-of-book : (sheet : Sheet) → GoodSheet sheet → (book : Said) → Sayable sheet book
-    → blocks-of (book-text sheet book) ≡ blocks-saying sheet book
-unfolding book-text
-blocks-of-book sheet good book s = blocks-read-as-written (blocks-saying sheet book) (good-blocks sheet good book s)
+  blocks-of-book : blocks-of (text-of-blocks (blocks-spelled spelling book)) ≡ blocks-spelled spelling book
+  blocks-of-book = blocks-read-as-written (blocks-spelled spelling book) (good-blocks sheet good book s spelling same)
 
-book-ends-in-feed : (sheet : Sheet) (book : Said) → last-byte (book-text sheet book) ≡ line-feed
-unfolding book-text blocks-saying
-book-ends-in-feed sheet book =
-    blocks-end-in-feed (counts-block (book .count) (book .bound) (book .standing))
-    (roles-block sheet (book .roles) ∷ users-block sheet (book .roles) ∷ witness-block sheet (book .witness) ∷ [])
-    (omega arith)
+  book-ends-in-feed : last-byte (text-of-blocks (blocks-spelled spelling book)) ≡ line-feed
+  unfolding blocks-spelled
+  book-ends-in-feed =
+      blocks-end-in-feed (counts-block (book .count) (book .bound) (book .standing))
+      (roles-block (spelling .permissions) (book .roles) ∷ users-block (spelling .users) (book .roles)
+      ∷ witness-block (spelling .witness) ∷ []) (omega arith)
 
--- ---- the form
+  -- ---- the form
 
-blocks-form : (sheet : Sheet) (book : Said) → Sayable sheet book → FormOf sheet (book-text sheet book)
-    (blocks-saying sheet book)
-unfolding blocks-saying
-blocks-form sheet book s =
-    record {
-      ended = book-ends-in-feed sheet book;
-      four-blocks = refl;
-      counts = counts-block-form (book .count) (book .bound) (book .standing);
-      roles = roles-block-form sheet (book .roles) (s .few-roles);
-      users = rw (length-list-of (book .roles .count) line) (users-block-form sheet (book .roles));
-      witness = witness-block-form sheet (book .witness) (s .known-users) (s .known-permissions);
-    }
-  where
-    line : ℕ → Line
-    line r = role-name r ∷ list-of (permission-count sheet) (λ p. cell-text (book .roles .gives r p))
+  blocks-form : FormOf sheet (text-of-blocks (blocks-spelled spelling book)) (blocks-spelled spelling book)
+  unfolding blocks-spelled
+  blocks-form =
+      record {
+        ended = book-ends-in-feed;
+        four-blocks = refl;
+        counts = counts-block-form (book .count) (book .bound) (book .standing);
+        roles = roles-block-form sheet (book .roles) (s .few-roles) (spelling .permissions) (same .permissions);
+        users = rw (length-list-of (book .roles .count) line) (users-block-form sheet (book .roles) (spelling .users)
+            (same .users));
+        witness = witness-block-form sheet (book .witness) (s .known-users) (s .known-permissions) (spelling .witness)
+            (same .witness);
+      }
+    where
+      line : ℕ → Line
+      line r = role-name r ∷ list-of (length (spelling .permissions)) (λ p. cell-text (book .roles .gives r p))
 
-pub written-has-form : (sheet : Sheet) → GoodSheet sheet → (book : Said) → Sayable sheet book
-    → So (form sheet (book-text sheet book))
-written-has-form sheet good book s =
-    form-intro sheet (book-text sheet book) (rw (blocks-of-book sheet good book s) (blocks-form sheet book s))
+  pub written-has-form : So (form sheet (text-of-blocks (blocks-spelled spelling book)))
+  written-has-form =
+      form-intro sheet (text-of-blocks (blocks-spelled spelling book)) (rw blocks-of-book blocks-form)
 
 -- ---- what is read
 
@@ -92,38 +95,59 @@ cell-of-lines lines width name cell i j h k =
     )
     (cell-read (cell i j))
 
+-- a witness line is read as its grant, in whatever case its names are spelled
 grant-read : (sheet : Sheet) → GoodSheet sheet → (g : Grant) → g .user < user-count sheet
     → g .permission < permission-count sheet
-    → grant-of-line sheet (witness-line sheet g) ≡ g
-grant-read sheet good g h k =
+    → (line : Line) → SpelledLine sheet g line
+    → grant-of-line sheet line ≡ g
+grant-read sheet good g h k line l =
     rw (
-      number-among-at (sheet .users) (good .users) (g .user) h,
-      number-among-at (sheet .permissions)
-          (good .permissions) (g .permission) k,
+      l .fields,
+      number-among-at (sheet .users) (good .users) (g .user) h (l .user) (l .same-user),
+      number-among-at (sheet .permissions) (good .permissions) (g .permission) k (l .permission) (l .same-permission),
     )
 
-blocks-say : (sheet : Sheet) → GoodSheet sheet → (book : Said) → Sayable sheet book
-    → SaysSame sheet (said-by-blocks sheet (blocks-saying sheet book)) book
-unfolding blocks-saying
-blocks-say sheet good book s =
-    record {
-      count = number-of-decimal (book .count);
-      bound = number-of-decimal (book .bound);
-      standing = standing-read (book .standing);
-      roles = length-list-of (book .roles .count) line;
-      has = λ u r h k. cell-of-lines (user-count sheet) (book .roles .count) (user-name sheet) (book .roles .has) u r
-          h k;
-      gives = λ r p h k. cell-of-lines (book .roles .count) (permission-count sheet) role-name (book .roles .gives) r
-          p h k;
-      witness = map-map (grant-of-line sheet) (witness-line sheet) (book .witness)
-          ∙ map-fixed (λ g. grant-of-line sheet (witness-line sheet g)) (book .witness)
-          (λ g m. grant-read sheet good g (s .known-users g m) (s .known-permissions g m));
-    }
-  where
-    line : ℕ → Line
-    line r = role-name r ∷ list-of (permission-count sheet) (λ p. cell-text (book .roles .gives r p))
+grants-read : (sheet : Sheet) → GoodSheet sheet → (grants : List Grant) → Each (λ g. g .user < user-count sheet) grants
+    → Each (λ g. g .permission < permission-count sheet) grants → (lines : List Line) → SpellsLines sheet grants lines
+    → map (grant-of-line sheet) lines ≡ grants
+grants-read sheet good [] h k [] e = refl
+grants-read sheet good [] h k (line ∷ lines) e = absurd (omega (arith, ap length e))
+grants-read sheet good (g ∷ grants) h k [] e = absurd (omega (arith, ap length e))
+grants-read sheet good (g ∷ grants) h k (line ∷ lines) e =
+    rw (
+      grant-read sheet good g (h g (List·Memᴰ·head refl)) (k g (List·Memᴰ·head refl)) line
+          (spelled-line sheet g line (head-eq-of-cons-eq e)),
+      grants-read sheet good grants (λ f m. h f (List·Memᴰ·tail m)) (λ f m. k f (List·Memᴰ·tail m)) lines
+          (tail-eq-of-cons-eq e),
+    )
 
-pub read-back : (sheet : Sheet) → GoodSheet sheet → (book : Said) → Sayable sheet book
-    → SaysSame sheet (said sheet (book-text sheet book)) book
-unfolding said
-read-back sheet good book s = rw (blocks-of-book sheet good book s) (blocks-say sheet good book s)
+module _ (sheet : Sheet) (good : GoodSheet sheet) (book : Said) (s : Sayable sheet book) (spelling : Spelling)
+    (same : SameNames spelling (sheet-spelling sheet book)) where
+  blocks-say : SaysSame sheet (said-by-blocks sheet (blocks-spelled spelling book)) book
+  unfolding blocks-spelled
+  blocks-say =
+      record {
+        count = number-of-decimal (book .count);
+        bound = number-of-decimal (book .bound);
+        standing = standing-read (book .standing);
+        roles = length-list-of (book .roles .count) line;
+        has = λ u r h k. cell-of-lines (length (spelling .users)) (book .roles .count)
+            (λ u. getD (spelling .users) u []) (book .roles .has) u r (rw users h) k;
+        gives = λ r p h k. cell-of-lines (book .roles .count) (length (spelling .permissions)) role-name
+            (book .roles .gives) r p h (rw permissions k);
+        witness = grants-read sheet good (book .witness) (s .known-users) (s .known-permissions) (spelling .witness)
+            (same .witness);
+      }
+    where
+      line : ℕ → Line
+      line r = role-name r ∷ list-of (length (spelling .permissions)) (λ p. cell-text (book .roles .gives r p))
+
+      users : length (spelling .users) ≡ user-count sheet
+      users = spells-length (spelling .users) (sheet .users) (same .users)
+
+      permissions : length (spelling .permissions) ≡ permission-count sheet
+      permissions = spells-length (spelling .permissions) (sheet .permissions) (same .permissions)
+
+  pub read-back : SaysSame sheet (said sheet (text-of-blocks (blocks-spelled spelling book))) book
+  unfolding said
+  read-back = rw (blocks-of-book sheet good book s spelling same) blocks-say

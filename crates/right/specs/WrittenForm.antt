@@ -1,24 +1,25 @@
--- The four blocks that say a book of a sheet are of the form, block by block: each line has the fields that the form
--- asks for, in its order, and a cell is spelled `0` or `1`.
+-- The four blocks that say a book of a sheet are of the form, block by block, in whatever case its names are spelled:
+-- each line has the fields that the form asks for, in its order, and a cell is spelled `0` or `1`.
 use Prim.Native.Nat.{ℕ, suc, _≤_, _<_}
-use mathlib.Core.Path.{refl, ap}
+use mathlib.Core.Path.{_≡_, refl, ap, _∙_}
 use mathlib.Core.Bool.{Bool, true, false, So}
-use mathlib.Core.List.{List, [], _∷_, map, List·Memᴰ, Memᴰ·of-map}
+use mathlib.Core.List.{List, [], _∷_, List·Memᴰ}
+use lib.ListN.{length, getD}
 use Rattle.spec.specs.Vocabulary.{list-of}
 use Rattle.spec.specs.Limits.{role-limit}
-use Rattle.spec.specs.Text.{Bytes, Line}
-use Rattle.spec.specs.Sheet.{Sheet, Grant, cell-text, user-count, permission-count, is-bit, user-name}
+use Rattle.spec.specs.Text.{Bytes, Line, lowered}
+use Rattle.spec.specs.Sheet.{Sheet, Grant, first-field, cell-text, user-count, permission-count, is-bit}
 use Rattle.spec.specs.RoleSet.{RoleSet}
 use Rattle.spec.specs.Roles.{Standing, witnessed, searched, unsettled}
-use Rattle.spec.specs.Book.{standing-word, role-name, counts-block, roles-block, users-block, witness-line}
-use Rattle.spec.specs.Book.{witness-block}
-use Rattle.spec.specs.Form.{is-standing, counts-form, roles-form, users-form, witness-form}
+use Rattle.spec.specs.Book.{standing-word, role-name, counts-block, roles-block, users-block, witness-block}
+use Rattle.spec.specs.Form.{is-standing, line-at, counts-form, roles-form, users-form, witness-form}
 use Rattle.lists.specs.TestLaws.{all-intro}
 use Rattle.lists.specs.ListOfLaws.{length-list-of, getD-list-of, list-of-element}
 use Rattle.decimal.specs.Laws.Count.{decimal-is-count}
 use Rattle.right.specs.FormParts.{counts-form-intro, CellsLine, roles-form-intro, users-form-intro, WitnessLine}
 use Rattle.right.specs.FormParts.{witness-form-intro}
 use Rattle.right.specs.NameLaws.{known-at}
+use Rattle.right.specs.Spelling.{Spells, spells-length, spells-at, SpellsLines, line-of}
 
 standing-word-stands : (s : Standing) → So (is-standing (standing-word s))
 standing-word-stands witnessed = refl
@@ -41,13 +42,12 @@ cell-text-bit : (cell : Bool) → So (is-bit (cell-text cell))
 cell-text-bit true = refl
 cell-text-bit false = refl
 
--- a line of a name and a cell for each number below the count
-cells-line-written : (name : Bytes) (count : ℕ) (cell : ℕ → Bool)
-    → CellsLine (name ∷ list-of count (λ i. cell-text (cell i))) name count
-cells-line-written name count cell =
+-- a line of a field and a cell for each number below the count
+cells-line-written : (name : Bytes) (count width : ℕ) (cell : ℕ → Bool) → count ≡ width
+    → CellsLine (name ∷ list-of count (λ i. cell-text (cell i))) width
+cells-line-written name count width cell e =
     record {
-      named = refl;
-      fields = ap suc (length-list-of count (λ i. cell-text (cell i)));
+      fields = ap suc (length-list-of count (λ i. cell-text (cell i)) ∙ e);
       cells = all-intro is-bit (list-of count (λ i. cell-text (cell i))) each;
     }
   where
@@ -55,51 +55,65 @@ cells-line-written name count cell =
     each field m = let r = list-of-element count (λ i. cell-text (cell i)) m
         in rw (← r .there) (cell-text-bit (cell (r .place)))
 
-pub roles-block-form : (sheet : Sheet) (roles : RoleSet) → roles .count ≤ role-limit
-    → So (roles-form sheet (roles-block sheet roles))
-roles-block-form sheet roles few =
-    roles-form-intro sheet (roles-block sheet roles)
+pub roles-block-form : (sheet : Sheet) (roles : RoleSet) → roles .count ≤ role-limit → (permissions : List Bytes)
+    → Spells permissions (sheet .permissions)
+    → So (roles-form sheet (roles-block permissions roles))
+roles-block-form sheet roles few permissions same =
+    roles-form-intro sheet (roles-block permissions roles)
     (record {
       heading = refl;
-      permissions = refl;
+      permissions = same;
       few = rw (length-list-of (roles .count) line) few;
+      named = λ r h. ap first-field (there r h);
       lines = λ r h.
-          rw (getD-list-of (roles .count) line r [] (rw (length-list-of (roles .count) line) at h))
-          (cells-line-written (role-name r) (permission-count sheet) (roles .gives r));
+          rw (there r h) (cells-line-written (role-name r) (length permissions) (permission-count sheet)
+          (roles .gives r) (spells-length permissions (sheet .permissions) same));
     })
   where
     line : ℕ → Line
-    line r = role-name r ∷ list-of (permission-count sheet) (λ p. cell-text (roles .gives r p))
+    line r = role-name r ∷ list-of (length permissions) (λ p. cell-text (roles .gives r p))
 
-pub users-block-form : (sheet : Sheet) (roles : RoleSet)
-    → So (users-form sheet (roles .count) (users-block sheet roles))
-users-block-form sheet roles =
-    users-form-intro sheet (roles .count) (users-block sheet roles)
+    there : (r : ℕ) → r < length (list-of (roles .count) line) → line-at (list-of (roles .count) line) r ≡ line r
+    there r h = getD-list-of (roles .count) line r [] (rw (length-list-of (roles .count) line) at h)
+
+pub users-block-form : (sheet : Sheet) (roles : RoleSet) (users : List Bytes) → Spells users (sheet .users)
+    → So (users-form sheet (roles .count) (users-block users roles))
+users-block-form sheet roles users same =
+    users-form-intro sheet (roles .count) (users-block users roles)
     (record {
       heading = refl;
-      a-line-each = length-list-of (user-count sheet) line;
-      lines = λ u h.
-          rw (getD-list-of (user-count sheet) line u [] h) (cells-line-written (user-name sheet u) (roles .count)
-          (roles .has u));
+      a-line-each = length-list-of (length users) line ∙ total;
+      named = λ u h. ap (λ (l : Line). lowered (first-field l)) (there u h) ∙ spells-at users (sheet .users) same u;
+      lines = λ u h. rw (there u h) (cells-line-written (getD users u []) (roles .count) (roles .count)
+          (roles .has u) refl);
     })
   where
     line : ℕ → Line
-    line u = user-name sheet u ∷ list-of (roles .count) (λ r. cell-text (roles .has u r))
+    line u = getD users u [] ∷ list-of (roles .count) (λ r. cell-text (roles .has u r))
+
+    total : length users ≡ user-count sheet
+    total = spells-length users (sheet .users) same
+
+    there : (u : ℕ) → u < user-count sheet → line-at (list-of (length users) line) u ≡ line u
+    there u h = getD-list-of (length users) line u [] (rw total h)
 
 pub witness-block-form :
     (sheet : Sheet) (grants : List Grant)
     → ((g : Grant) → List·Memᴰ g grants → g .user < user-count sheet)
     → ((g : Grant) → List·Memᴰ g grants → g .permission < permission-count sheet)
-    → So (witness-form sheet (witness-block sheet grants))
-witness-block-form sheet grants users permissions =
-    witness-form-intro sheet (witness-block sheet grants) (record { heading = refl; lines = each })
+    → (lines : List Line) → SpellsLines sheet grants lines
+    → So (witness-form sheet (witness-block lines))
+witness-block-form sheet grants users permissions lines spelled =
+    witness-form-intro sheet (witness-block lines) (record { heading = refl; lines = each })
   where
-    each : (line : Line) → List·Memᴰ line (map (witness-line sheet) grants) → WitnessLine sheet line
+    each : (line : Line) → List·Memᴰ line lines → WitnessLine sheet line
     each line m =
-        let r = Memᴰ·of-map (witness-line sheet) grants m in
-        rw (← r .2)
+        let r = line-of sheet grants lines spelled line m in
+        let l = r .spelled in
+        rw (l .fields)
         (record {
           two-fields = refl;
-          user = known-at (sheet .users) (r .0 .user) (users (r .0) (r .1));
-          permission = known-at (sheet .permissions) (r .0 .permission) (permissions (r .0) (r .1));
+          user = known-at (sheet .users) (r .grant .user) (users (r .grant) (r .member)) (l .user) (l .same-user);
+          permission = known-at (sheet .permissions) (r .grant .permission) (permissions (r .grant) (r .member))
+              (l .permission) (l .same-permission);
         })

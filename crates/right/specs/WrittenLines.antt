@@ -10,21 +10,23 @@ use lib.ListN.{length, getD}
 use Rattle.spec.specs.Vocabulary.{all, list-of}
 use Rattle.spec.specs.Limits.{role-limit}
 use Rattle.spec.specs.Text.{ascii, Bytes, Line, name-byte}
-use Rattle.spec.specs.Sheet.{Sheet, Grant, cell-text, user-count, permission-count, user-name, permission-name}
+use Rattle.spec.specs.Sheet.{Sheet, Grant, cell-text, user-count, permission-count}
 use Rattle.spec.specs.RoleSet.{RoleSet}
 use Rattle.spec.specs.Roles.{Standing}
 use Rattle.spec.specs.Decimal.{decimal}
-use Rattle.spec.specs.Book.{standing-word, role-name, Said, counts-block, roles-block, users-block, witness-line}
-use Rattle.spec.specs.Book.{witness-block, blocks-saying}
+use Rattle.spec.specs.Book.{standing-word, role-name, Said, counts-block, roles-block, users-block, witness-block}
+use Rattle.spec.specs.Book.{Spelling, sheet-spelling, blocks-spelled}
+use Rattle.spec.specs.Right.{SameNames}
 use Rattle.spec.specs.Form.{is-empty-line}
 use Rattle.lists.specs.TestLaws.{member-at}
-use Rattle.lists.specs.EachLaws.{Each, each-none, each-first, each-listed, each-mapped}
+use Rattle.lists.specs.EachLaws.{Each, each-none, each-first, each-listed}
 use Rattle.text.specs.Laws.Text.{Field}
 use Rattle.decimal.specs.Laws.Count.{decimal-is-count, count-has-digit}
 use Rattle.right.specs.WordLaws.{name-bytes-field, count-field, standing-word-field, cell-text-field}
 use Rattle.right.specs.WordLaws.{role-name-field, role-name-some}
 use Rattle.right.specs.BlockLaws.{BlockLine, GoodBlocks}
-use Rattle.right.specs.NameLaws.{GoodName, GoodNames, GoodSheet}
+use Rattle.right.specs.NameLaws.{GoodName, GoodSheet}
+use Rattle.right.specs.Spelling.{SpellsLines, line-of, good-respelled, spells-good}
 
 -- a book that can be written and read: its roles are few, and its witness names users and permissions of the sheet
 pub record Sayable (sheet : Sheet) (book : Said) : Type 0 where
@@ -42,11 +44,8 @@ named-line (b ∷ name) rest h f later =
     filled [] = refl
     filled (next ∷ rest) = refl
 
-name-at : (names : List Bytes) → GoodNames names → (i : ℕ) → i < length names → GoodName (getD names i [])
-name-at names good i h = good .each (getD names i []) (member-at names i [] h)
-
-each-name : (names : List Bytes) → GoodNames names → Each Field names
-each-name names good name m = good .each name m .field
+name-at : (names : List Bytes) → Each GoodName names → (i : ℕ) → i < length names → GoodName (getD names i [])
+name-at names good i h = good (getD names i []) (member-at names i [] h)
 
 each-cell : (count : ℕ) (cell : ℕ → Bool) → Each Field (list-of count (λ i. cell-text (cell i)))
 each-cell count cell = each-listed Field count (λ i. cell-text (cell i)) (λ i h. cell-text-field (cell i))
@@ -70,58 +69,72 @@ counts-lines count bound s =
     (each-none Field))))
     (each-none BlockLine))
 
-roles-lines : (sheet : Sheet) → GoodSheet sheet → (roles : RoleSet) → Each BlockLine (roles-block sheet roles)
+roles-lines : (permissions : List Bytes) → Each GoodName permissions → (roles : RoleSet) → Each BlockLine
+    (roles-block permissions roles)
 unfolding name-byte
-roles-lines sheet good roles =
+roles-lines permissions good roles =
     each-first BlockLine
-    (word-line (ascii "role") (sheet .permissions) refl (omega arith) (each-name (sheet .permissions)
-    (good .permissions)))
-    (each-listed BlockLine (roles .count) (λ r. role-name r ∷ list-of (permission-count sheet)
+    (word-line (ascii "role") permissions refl (omega arith) (λ name m. good name m .field))
+    (each-listed BlockLine (roles .count) (λ r. role-name r ∷ list-of (length permissions)
     (λ p. cell-text (roles .gives r p)))
-    (λ r h. named-line (role-name r) (list-of (permission-count sheet) (λ p. cell-text (roles .gives r p)))
+    (λ r h. named-line (role-name r) (list-of (length permissions) (λ p. cell-text (roles .gives r p)))
     (role-name-some r) (role-name-field r)
-    (each-cell (permission-count sheet) (roles .gives r))))
+    (each-cell (length permissions) (roles .gives r))))
 
-users-lines : (sheet : Sheet) → GoodSheet sheet → (roles : RoleSet) → Each BlockLine (users-block sheet roles)
+users-lines : (users : List Bytes) → Each GoodName users → (roles : RoleSet) → Each BlockLine (users-block users roles)
 unfolding name-byte
-users-lines sheet good roles =
+users-lines users good roles =
     each-first BlockLine
     (word-line (ascii "user") (list-of (roles .count) role-name) refl (omega arith)
     (each-listed Field (roles .count) role-name (λ r h. role-name-field r)))
-    (each-listed BlockLine (user-count sheet) (λ u. user-name sheet u ∷ list-of (roles .count)
+    (each-listed BlockLine (length users) (λ u. getD users u [] ∷ list-of (roles .count)
     (λ r. cell-text (roles .has u r)))
     (λ u h.
-    let name = name-at (sheet .users) (good .users) u h in
-    named-line (user-name sheet u) (list-of (roles .count) (λ r. cell-text (roles .has u r))) (name .some-byte)
+    let name = name-at users good u h in
+    named-line (getD users u []) (list-of (roles .count) (λ r. cell-text (roles .has u r))) (name .some-byte)
     (name .field)
     (each-cell (roles .count) (roles .has u))))
 
 witness-lines : (sheet : Sheet) → GoodSheet sheet → (grants : List Grant) → Each (λ g. g .user < user-count sheet)
     grants
-    → Each (λ g. g .permission < permission-count sheet) grants → Each BlockLine (witness-block sheet grants)
+    → Each (λ g. g .permission < permission-count sheet) grants → (lines : List Line) → SpellsLines sheet grants lines
+    → Each BlockLine (witness-block lines)
 unfolding name-byte
-witness-lines sheet good grants users permissions =
+witness-lines sheet good grants users permissions lines spelled =
     each-first BlockLine
     (word-line (ascii "user") (ascii "permission" ∷ []) refl (omega arith)
     (each-first Field (name-bytes-field (ascii "permission") refl) (each-none Field)))
-    (each-mapped BlockLine (witness-line sheet) grants (λ g m.
-    let name = name-at (sheet .users) (good .users) (g .user) (users g m) in
-    let permission = name-at (sheet .permissions) (good .permissions) (g .permission) (permissions g m) in
-    named-line (user-name sheet (g .user)) (permission-name sheet (g .permission) ∷ []) (name .some-byte) (name .field)
+    (λ line m.
+    let r = line-of sheet grants lines spelled line m in
+    let l = r .spelled in
+    let user = good-respelled (l .same-user)
+    (name-at (sheet .users) (good .users .each) (r .grant .user) (users (r .grant) (r .member))) in
+    let permission = good-respelled (l .same-permission)
+    (name-at (sheet .permissions) (good .permissions .each) (r .grant .permission)
+    (permissions (r .grant) (r .member))) in
+    rw (l .fields)
+    (named-line (l .user) (l .permission ∷ []) (user .some-byte) (user .field)
     (each-first Field (permission .field) (each-none Field))))
 
-pub good-blocks : (sheet : Sheet) → GoodSheet sheet → (book : Said) → Sayable sheet book
-    → GoodBlocks (blocks-saying sheet book)
-unfolding blocks-saying
-good-blocks sheet good book s =
+-- the blocks of a book that can be written, its names spelled in any case
+pub good-blocks : (sheet : Sheet) → GoodSheet sheet → (book : Said) → Sayable sheet book → (spelling : Spelling)
+    → SameNames spelling (sheet-spelling sheet book)
+    → GoodBlocks (blocks-spelled spelling book)
+unfolding blocks-spelled
+good-blocks sheet good book s spelling same =
     record {
       some-block = omega arith;
       each =
           each-first (Each BlockLine)
           (counts-lines (book .count) (book .bound) (book .standing))
-          (each-first (Each BlockLine) (roles-lines sheet good (book .roles))
-          (each-first (Each BlockLine) (users-lines sheet good (book .roles))
-          (each-first (Each BlockLine) (witness-lines sheet good (book .witness) (s .known-users)
-          (s .known-permissions))
+          (each-first (Each BlockLine)
+          (roles-lines (spelling .permissions) (spells-good (spelling .permissions) (sheet .permissions)
+          (same .permissions) (good .permissions .each)) (book .roles))
+          (each-first (Each BlockLine)
+          (users-lines (spelling .users) (spells-good (spelling .users) (sheet .users) (same .users)
+          (good .users .each)) (book .roles))
+          (each-first (Each BlockLine)
+          (witness-lines sheet good (book .witness) (s .known-users) (s .known-permissions) (spelling .witness)
+          (same .witness))
           (each-none (Each BlockLine)))));
     }

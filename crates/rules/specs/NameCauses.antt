@@ -4,7 +4,7 @@ use Prim.Native.Nat.{_≤_}
 use mathlib.Core.Path.{_≡_, ap}
 use mathlib.Core.Logic.{_↔_}
 use mathlib.Core.Bool.{Bool, false, So, _&&_, not}
-use mathlib.Core.List.{[], List·Memᴰ}
+use mathlib.Core.List.{List·Memᴰ}
 use borrow.Author.Tests.{ltb-false, le-ltb, not-false}
 use lib.ListN.{length}
 use Rattle.spec.specs.Vocabulary.{all, repeats}
@@ -13,8 +13,8 @@ use Rattle.spec.specs.Text.{Bytes, same-name}
 use Rattle.spec.specs.Sheet.{Sheet, grants}
 use Rattle.spec.specs.Refusal.{has-name-length, bad-name, name-twice, too-many-grants}
 use Rattle.bits.specs.Truth.{and-intro, and-left, and-right, or-fails, or-fails-left, or-fails-right}
-use Rattle.lists.specs.TestLaws.{all-intro, all-elim, same-bytes-equal, same-bytes-refl}
-use Rattle.lists.specs.SameLaws.{DistinctPlaces, distinct-places, no-repeats}
+use Rattle.lists.specs.TestLaws.{all-intro, all-elim}
+use Rattle.text.specs.Laws.Lowered.{NamesApart, names-apart, apart-names}
 use Rattle.text.specs.Laws.Byte.{between-intro, between-low, between-high}
 
 -- a name of some bytes, no more than the limit
@@ -63,10 +63,10 @@ sized-names sheet = (read, written)
         (λ name m. sized-name name .1 (s .permissions name m)))
         (all-intro has-name-length (sheet .users) (λ name m. sized-name name .1 (s .users name m))))
 
--- 8: no two users and no two permissions have one name
+-- 8: no two users and no two permissions have equal names
 pub record DistinctNames (sheet : Sheet) : Type 0 where
-  pub users : DistinctPlaces [] (sheet .users)
-  pub permissions : DistinctPlaces [] (sheet .permissions)
+  pub users : NamesApart (sheet .users)
+  pub permissions : NamesApart (sheet .permissions)
 
 pub distinct-names : (sheet : Sheet) → (name-twice sheet ≡ false) ↔ DistinctNames sheet
 unfolding name-twice
@@ -81,14 +81,13 @@ distinct-names sheet = (read, written)
     read : name-twice sheet ≡ false → DistinctNames sheet
     read e =
         record {
-          users = distinct-places same-name same-bytes-refl [] (sheet .users) (or-fails-left front back e);
-          permissions = distinct-places same-name same-bytes-refl [] (sheet .permissions) (or-fails-right front back e);
+          users = names-apart (sheet .users) (or-fails-left front back e);
+          permissions = names-apart (sheet .permissions) (or-fails-right front back e);
         }
 
     written : DistinctNames sheet → name-twice sheet ≡ false
     written d =
-        or-fails front back (no-repeats same-name same-bytes-equal [] (sheet .users) (d .users))
-        (no-repeats same-name same-bytes-equal [] (sheet .permissions) (d .permissions))
+        or-fails front back (apart-names (sheet .users) (d .users)) (apart-names (sheet .permissions) (d .permissions))
 
 -- 9: at most as many grants as the limit
 pub few-grants : (sheet : Sheet) → (too-many-grants sheet ≡ false) ↔ (length (grants sheet) ≤ grant-limit)

@@ -45,7 +45,8 @@ fn accepted_or_not() {
         b"a name of 16 bytes;user,a\nabcdefghijklmnop,1\n;\
         a name of 17 bytes;user,a\nabcdefghijklmnopq,1\n;\
         a user and a permission of one name;user,bo\nbo,1\n;\
-        upper and lower case;user,a\nAnn,1\nann,1\n;\
+        a user and a permission of one name but for case;user,BO\nbo,1\n;\
+        names in upper and lower case;user,Rec,ID\nAnn,1,0\nBO,1,1\n;\
         the sheet of the paper;user,rec,id,map\nann,1,1,0\nbo,0,1,1\ncy,1,1,1\n;\
         one cell that says no;user,a\nbo,0\n;",
     );
@@ -61,6 +62,10 @@ fn each_number() {
         a permission without a name;user,a,\nbo,1,1\n;\
         two users of one name;user,a\nbo,1\ncy,1\nbo,0\n;\
         two permissions of one name;user,a,b,a\nbo,1,1,1\n;\
+        two users of one name but for case;user,a\nAnn,1\nann,1\n;\
+        two permissions of one name but for case;user,Id,b,iD\nbo,1,1,1\n;\
+        two names of 16 bytes, the last letter in other case;user,a\nabcdefghijklmnop,1\nabcdefghijklmnoP,1\n;\
+        the word user in upper case;USER,a\nbo,1\n;\
         a field too many;user,a\nbo,1,1\n;\
         a field too few;user,a,b\nbo,1\n;\
         a cell that is 2;user,a\nbo,2\n;\
@@ -75,7 +80,8 @@ fn several() {
         4 and 5 at once;user,\n;\
         5 to 8 at once;user,a\n,2,\n,2,\n;\
         6 to 8 at once;user,a\nbo,2,0\nbo,0\n;\
-        7 and 8 at once;user,a\nbo,x\nbo,0\n;",
+        7 and 8 at once;user,a\nbo,x\nbo,0\n;\
+        7 and 8 at once, one name but for case;user,a\nbo,x\nBO,0\n;",
     );
 }
 

@@ -1,7 +1,7 @@
 -- "The book": what a book says, its four blocks and its bytes, and the book of a sheet in a state of its search.
-use Rattle.spec.specs.Vocabulary.{ℕ, suc, List, [], _∷_, _++_, map, joined, list-of}
+use Rattle.spec.specs.Vocabulary.{ℕ, suc, List, [], _∷_, _++_, map, length, getD, joined, list-of}
 use Rattle.spec.specs.Text.{Bytes, Line, ascii, text-of}
-use Rattle.spec.specs.Sheet.{Sheet, Grant, user-count, permission-count, user-name, permission-name, cell-text}
+use Rattle.spec.specs.Sheet.{Sheet, Grant, user-name, permission-name, cell-text}
 use Rattle.spec.specs.Witness.{witness}
 use Rattle.spec.specs.Machine.{State}
 use Rattle.spec.specs.RoleSet.{RoleSet}
@@ -47,16 +47,16 @@ abbrev pub counts-block : ℕ → ℕ → Standing → Block
 counts-block count bound standing = counts-heading ∷ (decimal count ∷ decimal bound ∷ standing-word standing ∷ []) ∷ []
 
 -- block 2: 1 is "the role holds the permission"
-abbrev pub roles-block : Sheet → RoleSet → Block
-roles-block sheet roles =
-    (ascii "role" ∷ sheet .permissions)
-    ∷ list-of (roles .count) (λ r. role-name r ∷ list-of (permission-count sheet) (λ p. cell-text (roles .gives r p)))
+abbrev pub roles-block : List Bytes → RoleSet → Block
+roles-block permissions roles =
+    (ascii "role" ∷ permissions)
+    ∷ list-of (roles .count) (λ r. role-name r ∷ list-of (length permissions) (λ p. cell-text (roles .gives r p)))
 
 -- block 3: 1 is "the user has the role"; with no roles it is `user` and the bare user names
-abbrev pub users-block : Sheet → RoleSet → Block
-users-block sheet roles =
+abbrev pub users-block : List Bytes → RoleSet → Block
+users-block users roles =
     (ascii "user" ∷ list-of (roles .count) role-name)
-    ∷ list-of (user-count sheet) (λ u. user-name sheet u ∷ list-of (roles .count) (λ r. cell-text (roles .has u r)))
+    ∷ list-of (length users) (λ u. getD users u [] ∷ list-of (roles .count) (λ r. cell-text (roles .has u r)))
 
 -- block 4 lists the witness
 abbrev pub witness-heading : Line
@@ -65,18 +65,38 @@ witness-heading = ascii "user" ∷ ascii "permission" ∷ []
 abbrev pub witness-line : Sheet → Grant → Line
 witness-line sheet g = user-name sheet (g .user) ∷ permission-name sheet (g .permission) ∷ []
 
-abbrev pub witness-block : Sheet → List Grant → Block
-witness-block sheet grants = witness-heading ∷ map (witness-line sheet) grants
+abbrev pub witness-block : List Line → Block
+witness-block lines = witness-heading ∷ lines
 
--- the four blocks that say this of a sheet
-unfoldable pub blocks-saying : Sheet → Said → List Block
+-- the names of a book as it spells them: the permissions in block 2, the users in block 3, the witness lines in block 4
+pub record Spelling : Type 0 where
+  pub permissions : List Bytes
+  pub users : List Bytes
+  pub witness : List Line
+
+-- the names as the sheet spells them
+abbrev pub sheet-spelling : Sheet → Said → Spelling
+sheet-spelling sheet says =
+    record {
+      permissions = sheet .permissions;
+      users = sheet .users;
+      witness = map (witness-line sheet) (says .witness);
+    }
+
+-- the four blocks that say this with names so spelled
+unfoldable pub blocks-spelled : Spelling → Said → List Block
 unfolding role-name
-blocks-saying sheet says =
+blocks-spelled spelling says =
     counts-block (says .count) (says .bound) (says .standing)
-    ∷ roles-block sheet (says .roles)
-    ∷ users-block sheet (says .roles)
-    ∷ witness-block sheet (says .witness)
+    ∷ roles-block (spelling .permissions) (says .roles)
+    ∷ users-block (spelling .users) (says .roles)
+    ∷ witness-block (spelling .witness)
     ∷ []
+
+-- the four blocks that say this of a sheet: a writing spells names as its sheet does
+unfoldable pub blocks-saying : Sheet → Said → List Block
+unfolding blocks-spelled
+blocks-saying sheet says = blocks-spelled (sheet-spelling sheet says) says
 
 -- the bytes that say this of a sheet
 unfoldable pub book-text : Sheet → Said → Bytes

@@ -1,5 +1,5 @@
--- Document 01's cases and the slips to shut out, computed from the definitions: with one of the slips that a file
--- names they compute otherwise.
+-- The cases of documents 01 and 02 and the slips to shut out, computed from the definitions: with one of the slips that
+-- a file names they compute otherwise.
 pub mod Limits
 pub mod Sheet
 pub mod Reduction

@@ -1,6 +1,6 @@
 -- The customer's three demands as statements. The limits that they speak of stand here and in `Rules` and `Right` as
 -- the paper has them, and not by the names that the tests and the machine use; the refusal numbers stand once, in
--- `Refusal`, and 2·(1!+2!+..+k!)+1 in `Sequence`.
+-- `Refusal`, 2·(1!+2!+..+k!)+1 in `Sequence`, and what equal names are in `Text`.
 use Rattle.spec.specs.Vocabulary.{ℕ, _+_, _≤_, _≡_, _≢_, _⊎_, _↔_, So, none, some, List, [], _∷_, List·Memᴰ}
 use Rattle.spec.specs.Vocabulary.{length}
 use Rattle.spec.specs.Text.{Bytes}
@@ -9,7 +9,7 @@ use Rattle.spec.specs.Rules.{Keeps}
 use Rattle.spec.specs.Reduction.{kernel-size}
 use Rattle.spec.specs.RoleSet.{RoleSet, Multiplies}
 use Rattle.spec.specs.Roles.{witnessed, searched, unsettled}
-use Rattle.spec.specs.Book.{Said}
+use Rattle.spec.specs.Book.{Said, book-text}
 use Rattle.spec.specs.Right.{Right}
 use Rattle.spec.specs.Session.{Session}
 use Rattle.spec.specs.Refusal.{Cause, sheet-causes, search-causes, write-causes, check-causes, accepted}
@@ -52,7 +52,7 @@ pub record Demand1 : Type 0 where
 -- demand 2: a sheet is accepted exactly when it keeps the rules, and is then read as the sheet it is; the checker
 -- accepts a book, whoever wrote it, exactly when form, counts, product and witness are right, and answers its counts;
 -- and each book that a writing brings out is right for the sheet of the last accepted load: so its two matrices
--- multiply to that sheet, cell for cell
+-- multiply to that sheet, cell for cell; its names are spelled as that sheet spells them
 pub record Demand2 : Type 0 where
   pub accepts-sheets : (text : Bytes) → (load-answer text .number ≡ 0) ↔ ((sheet : Sheet) × Keeps text sheet)
   pub reads-sheets : (text : Bytes) (sheet : Sheet) → Keeps text sheet → sheet-of text ≡ sheet
@@ -63,12 +63,14 @@ pub record Demand2 : Type 0 where
   pub own-books : (buffer : Bytes) (written : WriteOutcome) (earlier : List Event) (session : Session)
       → Led (record { call = write buffer; outcome = written } ∷ earlier) session → written .answer .number ≡ 0
       → (text : Bytes) × (says : Said) × (last-accepted (calls earlier) ≡ some text) × Right (sheet-of text)
-      (brought-out written) says
+      (brought-out written) says × (brought-out written ≡ book-text (sheet-of text) says)
 
 -- what every book owes that was brought out for the sheet of the last accepted load, through what it says
 pub record Believed (text book : Bytes) : Type 0 where
   pub says : Said
-  -- form, counts, product and witness are right: its bytes are `book-text` of what it says, its product is the sheet
+  -- byte for byte it is `book-text` of what it says: names spelled as in the sheet
+  pub written : book ≡ book-text (sheet-of text) says
+  -- form, counts, product and witness are right: so its product is the sheet
   pub right : Right (sheet-of text) book says
   -- every role set with that product has at least as many roles as the book's bound
   pub bounded : (roles : RoleSet) → Multiplies roles (sheet-of text) → says .bound ≤ roles .count

@@ -1,9 +1,10 @@
--- "The checker", the form of a book for a sheet, line by line, and what a book of the form says.
+-- "The checker", the form of a book for a sheet, line by line, and what a book of the form says. Names of users and
+-- permissions are compared by `same-name`, names of roles and words of the form by their bytes.
 use Rattle.spec.specs.Vocabulary.{ℕ, suc, Bool, false, _&&_, _||_, cond, Option·getD, List, [], _∷_, map, tail}
 use Rattle.spec.specs.Vocabulary.{eqb, leb, length, getD, every-below, lowest-below, empty, any, all, same-by}
 use Rattle.spec.specs.Vocabulary.{list-of, parted-by}
 use Rattle.spec.specs.Limits.{role-limit}
-use Rattle.spec.specs.Text.{Bytes, Line, ascii, same-bytes, same-name, last-byte, line-feed, lines-of}
+use Rattle.spec.specs.Text.{Bytes, Line, ascii, same-bytes, lower, same-name, last-byte, line-feed, lines-of}
 use Rattle.spec.specs.Sheet.{Sheet, Grant, first-field, first-line, is-one, is-bit, user-count}
 use Rattle.spec.specs.Sheet.{permission-count, user-name}
 use Rattle.spec.specs.Roles.{Standing, witnessed, searched, unsettled}
@@ -60,39 +61,40 @@ cells-line line count = eqb (length line) (suc count) && all is-bit (tail line)
 abbrev pub is-role-line : Sheet → ℕ → Line → Bool
 is-role-line sheet r line = same-bytes (first-field line) (role-name r) && cells-line line (permission-count sheet)
 
--- block 2: `role` and the sheet's permissions in order, then lines of the roles `R1`, `R2`, .. in order, within the
--- limit
+-- block 2: `role` and names equal to those of the sheet's permissions in order, then lines of the roles `R1`, `R2`, ..
+-- in order, within the limit
 unfoldable pub roles-form : Sheet → Block → Bool
-unfolding role-limit role-name
+unfolding role-limit role-name lower
 roles-form sheet block =
     same-bytes (first-field (first-line block)) (ascii "role")
     && same-by same-name (tail (first-line block)) (sheet .permissions)
     && leb (length (tail block)) role-limit
     && every-below (length (tail block)) (λ r. is-role-line sheet r (line-at (tail block) r))
 
--- the line of user u: its name, and a cell for each role
+-- the line of user u: a name equal to the user's, and a cell for each role
 abbrev pub is-user-line : Sheet → ℕ → ℕ → Line → Bool
 is-user-line sheet role-count u line = same-name (first-field line) (user-name sheet u) && cells-line line role-count
 
 -- block 3: `user` and the same roles, then a line for each of the sheet's users in order
 unfoldable pub users-form : Sheet → ℕ → Block → Bool
-unfolding role-name
+unfolding role-name lower
 users-form sheet role-count block =
     same-line (first-line block) (ascii "user" ∷ list-of role-count role-name)
     && eqb (length (tail block)) (user-count sheet)
     && every-below (user-count sheet) (λ u. is-user-line sheet role-count u (line-at (tail block) u))
 
--- a name of the sheet
+-- a name equal to one of these
 abbrev pub known : List Bytes → Bytes → Bool
 known names name = any (same-name name) names
 
--- a line of the witness: a user and a permission of the sheet
+-- a line of the witness: names equal to those of a user and of a permission of the sheet
 abbrev pub is-witness-line : Sheet → Line → Bool
 is-witness-line sheet line =
     eqb (length line) 2 && known (sheet .users) (field-at line 0) && known (sheet .permissions) (field-at line 1)
 
 -- block 4: its line of names, then lines of the witness, in any order
 unfoldable pub witness-form : Sheet → Block → Bool
+unfolding lower
 witness-form sheet block = same-line (first-line block) witness-heading && all (is-witness-line sheet) (tail block)
 
 -- four blocks, one empty line between, every line ended by a line feed
@@ -107,8 +109,8 @@ form sheet text =
     && users-form sheet (length (tail (block-at blocks 1))) (block-at blocks 2)
     && witness-form sheet (block-at blocks 3)
 
--- the number of a name in a list of names. The 0 that stands for an unknown name never decides a number: cause 12
--- applies then, and is lower
+-- the lowest number of a name in a list of names that is equal to this one. The 0 that stands for an unknown name never
+-- decides a number: cause 12 applies then, and is lower
 abbrev pub number-among : List Bytes → Bytes → ℕ
 number-among names name = Option·getD (lowest-below (length names) (λ i. same-name name (getD names i []))) 0
 
@@ -147,5 +149,5 @@ said-by-blocks sheet blocks =
 
 -- what these bytes say as a book for the sheet
 unfoldable pub said : Sheet → Bytes → Said
-unfolding blocks-of
+unfolding blocks-of lower
 said sheet text = said-by-blocks sheet (blocks-of text)

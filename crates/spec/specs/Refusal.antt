@@ -4,7 +4,7 @@ use Rattle.spec.specs.Vocabulary.{ℕ, suc, Bool, true, false, _&&_, _||
 use Rattle.spec.specs.Vocabulary.{tail, eqb, ltb, length, every-below, empty, any, all, repeats}
 use Rattle.spec.specs.Limits.{sheet-limit, permission-limit, user-limit, name-limit, grant-limit, book-limit}
 use Rattle.spec.specs.Text.{Bytes, Line, ascii, same-bytes, between, last-byte, line-feed, allowed-byte}
-use Rattle.spec.specs.Text.{same-name, lines-of}
+use Rattle.spec.specs.Text.{lower, same-name, lines-of}
 use Rattle.spec.specs.Sheet.{Sheet, Grant, first-field, first-line, is-bit, sheet-of, user-count}
 use Rattle.spec.specs.Sheet.{permission-count, holds, held, grants}
 use Rattle.spec.specs.Fit.{fits}
@@ -70,8 +70,9 @@ uneven-line lines = not (all (λ line. eqb (length line) (length (first-line lin
 unfoldable pub bad-cell : List Line → Bool
 bad-cell lines = not (all (λ line. all is-bit (tail line)) (tail lines))
 
--- 8: two users or two permissions of one name; a user and a permission may share one
+-- 8: two users or two permissions of one name, `A-Z` read as `a-z`; a user and a permission may share a name
 unfoldable pub name-twice : Sheet → Bool
+unfolding lower
 name-twice sheet = repeats same-name (sheet .users) || repeats same-name (sheet .permissions)
 
 -- 9: above 2,048 grants

@@ -1,7 +1,7 @@
--- "The sheet", its rules, from what a sheet says to its bytes: no reading is involved, and of the tests only
--- `name-byte`, which the cases compute for every byte.
+-- "The sheet", its rules, from what a sheet says to its bytes: no reading is involved, and of the tests only `name-byte`
+-- and, for equal names, `lower`, both of which the cases compute for every byte.
 use Rattle.spec.specs.Vocabulary.{ℕ, _≤_, _<_, _≡_, _≢_, Bool, So, List, [], _∷_, map, List·Memᴰ, length, getD}
-use Rattle.spec.specs.Text.{Bytes, Line, ascii, name-byte, text-of}
+use Rattle.spec.specs.Text.{Bytes, Line, ascii, name-byte, lowered, text-of}
 use Rattle.spec.specs.Sheet.{Sheet, cell-text, grants}
 
 -- user lines: a user name, then `0` or `1` for each permission
@@ -20,10 +20,10 @@ pub record Name (name : Bytes) : Type 0 where
   pub short : length name ≤ 16
   pub spelled : (b : ℕ) → List·Memᴰ b name → So (name-byte b)
 
--- names of which no two are equal
+-- names of which no two are equal: none agrees with another when `A-Z` are read as `a-z`
 pub record Names (names : List Bytes) : Type 0 where
   pub each : (name : Bytes) → List·Memᴰ name names → Name name
-  pub distinct : (i j : ℕ) → i < j → j < length names → getD names i [] ≢ getD names j []
+  pub distinct : (i j : ℕ) → i < j → j < length names → lowered (getD names i []) ≢ lowered (getD names j [])
 
 -- these bytes are this sheet's, and it keeps all rules
 pub record Keeps (text : Bytes) (sheet : Sheet) : Type 0 where

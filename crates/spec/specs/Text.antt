@@ -1,6 +1,6 @@
 -- Bytes, names, lines and fields, read and written.
-use Rattle.spec.specs.Vocabulary.{ℕ, code, Bool, _&&_, _||_, List, [], _∷_, _++_, map, eqb, leb, ended-by}
-use Rattle.spec.specs.Vocabulary.{parted-by, joined, concat, same-by}
+use Rattle.spec.specs.Vocabulary.{ℕ, _+_, _-_, code, Bool, _&&_, _||_, cond, List, [], _∷_, _++_, map, eqb}
+use Rattle.spec.specs.Vocabulary.{leb, ended-by, parted-by, joined, concat, same-by}
 use Prim.Native.String.{String, [] as no-character, _∷_ as _then_}
 
 -- a text, a field or a name: each a list of bytes
@@ -46,9 +46,17 @@ name-byte b =
     || eqb b (code ".")
     || eqb b (code "_")
 
--- two names are equal: upper and lower case are distinct
+-- a byte with `A-Z` read as `a-z`
+unfoldable pub lower : ℕ → ℕ
+lower b = cond (between (code "A") (code "Z") b) (code "a" + (b - code "A")) b
+
+-- a name with `A-Z` read as `a-z`. Two names of users, or two of permissions, are equal if these are the same: rules
+-- say so of `lowered`, and tests ask `same-name`
+abbrev pub lowered : Bytes → Bytes
+lowered = map lower
+
 abbrev pub same-name : Bytes → Bytes → Bool
-same-name = same-bytes
+same-name name other = same-bytes (lowered name) (lowered other)
 
 -- bytes allowed: those of a name, comma, line feed
 unfoldable pub allowed-byte : ℕ → Bool

@@ -2,3 +2,4 @@
 pub mod Stands
 pub mod Aligned
 pub mod Step
+pub mod Spelled

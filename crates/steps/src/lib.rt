@@ -1,6 +1,8 @@
-// Steps over a text: bytes that are known, and a part up to a byte.
+// Steps over a text: bytes that are known, a name in whatever case, and a part up to a byte.
+mod name;
 mod step;
 
+pub use name::expect_name;
 pub use step::Step;
 pub use step::expect;
 pub use step::expect_byte;

@@ -5,3 +5,4 @@ pub mod Byte
 pub mod TextBytes
 pub mod Line
 pub mod Front
+pub mod Lowered

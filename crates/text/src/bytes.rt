@@ -3,12 +3,15 @@ ghost use mathlib.Core.Path.{_≡_};
 ghost use mathlib.Core.Bool.{_&&_};
 ghost use lib.Dec.{eqb, ltb};
 ghost use lib.ListN.{length, getD};
-ghost use Rattle.spec.specs.Text.{between, name-byte, allowed-byte};
+ghost use Rattle.spec.specs.Text.{between, name-byte, lower, allowed-byte};
 ghost use Rattle.text.specs.Line.{separator};
 
 pub const COMMA: u8 = b',';
 
 pub const LINE_FEED: u8 = b'\n';
+
+// A capital and its small letter leave the same when they are divided by this.
+pub const LETTERS: u8 = 32;
 
 // Whether b ends a field.
 pub fn is_separator(b: u8) -> bool
@@ -50,6 +53,16 @@ pub fn is_name_byte(b: u8) -> bool
         return true;
     }
     b == b'_'
+}
+
+// A byte with `A-Z` read as `a-z`.
+pub fn lower_byte(byte: u8) -> u8
+    ensures { λ r. ⌜ r ≡ lower byte ⌝ }
+{
+    if is_between(b'A', b'Z', byte) {
+        return b'a' + (byte - b'A');
+    }
+    byte
 }
 
 // Whether b is a byte of a sheet.

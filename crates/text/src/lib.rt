@@ -4,6 +4,7 @@ mod put;
 mod same;
 
 pub use bytes::COMMA;
+pub use bytes::LETTERS;
 pub use bytes::LINE_FEED;
 pub use bytes::is_allowed;
 pub use bytes::is_name_byte;

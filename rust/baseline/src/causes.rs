@@ -80,10 +80,11 @@ fn cells(text: &[u8]) -> impl Iterator<Item = &[u8]> + Clone {
     user_lines(text).flat_map(|line| fields(line).skip(1))
 }
 
+/// Whether two of these names are one, spelled in any case.
 fn any_twice<'a>(names: impl Iterator<Item = &'a [u8]> + Clone) -> bool {
     let mut rest = names;
     while let Some(name) = rest.next() {
-        if rest.clone().any(|other| other == name) {
+        if rest.clone().any(|other| other.eq_ignore_ascii_case(name)) {
             return true;
         }
     }

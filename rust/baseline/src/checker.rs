@@ -79,12 +79,12 @@ impl Claim {
         reader.word(b"\n")
     }
 
-    /// The heading goes on as the sheet's first line does.
+    /// The heading goes on as the sheet's first line does, in any case.
     fn read_roles(&mut self, sheet: &Sheet, sheet_bytes: &[u8], reader: &mut Reader<'_>) -> Option<()> {
         let permissions = sheet.permissions.count();
         let names_length = permissions + sheet.permissions.byte_count() + 1;
         reader.word(ROLE_HEADING.as_bytes())?;
-        reader.word(&sheet_bytes[USER_HEADING.len()..USER_HEADING.len() + names_length])?;
+        reader.word_in_any_case(&sheet_bytes[USER_HEADING.len()..USER_HEADING.len() + names_length])?;
         while *reader.bytes.get(reader.at)? != b'\n' {
             let gives = self.gives.get_mut(self.role_lines)?;
             reader.word(role_name(self.role_lines))?;
@@ -102,7 +102,9 @@ impl Claim {
         for user in 0..sheet.users.count() {
             let name = sheet.users.name(user);
             let end = reader.at + name.length;
-            if end >= reader.bytes.len() || Name::at(reader.bytes, reader.at, name.length) != name {
+            if end >= reader.bytes.len()
+                || Name::at(reader.bytes, reader.at, name.length).folded() != name.folded()
+            {
                 return None;
             }
             reader.at = end + 1;

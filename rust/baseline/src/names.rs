@@ -1,13 +1,21 @@
-//! Names in sheet order, each as one number, and a table to find them by.
+//! Names in sheet order, each as one number, and a table to find them by. They are kept as the sheet spells them and
+//! compared with `A-Z` read as `a-z`.
 
 use second::limits::NAME_BYTES;
 
-/// Bytes of a name, the first lowest, with zeros past its end. No name has a byte zero.
-#[derive(Clone, Copy, Debug, PartialEq, Eq)]
+/// Bytes of a name as it is spelled, the first lowest, with zeros past its end. No name has a byte zero.
+#[derive(Clone, Copy, Debug)]
 pub struct Name {
     pub bytes: u128,
     pub length: usize,
 }
+
+/// A one in the lowest bit of each byte.
+const EACH_BYTE: u128 = u128::MAX / 0xff;
+
+/// The highest bit of each byte. With a number added to the seven lower bits, it is set exactly where they are large
+/// enough: so all bytes are compared with a bound at once.
+const HIGH_BITS: u128 = EACH_BYTE << 7;
 
 impl Name {
     /// The name that starts here and has this many bytes, of which there are 1 to 16.
@@ -25,6 +33,16 @@ impl Name {
             }
         };
         Name { bytes, length }
+    }
+
+    /// The bytes with `A-Z` read as `a-z`, by which names are compared.
+    #[inline]
+    pub fn folded(self) -> u128 {
+        let low = self.bytes & !HIGH_BITS;
+        let from_a = low + (HIGH_BITS - u128::from(b'A') * EACH_BYTE);
+        let past_z = low + (HIGH_BITS - u128::from(b'Z' + 1) * EACH_BYTE);
+        let capital = from_a & !past_z & !self.bytes & HIGH_BITS;
+        self.bytes | capital >> 2
     }
 }
 
@@ -72,9 +90,10 @@ impl<const MOST: usize, const SLOTS: usize> Names<MOST, SLOTS> {
         if self.count == MOST {
             return None;
         }
-        let mut slot = Self::first_slot(name.bytes);
+        let folded = name.folded();
+        let mut slot = Self::first_slot(folded);
         while self.slots[slot] != 0 {
-            if self.bytes[usize::from(self.slots[slot] - 1)] == name.bytes {
+            if self.name(usize::from(self.slots[slot] - 1)).folded() == folded {
                 return None;
             }
             slot = (slot + 1) % SLOTS;
@@ -87,13 +106,14 @@ impl<const MOST: usize, const SLOTS: usize> Names<MOST, SLOTS> {
         Some(())
     }
 
-    /// The number of this name.
+    /// The number of this name, spelled in any case.
     #[inline]
     pub fn find(&self, name: Name) -> Option<usize> {
-        let mut slot = Self::first_slot(name.bytes);
+        let folded = name.folded();
+        let mut slot = Self::first_slot(folded);
         while self.slots[slot] != 0 {
             let index = usize::from(self.slots[slot] - 1);
-            if self.bytes[index] == name.bytes {
+            if self.name(index).folded() == folded {
                 return Some(index);
             }
             slot = (slot + 1) % SLOTS;
@@ -102,8 +122,8 @@ impl<const MOST: usize, const SLOTS: usize> Names<MOST, SLOTS> {
     }
 
     #[inline]
-    fn first_slot(bytes: u128) -> usize {
-        let folded = (bytes as u64) ^ ((bytes >> 64) as u64).rotate_left(29);
-        (folded.wrapping_mul(0x9e37_79b9_7f4a_7c15) >> (64 - SLOTS.trailing_zeros())) as usize
+    fn first_slot(folded: u128) -> usize {
+        let mixed = (folded as u64) ^ ((folded >> 64) as u64).rotate_left(29);
+        (mixed.wrapping_mul(0x9e37_79b9_7f4a_7c15) >> (64 - SLOTS.trailing_zeros())) as usize
     }
 }

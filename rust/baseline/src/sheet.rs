@@ -178,6 +178,14 @@ impl Reader<'_> {
         rest.starts_with(word).then_some(())
     }
 
+    /// Reads these bytes, with `A-Z` read as `a-z`.
+    #[inline]
+    pub fn word_in_any_case(&mut self, word: &[u8]) -> Option<()> {
+        let bytes = self.bytes.get(self.at..self.at + word.len())?;
+        self.at += word.len();
+        bytes.eq_ignore_ascii_case(word).then_some(())
+    }
+
     /// Reads a name and the separator behind it.
     #[inline]
     pub fn name(&mut self) -> Option<Name> {

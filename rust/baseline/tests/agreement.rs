@@ -35,6 +35,31 @@ fn checks_of_wide_sheets() {
 }
 
 #[test]
+fn spelled_sheets() {
+    agreement::spelled_sheets_agree::<Session>(3_000);
+}
+
+#[test]
+fn spelled_books() {
+    agreement::spelled_books_agree::<Session>(3_000, |random| any(random, 8));
+}
+
+#[test]
+fn spelled_books_of_wide_sheets() {
+    agreement::spelled_books_agree::<Session>(500, |random| any_wide(random, 8));
+}
+
+#[test]
+fn bytes_of_names() {
+    agreement::bytes_of_names_agree::<Session>();
+}
+
+#[test]
+fn lengths_of_names() {
+    agreement::lengths_of_names_agree::<Session>();
+}
+
+#[test]
 fn sequences() {
     agreement::sequences_agree::<Session>(1_000, 30, 8);
 }

@@ -71,7 +71,7 @@ fn check<Kind: Implementation + 'static>(sheet: &Sheet) -> Call<'_> {
     let length = loaded::<Kind>(sheet).write(&mut buffer).expect("the buffer is long enough");
     buffer.truncate(length);
     Box::new(move || {
-        black_box(Kind::check(black_box(&sheet.bytes), black_box(&buffer)).expect("the book is right"));
+        black_box(Kind::check(black_box(&sheet.checked), black_box(&buffer)).expect("the book is right"));
     })
 }
 

@@ -7,14 +7,31 @@ use trials::extremes;
 use trials::families;
 use trials::paper::GRANTS;
 use trials::random::Random;
+use trials::spelling;
 
 pub struct Sheet {
     pub name: String,
     pub bytes: Vec<u8>,
+    /// The sheet that its book is checked against: the same one, or the same in other case.
+    pub checked: Vec<u8>,
+}
+
+impl Sheet {
+    fn new(name: &str, bytes: Vec<u8>) -> Sheet {
+        Sheet { name: name.to_string(), checked: bytes.clone(), bytes }
+    }
 }
 
 fn sheet(name: &str, draft: &Draft) -> Sheet {
-    Sheet { name: name.to_string(), bytes: draft.bytes() }
+    Sheet::new(name, draft.bytes())
+}
+
+/// Long names, all of them alike but for case and their last three bytes. A book is checked whose names are spelled in
+/// other case than the sheet's, each at random.
+fn in_mixed_case(random: &mut Random) -> Sheet {
+    let draft = extremes::with_names_in_mixed_case(random);
+    let checked = spelling::sheet(random, &draft).bytes();
+    Sheet { checked, ..sheet("250 users, names in mixed case", &draft) }
 }
 
 /// The sheet of document 01's worked example.
@@ -25,7 +42,7 @@ const WORKED: &str = "user,rec,id,map\nann,1,1,0\nbo,0,1,1\ncy,1,1,1\n";
 pub fn sheets() -> Vec<Sheet> {
     let mut random = Random::from_seed(1);
     vec![
-        Sheet { name: "worked example".to_string(), bytes: WORKED.into() },
+        Sheet::new("worked example", WORKED.into()),
         sheet("random, half full", &extremes::with_grants(&mut random, 64, 64, GRANTS)),
         sheet("random, an eighth full", &extremes::with_grants(&mut random, 256, 64, GRANTS)),
         sheet("band of 32", &families::band(64, 32)),
@@ -37,6 +54,7 @@ pub fn sheets() -> Vec<Sheet> {
         sheet("128 wide, two grants a user", &families::paired(&mut random, 128)),
         sheet("128 wide, two blocks", &families::blocks(&[(16, 64), (16, 64)])),
         sheet("128 wide, second half full", &behind_64(&mut random)),
+        in_mixed_case(&mut random),
     ]
 }
 
@@ -96,6 +114,16 @@ mod tests {
                 "{}",
                 sheet.name
             );
+        }
+    }
+
+    /// Only the sheet with names in mixed case is checked in another spelling.
+    #[test]
+    fn sheets_are_checked_as_they_are_or_in_other_case() {
+        for sheet in sheets() {
+            assert!(sheet.checked.eq_ignore_ascii_case(&sheet.bytes), "{}", sheet.name);
+            let is_respelt = sheet.checked != sheet.bytes;
+            assert_eq!(is_respelt, sheet.name.ends_with("names in mixed case"), "{}", sheet.name);
         }
     }
 

@@ -10,6 +10,7 @@ use trials::damage;
 use trials::extremes;
 use trials::families::{any, any_wide};
 use trials::paper;
+use trials::spelling;
 use trials::tally::Tally;
 
 #[test]
@@ -45,6 +46,31 @@ fn checks() {
 #[test]
 fn checks_of_wide_sheets() {
     with_room(|| agreement::checks_agree::<Library>(2_000, |random| any_wide(random, 8)));
+}
+
+#[test]
+fn spelled_sheets() {
+    with_room(|| agreement::spelled_sheets_agree::<Library>(2_000));
+}
+
+#[test]
+fn spelled_books() {
+    with_room(|| agreement::spelled_books_agree::<Library>(2_000, |random| any(random, 8)));
+}
+
+#[test]
+fn spelled_books_of_wide_sheets() {
+    with_room(|| agreement::spelled_books_agree::<Library>(500, |random| any_wide(random, 8)));
+}
+
+#[test]
+fn bytes_of_names() {
+    with_room(agreement::bytes_of_names_agree::<Library>);
+}
+
+#[test]
+fn lengths_of_names() {
+    with_room(agreement::lengths_of_names_agree::<Library>);
 }
 
 #[test]
@@ -111,13 +137,18 @@ fn books_by_one_call() {
     with_room(|| {
         let mut numbers = Tally::default();
         cases(3_000, |random| {
-            let sheet = any(random, 8).bytes();
-            let sheet = if random.percent(30) { damage::bytes(random, &sheet) } else { sheet };
+            let draft = any(random, 8);
+            let sheet = match random.below(10) {
+                0..=2 => damage::bytes(random, &draft.bytes()),
+                3 => spelling::with_clash(random, &draft).bytes(),
+                _ => draft.bytes(),
+            };
             let budget = random.below(2_000) as u32;
             let length = if random.percent(80) { paper::BOOK_BYTES } else { random.below(400) };
             numbers.note(book_by_one_call(&sheet, budget, length).err());
         });
-        numbers.expect([None, Some(Refusal::BufferLength), Some(Refusal::FieldCount)], 5);
+        let refused = [Refusal::BufferLength, Refusal::FieldCount, Refusal::NameTwice];
+        numbers.expect(refused.map(Some).into_iter().chain([None]), 5);
     });
 }
 

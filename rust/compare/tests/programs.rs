@@ -14,6 +14,7 @@ use trials::extremes;
 use trials::families;
 use trials::paper;
 use trials::random::Random;
+use trials::spelling;
 
 fn expected_book(sheet: &[u8], budget: u32) -> String {
     String::from_utf8(book_output(sheet, budget)).expect("a book is plain text")
@@ -38,12 +39,34 @@ fn book_program_prints_the_same_books_and_refusals() {
     });
 }
 
+/// Names in other case, two names that are one, and the first field in other case.
+#[test]
+fn book_program_prints_the_same_for_other_spellings() {
+    cases(30, |random| {
+        let draft = families::any(random, 8);
+        let sheets = [
+            spelling::sheet(random, &draft).bytes(),
+            spelling::with_clash(random, &draft).bytes(),
+            spelling::with_first_field_in_other_case(random, &draft),
+            spelling::with_foreign_letter(random, &draft),
+        ];
+        let texts = sheets.map(|sheet| {
+            let text = printed("rolebook", &[], &sheet);
+            assert_eq!(text, expected_book(&sheet, 0));
+            text
+        });
+        assert!(texts[0].starts_with("roles,bound,state\n"), "{}", texts[0]);
+        assert_eq!(texts[1..], ["8\n", "3\n", "2\n"]);
+    });
+}
+
 #[test]
 fn book_program_takes_the_largest_sheets() {
     let mut random = Random::from_seed(7);
     let sheets = [
         extremes::longest(&mut random).bytes(),
         extremes::with_longest_names(&mut random).bytes(),
+        extremes::with_names_in_mixed_case(&mut random).bytes(),
         extremes::full(32, 64).bytes(),
         extremes::full(16, 128).bytes(),
         families::crown(45).bytes(),
@@ -52,9 +75,9 @@ fn book_program_takes_the_largest_sheets() {
         families::paired(&mut random, 110).bytes(),
         Draft::plain(256, 64, |_, _| false).bytes(),
         Draft::plain(240, 128, |_, _| false).bytes(),
-        extremes::filled(&mut random, 252, 128, paper::SHEET_BYTES).bytes(),
-        extremes::filled(&mut random, 252, 128, paper::SHEET_BYTES + 1).bytes(),
-        [extremes::filled(&mut random, 252, 128, paper::SHEET_BYTES).bytes(), b"a\n".to_vec()].concat(),
+        extremes::filled(&mut random, 251, 128, paper::SHEET_BYTES).bytes(),
+        extremes::filled(&mut random, 251, 128, paper::SHEET_BYTES + 1).bytes(),
+        [extremes::filled(&mut random, 251, 128, paper::SHEET_BYTES).bytes(), b"a\n".to_vec()].concat(),
         extremes::full(1, paper::PERMISSIONS).bytes(),
         extremes::full(1, paper::PERMISSIONS + 1).bytes(),
         extremes::of_bytes(paper::SHEET_BYTES),
@@ -122,6 +145,32 @@ fn check_program_prints_the_same_judgements() {
     });
 }
 
+/// Names in other case, a name misspelt, a word in other case, and a witness grant named twice.
+#[test]
+fn check_program_prints_the_same_for_other_spellings() {
+    let folder = folder("spelled");
+    let (sheet_path, book_path) = (folder.join("sheet"), folder.join("book"));
+    let paths = [&sheet_path, &book_path].map(|path| path.to_str().expect("the path is plain text"));
+    cases(30, |random| {
+        let draft = families::any(random, 8);
+        let sheet = draft.bytes();
+        let book = book_output(&sheet, 0);
+        std::fs::write(&sheet_path, &sheet).expect("the sheet can be written");
+        let judged = |book: &[u8]| {
+            std::fs::write(&book_path, book).expect("the book can be written");
+            let found = printed("rolecheck", &paths, b"");
+            assert_eq!(found.as_bytes(), check_output(&sheet, book), "{}", String::from_utf8_lossy(book));
+            found
+        };
+        assert_eq!(judged(&spelling::book(random, &draft, &book)), judged(&book));
+        assert_eq!(judged(&spelling::misspelt_book(random, &draft, &book).1), "12\n");
+        assert_eq!(judged(&spelling::with_word_in_other_case(random, &draft, &book)), "12\n");
+        if let Some(doubled) = spelling::with_witness_twice(random, &draft, &book) {
+            assert_eq!(judged(&doubled), "15\n");
+        }
+    });
+}
+
 #[test]
 fn check_program_refuses_books_that_are_too_long() {
     let folder = folder("long");
@@ -167,7 +216,7 @@ fn longest_sheets_and_books_are_judged_alike() {
         book_of_bytes(&text, paper::BOOK_BYTES + 1),
         book_of_bytes(&text, 1 << 20),
     ];
-    let filled = |bytes| extremes::filled(&mut Random::from_seed(7), 252, 128, bytes).bytes();
+    let filled = |bytes| extremes::filled(&mut Random::from_seed(7), 251, 128, bytes).bytes();
     let sheets = [
         draft.bytes(),
         filled(paper::SHEET_BYTES),

@@ -107,7 +107,7 @@ fn book_program_prints_11_for_a_book_longer_than_its_buffer() {
     assert_eq!(book(&[], &text(&extremes::with_book_bytes(65_537))), "11\n");
     assert_eq!(book(&["9"], &text(&extremes::with_long_book(&mut Random::from_seed(1)))), "11\n");
     assert_eq!(book(&[], &text(&extremes::with_longest_book())), "11\n");
-    let too_long = extremes::filled(&mut Random::from_seed(1), 252, 128, 65_537);
+    let too_long = extremes::filled(&mut Random::from_seed(1), 251, 128, 65_537);
     assert_eq!(book(&[], &text(&too_long)), "1\n");
 }
 
@@ -120,6 +120,27 @@ fn check_program_prints_counts_or_a_number() {
     assert_eq!(check(&good), "2,2\n");
     assert_eq!(check(&bad), "13\n");
     assert_eq!(check(&sheet), "12\n");
+}
+
+#[test]
+fn book_program_spells_names_as_the_sheet_does() {
+    let sheet = EXAMPLE.replace("ann", "Ann").replace("rec", "REC");
+    let expected = EXAMPLE_BOOK.replace("ann", "Ann").replace("rec", "REC");
+    assert_eq!(book(&[], &sheet), expected);
+    assert_eq!(book(&[], &sheet.replace("bo", "aNN")), "8\n");
+    assert_eq!(book(&[], &sheet.replace("map", "rec")), "8\n");
+    assert_eq!(book(&[], &sheet.replace("user", "User")), "3\n");
+}
+
+#[test]
+fn check_program_takes_names_in_any_case() {
+    let sheet = file("case-sheet", EXAMPLE);
+    let check = |name: &str, text: &str| {
+        printed(run(env!("CARGO_BIN_EXE_second-check"), &[&sheet, &file(name, text)], b""))
+    };
+    assert_eq!(check("case-names", &EXAMPLE_BOOK.replace("ann", "ANN").replace("map\n", "Map\n")), "2,2\n");
+    assert_eq!(check("case-role", &EXAMPLE_BOOK.replacen("R1", "r1", 1)), "12\n");
+    assert_eq!(check("case-twice", &EXAMPLE_BOOK.replace("\nbo,map\n", "\nAnn,REC\n")), "15\n");
 }
 
 #[test]

@@ -3,6 +3,7 @@
 use crate::book::{COUNTS_HEADING, ROLE_HEADING, USER_HEADING, WITNESS_HEADING, role_name};
 use crate::grants::{self, Grant, fits};
 use crate::limits;
+use crate::names;
 use crate::refusal::Refusal;
 use crate::roles::State;
 use crate::sheet::{Permission, Sheet, User};
@@ -134,23 +135,39 @@ fn is_count(digits: &[u8]) -> bool {
 
 fn read_roles(sheet: &Sheet, block: &[Line<'_>]) -> Option<Vec<Vec<bool>>> {
     let (heading, rows) = block.split_first()?;
-    let names: Vec<&[u8]> = sheet.permissions().map(|permission| sheet.permission_name(permission)).collect();
-    if !is_row(heading, ROLE_HEADING.as_bytes(), &names) || rows.len() > limits::ROLES {
+    let permissions = fields_after(ROLE_HEADING, heading)?;
+    if !are_the_permissions(sheet, &permissions) || rows.len() > limits::ROLES {
         return None;
     }
     let numbered = rows.iter().enumerate();
-    numbered.map(|(index, row)| read_cells(row, role_name(index).as_bytes(), names.len())).collect()
+    numbered
+        .map(|(index, row)| read_cells(&fields_after(&role_name(index), row)?, permissions.len()))
+        .collect()
+}
+
+/// Whether these are the sheet's permissions in their order, each spelled in any case.
+fn are_the_permissions(sheet: &Sheet, fields: &[&[u8]]) -> bool {
+    let mut named = sheet.permissions().zip(fields);
+    fields.len() == sheet.permissions().count()
+        && named.all(|(permission, field)| names::are_one(sheet.permission_name(permission), field))
 }
 
 fn read_users(sheet: &Sheet, role_count: usize, block: &[Line<'_>]) -> Option<Vec<Vec<bool>>> {
     let (heading, rows) = block.split_first()?;
-    let names: Vec<String> = (0..role_count).map(role_name).collect();
-    let names: Vec<&[u8]> = names.iter().map(|name| name.as_bytes()).collect();
-    if !is_row(heading, USER_HEADING.as_bytes(), &names) || rows.len() != sheet.users().count() {
+    let roles = fields_after(USER_HEADING, heading)?;
+    let are_the_roles = roles.len() == role_count
+        && roles.iter().enumerate().all(|(index, field)| *field == role_name(index).as_bytes());
+    if !are_the_roles || rows.len() != sheet.users().count() {
         return None;
     }
-    let named = sheet.users().zip(rows);
-    named.map(|(user, row)| read_cells(row, sheet.user_name(user), role_count)).collect()
+    sheet.users().zip(rows).map(|(user, row)| read_user(sheet, user, role_count, row)).collect()
+}
+
+/// The cells of a user line. The user's name may be spelled in any case.
+fn read_user(sheet: &Sheet, user: User, role_count: usize, row: Line<'_>) -> Option<Vec<bool>> {
+    let fields = fields(row);
+    let is_the_user = names::are_one(sheet.user_name(user), fields[0]);
+    if is_the_user { read_cells(&fields[1..], role_count) } else { None }
 }
 
 fn read_witness(sheet: &Sheet, block: &[Line<'_>]) -> Option<Vec<Grant>> {
@@ -168,19 +185,18 @@ fn read_grant(sheet: &Sheet, row: Line<'_>) -> Option<Grant> {
     Some(Grant { user: sheet.user_named(user)?, permission: sheet.permission_named(permission)? })
 }
 
-/// Whether the line has this first field and then these names.
-fn is_row(line: Line<'_>, first: &[u8], names: &[&[u8]]) -> bool {
+/// The fields of a line behind the first, which has to be this word or role name to the byte.
+fn fields_after<'a>(word: &str, line: Line<'a>) -> Option<Vec<&'a [u8]>> {
     let fields = fields(line);
-    fields[0] == first && fields[1..] == *names
+    (fields[0] == word.as_bytes()).then(|| fields[1..].to_vec())
 }
 
-/// The cells of a line that begins with this name and has this many of them.
-fn read_cells(line: Line<'_>, name: &[u8], count: usize) -> Option<Vec<bool>> {
-    let fields = fields(line);
-    if fields[0] != name || fields.len() != count + 1 {
+/// What these fields say, of which there have to be so many.
+fn read_cells(fields: &[&[u8]], count: usize) -> Option<Vec<bool>> {
+    if fields.len() != count {
         return None;
     }
-    fields[1..].iter().map(|field| read_cell(field)).collect()
+    fields.iter().map(|field| read_cell(field)).collect()
 }
 
 fn read_cell(field: &[u8]) -> Option<bool> {

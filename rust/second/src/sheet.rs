@@ -1,9 +1,8 @@
 //! The grant sheet (user-permission assignment): the nine causes to refuse its bytes, and what an accepted
 //! one says.
 
-use std::collections::BTreeSet;
-
 use crate::limits;
+use crate::names;
 use crate::refusal::Refusal;
 
 /// A user's number, from 0 in sheet order.
@@ -44,20 +43,24 @@ impl Sheet {
         self.held[user.0][permission.0]
     }
 
+    /// The name as the sheet spells it.
     pub fn user_name(&self, user: User) -> &[u8] {
         &self.user_names[user.0]
     }
 
+    /// The name as the sheet spells it.
     pub fn permission_name(&self, permission: Permission) -> &[u8] {
         &self.permission_names[permission.0]
     }
 
+    /// The user of this name, which may be spelled in other case than in the sheet.
     pub fn user_named(&self, name: &[u8]) -> Option<User> {
-        self.users().find(|user| self.user_name(*user) == name)
+        self.users().find(|user| names::are_one(self.user_name(*user), name))
     }
 
+    /// The permission of this name, which may be spelled in other case than in the sheet.
     pub fn permission_named(&self, name: &[u8]) -> Option<Permission> {
-        self.permissions().find(|permission| self.permission_name(*permission) == name)
+        self.permissions().find(|permission| names::are_one(self.permission_name(*permission), name))
     }
 }
 
@@ -171,9 +174,13 @@ fn name_stands_twice(text: &Text<'_>) -> bool {
     has_repeated(text.user_names()) || has_repeated(text.permission_names())
 }
 
-fn has_repeated<'a>(mut names: impl Iterator<Item = &'a [u8]>) -> bool {
-    let mut seen = BTreeSet::new();
-    names.any(|name| !seen.insert(name))
+fn has_repeated<'a>(names: impl Iterator<Item = &'a [u8]>) -> bool {
+    let names: Vec<&[u8]> = names.collect();
+    let stood_before = |(index, name): (usize, &&[u8])| {
+        let earlier = &names[..index];
+        earlier.iter().any(|other| names::are_one(other, name))
+    };
+    names.iter().enumerate().any(stood_before)
 }
 
 fn grant_count_is_wrong(text: &Text<'_>) -> bool {

@@ -8,17 +8,19 @@ use second::roles::State;
 use second::script::{Call, lent_buffer};
 use second::session::{LoadAnswer, SearchAnswer, Session};
 
-use crate::book_draft::BookDraft;
+use crate::book_draft::{BookDraft, Place, with_fields};
 use crate::brute;
 use crate::calls::sequence;
 use crate::cases::cases;
 use crate::damage;
-use crate::draft::Draft;
+use crate::draft::{Draft, NAME_CHARACTERS};
 use crate::extremes;
 use crate::families;
 use crate::kernels::with_kernel;
 use crate::paper;
 use crate::random::Random;
+use crate::restated::spelling::settled;
+use crate::spelling;
 use crate::tally::Tally;
 
 /// Steps within which nearly all small sheets are finished.
@@ -156,6 +158,150 @@ pub fn checks_agree<Other: Implementation>(count: u64, sheet: impl Fn(&mut Rando
     numbers.expect([None], 20);
 }
 
+/// Loads of sheets that differ in case only: with other names, with two names that are one, and with the first field in
+/// other case. Each book is spelled as its sheet is.
+pub fn spelled_sheets_agree<Other: Implementation>(count: u64) {
+    cases(count, |random| {
+        let draft = families::any(random, 8);
+        let mut pair = Pair::<Other>::loaded(&draft);
+        let counts = pair.load(&draft.bytes());
+        assert_spelled_as(&draft, &pair.book());
+        let respelt = spelling::sheet(random, &draft);
+        assert_eq!(pair.load(&respelt.bytes()), counts, "{respelt:?}");
+        let book = pair.book();
+        assert_spelled_as(&respelt, &book);
+        let refused = [
+            (spelling::with_clash(random, &draft).bytes(), Refusal::NameTwice),
+            (spelling::with_first_field_in_other_case(random, &draft), Refusal::FirstLine),
+            (spelling::with_foreign_letter(random, &draft), Refusal::SheetBytes),
+        ];
+        for (sheet, refusal) in refused {
+            assert_eq!(pair.load(&sheet), Err(refusal), "{}", String::from_utf8_lossy(&sheet));
+            assert_eq!(checked::<Other>(&sheet, &book), Err(refusal), "{}", String::from_utf8_lossy(&sheet));
+        }
+        assert_eq!(pair.book(), book, "a refused load changes nothing");
+    });
+}
+
+/// Every name in the book is, byte for byte, one of the sheet's.
+fn assert_spelled_as(draft: &Draft, book: &[u8]) {
+    with_fields(draft, book, |place, field| {
+        let is_spelled = |place: Place| place.names(draft).iter().any(|name| name.as_bytes() == field);
+        assert!(place.is_none_or(is_spelled), "{draft:?} {}", String::from_utf8_lossy(book));
+        field.to_vec()
+    });
+}
+
+/// Checks of books that are right but for their spelling: names in other case are accepted; a name misspelt, a word or
+/// a role name in other case and a grant named twice in any case are not.
+pub fn spelled_books_agree<Other: Implementation>(count: u64, sheet: impl Fn(&mut Random) -> Draft) {
+    let mut misspelt_places = Tally::default();
+    let mut doubled_books = Tally::default();
+    cases(count, |random| {
+        let draft = sheet(random);
+        let mut pair = Pair::<Other>::loaded(&draft);
+        pair.search(random.below(500) as u32).expect("a sheet is loaded");
+        let book = pair.book();
+        let judged = |draft: &Draft, book: &[u8]| checked::<Other>(&draft.bytes(), book);
+        let answer = judged(&draft, &book).expect("a written book is accepted");
+        assert_eq!(judged(&draft, &spelling::book(random, &draft, &book)), Ok(answer));
+        assert_eq!(judged(&spelling::sheet(random, &draft), &book), Ok(answer));
+        let (place, misspelt) = spelling::misspelt_book(random, &draft, &book);
+        assert_eq!(judged(&draft, &misspelt), Err(Refusal::BookForm));
+        misspelt_places.note(Some(place));
+        let word = spelling::with_word_in_other_case(random, &draft, &book);
+        assert_eq!(judged(&draft, &word), Err(Refusal::BookForm));
+        let doubled = spelling::with_witness_twice(random, &draft, &book);
+        if let Some(book) = &doubled {
+            assert_eq!(judged(&draft, book), Err(Refusal::BookWitness));
+        }
+        doubled_books.note(doubled.is_some());
+    });
+    misspelt_places.expect(Place::ALL.map(Some), 20);
+    doubled_books.expect([true], 20);
+}
+
+/// Every two bytes as names of two users and of two permissions, and every byte in the place of every byte of a name in
+/// a book, block by block. Only a letter in its other case is the same.
+pub fn bytes_of_names_agree<Other: Implementation>() {
+    let mut pair = Pair::<Other>::fresh();
+    for own in NAME_CHARACTERS {
+        let draft = named_alike(&char::from(*own).to_string());
+        let book = Pair::<Other>::loaded(&draft).book();
+        for other in 0..=u8::MAX {
+            let are_one = settled(&[*own]) == settled(&[other]);
+            for place in Place::ALL {
+                let changed = with_name_at(&draft, &book, place, &[other]);
+                let found = checked::<Other>(&draft.bytes(), &changed);
+                assert_eq!(found.err(), (!are_one).then_some(Refusal::BookForm), "{own} {other} {place:?}");
+            }
+            if NAME_CHARACTERS.contains(&other) {
+                let names = [own, &other].map(|byte| char::from(*byte).to_string());
+                assert_names_agree(&mut pair, names, are_one);
+            }
+        }
+    }
+}
+
+/// Names of every length in other case, and such ones that differ in one letter more, at every place, or have a letter
+/// less or more.
+pub fn lengths_of_names_agree<Other: Implementation>() {
+    let mut random = Random::from_seed(10);
+    let mut pair = Pair::<Other>::fresh();
+    for length in 1..=paper::NAME_BYTES {
+        let name: String =
+            (0..length).map(|_| char::from(*random.pick(&NAME_CHARACTERS[..2 * 26]))).collect();
+        let draft = named_alike(&name);
+        let book = Pair::<Other>::loaded(&draft).book();
+        let turned = spelling::all_turned(&name);
+        let mut assert_agree = |other: &str, are_one: bool| {
+            assert_names_agree(&mut pair, [&name, other].map(str::to_string), are_one);
+            for place in Place::ALL {
+                let changed = with_name_at(&draft, &book, place, other.as_bytes());
+                let found = checked::<Other>(&draft.bytes(), &changed);
+                assert_eq!(found.err(), (!are_one).then_some(Refusal::BookForm), "{name} {other} {place:?}");
+            }
+        };
+        assert_agree(&turned, true);
+        for place in 0..length {
+            let letter = if settled(&turned.as_bytes()[place..=place]) == b"q" { "Z" } else { "q" };
+            assert_agree(&[&turned[..place], letter, &turned[place + 1..]].concat(), false);
+        }
+        assert_agree(&turned[1..], false);
+        assert_agree(&format!("{turned}q"), false);
+    }
+}
+
+/// One user who holds one permission, both of this name.
+fn named_alike(name: &str) -> Draft {
+    let mut draft = extremes::full(1, 1);
+    draft.users[0] = name.to_string();
+    draft.permissions[0] = name.to_string();
+    draft
+}
+
+/// The book with another name at this place.
+fn with_name_at(draft: &Draft, book: &[u8], place: Place, name: &[u8]) -> Vec<u8> {
+    with_fields(draft, book, |found, field| if found == Some(place) { name } else { field }.to_vec())
+}
+
+/// Two users of these names, and two permissions, are refused exactly if the names are one.
+fn assert_names_agree<Other: Implementation>(pair: &mut Pair<Other>, names: [String; 2], are_one: bool) {
+    let mut users = extremes::full(2, 1);
+    users.users = names.to_vec();
+    let mut permissions = extremes::full(1, 2);
+    permissions.permissions = names.to_vec();
+    for draft in [users, permissions] {
+        let have_length = names.iter().all(|name| (1..=paper::NAME_BYTES).contains(&name.len()));
+        let expected = match (have_length, are_one) {
+            (false, _) => Some(Refusal::NameLength),
+            (true, true) => Some(Refusal::NameTwice),
+            (true, false) => None,
+        };
+        assert_eq!(pair.load(&draft.bytes()).err(), expected, "{draft:?}");
+    }
+}
+
 /// Whole sequences of calls, refused ones among them.
 pub fn sequences_agree<Other: Implementation>(count: u64, length: usize, size: usize) {
     let mut seen = Tally::default();
@@ -166,7 +312,7 @@ pub fn sequences_agree<Other: Implementation>(count: u64, length: usize, size: u
         }
     });
     let outcomes: [(&str, &[u32]); 4] = [
-        ("load", &[0, 1, 2, 5, 6, 7, 8]),
+        ("load", &[0, 1, 2, 3, 5, 6, 7, 8]),
         ("search", &[0, 10]),
         ("write", &[0, 10, 11]),
         ("check", &[0, 12, 13, 14, 15]),
@@ -197,13 +343,19 @@ pub fn roles_are_smallest<Other: Implementation>(count: u64) {
     states.expect(State::ALL.map(State::word), 5);
 }
 
-/// Sheets as large as there can be, searched and written, with their books checked.
+/// Sheets as large as there can be, searched and written, with their books checked, as written, with names in other
+/// case and with one name misspelt.
 pub fn large_sheets_agree<Other: Implementation>(drafts: &[Draft]) {
+    let mut random = Random::from_seed(7);
     for draft in drafts {
         let mut pair = Pair::<Other>::loaded(draft);
         pair.search(LARGE_BUDGET).expect("a sheet is loaded");
         let book = pair.book();
-        checked::<Other>(&draft.bytes(), &book).expect("a written book is accepted");
+        let answer = checked::<Other>(&draft.bytes(), &book).expect("a written book is accepted");
+        let spelled = spelling::book(&mut random, draft, &book);
+        assert_eq!(checked::<Other>(&draft.bytes(), &spelled), Ok(answer));
+        let (_, misspelt) = spelling::misspelt_book(&mut random, draft, &book);
+        assert_eq!(checked::<Other>(&draft.bytes(), &misspelt), Err(Refusal::BookForm));
     }
 }
 
@@ -214,6 +366,7 @@ pub fn extremes_agree<Other: Implementation>() {
     let wide = families::turned(&families::with_copied_users(&mut random, &base, 16));
     large_sheets_agree::<Other>(&[
         extremes::with_longest_names(&mut random),
+        extremes::with_names_in_mixed_case(&mut random),
         extremes::full(32, 64),
         extremes::full(256, 8),
         extremes::with_grants(&mut random, 64, 64, paper::GRANTS),
@@ -238,8 +391,8 @@ pub fn wide_extremes_agree<Other: Implementation>() {
     let half_full = extremes::with_grants(&mut random, 64, 64, paper::GRANTS);
     large_sheets_agree::<Other>(&[
         extremes::longest(&mut random),
-        extremes::filled(&mut random, 252, 128, paper::SHEET_BYTES),
-        extremes::filled(&mut random, 256, 126, paper::SHEET_BYTES),
+        extremes::filled(&mut random, 251, 128, paper::SHEET_BYTES),
+        extremes::filled(&mut random, 256, 125, paper::SHEET_BYTES),
         extremes::with_long_book(&mut random),
         extremes::with_longest_book(),
         extremes::with_grants(&mut random, 128, 128, paper::GRANTS),
@@ -293,10 +446,10 @@ pub fn limits_agree<Other: Implementation>() {
         (sized(paper::USERS, paper::PERMISSIONS), Some(Refusal::SheetLength)),
         (filled(240, 128, paper::SHEET_BYTES), None),
         (filled(240, 128, paper::SHEET_BYTES + 1), Some(Refusal::SheetLength)),
-        (filled(252, 128, paper::SHEET_BYTES), None),
-        (filled(252, 128, paper::SHEET_BYTES + 1), Some(Refusal::SheetLength)),
-        (filled(256, 126, paper::SHEET_BYTES), None),
-        (filled(256, 126, paper::SHEET_BYTES + 1), Some(Refusal::SheetLength)),
+        (filled(251, 128, paper::SHEET_BYTES), None),
+        (filled(251, 128, paper::SHEET_BYTES + 1), Some(Refusal::SheetLength)),
+        (filled(256, 125, paper::SHEET_BYTES), None),
+        (filled(256, 125, paper::SHEET_BYTES + 1), Some(Refusal::SheetLength)),
         (granted(paper::GRANTS), None),
         (granted(paper::GRANTS + 1), Some(Refusal::GrantCount)),
         (extremes::of_bytes(paper::SHEET_BYTES), Some(Refusal::NameLength)),

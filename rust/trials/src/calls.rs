@@ -11,15 +11,19 @@ use crate::extremes;
 use crate::families;
 use crate::paper;
 use crate::random::Random;
+use crate::spelling;
 
 /// Searches of a sequence stay below this budget unless nothing is left to search.
 const BUDGET: usize = 3_000;
 
 /// A sequence of this many calls from a fresh session. The sheets have at most about this many users, and most of
-/// them no more permissions.
+/// them no more permissions. One of them may be another one with its names in other case.
 pub fn sequence(random: &mut Random, length: usize, size: usize) -> Vec<Call> {
     let count = random.between(1, 3);
-    let sheets: Vec<Draft> = (0..count).map(|_| any_draft(random, size)).collect();
+    let mut sheets: Vec<Draft> = (0..count).map(|_| any_draft(random, size)).collect();
+    if random.percent(50) {
+        sheets.push(spelling::sheet(random, &sheets[0]));
+    }
     let mut session = Session::fresh();
     let mut calls = Vec::new();
     for _ in 0..length {
@@ -49,11 +53,13 @@ fn any_call(random: &mut Random, sheets: &[Draft], session: &Session) -> Call {
 }
 
 fn any_sheet(random: &mut Random, sheets: &[Draft]) -> Vec<u8> {
-    let sheet = random.pick(sheets).bytes();
-    match random.below(10) {
-        0..=4 => sheet,
-        5 => extremes::of_bytes(paper::SHEET_BYTES + random.below(2)),
-        _ => damage::bytes(random, &sheet),
+    let draft = random.pick(sheets);
+    match random.below(14) {
+        0..=6 => draft.bytes(),
+        7 => extremes::of_bytes(paper::SHEET_BYTES + random.below(2)),
+        8 => spelling::with_clash(random, draft).bytes(),
+        9 => spelling::with_first_field_in_other_case(random, draft),
+        _ => damage::bytes(random, &draft.bytes()),
     }
 }
 
@@ -84,7 +90,13 @@ fn any_check(random: &mut Random, sheets: &[Draft]) -> Call {
     let mut session = Session::fresh();
     session.load(&draft.bytes()).expect("a sheet of a family is acceptable");
     let book = session.accepted().map(|accepted| accepted.book_bytes()).unwrap_or_default();
-    let book = if random.percent(50) { damage::book(random, draft, &book) } else { book };
+    let book = match random.below(10) {
+        0..=4 => damage::book(random, draft, &book),
+        5 => spelling::book(random, draft, &book),
+        6 => spelling::misspelt_book(random, draft, &book).1,
+        7 => spelling::with_witness_twice(random, draft, &book).unwrap_or(book),
+        _ => book,
+    };
     let sheet = if random.percent(20) { any_sheet(random, sheets) } else { draft.bytes() };
     Call::Check { sheet, book }
 }

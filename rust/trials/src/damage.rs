@@ -6,9 +6,10 @@ use crate::book_draft::BookDraft;
 use crate::draft::Draft;
 use crate::paper;
 use crate::random::Random;
+use crate::spelling;
 
 /// Bytes that matter somewhere, and some that never may stand.
-const BYTES: &[u8] = b",,,\n\n\n0011rRu29-._ \r\0\"\xc3";
+const BYTES: &[u8] = b",,,\n\n\n0011rRuU29-._ \r\0\"\xc3\xc4\xe4";
 
 /// One to three edits anywhere in the text.
 pub fn bytes(random: &mut Random, text: &[u8]) -> Vec<u8> {
@@ -21,7 +22,7 @@ pub fn bytes(random: &mut Random, text: &[u8]) -> Vec<u8> {
 
 fn edit(random: &mut Random, text: &mut Vec<u8>) {
     let place = random.below(text.len() + 1);
-    match random.below(8) {
+    match random.below(9) {
         0 => text.insert(place, *random.pick(BYTES)),
         1 if place < text.len() => text[place] = *random.pick(BYTES),
         2 if place < text.len() => drop(text.remove(place)),
@@ -29,6 +30,8 @@ fn edit(random: &mut Random, text: &mut Vec<u8>) {
         4 => move_piece(random, text, b'\n', true),
         5 => move_piece(random, text, b'\n', false),
         6 => move_piece(random, text, b',', true),
+        // A letter changes its case, and any other byte becomes one that differs by 32.
+        7 if place < text.len() => text[place] ^= 32,
         _ => move_piece(random, text, b',', false),
     }
 }
@@ -45,8 +48,8 @@ fn move_piece(random: &mut Random, text: &mut Vec<u8>, separator: u8, keep: bool
     *text = pieces.join(&separator);
 }
 
-/// A book changed in what it says, in some cases with counts that follow the change, in some with damaged
-/// bytes on top.
+/// A book changed in what it says, in some cases with counts that follow the change, in some with names in other case,
+/// a name misspelt, a word in other case or damaged bytes on top.
 pub fn book(random: &mut Random, draft: &Draft, text: &[u8]) -> Vec<u8> {
     let mut book = BookDraft::made_out(draft, &String::from_utf8_lossy(text));
     for _ in 0..random.between(0, 2) {
@@ -55,11 +58,14 @@ pub fn book(random: &mut Random, draft: &Draft, text: &[u8]) -> Vec<u8> {
     if random.percent(70) {
         agree(random, &mut book);
     }
-    let mut changed = book.text(draft).into_bytes();
-    if random.percent(30) {
-        changed = bytes(random, &changed);
+    let changed = book.text(draft).into_bytes();
+    match random.below(10) {
+        0..=2 => bytes(random, &changed),
+        3..=6 => spelling::book(random, draft, &changed),
+        7 if random.percent(30) => spelling::misspelt_book(random, draft, &changed).1,
+        7 if random.percent(30) => spelling::with_word_in_other_case(random, draft, &changed),
+        _ => changed,
     }
-    changed
 }
 
 fn change(random: &mut Random, draft: &Draft, book: &mut BookDraft) {

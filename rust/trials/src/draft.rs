@@ -4,6 +4,8 @@ use std::collections::BTreeSet;
 
 use crate::paper;
 use crate::random::Random;
+use crate::restated::spelling::settled;
+use crate::spelling;
 
 /// Names and ones of a sheet; nothing keeps them within the rules.
 #[derive(Clone, Debug, PartialEq, Eq)]
@@ -14,11 +16,28 @@ pub struct Draft {
     pub held: Vec<Vec<bool>>,
 }
 
-/// Names that also have another meaning somewhere in a sheet or a book.
-const AMBIGUOUS_NAMES: [&str; 12] =
-    ["user", "role", "roles", "permission", "R1", "R2", "0", "1", "-", ".", "_", "open"];
+/// Names that also have another meaning somewhere in a sheet or a book, or would have one in other case.
+const AMBIGUOUS_NAMES: [&str; 16] = [
+    "user",
+    "User",
+    "role",
+    "ROLE",
+    "roles",
+    "permission",
+    "R1",
+    "r1",
+    "R2",
+    "0",
+    "1",
+    "-",
+    ".",
+    "_",
+    "open",
+    "Open",
+];
 
-const NAME_CHARACTERS: &[u8] = b"ABCDEFGHIJKLMNOPQRSTUVWXYZabcdefghijklmnopqrstuvwxyz0123456789-._";
+/// All bytes that a name may have.
+pub const NAME_CHARACTERS: &[u8] = b"ABCDEFGHIJKLMNOPQRSTUVWXYZabcdefghijklmnopqrstuvwxyz0123456789-._";
 
 impl Draft {
     /// Users `u0`, `u1`, .. and permissions `p0`, `p1`, ..
@@ -32,10 +51,11 @@ impl Draft {
         }
     }
 
-    /// The same ones under other names, some of them ambiguous or as long as allowed.
+    /// The same ones under other names with letters in both cases, some of them ambiguous or as long as allowed. Some
+    /// permissions have a user's name, spelled alike or in other case.
     pub fn renamed(mut self, random: &mut Random) -> Draft {
-        self.users = distinct_names(random, self.users.len());
-        self.permissions = distinct_names(random, self.permissions.len());
+        self.users = distinct_names(random, self.users.len(), &[]);
+        self.permissions = distinct_names(random, self.permissions.len(), &self.users);
         self
     }
 
@@ -56,16 +76,26 @@ impl Draft {
     }
 }
 
-fn distinct_names(random: &mut Random, count: usize) -> Vec<String> {
+/// So many different names, some of them also among the others given.
+fn distinct_names(random: &mut Random, count: usize, others: &[String]) -> Vec<String> {
     let mut seen = BTreeSet::new();
     let mut names = Vec::new();
     while names.len() < count {
-        let name = any_name(random);
-        if seen.insert(name.clone()) {
+        let name = if !others.is_empty() && random.percent(20) {
+            shared_name(random, others)
+        } else {
+            any_name(random)
+        };
+        if seen.insert(settled(name.as_bytes())) {
             names.push(name);
         }
     }
     names
+}
+
+fn shared_name(random: &mut Random, others: &[String]) -> String {
+    let name = random.pick(others).clone();
+    if random.percent(50) { spelling::name(random, &name) } else { name }
 }
 
 fn any_name(random: &mut Random) -> String {

@@ -5,6 +5,7 @@ use second::session::Session;
 use crate::draft::Draft;
 use crate::paper;
 use crate::random::Random;
+use crate::spelling;
 
 /// Everyone holds everything.
 pub fn full(users: usize, permissions: usize) -> Draft {
@@ -38,9 +39,10 @@ pub fn with_longest_names(random: &mut Random) -> Draft {
     with_name_bytes(with_grants(random, paper::USERS, 64, paper::GRANTS), paper::NAME_BYTES)
 }
 
-/// The same sheet under the shortest names that have no dot: those of one byte, then those of two.
+/// The same sheet under the shortest names that have no dot: those of one byte, then those of two. Every second letter
+/// is a capital one.
 pub fn with_shortest_names(draft: Draft) -> Draft {
-    named(draft, ('a'..='z').chain('A'..='Z').chain('0'..='9').chain(['-', '_']))
+    named(draft, "aBcDeFgHiJkLmNoPqRsTuVwXyZ0123456789-_".chars())
 }
 
 /// The same sheet under the shortest names of small letters and digits.
@@ -75,6 +77,20 @@ fn fill<'a>(names: impl Iterator<Item = &'a mut String>, dots: usize) {
         missing -= more;
     }
     assert_eq!(missing, 0, "the names have no room for {dots} dots");
+}
+
+/// Names as long as there can be that differ in their last three bytes only, and otherwise in case: 250 users, 64
+/// permissions, and as many grants as there can be.
+pub fn with_names_in_mixed_case(random: &mut Random) -> Draft {
+    let mut draft = with_grants(random, 250, 64, paper::GRANTS);
+    let start = "recordingarea";
+    for (index, user) in draft.users.iter_mut().enumerate() {
+        *user = format!("{}{index:03}", spelling::name(random, start));
+    }
+    for (index, permission) in draft.permissions.iter_mut().enumerate() {
+        *permission = format!("{}{index:03}", spelling::name(random, start));
+    }
+    draft
 }
 
 /// A sheet as long as there can be, with as many permissions and grants.

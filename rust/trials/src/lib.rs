@@ -1,7 +1,9 @@
-//! Trials of an implementation of document 01: what to feed it, and what it must answer.
+//! Trials of an implementation of document 01, as the requests of document 02 have moved it: what to feed it, and what
+//! it must answer.
 //!
 //! Generators, all from seeds: `families` of sheets, sheets at the limits (`extremes`), sheets with a kernel
-//! of a given size (`kernels`), damaged sheets and books (`damage`), and sequences of `calls`. Answers from
+//! of a given size (`kernels`), damaged sheets and books (`damage`), sheets and books with names and words in another
+//! `spelling`, and sequences of `calls`. Answers from
 //! elsewhere: `brute` finds the smallest number of roles from the two matrices alone, and `restated` says the
 //! rules of document 01 a second time, in another way. Any other implementation is held to the second one by
 //! `agreement`.
@@ -19,4 +21,5 @@ pub mod kernels;
 pub mod paper;
 pub mod random;
 pub mod restated;
+pub mod spelling;
 pub mod tally;

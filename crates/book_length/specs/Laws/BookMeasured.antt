@@ -4,11 +4,11 @@
 use Prim.Native.Nat.{ℕ, _+_, _*_}
 use native.Mathlib.Omega.{arith}
 use mathlib.Core.Path.{_≡_, ap, _∙_}
-use mathlib.Core.List.{List, _++_}
+use mathlib.Core.List.{List, _++_, map}
 use lib.ListN.{length, length-append}
 use Rattle.spec.specs.Text.{ascii, Bytes, line-text, text-of}
 use Rattle.spec.specs.Sheet.{Sheet, sheet-of, user-count, permission-count, user-name, permission-name}
-use Rattle.spec.specs.Book.{role-name, witness-block}
+use Rattle.spec.specs.Book.{role-name, witness-line, witness-block}
 use Rattle.bits.specs.Counting.{sum-below}
 use Rattle.lists.specs.Listed.{listed, listed-even}
 use Rattle.rules.specs.AcceptedFacts.{Lawful}
@@ -106,7 +106,7 @@ book-measured text has gives witness counts lawful within =
     let one : Bytes = counts-text counts in
     let two : Bytes = text-of (shown-roles sheet gives (counts .roles)) in
     let three : Bytes = text-of (shown-users sheet has (counts .roles)) in
-    let four : Bytes = text-of (witness-block sheet (cell-grants sheet witness)) in
+    let four : Bytes = text-of (witness-block (map (witness-line sheet) (cell-grants sheet witness))) in
     omega (
       arith,
       roles-length sheet (counts .roles) gives,

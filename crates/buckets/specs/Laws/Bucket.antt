@@ -11,26 +11,35 @@ use borrow.Author.Tests.{eqb-true, eqb-false, eq-eqb}
 use lib.Dec.{eqb}
 use lib.ListN.{length, getD, set, length-set, drop, replicate, length-replicate}
 use lib.Seq.{drop-cons, getD-set-same, getD-set-other}
-use Rattle.spec.specs.Text.{Bytes, same-name}
+use Rattle.spec.specs.Text.{Bytes, lowered, same-name}
 use Rattle.bits.specs.Truth.{passes-or-fails, not-both, or-left, or-right, or-cases}
 use Rattle.bits.specs.Laws.Below.{last-or-below}
 use Rattle.bits.specs.Bit.{bit, word-bits}
 use Rattle.bits.specs.Laws.Bit.{bit-of-zero}
-use Rattle.lists.specs.TestLaws.{same-bytes-equal}
+use Rattle.text.specs.Laws.Lowered.{lower-leaves, same-name-elim}
 use Rattle.names.specs.NamesAt.{Inside, name-there}
 use Rattle.places.specs.Laws.Places.{zero-there}
 use Rattle.names.specs.Laws.NamesAt.{inside-part}
-use Rattle.buckets.specs.Buckets.{bucket-count, bucket-words, spread, bucket-after, bucket-of, Noted, BitsNamed}
+use Rattle.buckets.specs.Buckets.{bucket-count, bucket-words, spread, letters, bucket-after, bucket-of, Noted}
+use Rattle.buckets.specs.Buckets.{BitsNamed}
 
 -- ---- the bucket of a name
 
+bucket-lowered : (h : ℕ) (name : Bytes) → bucket-after h (lowered name) ≡ bucket-after h name
+bucket-lowered h [] = refl
+bucket-lowered h (b ∷ rest) =
+    ap (λ (n : ℕ). bucket-after ((h * spread + n) % bucket-count) (lowered rest)) (lower-leaves b)
+    ∙ bucket-lowered ((h * spread + b % letters) % bucket-count) rest
+
 -- equal names have one bucket: all that is asked of it
 pub same-bucket : (a b : Bytes) → So (same-name a b) → bucket-of a ≡ bucket-of b
-same-bucket a b p = ap bucket-of (same-bytes-equal a b p)
+unfolding bucket-of
+same-bucket a b p =
+    sym (bucket-lowered 0 a) ∙ ap (bucket-after 0) (same-name-elim a b p) ∙ bucket-lowered 0 b
 
 pub bucket-after-below : (h : ℕ) (bytes : Bytes) → h < bucket-count → bucket-after h bytes < bucket-count
 bucket-after-below h [] l = l
-bucket-after-below h (b ∷ rest) l = bucket-after-below ((h * spread + b) % bucket-count) rest (omega arith)
+bucket-after-below h (b ∷ rest) l = bucket-after-below ((h * spread + b % letters) % bucket-count) rest (omega arith)
 
 pub bucket-below : (name : Bytes) → bucket-of name < bucket-count
 unfolding bucket-of
@@ -38,7 +47,8 @@ bucket-below name = bucket-after-below 0 name (omega arith)
 
 -- one byte and those after it
 pub bucket-step : (h : ℕ) (name : Bytes) (i : ℕ) → i < length name
-    → bucket-after h (drop i name) ≡ bucket-after ((h * spread + getD name i 0) % bucket-count) (drop (suc i) name)
+    → bucket-after h (drop i name)
+    ≡ bucket-after ((h * spread + getD name i 0 % letters) % bucket-count) (drop (suc i) name)
 bucket-step h name i l = rw (drop-cons name i 0 l)
 
 -- ---- the table

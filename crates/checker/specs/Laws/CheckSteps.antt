@@ -14,14 +14,13 @@ use Rattle.spec.specs.Text.{Bytes}
 use Rattle.spec.specs.Sheet.{sheet-of}
 use Rattle.spec.specs.Refusal.{refusal, accepted}
 use Rattle.spec.specs.Calls.{CheckAnswer, check-refused, Checks}
-use Rattle.cell_rows.specs.Rows.{row-words, cell}
+use Rattle.cell_rows.specs.Rows.{row-words}
 use Rattle.names.specs.LaidOut.{LaidOut}
 use Rattle.names.specs.declared.layout.Layout.{Layout}
 use Rattle.rules.specs.AcceptedFacts.{accepted-lawful}
 use Rattle.book_lines.specs.declared.counts.Counts.{Counts}
 use Rattle.read_fields.specs.declared.witness_block.Witness.{Witness}
-use Rattle.steps.specs.Stands.{Stands}
-use Rattle.form.specs.Pieces.{users-part}
+use Rattle.read_rows.specs.UserSteps.{UsersPart}
 use Rattle.read_fields.specs.WitnessSteps.{WitnessPart}
 use Rattle.right.specs.Judgement.{refused-by-sheet, too-long-book, Unwritten, unwritten-book, written-book}
 use Rattle.judging.specs.BookSays.{JudgedAs}
@@ -60,7 +59,7 @@ module _ {text book : Bytes} {answer : CheckAnswer} where
     pub judged-as-read : {counts : Counts} {gives : List ℕ} {roles third fourth : ℕ} {w : Witness} (has : List ℕ)
         → length book ≤ book-limit
         → (front : FrontRead (sheet-of text) book counts gives roles third)
-        → (users : Stands book third (users-part (sheet-of text) roles (cell has)) fourth)
+        → (users : UsersPart (sheet-of text) book third roles has fourth)
         → (last : WitnessPart (sheet-of text) book fourth w)
         → JudgedAs (sheet-of text) counts roles has gives w answer → Checks text book answer
     judged-as-read has h front users last judged =

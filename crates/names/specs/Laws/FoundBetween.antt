@@ -1,7 +1,7 @@
 -- Looking for one of names of which no two are equal, in two parts, whichever comes first. Assumes nothing.
 use Prim.Native.Nat.{ℕ, suc, _≤_, _<_}
 use native.Mathlib.Omega.{arith}
-use mathlib.Core.Path.{_≡_, sym, ap, _∙_}
+use mathlib.Core.Path.{_≡_, sym, ap}
 use mathlib.Core.Logic.{⊎-elim}
 use mathlib.Core.Bool.{false, So}
 use mathlib.Core.List.{List, []}
@@ -10,7 +10,7 @@ use lib.ListN.{getD}
 use Rattle.spec.specs.Text.{Bytes, same-name}
 use Rattle.bits.specs.Truth.{not-both, fails-unless}
 use Rattle.bits.specs.Laws.Below.{last-or-below, below-or-from}
-use Rattle.lists.specs.TestLaws.{same-bytes-equal, equal-same-bytes}
+use Rattle.text.specs.Laws.Lowered.{same-name-sym, same-name-trans}
 use Rattle.names.specs.NamesAt.{name-there, names-at, Apart, name-number, found}
 use Rattle.names.specs.FoundBetween.{StandsAt, StandsNowhere, FoundBetween}
 use Rattle.names.specs.Laws.NamesAt.{name-of, found-at, found-nothing}
@@ -19,7 +19,7 @@ use Rattle.names.specs.declared.lookup.Found.the-variants.{At, Nothing}
 
 -- two names that equal a third are equal
 both-equal : (name a b : Bytes) → So (same-name name a) → So (same-name name b) → So (same-name a b)
-both-equal name a b p q = equal-same-bytes (sym (same-bytes-equal name a p) ∙ same-bytes-equal name b q)
+both-equal name a b p q = same-name-trans a name b (same-name-sym name a p) q
 
 module _ (text : Bytes) (places : List ℕ) (name : Bytes) where
   pub nowhere-yet : (low : ℕ) → StandsNowhere text places name low low

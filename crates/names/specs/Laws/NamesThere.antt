@@ -1,15 +1,15 @@
 -- The names of an accepted sheet at their places: each stands in the text, and no two are equal. Assumes nothing.
 use Prim.Native.Nat.{ℕ, _≤_, _<_}
 use native.Mathlib.Omega.{arith}
-use mathlib.Core.Path.{_≡_, sym, _∙_}
+use mathlib.Core.Path.{_≡_, sym, ap, _∙_}
 use mathlib.Core.List.{List, []}
 use lib.ListN.{length, getD}
 use Rattle.spec.specs.Limits.{permission-limit, user-limit}
-use Rattle.spec.specs.Text.{Bytes, same-name}
+use Rattle.spec.specs.Text.{Bytes, lowered, same-name}
 use Rattle.spec.specs.Sheet.{sheet-of}
 use Rattle.spec.specs.Rules.{Names}
 use Rattle.bits.specs.Truth.{fails-unless}
-use Rattle.lists.specs.TestLaws.{same-bytes-equal}
+use Rattle.text.specs.Laws.Lowered.{same-name-elim}
 use Rattle.rules.specs.AcceptedFacts.{accepted-lawful}
 use Rattle.places.specs.Places.{NamesPlaced}
 use Rattle.names.specs.NamesAt.{Inside, PartThere, name-there, all-names, Apart}
@@ -32,9 +32,9 @@ names-there text places names p lawful few =
           (let below : j < length names = rw (p .total) at k in
           fails-unless (same-name (name-there text places i) (name-there text places j)) (λ equal.
           lawful .distinct i j h below
-          (sym (p .placed .each i (omega arith) .reads)
-          ∙ same-bytes-equal (name-there text places i) (name-there text places j) equal
-          ∙ p .placed .each j below .reads)));
+          (sym (ap lowered (p .placed .each i (omega arith) .reads))
+          ∙ same-name-elim (name-there text places i) (name-there text places j) equal
+          ∙ ap lowered (p .placed .each j below .reads))));
       same = placed-names text places names p;
     }
 

@@ -9,7 +9,7 @@ use mathlib.Core.Logic.{_≢_, _↔_}
 use Rattle.spec.specs.Text.{Bytes}
 use Rattle.spec.specs.Sheet.{Sheet, sheet-of}
 use Rattle.spec.specs.Rules.{Keeps}
-use Rattle.spec.specs.Book.{Said}
+use Rattle.spec.specs.Book.{Said, book-text}
 use Rattle.spec.specs.Right.{Right}
 use Rattle.spec.specs.Session.{Session, fresh}
 use Rattle.spec.specs.Refusal.{Cause, sheet-causes, search-causes, write-causes}
@@ -106,7 +106,8 @@ Demand1Of calling =
     → Judged (causes call (view before)) (answered call outcome) (Refused call outcome before after)
 
 -- demand 2: a load is answered by 0 exactly where its bytes keep the rules, and then by the counts of the sheet that
--- they are; each book that a writing brings out is right for the sheet of the last accepted load
+-- they are; each book that a writing brings out is right for the sheet of the last accepted load, its names spelled as
+-- that sheet spells them
 pub record Demand2Of (calling : Calling) : Type 1 where
   pub accepts-sheets : (earlier : List Event) (before after : CodeSession) (text : Bytes) (answer : LoadAnswer)
       → Ran calling earlier before
@@ -114,7 +115,7 @@ pub record Demand2Of (calling : Calling) : Type 1 where
   pub own-books : (earlier : List Event) (s : CodeSession) (buffer : Bytes) (written : WriteOutcome)
       → Ran calling (record { call = write buffer; outcome = written } ∷ earlier) s → written .answer .number ≡ 0
       → (text : Bytes) × (says : Said) × (last-accepted (calls earlier) ≡ some text) × Right (sheet-of text)
-      (brought-out written) says
+      (brought-out written) says × (brought-out written ≡ book-text (sheet-of text) says)
 
 -- demand 3: all that is owed of every sequence is owed of the calls of the code
 abbrev pub Demand3Of : Calling → Type 1

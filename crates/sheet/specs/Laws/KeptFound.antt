@@ -3,7 +3,7 @@ use Prim.Native.Nat.{_≤_}
 use native.Mathlib.Omega.{arith}
 use mathlib.Core.Path.{_≡_, ap, _∙_}
 use mathlib.Core.Bool.{So, not}
-use mathlib.Core.List.{[], _∷_, _++_}
+use mathlib.Core.List.{_∷_, _++_}
 use borrow.Author.Tests.{eq-eqb}
 use lib.ListN.{length, take}
 use Rattle.spec.specs.Vocabulary.{repeats}
@@ -13,8 +13,7 @@ use Rattle.spec.specs.Sheet.{sheet-of}
 use Rattle.spec.specs.Rules.{user-lines}
 use Rattle.spec.specs.Refusal.{refusal, accepted}
 use Rattle.bits.specs.Truth.{and-intro}
-use Rattle.lists.specs.TestLaws.{same-bytes-equal}
-use Rattle.lists.specs.SameLaws.{no-repeats}
+use Rattle.text.specs.Laws.Lowered.{apart-names}
 use Rattle.names.specs.NamesAt.{Inside, all-names}
 use Rattle.names.specs.Laws.NamesAt.{placed-names, placed-inside}
 use Rattle.rules.specs.SheetLines.{sheet-text-lines}
@@ -66,9 +65,9 @@ module _ (text : Bytes) (p : So (accepted text)) where
   accepted-apart n s =
       let k = accepted-lawful text p in
       and-intro (not (repeats same-name (noted text n .users))) (not (repeats same-name (noted text n .permissions)))
-      (ap not (rw (noted-said text n s) at (no-repeats same-name same-bytes-equal [] (sheet-of text .users)
+      (ap not (rw (noted-said text n s) at (apart-names (sheet-of text .users)
       (k .user-names .distinct))))
-      (ap not (rw (noted-said text n s) at (no-repeats same-name same-bytes-equal [] (sheet-of text .permissions)
+      (ap not (rw (noted-said text n s) at (apart-names (sheet-of text .permissions)
       (k .permission-names .distinct))))
 
 -- so a sheet whose lines are found is accepted exactly where no name stands twice

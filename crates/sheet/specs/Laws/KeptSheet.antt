@@ -12,8 +12,7 @@ use Rattle.spec.specs.Limits.{sheet-limit, permission-limit, user-limit, grant-
 use Rattle.spec.specs.Text.{ascii, Bytes, Line, line-text, text-of, same-name}
 use Rattle.spec.specs.Sheet.{Sheet, sheet-of, grants}
 use Rattle.spec.specs.Rules.{Name, Keeps, user-lines, sheet-text}
-use Rattle.lists.specs.TestLaws.{same-bytes-refl}
-use Rattle.lists.specs.SameLaws.{distinct-places}
+use Rattle.text.specs.Laws.Lowered.{names-apart}
 use Rattle.lists.specs.ListOfLaws.{length-list-of, list-of-element}
 use Rattle.cell_rows.specs.Rows.{row-words, cell}
 use Rattle.cells.specs.Laws.WordRows.{word-row, word-rows, word-lines, word-grants}
@@ -146,11 +145,11 @@ noted-keeps text n s users-apart permissions-apart =
       few-users = omega (arith, users, s .stand .lines .few);
       permission-names = record {
         each = w .permissions-named;
-        distinct = distinct-places same-name same-bytes-refl [] (noted text n .permissions) permissions-apart;
+        distinct = names-apart (noted text n .permissions) permissions-apart;
       };
       user-names = record {
         each = w .users-named;
-        distinct = distinct-places same-name same-bytes-refl [] (noted text n .users) users-apart;
+        distinct = names-apart (noted text n .users) users-apart;
       };
       a-row-each = w .a-row-each;
       even-rows = even-rows text n (s .stand);

@@ -87,6 +87,15 @@ unfolding program-output printed program-buffer write-answer write-causes buffer
     searched-on session-book refusal sheet-of kernel-of start-of search book decimal lowest-below
 narrow = refl
 
+-- a writing spells names as its sheet does
+spelled-as-read : program-output (ascii "user,Rec,REC-2\nann,1,0\nBO,1,1\n") []
+    ≡ ascii "roles,bound,state\n2,2,witnessed\n\nrole,Rec,REC-2\nR1,1,0\nR2,0,1\n\nuser,R1,R2\nann,1,0\nBO,1,1\n\n"
+    ++ ascii "user,permission\nann,Rec\nBO,REC-2\n"
+unfolding program-output printed program-buffer write-answer write-causes buffer-after budget-of is-budget
+    budget-limit after-load after-search
+    searched-on session-book refusal sheet-of kernel-of start-of search book decimal lowest-below
+spelled-as-read = refl
+
 -- a kernel whose first two groupings have six classes each: the earlier named is taken
 first-of-two : program-output improves []
     ≡ ascii "roles,bound,state\n6,4,open\n\nrole,a,b,c,d,e,f,g\nR1,1,1,0,1,0,1,0\nR2,0,1,0,1,0,1,1\nR3,0,1,0,0,1,0,0\n"

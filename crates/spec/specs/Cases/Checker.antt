@@ -141,6 +141,63 @@ witness-off : numbers
 unfolding numbers with-witness cell-after every-below lowest-below
 witness-off = refl
 
+-- the blocks 2, 3 and 4 of the book with every name in other case than the sheet's, each in its own way, and a book of
+-- three such blocks
+other-roles : String
+other-roles = "role,REC,Id,mAP\nR1,1,1,0\nR2,0,1,1"
+
+other-users : String
+other-users = "user,R1,R2\nANN,1,0\nBo,0,1\ncY,1,1"
+
+other-two : String
+other-two = "user,permission\nAnn,Rec\nBO,MAP\n"
+
+in-other-case : String → String → String → Parts
+in-other-case roles users witness =
+    record { heading = "roles,bound,state"; counts = "2,2,witnessed"; roles = roles; users = users; witness = witness }
+
+-- it is right; and so is one with the sheet's spelling but for two names of block 4
+other-case : map checked
+    (in-other-case other-roles other-users other-two ∷ with-witness "user,permission\naNN,rec\nbo,maP\n" ∷ [])
+    ≡ record { number = 0; roles = 2; witness-lines = 2 } ∷ record { number = 0; roles = 2; witness-lines = 2 } ∷ []
+unfolding checked in-other-case other-roles other-users other-two with-witness cell-after every-below lowest-below
+other-case = refl
+
+-- with one name misspelt it is not: a permission in block 2, a user in block 3, a user and a permission in block 4
+misspelt : numbers
+    (in-other-case "role,REC,1d,mAP\nR1,1,1,0\nR2,0,1,1" other-users other-two
+    ∷ in-other-case other-roles "user,R1,R2\nANN,1,0\nBo,0,1\ncI,1,1" other-two
+    ∷ in-other-case other-roles other-users "user,permission\nAnm,Rec\nBO,MAP\n"
+    ∷ in-other-case other-roles other-users "user,permission\nAnn,Rec\nBO,MAQ\n" ∷ [])
+    ≡ 12 ∷ 12 ∷ 12 ∷ 12 ∷ []
+unfolding numbers in-other-case other-roles other-users other-two cell-after every-below lowest-below
+misspelt = refl
+
+-- a user and a permission of one name but for case, each found among its own
+shared-name : check (ascii "user,ANN\nann,1\n")
+    (ascii "roles,bound,state\n1,1,witnessed\n\nrole,ann\nR1,1\n\nuser,R1\nAnn,1\n\nuser,permission\nANN,ann\n")
+    ≡ record { number = 0; roles = 1; witness-lines = 1 }
+unfolding check cell-after every-below lowest-below
+shared-name = refl
+
+-- the sheet comes first: with `Ann` and `ann` in it, no book is looked at
+sheet-first : check (ascii "user,a\nAnn,1\nann,1\n") [] .number ≡ 8
+unfolding check
+sheet-first = refl
+
+-- the words of the form and the roles' names keep their case
+words-off : numbers
+    (with-heading "Roles,bound,state" ∷ with-heading "roles,Bound,state" ∷ with-heading "roles,bound,State"
+    ∷ with-counts "2,2,Witnessed" two ∷ with-counts "2,2,Searched" one ∷ with-counts "2,1,OPEN" one
+    ∷ with-roles "Role,rec,id,map\nR1,1,1,0\nR2,0,1,1"
+    ∷ with-roles "role,rec,id,map\nr1,1,1,0\nR2,0,1,1" ∷ with-users "User,R1,R2\nann,1,0\nbo,0,1\ncy,1,1"
+    ∷ with-users "user,r1,R2\nann,1,0\nbo,0,1\ncy,1,1" ∷ with-witness "User,permission\nann,rec\nbo,map\n"
+    ∷ with-witness "user,Permission\nann,rec\nbo,map\n" ∷ [])
+    ≡ 12 ∷ 12 ∷ 12 ∷ 12 ∷ 12 ∷ 12 ∷ 12 ∷ 12 ∷ 12 ∷ 12 ∷ 12 ∷ 12 ∷ []
+unfolding numbers with-heading with-counts with-roles with-users with-witness two one cell-after every-below
+    lowest-below
+words-off = refl
+
 -- counts that disagree: another number of roles; `witnessed` with another bound, and with fewer lines; `searched` with
 -- as many lines as roles, and with another bound; `open` with another bound, and with as many lines as roles
 counts-disagree : numbers
@@ -158,11 +215,11 @@ product-differs : numbers
 unfolding numbers with-roles cell-after every-below lowest-below
 product-differs = refl
 
--- a grant that is not held, the same grant twice, two that fit
+-- a grant that is not held, the same grant twice in one case and in two, two that fit
 witness-fails : numbers
     (with-witness "user,permission\nann,map\nbo,map\n" ∷ with-witness "user,permission\nann,rec\nann,rec\n"
-    ∷ with-witness "user,permission\nann,rec\ncy,rec\n" ∷ [])
-    ≡ 15 ∷ 15 ∷ 15 ∷ []
+    ∷ with-witness "user,permission\nbo,map\nBO,MAP\n" ∷ with-witness "user,permission\nann,rec\ncy,rec\n" ∷ [])
+    ≡ 15 ∷ 15 ∷ 15 ∷ 15 ∷ []
 unfolding numbers with-witness cell-after every-below lowest-below
 witness-fails = refl
 

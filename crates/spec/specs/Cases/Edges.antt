@@ -127,7 +127,8 @@ reaches-witness : List Grant
 unfolding at
 reaches-witness = at 0 2 ∷ at 1 0 ∷ at 2 4 ∷ at 4 1 ∷ []
 
--- the starred cases of "Around the edges" in its order, then sheets for the slips, and last one that takes four sweeps
+-- the starred cases of "Around the edges" in its order, `Ann` and `ann` an 8 as request [3] has it, then sheets for the
+-- slips, and last one that takes four sweeps
 edges : map finding trials ≡
     found (counts 3 3 7 0 2) (at 0 0 ∷ at 1 2 ∷ []) (figures 0 2 2 witnessed) 0
     ∷ found (counts 1 1 0 0 0) [] (figures 0 0 0 witnessed) 0
@@ -137,7 +138,7 @@ edges : map finding trials ≡
     ∷ found (counts 4 4 12 12 3) crown-witness (figures 1 4 3 unsettled) 1
     ∷ found (counts 1 1 1 0 1) (at 0 0 ∷ []) (figures 0 1 1 witnessed) 0
     ∷ found (load-refused 5) [] (search-refused 10) 0
-    ∷ found (counts 2 1 1 0 1) (at 0 0 ∷ []) (figures 0 1 1 witnessed) 0
+    ∷ found (load-refused 8) [] (search-refused 10) 0
     ∷ found (load-refused 2) [] (search-refused 10) 0
     ∷ found (counts 2 2 4 0 1) (at 1 1 ∷ []) (figures 0 1 1 witnessed) 0
     ∷ found (counts 7 7 36 10 4) improves-witness (figures 17 5 4 unsettled) 7

@@ -3,6 +3,7 @@
 use std::collections::BTreeSet;
 
 use crate::paper;
+use crate::restated::spelling::settled;
 
 /// The lowest number of those that apply to the sheet.
 pub fn lowest_cause(sheet: &[u8]) -> Option<u32> {
@@ -23,6 +24,7 @@ struct Pass {
     content: Vec<u8>,
     first_line_fields: usize,
     ones: usize,
+    /// The names so far, each in the spelling that stands for it.
     permissions: BTreeSet<Vec<u8>>,
     users: BTreeSet<Vec<u8>>,
 }
@@ -59,7 +61,7 @@ impl Pass {
     fn name(&mut self, name: Vec<u8>) {
         self.note(name.is_empty() || name.len() > paper::NAME_BYTES, 5);
         let names = if self.line == 0 { &mut self.permissions } else { &mut self.users };
-        let is_new = names.insert(name);
+        let is_new = names.insert(settled(&name));
         self.note(!is_new, 8);
     }
 

@@ -1,18 +1,20 @@
-//! The form of a book, stated by writing it again: whatever can be made out of the bytes is written anew by
-//! the rules of the book, and the book is of the form if that gives the same bytes. Then counts, product and
-//! witness over sets of cells.
+//! The form of a book, stated by writing it again: names are spelled as in the sheet, whatever can be made out of the
+//! bytes is written anew by the rules of the book, and the book is of the form if that gives the same bytes. Then
+//! counts, product and witness over sets of cells.
 
 use std::collections::BTreeSet;
 
-use crate::book_draft::{BookDraft, Cell};
+use crate::book_draft::{BookDraft, Cell, with_fields};
 use crate::draft::Draft;
 use crate::paper;
+use crate::restated::spelling;
 
 /// Roles and witness lines of a book that stands, or the number of the refusal, for an acceptable sheet.
 pub fn verdict(draft: &Draft, bytes: &[u8]) -> Result<(usize, usize), u32> {
-    let book = canonical(BookDraft::made_out(draft, &String::from_utf8_lossy(bytes)));
+    let spelled = spelled_as_in_the_sheet(draft, bytes);
+    let book = canonical(BookDraft::made_out(draft, &String::from_utf8_lossy(&spelled)));
     let within_limits = bytes.len() <= paper::BOOK_BYTES && book.roles.len() <= paper::ROLES;
-    if !within_limits || book.text(draft).as_bytes() != bytes {
+    if !within_limits || book.text(draft).as_bytes() != spelled {
         return Err(12);
     }
     let held: BTreeSet<Cell> = draft.grants().into_iter().collect();
@@ -25,6 +27,17 @@ pub fn verdict(draft: &Draft, bytes: &[u8]) -> Result<(usize, usize), u32> {
     } else {
         Ok((book.roles.len(), book.witness.len()))
     }
+}
+
+/// The same bytes, with the sheet's spelling of each name that is one of the sheet's. All else stays.
+fn spelled_as_in_the_sheet(draft: &Draft, bytes: &[u8]) -> Vec<u8> {
+    with_fields(draft, bytes, |place, field| {
+        let known = place.and_then(|place| {
+            let names = place.names(draft);
+            spelling::place(names, field).map(|index| names[index].clone().into_bytes())
+        });
+        known.unwrap_or(field.to_vec())
+    })
 }
 
 /// The same book with counts as they have to be written, and a state word that there is.

@@ -6,6 +6,7 @@ use trials::damage;
 use trials::families;
 use trials::random::Random;
 use trials::restated::causes::lowest_cause;
+use trials::spelling;
 use trials::tally::Tally;
 
 use crate::support::load_number;
@@ -50,7 +51,7 @@ fn put(random: &mut Random, lines: &mut Fields, cause: u32) {
 
 fn put_first_line(random: &mut Random, lines: &mut Fields) {
     match random.below(4) {
-        0 => lines[0][0] = random.pick(&["", "User", "users", "use", "role"]).to_string(),
+        0 => lines[0][0] = random.pick(&["", "User", "USER", "users", "use", "role"]).to_string(),
         1 => lines[0].truncate(1),
         2 => lines[0].extend((PERMISSIONS..129).map(|permission| format!("p{permission}"))),
         _ => drop(lines[0].remove(0)),
@@ -91,11 +92,14 @@ fn put_value(random: &mut Random, lines: &mut Fields) {
     line.push(random.pick(&["", "2", "00", "01", "11", "x", "-", "user"]).to_string());
 }
 
+/// The name is spelled in any case when it stands for the second time.
 fn put_repeated_name(random: &mut Random, lines: &mut Fields) {
     if random.percent(50) {
-        lines[0][PERMISSIONS] = lines[0][random.between(1, PERMISSIONS - 1)].clone();
+        let name = lines[0][random.between(1, PERMISSIONS - 1)].clone();
+        lines[0][PERMISSIONS] = spelling::name(random, &name);
     } else {
-        lines[USERS][0] = lines[random.between(1, USERS - 1)][0].clone();
+        let name = lines[random.between(1, USERS - 1)][0].clone();
+        lines[USERS][0] = spelling::name(random, &name);
     }
 }
 

@@ -39,8 +39,17 @@ fn damaged_books_get_the_same_judgement_in_the_second_way() {
     seen.expect([None, Some(12), Some(13), Some(14), Some(15)], 300);
 }
 
-/// Every book that differs from a good one in one byte, or has one more or one less. Only a witness line can
-/// become another good one so.
+/// Whether the byte at this place of a book belongs to a word of the form or to the name of a role. The names of users
+/// and permissions must be no such words, and must not begin with `R`.
+fn is_word(book: &str, place: usize) -> bool {
+    let start = book[..place].rfind([',', '\n']).map_or(0, |separator| separator + 1);
+    let field = book[start..].split([',', '\n']).next().expect("a field stands at each place");
+    let words = "roles|bound|state|witnessed|searched|open|role|user|permission";
+    field.starts_with('R') || words.split('|').any(|word| word == field)
+}
+
+/// Every book that differs from a good one in one byte, or has one more or one less. Only by a name of a user or a
+/// permission in other case can it be the same book, and only a witness line can become another good one.
 #[test]
 fn every_single_byte_of_a_book_is_judged_alike_in_both_ways() {
     for draft in [crown(3), extremes::full(2, 3), Draft::plain(2, 1, |_, _| false)] {
@@ -49,11 +58,13 @@ fn every_single_byte_of_a_book_is_judged_alike_in_both_ways() {
         for place in 0..text.len() {
             let with = |piece: &str, rest: usize| [&text[..place], piece, &text[rest..]].concat();
             judge(&draft, with("", place + 1)).expect_err("a byte less is never of a good book");
-            for piece in ",|\n|0|1|2|6|9|R|U|u|p|w| |\r|-".split('|') {
+            for piece in ",|\n|0|1|2|6|9|R|r|U|u|P|p|w|O| |\r|-".split('|') {
                 judge(&draft, with(piece, place)).expect_err("a byte more is never of a good book");
                 let changed = with(piece, place + 1);
                 let found = judge(&draft, &changed);
-                assert!(found.is_err() || changed == text || place > witness_lines, "{changed}");
+                let is_same =
+                    changed.eq_ignore_ascii_case(&text) && (changed == text || !is_word(&text, place));
+                assert!(found.is_err() || is_same || place > witness_lines, "{changed}");
             }
         }
     }

@@ -90,10 +90,12 @@ fn names_of_sixteen_bytes_pass_and_of_seventeen_give_5() {
     assert_eq!(load_number(b"user,p\nabcdefghijklmnopq,1\n"), 5);
 }
 
+/// In document 01 both stood; the request about spelling makes it an 8.
 #[test]
-fn names_of_other_case_are_other_names() {
-    assert_eq!(load_number(b"user,p,P\nAnn,1,0\nann,0,1\n"), 0);
-    assert_eq!(load_number(b"user,p,P\nann,1,0\nann,0,1\n"), 8);
+fn names_that_differ_in_case_give_8() {
+    assert_eq!(load_number(b"user,p,q\nAnn,1,0\nann,0,1\n"), 8);
+    assert_eq!(load_number(b"user,p,P\nann,1,0\nbo,0,1\n"), 8);
+    assert_eq!(load_number(b"user,p,Q\nAnn,1,0\nbo,0,1\n"), 0);
 }
 
 #[test]

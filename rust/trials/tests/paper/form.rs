@@ -30,7 +30,7 @@ fn every_changed_heading_gives_12() {
 
 #[test]
 fn names_and_order_are_the_sheets() {
-    assert_eq!(check_of_replaced("\nann,1,0", "\nAnn,1,0"), 12);
+    assert_eq!(check_of_replaced("\nann,1,0", "\nanne,1,0"), 12);
     assert_eq!(check_of_replaced("ann,1,0\nbo,0,1", "bo,0,1\nann,1,0"), 12);
     assert_eq!(check_of_replaced("cy,1,1\n", ""), 12);
     assert_eq!(check_of_replaced("cy,1,1\n", "cy,1,1\ncy,1,1\n"), 12);

@@ -9,6 +9,7 @@ use trials::extremes;
 use trials::families;
 use trials::random::Random;
 use trials::restated::causes::lowest_cause;
+use trials::spelling;
 use trials::tally::Tally;
 
 use crate::support::{accepted, loaded};
@@ -27,6 +28,56 @@ fn sheets_of_families_are_acceptable() {
         let draft = families::any(random, 12);
         assert_eq!(lowest_cause(&draft.bytes()), None, "{draft:?}");
     });
+}
+
+/// Names have letters in both cases, and a user and a permission share one, spelled alike or in other case.
+#[test]
+fn names_of_families_come_in_both_cases() {
+    let mut seen = Tally::default();
+    cases(500, |random| {
+        let draft = families::any(random, 8);
+        let pairs = draft.users.iter().flat_map(|user| draft.permissions.iter().map(move |own| (user, own)));
+        for (user, permission) in pairs.filter(|(user, own)| user.eq_ignore_ascii_case(own)) {
+            seen.note(if user == permission { "spelled alike" } else { "in other case" });
+        }
+        for name in draft.users.iter().chain(&draft.permissions) {
+            let has_small = name.bytes().any(|byte| byte.is_ascii_lowercase());
+            let has_capital = name.bytes().any(|byte| byte.is_ascii_uppercase());
+            seen.note(if has_small && has_capital { "both cases" } else { "one case" });
+        }
+    });
+    seen.expect(["spelled alike", "in other case", "both cases", "one case"], 50);
+}
+
+/// A sheet or a book in another spelling differs from what it was made of in case alone, or in one field.
+#[test]
+fn other_spellings_are_as_asked() {
+    let mut changed = Tally::default();
+    cases(500, |random| {
+        let draft = families::any(random, 8);
+        let sheet = draft.bytes();
+        let book = accepted(&loaded(&sheet)).book_bytes();
+        let respelt_sheet = spelling::sheet(random, &draft).bytes();
+        let respelt_book = spelling::book(random, &draft, &book);
+        assert!(respelt_sheet.eq_ignore_ascii_case(&sheet) && respelt_book.eq_ignore_ascii_case(&book));
+        changed.note(("sheet", respelt_sheet != sheet));
+        changed.note(("book", respelt_book != book));
+        let word = spelling::with_word_in_other_case(random, &draft, &book);
+        assert!(word != book && word.eq_ignore_ascii_case(&book), "{}", String::from_utf8_lossy(&word));
+        let (_, misspelt) = spelling::misspelt_book(random, &draft, &book);
+        assert!(!misspelt.eq_ignore_ascii_case(&book), "{}", String::from_utf8_lossy(&misspelt));
+        let first_field = spelling::with_first_field_in_other_case(random, &draft);
+        assert!(first_field != sheet && first_field.eq_ignore_ascii_case(&sheet));
+        let clash = spelling::with_clash(random, &draft);
+        let names = [&clash.users, &clash.permissions];
+        let is_one = |names: &[String]| names.len() > different(names).len();
+        assert_eq!(names.map(|names| is_one(names)).into_iter().filter(|is_one| *is_one).count(), 1);
+    });
+    changed.expect([("sheet", true), ("book", true)], 400);
+}
+
+fn different(names: &[String]) -> BTreeSet<String> {
+    names.iter().map(|name| name.to_ascii_lowercase()).collect()
 }
 
 /// Those with more permissions than a word has bits hold grants in both words, and in the second one alone.

@@ -37,8 +37,8 @@ fn longest_sheets() {
 
 #[test]
 fn most_users_and_permissions() {
-    try_large(&extremes::filled(&mut Random::from_seed(2), 252, 128, 65_536));
-    try_large(&extremes::filled(&mut Random::from_seed(2), 256, 126, 65_536));
+    try_large(&extremes::filled(&mut Random::from_seed(2), 251, 128, 65_536));
+    try_large(&extremes::filled(&mut Random::from_seed(2), 256, 125, 65_536));
     try_large(&extremes::with_long_book(&mut Random::from_seed(2)));
     try_large(&extremes::with_longest_book());
 }
@@ -139,19 +139,20 @@ fn each_limit_passes_and_one_more_is_refused() {
     }
 }
 
-/// The length is the first cause: a sheet can be too long and else well formed, as each is that has 253 users or more
-/// and 128 permissions, or 256 users and 127 permissions or more.
+/// The length is the first cause: a sheet can be too long and else well formed, as each is that has 252 users or more
+/// and 128 permissions, or 256 users and 126 permissions or more. The names here are the shortest that there can be but
+/// for the dot, which would save two bytes: 38 names of one byte, the others of two.
 #[test]
 fn well_formed_sheet_can_be_too_long() {
     let shortest = |users, permissions| {
         extremes::with_shortest_names(Draft::plain(users, permissions, |_, _| false)).bytes()
     };
-    assert_eq!((shortest(252, 128).len(), load_number(&shortest(252, 128))), (65_529, 0));
-    assert_eq!((shortest(253, 128).len(), load_number(&shortest(253, 128))), (65_788, 1));
-    assert_eq!((shortest(256, 126).len(), load_number(&shortest(256, 126))), (65_535, 0));
-    assert_eq!((shortest(256, 127).len(), load_number(&shortest(256, 127))), (66_050, 1));
-    assert_eq!((shortest(256, 128).len(), load_number(&shortest(256, 128))), (66_565, 1));
-    for (users, permissions) in [(240, 128), (252, 128), (256, 126)] {
+    assert_eq!((shortest(251, 128).len(), load_number(&shortest(251, 128))), (65_322, 0));
+    assert_eq!((shortest(252, 128).len(), load_number(&shortest(252, 128))), (65_581, 1));
+    assert_eq!((shortest(256, 125).len(), load_number(&shortest(256, 125))), (65_072, 0));
+    assert_eq!((shortest(256, 126).len(), load_number(&shortest(256, 126))), (65_587, 1));
+    assert_eq!((shortest(256, 128).len(), load_number(&shortest(256, 128))), (66_617, 1));
+    for (users, permissions) in [(240, 128), (251, 128), (256, 125)] {
         let filled = |bytes| extremes::filled(&mut Random::from_seed(4), users, permissions, bytes).bytes();
         assert_eq!(load_number(&filled(65_535)), 0);
         assert_eq!(load_number(&filled(65_536)), 0);

@@ -1,5 +1,5 @@
-//! The library against document 01: its examples and edges, its settled readings, and its rules on many
-//! sheets, books and sequences.
+//! The library against document 01, as the requests of document 02 have moved it: its examples and edges, its settled
+//! readings, and its rules on many sheets, books and sequences.
 
 mod books;
 mod causes;
@@ -17,4 +17,5 @@ mod reduction;
 mod sequences;
 mod slips;
 mod smallest;
+mod spelling;
 mod support;

@@ -30,7 +30,7 @@ type Seen = Tally<(&'static str, u32)>;
 
 /// The numbers that have to come up for the trial to mean something.
 const OUTCOMES: &[(&str, &[u32])] = &[
-    ("load", &[0, 1, 2, 5, 6, 7, 8]),
+    ("load", &[0, 1, 2, 3, 5, 6, 7, 8]),
     ("search", &[0, 10]),
     ("write", &[0, 10, 11]),
     ("check", &[0, 12, 13, 14, 15]),

@@ -2,12 +2,12 @@
 use borrow.Author.Needs.{needs}
 use Prim.Native.Nat.{_≤_}
 use native.Mathlib.Omega.{arith}
-use mathlib.Core.List.{_++_}
+use mathlib.Core.List.{_++_, map}
 use mathlib.Core.Path.{_≡_, sym}
 use lib.ListN.{length}
 use Rattle.spec.specs.Text.{ascii, Bytes, text-of}
 use Rattle.spec.specs.Sheet.{sheet-of, user-count}
-use Rattle.spec.specs.Book.{witness-block}
+use Rattle.spec.specs.Book.{witness-line, witness-block}
 use Rattle.lists.specs.Listed.{listed}
 use Rattle.cells.specs.CellSets.{cell-grants}
 use Rattle.blocks.specs.Laws.Laid.{users-lawful}
@@ -26,8 +26,8 @@ rows s =
     listed (user-count sheet) (witness-row sheet (s .args .witness .now))
 
 parts : (s : tie.Start)
-    → text-of (witness-block (sheet-of (s .args .s .now)) (cell-grants (sheet-of (s .args .s .now))
-    (s .args .witness .now)))
+    → text-of (witness-block (map (witness-line (sheet-of (s .args .s .now))) (cell-grants (sheet-of (s .args .s .now))
+    (s .args .witness .now))))
     ≡ heading ++ rows s
 parts s =
     witness-parts (sheet-of (s .args .s .now)) (s .args .witness .now) (users-lawful (s .pre .0 .0)) (s .pre .0 .3)

@@ -3,13 +3,13 @@ use borrow.Author.Needs.{needs}
 use Prim.Native.Nat.{_+_, _≤_, ℕ}
 use native.Mathlib.Nat.{le-trans}
 use native.Mathlib.Omega.{arith}
-use mathlib.Core.List.{_++_}
+use mathlib.Core.List.{_++_, map}
 use mathlib.Core.Path.{_≡_, sym}
 use lib.ListN.{length, set}
 use Rattle.spec.specs.Limits.{user-limit, role-limit}
 use Rattle.spec.specs.Text.{Bytes, text-of}
 use Rattle.spec.specs.Sheet.{sheet-of}
-use Rattle.spec.specs.Book.{witness-block}
+use Rattle.spec.specs.Book.{witness-line, witness-block}
 use Rattle.cell_rows.specs.Rows.{row-bits, row-words}
 use Rattle.cell_rows.specs.Laws.Width.{roles-fit}
 use Rattle.cells.specs.CellSets.{cell-grants}
@@ -39,8 +39,8 @@ third s = text-of (shown-users (sheet-of (s .args .s .now)) (s .args .has .now) 
 
 abbrev fourth : tie.Start → Bytes
 fourth s =
-    text-of (witness-block (sheet-of (s .args .s .now)) (cell-grants (sheet-of (s .args .s .now))
-    (s .args .witness .now)))
+    text-of (witness-block (map (witness-line (sheet-of (s .args .s .now))) (cell-grants (sheet-of (s .args .s .now))
+    (s .args .witness .now))))
 
 abbrev up-to-second : tie.Start → Bytes
 up-to-second s = (first s ++ line-end) ++ second s

@@ -1,5 +1,4 @@
--- `buckets::bucket_of`: h is the bucket of the bytes before i, so the bytes from i on lead from it to the bucket of
--- all.
+-- `buckets::bucket_of`: h is the bucket of the bytes before i, so the bytes from i on lead from it to that of all.
 use borrow.Author.Needs.{needs}
 use Prim.Native.Nat.{_-_, _≤_, _<_}
 use native.Mathlib.Omega.{arith}
@@ -21,14 +20,14 @@ loop-holds : tie.Need-loop-holds Inv-loop μ-loop
 loop-holds c = (omega arith, refl)
 
 add-h : tie.Need-add-h Inv-loop μ-loop
-add-h c = omega (arith, c .wide .ensures .1)
+add-h c = omega (arith, c .letter .ensures .1)
 
 loop-again : tie.Need-loop-again Inv-loop μ-loop
 loop-again c =
     let turn = c .before .before in
     let name = turn .before .before .before .args .name .now in (
       omega arith,
-      rw (c .wide .ensures .0, add-one)
+      rw (c .letter .ensures .0, add-one)
           (sym (bucket-step (turn .before .loop .h) name (turn .before .loop .i) (turn .loop-test .taken))
           ∙ turn .before .loop .inv .1),
     )

@@ -67,7 +67,7 @@ returns-2 c =
     let read = c .before .before .before in
     let start = call (rows (read .before)) in
     refused-for-form (start .pre .0 .0 .accepts)
-    (no-witness-written (sheet start) (start .pre .1 .1) (has (read .before)) (users (read .before) .reads)
+    (no-witness-written (sheet start) (start .pre .1 .1) (has (read .before)) (users (read .before))
     ((rw (not-true (read .read-witness .result .«of_form») (c .before .if1 .taken)) at
     (read .read-witness .ensures)) .0))
     (c .refused2 .ensures)
@@ -87,7 +87,7 @@ judge-book-requires c κs =
     let pre = call (rows read) .pre in (
       (pre .0 .0 .accepts, pre .0 .1, pre .0 .0 .user-total),
       (
-        something-said (sheet (call (rows read))) (pre .1 .1) (has read) (users read .reads)
+        something-said (sheet (call (rows read))) (pre .1 .1) (has read) (users read)
             (witness (c .before .before)) (pre .1 .0 .0),
         (
           pre .0 .2,
@@ -102,7 +102,7 @@ returns-3 : tie.Need-returns-3
 returns-3 c =
     let read = c .before .before .before .before .before .before in
     let pre = call (rows read) .pre in
-    judged-as-read (pre .0 .0 .accepts) (has read) (pre .1 .0 .0) (pre .1 .1) (users read .reads)
+    judged-as-read (pre .0 .0 .accepts) (has read) (pre .1 .0 .0) (pre .1 .1) (users read)
     (witness (c .before .before .before)) (c .judge-book .ensures)
 
 pub check-from-users-spec : {M : Type 1} → statement M

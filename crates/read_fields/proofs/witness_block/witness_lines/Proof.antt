@@ -9,7 +9,6 @@ use Rattle.spec.specs.Limits.{role-limit}
 use Rattle.spec.specs.Sheet.{sheet-of}
 use Rattle.rules.specs.AcceptedFacts.{accepted-lawful}
 use Rattle.steps.specs.Laws.Step.{stands-place}
-use Rattle.read_fields.specs.WitnessList.{named-grant}
 use Rattle.read_fields.specs.WitnessLineSteps.{WitnessAt}
 use Rattle.read_fields.specs.WitnessSteps.{LinesRead, lines-start, lines-bound, line-read, lines-end, lines-off}
 use Rattle.read_fields.specs.WitnessSteps.{line-some}
@@ -63,7 +62,7 @@ loop-less c =
     let read = c .before .before in
     omega (
       arith,
-      line-some (sheet-of (call (turn read) .args .sheet .now)) (named-grant (read .before .line .given .0 .0)),
+      line-some (line read .fields),
       stands-place (line read .reads),
       line read .reads .within,
       turn read .loop-test .taken,

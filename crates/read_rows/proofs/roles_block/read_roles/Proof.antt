@@ -5,10 +5,9 @@ use borrow.Author.Needs.{needs}
 use lib.ListN.{length}
 use Rattle.spec.specs.Sheet.{sheet-of}
 use Rattle.rules.specs.AcceptedFacts.{accepted-lawful}
-use Rattle.steps.specs.Stands.{Stands}
-use Rattle.form.specs.Pieces.{roles-heading}
 use Rattle.cell_rows.specs.Laws.Width.{permissions-fit}
 use Rattle.form.specs.RowSteps.{zeros-blank}
+use Rattle.read_rows.specs.HeadingSteps.{HeadingAt}
 use Rattle.read_rows.specs.RoleSteps.{no-roles-heading, heading-then-roles, no-role-lines}
 use Rattle.read_rows.proofs.roles_block.read_roles.Statement.{statement}
 use Rattle.read_rows.proofs.roles_block.read_roles.Tie as tie
@@ -29,14 +28,14 @@ abbrev call : tie.After-known-told → tie.Start
 call c = c .before .before .before .before .before .before .before
 
 heading : (c : tie.After-known-told)
-    → Stands (call c .args .book .now) (call c .args .at) (roles-heading (sheet-of (call c .args .sheet .now)))
+    → HeadingAt (sheet-of (call c .args .sheet .now)) (call c .args .book .now) (call c .args .at)
     (c .before .lines .given .0 .0)
 heading c = rw (c .before .lines .given .1) at (c .before .before .before .roles-heading .ensures)
 
 role-lines-requires : tie.Need-role-lines-requires
 role-lines-requires c κs =
     let start = call (c .before) in (
-      heading (c .before) .within,
+      heading (c .before) .reads .within,
       omega (
         arith,
         permissions-fit,

@@ -5,14 +5,14 @@ use mathlib.Core.Path.{sym}
 use borrow.Author.Needs.{needs}
 use lib.ListN.{length}
 use lib.Seq.{length-take-le}
-use Rattle.spec.specs.Sheet.{sheet-of, user-count, user-name}
+use Rattle.spec.specs.Sheet.{sheet-of, user-count}
 use Rattle.names.specs.Laws.LaidOut.{users-at}
 use Rattle.steps.specs.Stands.{Stands}
 use Rattle.form.specs.Pieces.{users-heading}
 use Rattle.cell_rows.specs.Laws.Width.{roles-fit}
 use Rattle.form.specs.Laws.Placed.{users-placed}
-use Rattle.form.specs.RowSteps.{LinesBelow, zeros-blank}
-use Rattle.read_rows.specs.UserSteps.{no-users-heading, no-user-lines, users-then-end, no-users-end}
+use Rattle.form.specs.RowSteps.{zeros-blank}
+use Rattle.read_rows.specs.UserSteps.{UsersBelow, no-users-heading, no-user-lines, users-then-end, no-users-end}
 use Rattle.read_rows.proofs.users_block.read_users.Statement.{statement}
 use Rattle.read_rows.proofs.users_block.read_users.Tie as tie
 
@@ -76,14 +76,14 @@ headed c =
 
 lines : (c : tie.After-known-told2)
     → let start = call (headed c) in
-    LinesBelow (start .args .book .now) (headed c .before .lines .given .0 .0)
-    (user-name (sheet-of (start .args .sheet .now))) (start .args .roles)
+    UsersBelow (sheet-of (start .args .sheet .now) .users) (start .args .book .now)
+    (headed c .before .lines .given .0 .0) (start .args .roles)
     (c .before .before .before .before .before .user-lines .last .1 .1 .1 .1 .0)
     (user-count (sheet-of (start .args .sheet .now))) (c .before .end .given .0 .0)
 lines c = rw (c .before .end .given .1) at (c .before .before .before .before .before .user-lines .ensures)
 
 expect-byte-requires : tie.Need-expect-byte-requires
-expect-byte-requires c κs = lines c .reads .within
+expect-byte-requires c κs = lines c .lines .reads .within
 
 returns-3 : tie.Need-returns-3
 returns-3 c =

@@ -1,4 +1,4 @@
--- `names::same_bytes`: slices of other lengths are not the same; and with the bytes before i the same, the slices are
+-- `same::same_bytes`: slices of other lengths are not the same; and with the bytes before i the same, the slices are
 -- the same exactly where what stands from i on is.
 use Prim.Native.Nat.{_≤_, _-_}
 use native.Mathlib.Omega.{arith}
