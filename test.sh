@@ -69,6 +69,11 @@ front 1 11 book crates/play/data/wide.csv
 front 1 12 check examples/roosts.csv examples/roosts.csv
 front 2 '' book "$log/no such sheet"
 front 2 '' book examples/roosts.csv many
+front 0 'a reduction, a search or a book was asked for with no accepted sheet' explain 10
+front 0 'a search or a book was asked for on a sheet that is not yet reduced' explain 16
+front 2 '' explain 0
+front 2 '' explain 17
+front 2 '' explain
 took "$began" "the shell front"
 
 # the library is made from what rt ci proved, beside the tests that need none. Where it is missing the others fail

@@ -10,7 +10,7 @@ use Rattle.spec.specs.Text.{Bytes, ascii, line-feed}
 use Rattle.spec.specs.Roles.{Standing}
 use Rattle.spec.specs.Decimal.{decimal}
 use Rattle.spec.specs.Book.{standing-word}
-use Rattle.spec.specs.Calls.{LoadAnswer, SearchAnswer, WriteAnswer, CheckAnswer}
+use Rattle.spec.specs.Calls.{LoadAnswer, ReduceAnswer, SearchAnswer, WriteAnswer, CheckAnswer}
 use Rattle.io.specs.Digits.{digits}
 use Rattle.lists.specs.Listed.{listed}
 use Rattle.adler.specs.Adler.{adler-32}
@@ -54,11 +54,14 @@ digest-word sum = digits 16 digest-digits sum
 
 -- ---- the answers
 
--- `load NUMBER USERS PERMISSIONS GRANTS K W`
+-- `load NUMBER USERS PERMISSIONS GRANTS`
 abbrev pub load-line : LoadAnswer → Bytes
 load-line a =
-    answer-line
-    (ascii "load" ∷ map decimal (a .number ∷ a .users ∷ a .permissions ∷ a .grants ∷ a .kernel ∷ a .witness ∷ []))
+    answer-line (ascii "load" ∷ map decimal (a .number ∷ a .users ∷ a .permissions ∷ a .grants ∷ []))
+
+-- `reduce NUMBER K W`
+abbrev pub reduce-line : ReduceAnswer → Bytes
+reduce-line a = answer-line (ascii "reduce" ∷ map decimal (a .number ∷ a .kernel ∷ a .witness ∷ []))
 
 -- the state that a search names, `-` where it names none
 abbrev pub state-word : Option Standing → Bytes

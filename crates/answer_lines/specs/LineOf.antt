@@ -2,10 +2,12 @@
 use Prim.Native.Nat.{ℕ}
 use Rattle.spec.specs.Text.{Bytes}
 use Rattle.judging.specs.BookSays.{answer-of}
-use Rattle.answers.specs.Said.{load-said, search-said, write-said}
-use Rattle.answer_lines.specs.Answers.{load-line, search-line, digest-line, check-line, no-call-line}
+use Rattle.answers.specs.Said.{load-said, reduce-said, search-said, write-said}
+use Rattle.answer_lines.specs.Answers.{load-line, reduce-line, search-line, digest-line, check-line}
+use Rattle.answer_lines.specs.Answers.{no-call-line}
 use Rattle.answer_lines.specs.declared.answer.Answer.{Answer}
-use Rattle.answer_lines.specs.declared.answer.Answer.the-variants.{NoCall, Loaded, Searched, Written, Checked}
+use Rattle.answer_lines.specs.declared.answer.Answer.the-variants.{NoCall, Loaded, Reduced, Searched, Written}
+use Rattle.answer_lines.specs.declared.answer.Answer.the-variants.{Checked}
 
 -- the bytes that a line is lent, which are more than any answer has
 abbrev pub answer-most : ℕ
@@ -14,6 +16,7 @@ answer-most = 160
 abbrev pub line-of : Answer → Bytes
 line-of NoCall = no-call-line
 line-of (Loaded a) = load-line (load-said a)
+line-of (Reduced a) = reduce-line (reduce-said a)
 line-of (Searched a) = search-line (search-said a)
 line-of (Written a sum) = digest-line (write-said a) sum
 line-of (Checked a) = check-line (answer-of a)

@@ -4,6 +4,7 @@ use crate::lines::put_line;
 use adler::adler_32;
 use answers::LoadAnswer;
 use answers::Named;
+use answers::ReduceAnswer;
 use answers::SearchAnswer;
 use answers::WriteAnswer;
 use judging::Checked;
@@ -23,6 +24,7 @@ pub const ANSWER_BUFFER: usize = 160;
 pub enum Answer {
     NoCall,
     Loaded(LoadAnswer),
+    Reduced(ReduceAnswer),
     Searched(SearchAnswer),
     Written(WriteAnswer, u32),
     Checked(Checked),
@@ -65,15 +67,12 @@ pub fn put_answer(out: &mut [u8], answer: Answer) -> usize
     match answer {
         Answer::NoCall => text::put_bytes(out, b"?\n"),
         Answer::Loaded(a) => {
-            let numbers = [
-                a.number,
-                a.users,
-                a.permissions,
-                a.grants,
-                a.kernel,
-                a.witness,
-            ];
+            let numbers = [a.number, a.users, a.permissions, a.grants];
             put_line(out, b"load", &numbers, b"")
+        }
+        Answer::Reduced(a) => {
+            let numbers = [a.number, a.kernel, a.witness];
+            put_line(out, b"reduce", &numbers, b"")
         }
         Answer::Searched(a) => put_searched(out, a),
         Answer::Written(a, sum) => {

@@ -1,3 +1,3 @@
--- The answers of the code as document 01 has them, and the counts that follow from roles and witness.
+-- The answers of the code as the calls have them, and the counts that follow from roles and witness.
 pub mod Said
 pub mod CountsFrom

@@ -1,22 +1,27 @@
-// What the calls of a session answer: a result comes with the number 0, a refusal with document 01's number and
-// counts 0.
+// What the calls of a session answer: a result comes with the number 0, a refusal with its own number and counts 0.
 use book_lines::Counts;
 use book_lines::Writing;
 use standing::Standing;
 ghost use mathlib.Core.Path.{_≡_};
 ghost use mathlib.Core.Option.{some};
-ghost use Rattle.spec.specs.Calls.{load-refused, search-refused, write-refused};
+ghost use Rattle.spec.specs.Calls.{load-refused, reduce-refused, search-refused, write-refused};
 ghost use Rattle.standing.specs.StandingCases.{standing-case};
 ghost use Rattle.book_lines.specs.Writing.{writing-said};
-ghost use Rattle.answers.specs.Said.{load-said, search-said, write-said};
+ghost use Rattle.answers.specs.Said.{load-said, reduce-said, search-said, write-said};
 
-// A load's counts: users, permissions, grants, the kernel's size k and the witness's count w.
+// A load's counts: users, permissions and grants.
 #[repr(C)]
 pub struct LoadAnswer {
     pub number: usize,
     pub users: usize,
     pub permissions: usize,
     pub grants: usize,
+}
+
+// A reduction's counts: the kernel's size k and the witness's count w.
+#[repr(C)]
+pub struct ReduceAnswer {
+    pub number: usize,
     pub kernel: usize,
     pub witness: usize,
 }
@@ -53,8 +58,30 @@ impl LoadAnswer {
             users: 0,
             permissions: 0,
             grants: 0,
+        }
+    }
+}
+
+impl ReduceAnswer {
+    // A refusal.
+    pub fn refused(number: usize) -> ReduceAnswer
+        ensures { λ r. ⌜ reduce-said r ≡ reduce-refused number ⌝ }
+    {
+        ReduceAnswer {
+            number,
             kernel: 0,
             witness: 0,
+        }
+    }
+
+    // The sizes that were found.
+    pub fn found(kernel: usize, witness: usize) -> ReduceAnswer
+        ensures { λ r. ⌜ reduce-said r ≡ record { number = 0; kernel = kernel; witness = witness } ⌝ }
+    {
+        ReduceAnswer {
+            number: 0,
+            kernel,
+            witness,
         }
     }
 }

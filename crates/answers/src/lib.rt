@@ -5,6 +5,7 @@ mod counts;
 
 pub use answer::LoadAnswer;
 pub use answer::Named;
+pub use answer::ReduceAnswer;
 pub use answer::SearchAnswer;
 pub use answer::WriteAnswer;
 pub use counts::counts_at;

@@ -1,5 +1,6 @@
--- What the calls answer with and without a sheet, and what an accepted writing brings out. Each follows from the
--- calls' definitions by cases: is there a sheet, is it accepted, does the buffer take the book.
+-- What the calls answer without a sheet, with one that is not reduced and with one that is, and what an accepted
+-- writing brings out. Each follows from the calls' definitions by cases: is there a sheet, is it accepted, is it
+-- reduced, does the buffer take the book.
 use Prim.Native.Nat.{ℕ, _≤_, _<_}
 use mathlib.Core.Path.{_≡_, refl, sym, ap, _∙_}
 use mathlib.Core.Bool.{Bool, true, false, So, cond}
@@ -13,10 +14,10 @@ use Rattle.spec.specs.Text.{Bytes}
 use Rattle.spec.specs.Sheet.{sheet-of}
 use Rattle.spec.specs.Machine.{State}
 use Rattle.spec.specs.Book.{book}
-use Rattle.spec.specs.Session.{Session, no-sheet, loaded, session-book}
+use Rattle.spec.specs.Session.{Session, no-sheet, read, reduced, session-book}
 use Rattle.spec.specs.Refusal.{first-number, refusal, accepted, write-causes}
-use Rattle.spec.specs.Calls.{LoadAnswer, load-answer, search-answer, search-refused, WriteAnswer, write-refused}
-use Rattle.spec.specs.Calls.{write-answer, buffer-after, Loads, Writes}
+use Rattle.spec.specs.Calls.{LoadAnswer, load-answer, reduce-answer, reduce-refused, reduce-counts, search-answer}
+use Rattle.spec.specs.Calls.{search-refused, WriteAnswer, write-refused, write-answer, buffer-after, Loads, Writes}
 use Rattle.spec.specs.Sequence.{WriteOutcome, brought-out}
 use Rattle.spec.specs.Demands.{LoadOwed}
 use Rattle.bits.specs.Truth.{not-both, passes-or-fails}
@@ -37,6 +38,10 @@ load-owed before text answer after h =
     (λ z. load-number text .0 (sym number ∙ z), λ p. number ∙ load-number text .1 p)
 
 -- 10 with no accepted sheet
+pub sheetless-reduce : reduce-answer no-sheet ≡ reduce-refused 10
+unfolding reduce-answer
+sheetless-reduce = refl
+
 pub sheetless-search : (budget : ℕ) → search-answer no-sheet budget ≡ search-refused 10
 unfolding search-answer
 sheetless-search budget = refl
@@ -45,26 +50,44 @@ pub sheetless-write : (buffer : Bytes) → write-answer no-sheet buffer ≡ writ
 unfolding write-answer write-causes
 sheetless-write buffer = refl
 
--- no refusal of a search on a sheet
-pub loaded-search : (text : Bytes) (st : State) (budget : ℕ) → search-answer (loaded text st) budget .number ≡ 0
+-- a reduction of a sheet answers its counts, also where it is reduced already
+pub unreduced-reduce : (text : Bytes) → reduce-answer (read text) ≡ reduce-counts (sheet-of text)
+unfolding reduce-answer
+unreduced-reduce text = refl
+
+pub reduced-reduce : (text : Bytes) (st : State) → reduce-answer (reduced text st) ≡ reduce-counts (sheet-of text)
+unfolding reduce-answer
+reduced-reduce text st = refl
+
+-- 16 on a sheet that is not reduced, whatever the buffer
+pub unreduced-search : (text : Bytes) (budget : ℕ) → search-answer (read text) budget ≡ search-refused 16
 unfolding search-answer
-loaded-search text st budget = refl
+unreduced-search text budget = refl
 
-pub loaded-book : (text : Bytes) (st : State) → session-book (loaded text st) ≡ book (sheet-of text) st
+pub unreduced-write : (text : Bytes) (buffer : Bytes) → write-answer (read text) buffer ≡ write-refused 16
+unfolding write-answer write-causes
+unreduced-write text buffer = refl
+
+-- no refusal of a search on a sheet that is reduced
+pub reduced-search : (text : Bytes) (st : State) (budget : ℕ) → search-answer (reduced text st) budget .number ≡ 0
+unfolding search-answer
+reduced-search text st budget = refl
+
+pub reduced-book : (text : Bytes) (st : State) → session-book (reduced text st) ≡ book (sheet-of text) st
 unfolding session-book
-loaded-book text st = refl
+reduced-book text st = refl
 
--- no refusal of a writing on a sheet whose buffer takes the book
-pub loaded-write : (text : Bytes) (st : State) (buffer : Bytes) → length (book (sheet-of text) st) ≤ length buffer
-    → write-answer (loaded text st) buffer .number ≡ 0
+-- no refusal of a writing on it whose buffer takes the book
+pub reduced-write : (text : Bytes) (st : State) (buffer : Bytes) → length (book (sheet-of text) st) ≤ length buffer
+    → write-answer (reduced text st) buffer .number ≡ 0
 unfolding write-answer write-causes session-book
-loaded-write text st buffer takes = rw (le-ltb (length buffer) (length (book (sheet-of text) st)) takes)
+reduced-write text st buffer takes = rw (le-ltb (length buffer) (length (book (sheet-of text) st)) takes)
 
 -- and 11 where it does not
-pub loaded-write-short : (text : Bytes) (st : State) (buffer : Bytes) → length buffer < length (book (sheet-of text) st)
-    → write-answer (loaded text st) buffer .number ≡ 11
+pub reduced-write-short : (text : Bytes) (st : State) (buffer : Bytes)
+    → length buffer < length (book (sheet-of text) st) → write-answer (reduced text st) buffer ≡ write-refused 11
 unfolding write-answer write-causes session-book
-loaded-write-short text st buffer short = rw (lt-ltb (length buffer) (length (book (sheet-of text) st)) short)
+reduced-write-short text st buffer short = rw (lt-ltb (length buffer) (length (book (sheet-of text) st)) short)
 
 -- what a writing answers and leaves in the buffer, by whether no cause applies
 abbrev answer-if : Bool → ℕ → Bytes → WriteAnswer

@@ -1,6 +1,5 @@
--- Demand 1. Each call has an answer on every session. Its number is the first of its causes that applies, whose
--- numbers rise, so it is the lowest; and where it is not 0, the call's definition takes the branch that returns the
--- number alone and changes nothing.
+-- Demand 1. Each call has an answer on every session. Its number is the first of its causes that applies; and where it
+-- is not 0, the call's definition takes the branch that returns the number alone and changes nothing.
 use Prim.Native.Nat.{ℕ}
 use mathlib.Core.Path.{_≡_, refl, sym, ap, _∙_}
 use mathlib.Core.Bool.{Bool, true, false, So}
@@ -8,14 +7,16 @@ use mathlib.Core.Logic.{_≢_, ⊎-elim}
 use borrow.Author.Tests.{eqb-true, ne-eqb}
 use lib.Dec.{eqb}
 use Rattle.spec.specs.Text.{Bytes}
-use Rattle.spec.specs.Session.{Session, no-sheet, loaded}
-use Rattle.spec.specs.Refusal.{first-number, sheet-causes, refusal, accepted, search-causes, write-causes}
-use Rattle.spec.specs.Calls.{LoadAnswer, load-answer, load-refused, after-load, SearchAnswer, search-answer}
-use Rattle.spec.specs.Calls.{search-refused, after-search, WriteAnswer, write-answer, write-refused, buffer-after}
-use Rattle.spec.specs.Calls.{check, Loads, Searches, Writes}
+use Rattle.spec.specs.Session.{Session, no-sheet, read, reduced}
+use Rattle.spec.specs.Refusal.{first-number, sheet-causes, refusal, accepted, reduce-causes, search-causes}
+use Rattle.spec.specs.Refusal.{write-causes}
+use Rattle.spec.specs.Calls.{LoadAnswer, load-answer, load-refused, after-load, ReduceAnswer, reduce-answer}
+use Rattle.spec.specs.Calls.{reduce-refused, after-reduce, SearchAnswer, search-answer, search-refused, after-search}
+use Rattle.spec.specs.Calls.{WriteAnswer, write-answer, write-refused, buffer-after, check, Loads, Reduces, Searches}
+use Rattle.spec.specs.Calls.{Writes}
 use Rattle.spec.specs.Demands.{Judged, Demand1}
 use Rattle.bits.specs.Truth.{passes-or-fails}
-use Rattle.rules.specs.CauseLaws.{rising, sheet-causes-rise}
+use Rattle.rules.specs.CauseLaws.{positive, sheet-causes-positive}
 use Rattle.right.specs.CheckOwed.{judged, checks-judged}
 use Rattle.demands.specs.EverySequence.{outcome-on, session-next, happens-on}
 
@@ -47,31 +48,67 @@ loads-judged before after text answer h =
     let number : answer .number ≡ refusal text = ap (λ (a : LoadAnswer). a .number) (h .answers)
     ∙ load-number-is-refusal text in
     judged (sheet-causes text) (answer .number) ((answer ≡ load-refused (answer .number)) × (after ≡ before))
-    (sheet-causes-rise text)
+    (sheet-causes-positive text)
     (number ∙ refusal-is-first text) (λ n.
     let m : refusal text ≢ 0 = λ z. n (sym (refusal-is-first text) ∙ z) in
     (h .answers ∙ (refused-load text m ∙ ap load-refused (sym number)), h .leaves ∙ refused-load-leaves before text m))
 
--- a search is refused exactly where there is no sheet
+-- a reduction's number is the first of its causes, and where it is not 0 the session stays
+reduce-number : (before : Session) → reduce-answer before .number ≡ first-number (reduce-causes before)
+unfolding reduce-answer
+reduce-number no-sheet = refl
+reduce-number (read text) = refl
+reduce-number (reduced text st) = refl
+
+refused-reduce : (before : Session) → first-number (reduce-causes before) ≢ 0
+    → (reduce-answer before ≡ reduce-refused (first-number (reduce-causes before))) × (after-reduce before ≡ before)
+unfolding reduce-answer after-reduce
+refused-reduce no-sheet n = (refl, refl)
+refused-reduce (read text) n = absurd (n refl)
+refused-reduce (reduced text st) n = absurd (n refl)
+
+reduces-judged : (before after : Session) (answer : ReduceAnswer) → Reduces before answer after
+    → Judged (reduce-causes before) (answer .number) ((answer ≡ reduce-refused (answer .number)) × (after ≡ before))
+reduces-judged before after answer h =
+    let number : answer .number ≡ first-number (reduce-causes before) =
+    ap (λ (a : ReduceAnswer). a .number) (h .answers) ∙ reduce-number before in
+    judged (reduce-causes before) (answer .number) ((answer ≡ reduce-refused (answer .number)) × (after ≡ before))
+    refl number (λ n.
+    let r = refused-reduce before n in
+    (h .answers ∙ (r .0 ∙ ap reduce-refused (sym number)), h .leaves ∙ r .1))
+
+-- a search's likewise
+search-number : (before : Session) (budget : ℕ) → search-answer before budget .number ≡ first-number
+    (search-causes before)
+unfolding search-answer
+search-number no-sheet budget = refl
+search-number (read text) budget = refl
+search-number (reduced text st) budget = refl
+
+refused-search : (before : Session) (budget : ℕ) → first-number (search-causes before) ≢ 0
+    → (search-answer before budget ≡ search-refused (first-number (search-causes before)))
+    × (after-search before budget ≡ before)
+unfolding search-answer after-search
+refused-search no-sheet budget n = (refl, refl)
+refused-search (read text) budget n = (refl, refl)
+refused-search (reduced text st) budget n = absurd (n refl)
+
 searches-judged : (before after : Session) (budget : ℕ) (answer : SearchAnswer) → Searches before budget answer after
     → Judged (search-causes before) (answer .number) ((answer ≡ search-refused (answer .number)) × (after ≡ before))
-unfolding search-answer after-search
-searches-judged no-sheet after budget answer h =
-    judged (search-causes no-sheet) (answer .number) ((answer ≡ search-refused (answer .number)) × (after ≡ no-sheet))
-    refl
-    (ap (λ (a : SearchAnswer). a .number) (h .answers)) (λ n.
-    (h .answers ∙ ap search-refused (sym (ap (λ (a : SearchAnswer). a .number) (h .answers))), h .leaves))
-searches-judged (loaded text st) after budget answer h =
-    judged (search-causes (loaded text st)) (answer .number) ((answer ≡ search-refused (answer .number))
-    × (after ≡ loaded text st)) refl
-    (ap (λ (a : SearchAnswer). a .number) (h .answers)) (λ n. absurd (n refl))
+searches-judged before after budget answer h =
+    let number : answer .number ≡ first-number (search-causes before) =
+    ap (λ (a : SearchAnswer). a .number) (h .answers) ∙ search-number before budget in
+    judged (search-causes before) (answer .number) ((answer ≡ search-refused (answer .number)) × (after ≡ before))
+    refl number (λ n.
+    let r = refused-search before budget n in
+    (h .answers ∙ (r .0 ∙ ap search-refused (sym number)), h .leaves ∙ r .1))
 
-write-causes-rise : (before : Session) (buffer : Bytes) → So (rising 0 (write-causes before buffer))
+write-causes-positive : (before : Session) (buffer : Bytes) → So (positive (write-causes before buffer))
 unfolding write-causes
-write-causes-rise before buffer = refl
+write-causes-positive before buffer = refl
 
 -- a writing's number is the first of its causes, and where it is not 0 the buffer stays
-write-number : (before : Session) (buffer : Bytes) → write-answer before buffer .number ≡ first-number
+pub write-number : (before : Session) (buffer : Bytes) → write-answer before buffer .number ≡ first-number
     (write-causes before buffer)
 unfolding write-answer
 write-number before buffer = choose (eqb (first-number (write-causes before buffer)) 0) refl
@@ -98,7 +135,7 @@ writes-judged before after buffer lent answer h =
     ap (λ (a : WriteAnswer). a .number) (h .answers) ∙ write-number before buffer in
     judged (write-causes before buffer) (answer .number) ((answer ≡ write-refused (answer .number)) × (lent ≡ buffer)
     × (after ≡ before))
-    (write-causes-rise before buffer) number (λ n.
+    (write-causes-positive before buffer) number (λ n.
     let r = refused-write before buffer n in
     (h .answers ∙ (r .0 ∙ ap write-refused (sym number)), h .fills ∙ r .1, h .leaves))
 
@@ -108,6 +145,7 @@ demand-1 =
       answered = λ call before. (outcome-on before call, session-next before call, happens-on before call);
       checked = λ sheet-bytes book-bytes. (check sheet-bytes book-bytes, record { answers = refl });
       loads = loads-judged;
+      reduces = reduces-judged;
       searches = searches-judged;
       writes = writes-judged;
       checks = checks-judged;

@@ -1,5 +1,5 @@
--- Demand 3: one theorem about every sequence of loads, searches and writings on one session, refused ones included,
--- from a fresh session. Every single book can be believed (`Believed`), a sequence brings out only such books
+-- Demand 3: one theorem about every sequence of loads, reductions, searches and writings on one session, refused ones
+-- included, from a fresh session. Every single book can be believed (`Believed`), a sequence brings out only such books
 -- (`Owed`), and every list of calls is one (`EverySequence`).
 use Rattle.spec.specs.Demands.{Demand3}
 use Rattle.demands.specs.EverySequence.{every-sequence-happens}

@@ -3,23 +3,27 @@
 use mathlib.Core.Path.{_≡_, refl, ap}
 use mathlib.Core.List.{List, [], _∷_}
 use Rattle.spec.specs.Session.{Session, fresh}
-use Rattle.spec.specs.Calls.{load-answer, after-load, search-answer, after-search, write-answer, buffer-after}
-use Rattle.spec.specs.Sequence.{Call, load, search, write, Outcome, Event, Happens, Led, calls}
+use Rattle.spec.specs.Calls.{load-answer, after-load, reduce-answer, after-reduce, search-answer, after-search}
+use Rattle.spec.specs.Calls.{write-answer, buffer-after}
+use Rattle.spec.specs.Sequence.{Call, load, reduce, search, write, Outcome, Event, Happens, Led, calls}
 
 -- what a call gives back on a session, and the session after it
 abbrev pub outcome-on : Session → (call : Call) → Outcome call
 outcome-on before (load text) = load-answer text
+outcome-on before reduce = reduce-answer before
 outcome-on before (search budget) = search-answer before budget
 outcome-on before (write buffer) = record { answer = write-answer before buffer; lent = buffer-after before buffer }
 
 abbrev pub session-next : Session → Call → Session
 session-next before (load text) = after-load before text
+session-next before reduce = after-reduce before
 session-next before (search budget) = after-search before budget
 session-next before (write buffer) = before
 
 pub happens-on : (before : Session) (call : Call) → Happens call (outcome-on before call) before
     (session-next before call)
 happens-on before (load text) = record { answers = refl; leaves = refl }
+happens-on before reduce = record { answers = refl; leaves = refl }
 happens-on before (search budget) = record { answers = refl; leaves = refl }
 happens-on before (write buffer) = record { answers = refl; fills = refl; leaves = refl }
 

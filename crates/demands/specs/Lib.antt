@@ -6,6 +6,7 @@ pub mod Owed
 pub mod Settled
 pub mod EverySequence
 pub mod Demand1
+pub mod Lowest
 pub mod Demand3
 pub mod CheckerAlone
 pub mod PlacedOnce

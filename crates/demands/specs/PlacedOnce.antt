@@ -1,5 +1,6 @@
--- No list of classes is placed twice within one load, however its searches share out the steps. Step by step the
--- session's position is the one that a single run from the start comes to, and along a run the placed lists rise.
+-- No list of classes is placed twice between an accepted load and the next, however the searches on its reduced sheet
+-- share out the steps. Step by step the session's position is the one that a single run from the start comes to, and
+-- along a run the placed lists rise.
 use Prim.Native.Nat.{ℕ, suc, _≤_, _<_}
 use native.Mathlib.Omega.{arith}
 use mathlib.Core.Path.{_≡_, ap}

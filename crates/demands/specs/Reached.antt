@@ -1,13 +1,13 @@
 -- Where a sequence of calls leads: to no sheet where no load was accepted, else to the sheet of the last accepted
--- load, with the machine moved forward from its start by all budgets given since. A load starts anew, searches add
--- up, refusals and writings change nothing.
+-- load, and if that was reduced since, with the machine moved forward from its start by all budgets given since its
+-- first reduction. An accepted load leaves its sheet not reduced, the first reduction starts the machine, searches add
+-- up, and further reductions, refusals and writings change nothing.
 use Prim.Native.Nat.{ℕ, _+_}
 use native.Mathlib.Nat.{add-comm}
-use native.Mathlib.Omega.{arith}
 use mathlib.Core.Path.{_≡_, refl, sym, ap, _∙_}
 use mathlib.Core.Bool.{Bool, true, false, So}
 use mathlib.Core.List.{List, [], _∷_}
-use mathlib.Core.Option.{Option, none, some}
+use mathlib.Core.Option.{Option, none, some, Option·none-ne-some}
 use mathlib.Core.Logic.{⊎-elim}
 use Rattle.spec.specs.Limits.{search-limit}
 use Rattle.spec.specs.Text.{Bytes}
@@ -15,27 +15,29 @@ use Rattle.spec.specs.Sheet.{sheet-of}
 use Rattle.spec.specs.Machine.{Kernel, State, Ran, no-step}
 use Rattle.spec.specs.Machine
 use Rattle.spec.specs.Roles.{kernel-of, start-of}
-use Rattle.spec.specs.Session.{Session, no-sheet, loaded}
+use Rattle.spec.specs.Session.{Session, no-sheet, read, reduced}
 use Rattle.spec.specs.Refusal.{accepted}
-use Rattle.spec.specs.Calls.{searched-on, after-load, after-search}
-use Rattle.spec.specs.Sequence.{Call, load, search, write, Event, Happens, Outcome, Led, last-accepted, budgets-given}
-use Rattle.spec.specs.Sequence.{calls}
+use Rattle.spec.specs.Calls.{searched-on, after-load, after-reduce, after-search}
+use Rattle.spec.specs.Sequence.{Call, load, reduce, search, write, Event, Happens, Outcome, Led, calls}
+use Rattle.spec.specs.Sequence.{last-accepted, last-reduced, counted-on, budgets-given}
 use Rattle.bits.specs.Truth.{passes-or-fails}
 use Rattle.bits.specs.Laws.Below.{below-or-from}
 use Rattle.search.specs.Laws.Runs.{run-none, search-within, search-above, search-add}
 
--- the machine's state on an accepted sheet once so much budget was given
+-- the machine's state on a sheet that is reduced, once so much budget was given since
 unfoldable pub reached : Bytes → ℕ → State
 unfolding searched-on start-of
 reached text given = searched-on text given (start-of (sheet-of text)) .state
 
--- the session that some calls lead to, from the calls alone
-abbrev pub session-of : Option Bytes → ℕ → Session
-session-of none given = no-sheet
-session-of (some text) given = loaded text (reached text given)
+-- the session that some calls lead to, from the calls alone: by the sheet of the last accepted load, whether it was
+-- reduced since, and the budgets given since its first reduction
+abbrev pub session-of : Option Bytes → Option Bytes → ℕ → Session
+session-of none since given = no-sheet
+session-of (some text) none given = read text
+session-of (some text) (some same) given = reduced text (reached text given)
 
 abbrev pub session-after : List Call → Session
-session-after earlier = session-of (last-accepted earlier) (budgets-given earlier)
+session-after earlier = session-of (last-accepted earlier) (last-reduced earlier) (budgets-given earlier)
 
 -- no budget moves nothing
 search-none : (kernel : Kernel) (st : State) → Machine.search kernel 0 st ≡ no-step st
@@ -56,25 +58,72 @@ reached-further text budget given =
     (ap (λ (n : ℕ). reached text n) (add-comm budget given)
     ∙ ap (λ (ran : Ran). ran .state) (search-add (kernel-of (sheet-of text)) given budget (start-of (sheet-of text))))
 
--- an accepted load starts anew, a refused one changes nothing
+-- ---- the sheet that was reduced
+
+-- it is that of the last accepted load
+pub reduced-is-last : (earlier : List Call) (text : Bytes) → last-reduced earlier ≡ some text
+    → last-accepted earlier ≡ some text
+reduced-is-last [] text e = e
+reduced-is-last (load other ∷ earlier) text e =
+    ⊎-elim (λ (p : So (accepted other)). absurd (Option·none-ne-some text (rw p at e)))
+    (λ (f : accepted other ≡ false). rw f (reduced-is-last earlier text (rw f at e)))
+    (passes-or-fails (accepted other))
+reduced-is-last (reduce ∷ earlier) text e = e
+reduced-is-last (search budget ∷ earlier) text e = reduced-is-last earlier text e
+reduced-is-last (write buffer ∷ earlier) text e = reduced-is-last earlier text e
+
+-- so there is none where no load was accepted
+none-reduced : (earlier : List Call) → last-accepted earlier ≡ none → last-reduced earlier ≡ none
+none-reduced earlier e = choose (last-reduced earlier) refl
+  where
+    choose : (since : Option Bytes) → last-reduced earlier ≡ since → since ≡ none
+    choose none l = refl
+    choose (some text) l = absurd (Option·none-ne-some text (sym e ∙ reduced-is-last earlier text l))
+
+-- and where there is none, no budget counts
+none-given : (earlier : List Call) → last-reduced earlier ≡ none → budgets-given earlier ≡ 0
+none-given [] e = refl
+none-given (load text ∷ earlier) e =
+    ⊎-elim (λ (p : So (accepted text)). rw p)
+    (λ (f : accepted text ≡ false). rw f (none-given earlier (rw f at e)))
+    (passes-or-fails (accepted text))
+none-given (reduce ∷ earlier) e = none-given earlier (none-reduced earlier e)
+none-given (search budget ∷ earlier) e = rw (e, none-given earlier e)
+none-given (write buffer ∷ earlier) e = none-given earlier e
+
+-- ---- where each call leads
+
+-- an accepted load leaves its sheet not reduced, a refused one changes nothing
 load-leads : (text : Bytes) (earlier : List Call) → after-load (session-after earlier) text ≡ session-after
     (load text ∷ earlier)
 unfolding after-load
 load-leads text earlier =
-    ⊎-elim (λ (p : So (accepted text)). rw (p, reached-at-first text)) (λ (f : accepted text ≡ false). rw f)
-    (passes-or-fails (accepted text))
+    ⊎-elim (λ (p : So (accepted text)). rw p) (λ (f : accepted text ≡ false). rw f) (passes-or-fails (accepted text))
 
--- searches add up
+-- the first reduction starts the machine, further ones change nothing
+reduce-leads : (earlier : List Call) → after-reduce (session-after earlier) ≡ session-after (reduce ∷ earlier)
+unfolding after-reduce
+reduce-leads earlier = further (last-accepted earlier) (last-reduced earlier) (none-given earlier)
+  where
+    further : (last since : Option Bytes) → (since ≡ none → budgets-given earlier ≡ 0)
+        → after-reduce (session-of last since (budgets-given earlier)) ≡ session-of last last (budgets-given earlier)
+    further none since unmoved = refl
+    further (some text) none unmoved = rw (unmoved refl, reached-at-first text)
+    further (some text) (some same) unmoved = refl
+
+-- searches add up on a sheet that was reduced, and change nothing on any other
 search-leads : (budget : ℕ) (earlier : List Call)
     → after-search (session-after earlier) budget ≡ session-after (search budget ∷ earlier)
 unfolding after-search
-search-leads budget earlier = further (last-accepted earlier)
+search-leads budget earlier = further (last-accepted earlier) (last-reduced earlier)
   where
-    further : (last : Option Bytes)
-        → after-search (session-of last (budgets-given earlier)) budget ≡ session-of last
-        (budget + budgets-given earlier)
-    further none = refl
-    further (some text) = ap (λ (st : State). loaded text st) (reached-further text budget (budgets-given earlier))
+    further : (last since : Option Bytes)
+        → after-search (session-of last since (budgets-given earlier)) budget ≡ session-of last since
+        (counted-on since budget + budgets-given earlier)
+    further none since = refl
+    further (some text) none = refl
+    further (some text) (some same) =
+        ap (λ (st : State). reduced text st) (reached-further text budget (budgets-given earlier))
 
 -- one call leads on
 happens-leads : (call : Call) (outcome : Outcome call) (earlier : List Call) (before after : Session)
@@ -82,6 +131,7 @@ happens-leads : (call : Call) (outcome : Outcome call) (earlier : List Call) (be
     → Happens call outcome before after → after ≡ session-after (call ∷ earlier)
 happens-leads (load text) answer earlier before after e h =
     h .leaves ∙ (ap (λ (s : Session). after-load s text) e ∙ load-leads text earlier)
+happens-leads reduce answer earlier before after e h = h .leaves ∙ (ap after-reduce e ∙ reduce-leads earlier)
 happens-leads (search budget) answer earlier before after e h =
     h .leaves ∙ (ap (λ (s : Session). after-search s budget) e ∙ search-leads budget earlier)
 happens-leads (write buffer) written earlier before after e h = h .leaves ∙ e
@@ -96,7 +146,7 @@ led-session (event ∷ earlier) session led =
 
 -- the last accepted sheet is accepted
 pub last-is-accepted : (earlier : List Call) (text : Bytes) → last-accepted earlier ≡ some text → So (accepted text)
-last-is-accepted [] text e = let z : _≡_ {A = ℕ} 0 1 = cc in absurd (omega arith)
+last-is-accepted [] text e = absurd (Option·none-ne-some text e)
 last-is-accepted (load other ∷ earlier) text e = choose (accepted other) refl (last-is-accepted earlier text)
   where
     choose : (b : Bool) → accepted other ≡ b → (last-accepted earlier ≡ some text → So (accepted text))
@@ -105,5 +155,6 @@ last-is-accepted (load other ∷ earlier) text e = choose (accepted other) refl 
         let same : other ≡ text = (let here : some other ≡ some text = rw p at e in cc) in
         rw (← same) p
     choose false p before = before (rw p at e)
+last-is-accepted (reduce ∷ earlier) text e = last-is-accepted earlier text e
 last-is-accepted (search budget ∷ earlier) text e = last-is-accepted earlier text e
 last-is-accepted (write buffer ∷ earlier) text e = last-is-accepted earlier text e

@@ -2,4 +2,5 @@
 pub mod NamesAt
 pub mod FoundBetween
 pub mod LaidOut
+pub mod NoLayout
 pub mod Laws

@@ -9,6 +9,7 @@ ghost use Prim.Native.Nat.{_<_};
 ghost use lib.ListN.{getD};
 ghost use Rattle.spec.specs.Sheet.{sheet-of, user-count, permission-count};
 ghost use Rattle.names.specs.LaidOut.{UsersAt, PermissionsAt};
+ghost use Rattle.names.specs.NoLayout.{no-layout};
 
 #[repr(C)]
 pub struct Layout {
@@ -17,6 +18,22 @@ pub struct Layout {
     pub grants: usize,
     pub user_places: Places,
     pub permission_places: Places,
+}
+
+impl Layout {
+    // The layout of nothing.
+    pub fn none() -> Layout
+        ensures { λ r. ⌜ r ≡ no-layout ⌝ }
+    {
+        let places = Places::none();
+        Layout {
+            users: 0,
+            permissions: 0,
+            grants: 0,
+            user_places: places,
+            permission_places: places,
+        }
+    }
 }
 
 // The name of user u, with the users' places lent: a loop that asks for many names copies no layout.

@@ -33,6 +33,16 @@ pub fn load(session: Session, path: &[u8]) -> Session
     loaded.session
 }
 
+pub fn reduce(session: Session) -> Session
+    requires { ⌜ Sound session ⌝ }
+    ensures { λ r. ⌜ Sound r ⌝ }
+{
+    let reduced = session.reduce();
+    let answer = reduced.answer;
+    say(Answer::Reduced(answer));
+    reduced.session
+}
+
 pub fn search(session: Session, word: &[u8]) -> Session
     requires { ⌜ Sound session ⌝ }
     ensures { λ r. ⌜ Sound r ⌝ }

@@ -1,6 +1,7 @@
 // Makes the calls of a script on one session: a call a line on standard input, an answer a line on standard output.
 //
-// - `load FILE` is answered by `load NUMBER USERS PERMISSIONS GRANTS K W`,
+// - `load FILE` is answered by `load NUMBER USERS PERMISSIONS GRANTS`,
+// - `reduce`, with nothing behind it, by `reduce NUMBER K W`,
 // - `search N` by `search NUMBER STEPS ROLES BOUND STATE`,
 // - `write LENGTH` by `write NUMBER COUNT DIGEST`,
 // - `check SHEETFILE BOOKFILE` by `check NUMBER ROLES WITNESSLINES`.

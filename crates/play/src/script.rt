@@ -20,7 +20,7 @@ fn first_blank(line: &[u8]) -> usize
     i
 }
 
-// The call that the first word of a line names.
+// The call that the first word of a line names, where something stands behind it.
 enum Asked {
     Load,
     Search,
@@ -56,11 +56,14 @@ fn check_files(names: &[u8]) {
     calls::check(&names[..end], &names[from..]);
 }
 
-// Makes the call that a line asks for, and answers it.
+// Makes the call that a line asks for, and answers it. A reduction is asked for by its word alone.
 pub fn answer(session: Session, line: &[u8]) -> Session
     requires { ⌜ Sound session ⌝ }
     ensures { λ r. ⌜ Sound r ⌝ }
 {
+    if check::same(line, b"reduce") {
+        return calls::reduce(session);
+    }
     let end = first_blank(line);
     if end == line.len() {
         say(Answer::NoCall);

@@ -9,12 +9,13 @@ use Rattle.right.specs.CheckOwed.{CheckOwed, check-owed}
 use Rattle.answers.specs.Said.{write-said}
 use Rattle.session.specs.CodeSession.{view, Sound}
 use Rattle.session.specs.Laws.CodeSequence.{Calling, Tied, DemandsOf, tied-demands}
-use Rattle.session.proofs.Contracts.{calling-by, loads-by, searches-by, writes-by}
+use Rattle.session.proofs.Contracts.{calling-by, loads-by, reduces-by, searches-by, writes-by}
 use Rattle.porvuund.specs.SearchNumbers.{Numbers, numbers-said, numbers-searched}
 use Rattle.porvuund.specs.Laws.TaskOwed.{TaskOwed, task-owed}
 use Rattle.judging.specs.BookSays.{answer-of}
 use Rattle.porvuund.proofs.sessions.porvuund_fresh.Reads as fresh-reads
 use Rattle.porvuund.proofs.sessions.porvuund_load.Reads as load-reads
+use Rattle.porvuund.proofs.sessions.porvuund_reduce.Reads as reduce-reads
 use Rattle.porvuund.proofs.sessions.porvuund_search.Kinds as search-kinds
 use Rattle.porvuund.proofs.sessions.porvuund_search.Reads as search-reads
 use Rattle.porvuund.proofs.sessions.porvuund_write.Reads as write-reads
@@ -29,6 +30,7 @@ use Rattle.porvuund.proofs.calls.porvuund_check.Reads as check-reads
 abbrev pub exported : Calling
 exported =
     calling-by fresh-reads.Pre fresh-reads.Post (loads-by load-reads.Pre load-reads.Post)
+    (reduces-by reduce-reads.Pre reduce-reads.Post)
     (searches-by search-kinds.r search-reads.Pre search-reads.Post (λ l r. (numbers-said (r .answer), r .session)))
     (writes-by write-reads.Pre write-reads.Post)
 
@@ -38,6 +40,8 @@ exported-tied =
     record {
       begins = λ b. b .1 tt;
       loads = λ m. m .1;
+      reduces = λ m sound. let e = m .1 sound in (e .0, (e .1 .0, e .1 .1 .0));
+      stays = λ m sound. m .1 sound .1 .1 .1;
       searches = λ m sound. let e = m .1 sound in (numbers-searched (e .0), e .1);
       writes = λ m sound. (m .1 sound, (sound, λ n. refl));
     }

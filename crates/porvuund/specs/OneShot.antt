@@ -1,5 +1,5 @@
--- A whole task in one call: a sheet is loaded into a fresh session, searched once within a budget, and its book is
--- written. The answer is that of the first of these calls that refuses, and else that of the writing. Assumes
+-- A whole task in one call: a sheet is loaded into a fresh session, reduced, searched once within a budget, and its
+-- book is written. The answer is that of the first of these calls that refuses, and else that of the writing. Assumes
 -- nothing.
 use Prim.Native.Nat.{ℕ}
 use mathlib.Core.Path.{_≡_, refl, ap, _∙_}
@@ -9,13 +9,13 @@ use borrow.Author.Tests.{eq-eqb, ne-eqb}
 use Rattle.spec.specs.Text.{Bytes}
 use Rattle.spec.specs.Session.{Session, fresh}
 use Rattle.spec.specs.Refusal.{refusal, accepted}
-use Rattle.spec.specs.Calls.{LoadAnswer, SearchAnswer, after-load, after-search, WriteAnswer, write-refused}
-use Rattle.spec.specs.Calls.{write-answer, buffer-after, Loads, Searches, Writes}
+use Rattle.spec.specs.Calls.{LoadAnswer, ReduceAnswer, SearchAnswer, after-load, after-reduce, after-search}
+use Rattle.spec.specs.Calls.{WriteAnswer, write-refused, write-answer, buffer-after, Loads, Reduces, Searches, Writes}
 use Rattle.demands.specs.Demand1.{load-number-is-refusal}
 
--- the session after the load and the search
+-- the session after the load, the reduction and the search
 abbrev pub searched-once : Bytes → ℕ → Session
-searched-once text budget = after-search (after-load fresh text) budget
+searched-once text budget = after-search (after-reduce (after-load fresh text)) budget
 
 -- the answer: a refused load's number, or what the writing answers
 unfoldable pub book-answer : Bytes → ℕ → Bytes → WriteAnswer
@@ -44,19 +44,19 @@ refused-by-load text budget buffer number e refuses =
     let f = ne-eqb (refusal text) 0 (λ z. refuses (e ∙ z)) in
     record { answers = rw f (ap write-refused e); fills = rw f refl }
 
--- an accepted one, then a search and a writing
+-- an accepted one, then a reduction, a search and a writing
 pub written-after : (text : Bytes) (budget : ℕ) (buffer : Bytes) → refusal text ≡ 0
-    → {start loaded searched after : Session} {load : LoadAnswer} {search : SearchAnswer} {answer : WriteAnswer}
-    {lent : Bytes}
-    → start ≡ fresh → Loads start text load loaded → Searches loaded budget search searched → Writes searched buffer
-    answer lent after
+    → {start loaded reduced searched after : Session} {load : LoadAnswer} {reduce : ReduceAnswer}
+    {search : SearchAnswer} {answer : WriteAnswer} {lent : Bytes}
+    → start ≡ fresh → Loads start text load loaded → Reduces loaded reduce reduced
+    → Searches reduced budget search searched → Writes searched buffer answer lent after
     → Books text budget buffer answer lent
 unfolding book-answer book-buffer
-written-after text budget buffer accepts {searched = searched} start loads searches writes =
+written-after text budget buffer accepts {loaded = loaded} {searched = searched} start loads reduces searches writes =
     let e = eq-eqb (refusal text) 0 accepts in
+    let read : loaded ≡ after-load fresh text = loads .leaves ∙ ap (λ (s : Session). after-load s text) start in
     let same : searched ≡ searched-once text budget =
-    searches .leaves ∙ ap (λ (s : Session). after-search s budget) (loads .leaves
-    ∙ ap (λ (s : Session). after-load s text) start) in
+    searches .leaves ∙ ap (λ (s : Session). after-search s budget) (reduces .leaves ∙ ap after-reduce read) in
     record {
       answers = rw e (writes .answers ∙ ap (λ (s : Session). write-answer s buffer) same);
       fills = rw e (writes .fills ∙ ap (λ (s : Session). buffer-after s buffer) same);

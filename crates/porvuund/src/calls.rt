@@ -1,5 +1,6 @@
 // A whole task in one call over bytes, as other languages link it.
 use crate::sessions::porvuund_load;
+use crate::sessions::porvuund_reduce;
 use crate::sessions::porvuund_write;
 use answers::WriteAnswer;
 use judging::Checked;
@@ -21,7 +22,9 @@ pub extern "C" fn porvuund_book(sheet: &[u8], budget: u32, out: &mut [u8]) -> Wr
     if number != 0 {
         return WriteAnswer { number, count: 0 };
     }
-    let session = loaded.session;
+    let read = loaded.session;
+    let reduced = porvuund_reduce(read);
+    let session = reduced.session;
     let searched = session.search(budget);
     let found = searched.session;
     porvuund_write(found, out)

@@ -9,5 +9,6 @@ pub use sessions::SearchNumbers;
 pub use sessions::SearchedNumbers;
 pub use sessions::porvuund_fresh;
 pub use sessions::porvuund_load;
+pub use sessions::porvuund_reduce;
 pub use sessions::porvuund_search;
 pub use sessions::porvuund_write;

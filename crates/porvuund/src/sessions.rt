@@ -4,13 +4,16 @@
 use answers::Named;
 use answers::WriteAnswer;
 use session::Loaded;
+use session::Reduced;
 use session::Session;
 use standing::Standing;
 ghost use mathlib.Core.Path.{_≡_};
 ghost use mathlib.Core.Logic.{_≢_};
+ghost use mathlib.Core.Bool.{false};
 ghost use Rattle.spec.specs.Session.{fresh};
-ghost use Rattle.spec.specs.Calls.{Loads, Writes};
-ghost use Rattle.answers.specs.Said.{load-said, write-said, state-said};
+ghost use Rattle.spec.specs.Refusal.{not-reduced};
+ghost use Rattle.spec.specs.Calls.{Loads, Reduces, Writes};
+ghost use Rattle.answers.specs.Said.{load-said, reduce-said, write-said, state-said};
 ghost use Rattle.session.specs.CodeSession.{view, Sound};
 ghost use Rattle.porvuund.specs.SearchNumbers.{state-number, SearchesAs};
 
@@ -61,6 +64,17 @@ pub extern "C" fn porvuund_load(session: Session, sheet: &[u8]) -> Loaded
     ensures { λ r. ⌜ (r .answer .number ≢ 0 → r .session ≡ session) ⌝ }
 {
     session.load(sheet)
+}
+
+#[no_mangle]
+pub extern "C" fn porvuund_reduce(session: Session) -> Reduced
+    requires { ⌜ Sound session ⌝ }
+    ensures { λ r. ⌜ Reduces (view session) (reduce-said (r .answer)) (view (r .session)) ⌝ }
+    ensures { λ r. ⌜ Sound (r .session) ⌝ }
+    ensures { λ r. ⌜ (r .answer .number ≢ 0 → r .session ≡ session) ⌝ }
+    ensures { λ r. ⌜ (not-reduced (view session) ≡ false → r .session ≡ session) ⌝ }
+{
+    session.reduce()
 }
 
 #[no_mangle]

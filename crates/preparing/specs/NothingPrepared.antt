@@ -1,8 +1,7 @@
--- The parts of a session without a sheet: no names, no cells, no removals, and 0 in every place. Assumes nothing.
+-- The parts of a session whose sheet is not reduced: no removals, no kernel, and 0 in every place. Assumes nothing.
 use Prim.Native.Nat.{_*_}
 use lib.ListN.{replicate}
 use Rattle.spec.specs.Limits.{grant-limit}
-use Rattle.sheet.specs.OnlyNames.{no-layout}
 use Rattle.cell_rows.specs.CellPlaces.{cell-words}
 use Rattle.table.specs.TableWords.{table-row, table-limit}
 use Rattle.preparing.specs.declared.prepared.Prepared.{Prepared}
@@ -11,8 +10,6 @@ use Rattle.preparing.specs.declared.prepared.Prepared.{Prepared}
 abbrev pub nothing-prepared : Prepared
 nothing-prepared =
     record {
-      layout = no-layout;
-      rows = replicate cell-words 0;
       reduced = record {
         left = replicate cell-words 0;
         removed = replicate grant-limit 0;

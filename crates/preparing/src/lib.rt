@@ -1,5 +1,5 @@
-// What a load finds of an accepted sheet and a session keeps: where the names stand, the cells, the reduction, the
-// kernel, the witness, the first cover and the fit table.
+// What a reduction finds of a sheet and a session keeps: what was removed, the kernel, the witness, the first cover and
+// the fit table.
 mod prepared;
 
 pub use prepared::Prepared;

@@ -21,7 +21,7 @@ use Rattle.spec.specs.Refusal.{witness-agrees, book-causes, check-causes}
 use Rattle.spec.specs.Calls.{CheckAnswer, check-refused, check-counts, check}
 use Rattle.bits.specs.Truth.{fails-unless, or-left, or-right, not-passes}
 use Rattle.bits.specs.Laws.Below.{every-below-ext}
-use Rattle.rules.specs.CauseLaws.{NoneApplies, zero-none-applies, sheet-causes-rise}
+use Rattle.rules.specs.CauseLaws.{NoneApplies, zero-none-applies, sheet-causes-positive}
 use Rattle.rules.specs.Accepted.{accepted-keeps}
 use Rattle.right.specs.NameLaws.{GoodSheet}
 use Rattle.right.specs.WrittenLines.{Sayable}
@@ -69,8 +69,8 @@ pub judged-by-book : (text book : Bytes) → refusal text ≡ 0
     → check text book ≡ answered (first-number (book-causes (sheet-of text) book)) (said (sheet-of text) book)
 unfolding check check-causes refusal
 judged-by-book text book e =
-    rw (second-of-both (sheet-causes text) (book-causes (sheet-of text) book) (zero-none-applies 0 (sheet-causes text)
-    (sheet-causes-rise text) e))
+    rw (second-of-both (sheet-causes text) (book-causes (sheet-of text) book) (zero-none-applies (sheet-causes text)
+    (sheet-causes-positive text) e))
 
 -- ---- 12
 

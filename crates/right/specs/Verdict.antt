@@ -16,7 +16,8 @@ use Rattle.spec.specs.Refusal.{Cause, first-number, sheet-causes, refusal, coun
 use Rattle.spec.specs.Refusal.{witness-agrees, book-causes, check-causes}
 use Rattle.spec.specs.Calls.{CheckAnswer, check-refused, check-counts, check}
 use Rattle.bits.specs.Truth.{or-fails, or-fails-left, or-fails-right}
-use Rattle.rules.specs.CauseLaws.{rising, NoneApplies, zero-none-applies, none-applies-zero, sheet-causes-rise}
+use Rattle.rules.specs.CauseLaws.{positive, rising, rising-positive, NoneApplies, zero-none-applies}
+use Rattle.rules.specs.CauseLaws.{none-applies-zero, sheet-causes-positive}
 
 -- all tests of a book pass
 pub record Passes (sheet : Sheet) (text : Bytes) : Type 0 where
@@ -67,6 +68,9 @@ pub check-causes-rise : (text book : Bytes) → So (rising 0 (check-causes text 
 unfolding check-causes sheet-causes book-causes
 check-causes-rise text book = refl
 
+pub check-causes-positive : (text book : Bytes) → So (positive (check-causes text book))
+check-causes-positive text book = rising-positive 0 (check-causes text book) (check-causes-rise text book)
+
 -- the answer of a number: the counts, where it is 0, else the number alone
 answered : ℕ → Said → CheckAnswer
 answered number book = cond (eqb number 0) (check-counts book) (check-refused number)
@@ -98,7 +102,7 @@ pub record Unrefused (text book : Bytes) : Type 0 where
 pub zero-unrefused : (text book : Bytes) → check text book .number ≡ 0 → Unrefused text book
 unfolding check-causes refusal
 zero-unrefused text book e =
-    let none = zero-none-applies 0 (check-causes text book) (check-causes-rise text book)
+    let none = zero-none-applies (check-causes text book) (check-causes-positive text book)
     (sym (check-number text book) ∙ e) in
     record {
       sheet-stands = none-applies-zero (sheet-causes text) (none-applies-left (sheet-causes text)
@@ -113,5 +117,5 @@ unrefused-zero text book u =
     check-number text book
     ∙ none-applies-zero (check-causes text book)
     (none-applies-both (sheet-causes text) (book-causes (sheet-of text) book)
-    (zero-none-applies 0 (sheet-causes text) (sheet-causes-rise text) (u .sheet-stands))
+    (zero-none-applies (sheet-causes text) (sheet-causes-positive text) (u .sheet-stands))
     (passes-none-applies (sheet-of text) book (u .book-passes)))

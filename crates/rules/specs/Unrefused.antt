@@ -8,7 +8,7 @@ use Rattle.spec.specs.Limits.{sheet-limit, grant-limit}
 use Rattle.spec.specs.Text.{Bytes, lines-of}
 use Rattle.spec.specs.Sheet.{sheet-of, grants}
 use Rattle.spec.specs.Refusal.{sheet-causes, refusal, accepted}
-use Rattle.rules.specs.CauseLaws.{NoneApplies, zero-none-applies, none-applies-zero, sheet-causes-rise}
+use Rattle.rules.specs.CauseLaws.{NoneApplies, zero-none-applies, none-applies-zero, sheet-causes-positive}
 use Rattle.rules.specs.ByteCauses.{short-enough, GoodBytes, good-bytes}
 use Rattle.rules.specs.LineCauses.{GoodFirstLine, good-first-line, GoodLineCount, good-line-count, EvenLines}
 use Rattle.rules.specs.LineCauses.{even-lines, BitLines, bit-lines}
@@ -70,7 +70,7 @@ unrefused-none-applies text u = (
 pub accepted-unrefused : (text : Bytes) → So (accepted text) → Unrefused text
 unfolding refusal
 accepted-unrefused text p =
-    none-applies-unrefused text (zero-none-applies 0 (sheet-causes text) (sheet-causes-rise text)
+    none-applies-unrefused text (zero-none-applies (sheet-causes text) (sheet-causes-positive text)
     (eqb-true (refusal text) 0 p))
 
 -- and back

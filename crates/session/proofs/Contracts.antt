@@ -7,24 +7,26 @@ use borrow.Fn.Kinds.{RK, In, Out, resT}
 use contract.Lifetimes.{Lfts}
 use denote.Ref.{now}
 use Rattle.spec.specs.Text.{Bytes}
-use Rattle.spec.specs.Calls.{LoadAnswer, SearchAnswer}
+use Rattle.spec.specs.Calls.{LoadAnswer, ReduceAnswer, SearchAnswer}
 use Rattle.spec.specs.Sequence.{WriteOutcome}
 use Rattle.checker.specs.Laws.CodeCall.{CodeCall, Kept}
-use Rattle.answers.specs.Said.{load-said, search-said, write-said}
+use Rattle.answers.specs.Said.{load-said, reduce-said, search-said, write-said}
 use Rattle.session.specs.Laws.CodeSequence.{Way, Calling, Tied, DemandsOf, tied-demands}
 use Rattle.session.specs.declared.Session.{Session as CodeSession}
 use Rattle.session.proofs.Session.fresh.Kinds as fresh-kinds
 use Rattle.session.proofs.Session.fresh.Reads as fresh-reads
 use Rattle.session.proofs.Session.load.Kinds as load-kinds
 use Rattle.session.proofs.Session.load.Reads as load-reads
+use Rattle.session.proofs.Session.reduce.Kinds as reduce-kinds
+use Rattle.session.proofs.Session.reduce.Reads as reduce-reads
 use Rattle.session.proofs.Session.search.Kinds as search-kinds
 use Rattle.session.proofs.Session.search.Reads as search-reads
 use Rattle.session.proofs.Session.write.Kinds as write-kinds
 use Rattle.session.proofs.Session.write.Reads as write-reads
 
--- calls with the parameters that the session's have, whatever their contract: a load leads to the value that it hands
--- back, a writing leaves the value that it was made on. A search may give back what it answers in another form: how
--- that is read is said with it
+-- calls with the parameters that the session's have, whatever their contract: a load and a reduction lead to the value
+-- that they hand back, a writing leaves the value that it was made on. A search may give back what it answers in
+-- another form: how that is read is said with it
 abbrev pub loads-by : In 1 load-kinds.ps → Out 1 load-kinds.ps load-kinds.r → Way Bytes LoadAnswer
 loads-by requires ensures =
     record {
@@ -32,6 +34,16 @@ loads-by requires ensures =
       on = λ m. m .0 .args .0;
       given = λ m. now (m .0 .args .1 .0);
       gave = λ m. load-said (m .0 .result .answer);
+      led = λ m. m .0 .result .session;
+    }
+
+abbrev pub reduces-by : In 0 reduce-kinds.ps → Out 0 reduce-kinds.ps reduce-kinds.r → Way (Unit {0}) ReduceAnswer
+reduces-by requires ensures =
+    record {
+      Made = (call : CodeCall 0 reduce-kinds.ps reduce-kinds.r) × Kept requires ensures call;
+      on = λ m. m .0 .args .0;
+      given = λ m. tt;
+      gave = λ m. reduce-said (m .0 .result .answer);
       led = λ m. m .0 .result .session;
     }
 
@@ -57,12 +69,13 @@ writes-by requires ensures =
     }
 
 abbrev pub calling-by : In 0 fresh-kinds.ps → Out 0 fresh-kinds.ps fresh-kinds.r → Way Bytes LoadAnswer
-    → Way ℕ SearchAnswer → Way Bytes WriteOutcome → Calling
-calling-by requires ensures loads searches writes =
+    → Way (Unit {0}) ReduceAnswer → Way ℕ SearchAnswer → Way Bytes WriteOutcome → Calling
+calling-by requires ensures loads reduces searches writes =
     record {
       Begun = (call : CodeCall 0 fresh-kinds.ps fresh-kinds.r) × Kept requires ensures call;
       begun = λ b. b .0 .result;
       loads = loads;
+      reduces = reduces;
       searches = searches;
       writes = writes;
     }
@@ -71,6 +84,7 @@ calling-by requires ensures loads searches writes =
 abbrev pub calling : Calling
 calling =
     calling-by fresh-reads.Pre fresh-reads.Post (loads-by load-reads.Pre load-reads.Post)
+    (reduces-by reduce-reads.Pre reduce-reads.Post)
     (searches-by search-kinds.r search-reads.Pre search-reads.Post (λ l r. (search-said (r .answer), r .session)))
     (writes-by write-reads.Pre write-reads.Post)
 
@@ -80,11 +94,14 @@ contracts-tied =
     record {
       begins = λ b. b .1 tt;
       loads = λ m. m .1;
+      reduces = λ m sound. let e = m .1 sound in (e .0, (e .1 .0, e .1 .1 .0));
+      stays = λ m sound. m .1 sound .1 .1 .1;
       searches = λ m. m .1;
       writes = λ m sound. (m .1 sound, (sound, λ n. refl));
     }
 
--- the demands hold of every run of the code: demand 1 of every call on any value that the calls led to, demand 2 of
--- every load and every writing, demand 3 of the whole sequence
+-- the demands hold of every run of the code: demand 1 of every call on any value that the calls led to, also as
+-- document 01 has it, demand 2 of every load and every writing, demand 3 of the whole sequence; and so does what a
+-- reduction hands back, and what a value keeps whose sheet is not reduced
 pub demands-of-the-code : DemandsOf calling
 demands-of-the-code = tied-demands contracts-tied

@@ -1,21 +1,26 @@
--- What a session of the code stands for, and what its values keep from call to call: the parts kept beside the
--- sheet's bytes are what follows from them, and the position is one that searches of the sheet come to. Assumes
--- nothing.
+-- What a session of the code stands for, and what its values keep from call to call: what is kept beside the sheet's
+-- bytes follows from them, the position is one that searches of the sheet come to, and while the sheet is not reduced
+-- nothing is kept that only a reduction finds. Assumes nothing.
 use Prim.Native.Nat.{ℕ, _≤_}
 use mathlib.Core.Path.{_≡_}
-use mathlib.Core.Bool.{So, cond}
+use mathlib.Core.Bool.{So, false, cond}
 use lib.Dec.{leb}
-use lib.ListN.{length, take}
+use lib.ListN.{length, take, replicate}
 use Rattle.spec.specs.Limits.{search-limit}
 use Rattle.spec.specs.Text.{Bytes}
 use Rattle.spec.specs.Sheet.{sheet-of}
 use Rattle.spec.specs.Machine.{State, best-count}
 use Rattle.spec.specs.Roles.{start-of}
-use Rattle.spec.specs.Session.{Session, no-sheet, loaded}
-use Rattle.search.specs.View.{PositionStands}
+use Rattle.spec.specs.Session.{Session, no-sheet, read, reduced}
+use Rattle.spec.specs.Calls.{ReduceAnswer}
+use Rattle.cells.specs.RowsRead.{RowsRead}
+use Rattle.names.specs.LaidOut.{LaidOut}
+use Rattle.search.specs.View.{started, PositionStands}
 use Rattle.search.specs.View as position
+use Rattle.search.specs.declared.machine.Position.{Position}
 use Rattle.minimality.specs.StateBound.{Searching}
 use Rattle.preparing.specs.Prepared.{PreparedFor}
+use Rattle.preparing.specs.NothingPrepared.{nothing-prepared}
 use Rattle.session.specs.declared.Session.{Session as CodeSession}
 
 -- the bytes of the sheet
@@ -33,17 +38,39 @@ state-in s =
 
 -- the session that it stands for
 abbrev pub view : CodeSession → Session
-view s = cond (s .loaded) (loaded (text-in s) (state-in s)) no-sheet
+view s = cond (s .loaded) (cond (s .reduced) (reduced (text-in s) (state-in s)) (read (text-in s))) no-sheet
+
+-- what a reduction answers from the counts that were found
+abbrev pub sizes-said : CodeSession → ReduceAnswer
+sizes-said s = record { number = 0; kernel = size-in s; witness = s .prepared .witness .count }
 
 -- a session with an accepted sheet
-pub record Holds (s : CodeSession) : Type 0 where
+pub record HoldsSheet (s : CodeSession) : Type 0 where
   pub whole : s .length ≤ length (s .text)
-  pub prepared : PreparedFor (text-in s) (s .prepared)
+  pub laid : LaidOut (text-in s) (s .layout)
+  pub cells : RowsRead (s .rows) (sheet-of (text-in s))
+
+-- a session with an accepted sheet that is reduced
+pub record Holds (s : CodeSession) : Type 0 where
+  pub accepts : So (s .loaded)
+  pub sheet : HoldsSheet s
+  pub prepared : PreparedFor (sheet-of (text-in s)) (s .rows) (s .layout .users) (s .prepared)
   pub stands : size-in s ≤ search-limit → PositionStands (size-in s) (s .position)
   pub searching : Searching (sheet-of (text-in s)) (state-in s)
   pub counted : s .position .cursor .count ≡ best-count (state-in s)
   pub finished : s .position .cursor .finished ≡ state-in s .finished
 
--- what every session that came from the calls keeps: with no sheet nothing, with one all of this
+-- where the search stands while no sheet is reduced
+abbrev pub no-position : Position
+no-position = started (replicate search-limit 0) 0 (record { kernel = 0; singles = 0; witness = 0 })
+
+-- nothing is kept that only a reduction finds
+pub record NothingFound (s : CodeSession) : Type 0 where
+  pub prepared : s .prepared ≡ nothing-prepared
+  pub position : s .position ≡ no-position
+
+-- what every session that came from the calls keeps
 pub record Sound (s : CodeSession) : Type 0 where
-  pub held : So (s .loaded) → Holds s
+  pub sheet : So (s .loaded) → HoldsSheet s
+  pub held : So (s .reduced) → Holds s
+  pub unreduced : s .reduced ≡ false → NothingFound s

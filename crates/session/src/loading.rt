@@ -2,6 +2,8 @@
 use crate::Session;
 use answers::LoadAnswer;
 use moves::Sizes;
+use names::Layout;
+use numbers::CELL_WORDS;
 use numbers::KERNEL_LIMIT;
 use numbers::SHEET_LIMIT;
 use preparing::Prepared;
@@ -11,7 +13,7 @@ ghost use mathlib.Core.Logic.{_≢_};
 ghost use Rattle.spec.specs.Session.{fresh};
 ghost use Rattle.spec.specs.Calls.{Loads};
 ghost use Rattle.answers.specs.Said.{load-said};
-ghost use Rattle.session.specs.CodeSession.{view, Sound};
+ghost use Rattle.session.specs.CodeSession.{no-position, view, Sound};
 
 // The session after a load, and what the load answers.
 #[repr(C)]
@@ -20,29 +22,37 @@ pub struct Loaded {
     pub answer: LoadAnswer,
 }
 
+// Where the search stands while no sheet is reduced: no grant, no class.
+fn no_position() -> Position
+    ensures { λ r. ⌜ r ≡ no-position ⌝ }
+{
+    let sizes = Sizes {
+        kernel: 0,
+        singles: 0,
+        witness: 0,
+    };
+    Position::start([0u8; KERNEL_LIMIT], 0, sizes)
+}
+
 impl Session {
     // A session with no accepted sheet.
     pub fn fresh() -> Session
         ensures { λ r. ⌜ view r ≡ fresh ⌝ }
         ensures { λ r. ⌜ Sound r ⌝ }
     {
-        let prepared = Prepared::none();
-        let sizes = Sizes {
-            kernel: 0,
-            singles: 0,
-            witness: 0,
-        };
-        let position = Position::start([0u8; KERNEL_LIMIT], 0, sizes);
         Session {
             loaded: false,
+            reduced: false,
             length: 0,
             text: [0; SHEET_LIMIT],
-            prepared,
-            position,
+            layout: Layout::none(),
+            rows: [0; CELL_WORDS],
+            position: no_position(),
+            prepared: Prepared::none(),
         }
     }
 
-    // Takes in a sheet and starts anew, or refuses it and leaves the session as it was.
+    // Takes in a sheet and leaves it not reduced, or refuses it and leaves the session as it was.
     pub fn load(self, s: &[u8]) -> Loaded
         requires { ⌜ Sound self ⌝ }
         ensures { λ r. ⌜ Loads (view self) (now (s .entry)) (load-said (r .answer)) (view (r .session)) ⌝ }
@@ -60,28 +70,21 @@ impl Session {
         let text = kept::copied(s);
         let layout = found.layout;
         let rows = found.rows;
-        let prepared = preparing::prepare(layout, rows);
-        let first = kept::first_classes(&prepared.first.classes);
-        let sizes = Sizes {
-            kernel: prepared.kernel.size,
-            singles: prepared.reduced.singles,
-            witness: prepared.witness.count,
-        };
-        let position = Position::start(first, prepared.first.used, sizes);
         let answer = LoadAnswer {
             number: 0,
-            users: prepared.layout.users,
-            permissions: prepared.layout.permissions,
-            grants: prepared.layout.grants,
-            kernel: prepared.kernel.size,
-            witness: prepared.witness.count,
+            users: layout.users,
+            permissions: layout.permissions,
+            grants: layout.grants,
         };
         let session = Session {
             loaded: true,
+            reduced: false,
             length: s.len(),
             text,
-            prepared,
-            position,
+            layout,
+            rows,
+            position: no_position(),
+            prepared: Prepared::none(),
         };
         Loaded { session, answer }
     }

@@ -1,5 +1,6 @@
 // Searches: the session's own position moved forward within a budget.
 use crate::Session;
+use crate::readiness::unready;
 use answers::SearchAnswer;
 use moves::Sizes;
 ghost use mathlib.Core.Path.{_≡_};
@@ -16,17 +17,19 @@ pub struct Searched {
 
 impl Session {
     // Moves the session's own position forward by as many steps as the budget, or by those left until finished if
-    // fewer; with a kernel too great to be searched by none. Refused without an accepted sheet.
+    // fewer; with a kernel too great to be searched by none. Refused without an accepted sheet, and while the sheet is
+    // not reduced.
     pub fn search(mut self, budget: u32) -> Searched
         requires { ⌜ Sound self ⌝ }
         ensures { λ r. ⌜ Searches (view self) budget (search-said (r .answer)) (view (r .session)) ⌝ }
         ensures { λ r. ⌜ Sound (r .session) ⌝ }
         ensures { λ r. ⌜ (r .answer .number ≢ 0 → r .session ≡ self) ⌝ }
     {
-        if !self.loaded {
+        let number = unready(self.loaded, self.reduced);
+        if number != 0 {
             return Searched {
                 session: self,
-                answer: SearchAnswer::refused(10),
+                answer: SearchAnswer::refused(number),
             };
         }
         let from = self.position;

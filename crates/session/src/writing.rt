@@ -1,6 +1,7 @@
 // Writings: the book of the sheet where the search stands, into a lent buffer. A writing changes no session, so none
 // is handed back.
 use crate::Session;
+use crate::readiness::unready;
 use answers::WriteAnswer;
 ghost use Rattle.spec.specs.Calls.{Writes};
 ghost use Rattle.answers.specs.Said.{write-said};
@@ -13,8 +14,9 @@ impl Session {
         requires { ⌜ Sound self ⌝ }
         ensures { λ r. ⌜ Writes (view self) (now (out .entry)) (write-said r) (now (out .exit)) (view self) ⌝ }
     {
-        if !self.loaded {
-            return WriteAnswer::refused(10);
+        let number = unready(self.loaded, self.reduced);
+        if number != 0 {
+            return WriteAnswer::refused(number);
         }
         let size = self.prepared.kernel.size;
         let removals = self.prepared.reduced.count;
@@ -23,8 +25,8 @@ impl Session {
         let removed: &[u16] = &self.prepared.reduced.removed;
         let partner: &[u16] = &self.prepared.reduced.partner;
         let matrices = roles::roles_of(
-            &self.prepared.rows,
-            self.prepared.layout.users,
+            &self.rows,
+            self.layout.users,
             &kernel[..size],
             best,
             self.position.cursor.count,
@@ -37,7 +39,7 @@ impl Session {
             self.prepared.witness.count,
             self.position.cursor.finished,
         );
-        let layout = self.prepared.layout;
+        let layout = self.layout;
         let text: &[u8] = &self.text;
         let writing = book::write_if_room(
             out,

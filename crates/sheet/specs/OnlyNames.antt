@@ -4,8 +4,9 @@ use Prim.Native.Nat.{ℕ, _*_}
 use lib.ListN.{replicate}
 use Rattle.spec.specs.Limits.{user-limit}
 use Rattle.cell_rows.specs.Rows.{row-words}
-use Rattle.places.specs.Places.{BlankPast, no-places}
+use Rattle.places.specs.Places.{BlankPast}
 use Rattle.sheet.specs.FirstLine.{Run}
+use Rattle.names.specs.NoLayout.{no-layout}
 use Rattle.names.specs.declared.layout.Layout.{Layout}
 use Rattle.sheet.specs.declared.reading.SheetRead.{SheetRead}
 
@@ -14,11 +15,6 @@ pub record OnlyNames (layout : Layout) : Type 0 where
   pub users-end : BlankPast (layout .users) (layout .«user_places» .at)
   pub permissions-end : BlankPast (layout .permissions) (layout .«permission_places» .at)
   pub permissions-run : Run (layout .«permission_places» .at) (layout .permissions)
-
--- the layout of nothing
-abbrev pub no-layout : Layout
-no-layout =
-    record { users = 0; permissions = 0; grants = 0; «user_places» = no-places; «permission_places» = no-places }
 
 -- what a sheet is read as that is refused for a number: no layout and no cell
 abbrev pub refused-as : ℕ → SheetRead

@@ -28,17 +28,9 @@ impl SheetRead {
     fn refused(number: usize) -> Self
         ensures { λ r. ⌜ r ≡ refused-as number ⌝ }
     {
-        let places = Places::none();
-        let layout = Layout {
-            users: 0,
-            permissions: 0,
-            grants: 0,
-            user_places: places,
-            permission_places: places,
-        };
         Self {
             number,
-            layout,
+            layout: Layout::none(),
             rows: [0; CELL_WORDS],
         }
     }

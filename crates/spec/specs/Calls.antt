@@ -8,20 +8,19 @@ use Rattle.spec.specs.Machine.{State, Ran, search}
 use Rattle.spec.specs.Roles.{Standing, kernel-of, start-of, role-count, standing, bound}
 use Rattle.spec.specs.Book.{Said}
 use Rattle.spec.specs.Form.{said}
-use Rattle.spec.specs.Session.{Session, no-sheet, loaded, session-book}
-use Rattle.spec.specs.Refusal.{first-number, refusal, accepted, search-causes, write-causes, check-causes}
+use Rattle.spec.specs.Session.{Session, no-sheet, read, reduced, session-book}
+use Rattle.spec.specs.Refusal.{first-number, refusal, accepted, reduce-causes, search-causes, write-causes}
+use Rattle.spec.specs.Refusal.{check-causes}
 
--- an accepted load answers users, permissions, grants, k and w; a refusal the number, and counts 0
+-- an accepted load answers users, permissions and grants; a refusal the number, and counts 0
 pub record LoadAnswer : Type 0 where
   pub number : ℕ
   pub users : ℕ
   pub permissions : ℕ
   pub grants : ℕ
-  pub kernel : ℕ
-  pub witness : ℕ
 
 abbrev pub load-refused : ℕ → LoadAnswer
-load-refused number = record { number = number; users = 0; permissions = 0; grants = 0; kernel = 0; witness = 0 }
+load-refused number = record { number = number; users = 0; permissions = 0; grants = 0 }
 
 abbrev pub load-counts : Sheet → LoadAnswer
 load-counts sheet =
@@ -30,8 +29,6 @@ load-counts sheet =
       users = user-count sheet;
       permissions = permission-count sheet;
       grants = length (grants sheet);
-      kernel = kernel-size sheet;
-      witness = witness-size sheet;
     }
 
 unfoldable pub load-answer : Bytes → LoadAnswer
@@ -39,11 +36,33 @@ load-answer text =
     let counts : LoadAnswer = load-counts (sheet-of text) in
     cond (accepted text) counts (load-refused (refusal text))
 
--- an accepted load starts anew; a refused one leaves the session as it was
+-- an accepted load leaves its sheet not reduced; a refused one leaves the session as it was
 unfoldable pub after-load : Session → Bytes → Session
-after-load session text =
-    let anew : Session = loaded text (start-of (sheet-of text)) in
-    cond (accepted text) anew session
+after-load session text = cond (accepted text) (read text) session
+
+-- a reduction answers k and w; a refusal the number, and counts 0
+pub record ReduceAnswer : Type 0 where
+  pub number : ℕ
+  pub kernel : ℕ
+  pub witness : ℕ
+
+abbrev pub reduce-refused : ℕ → ReduceAnswer
+reduce-refused number = record { number = number; kernel = 0; witness = 0 }
+
+abbrev pub reduce-counts : Sheet → ReduceAnswer
+reduce-counts sheet = record { number = 0; kernel = kernel-size sheet; witness = witness-size sheet }
+
+-- a sheet that is reduced already has the same counts
+unfoldable pub reduce-answer : Session → ReduceAnswer
+reduce-answer no-sheet = reduce-refused (first-number (reduce-causes no-sheet))
+reduce-answer (read text) = reduce-counts (sheet-of text)
+reduce-answer (reduced text st) = reduce-counts (sheet-of text)
+
+-- a sheet is reduced and the machine starts with the first cover; to reduce one that is reduced does nothing
+unfoldable pub after-reduce : Session → Session
+after-reduce no-sheet = no-sheet
+after-reduce (read text) = reduced text (start-of (sheet-of text))
+after-reduce (reduced text st) = reduced text st
 
 -- a search answers its steps, roles, bound and state; a refused one names no state
 pub record SearchAnswer : Type 0 where
@@ -72,11 +91,13 @@ search-found sheet ran =
 
 unfoldable pub search-answer : Session → ℕ → SearchAnswer
 search-answer no-sheet budget = search-refused (first-number (search-causes no-sheet))
-search-answer (loaded text st) budget = search-found (sheet-of text) (searched-on text budget st)
+search-answer (read text) budget = search-refused (first-number (search-causes (read text)))
+search-answer (reduced text st) budget = search-found (sheet-of text) (searched-on text budget st)
 
 unfoldable pub after-search : Session → ℕ → Session
 after-search no-sheet budget = no-sheet
-after-search (loaded text st) budget = loaded text (searched-on text budget st .state)
+after-search (read text) budget = read text
+after-search (reduced text st) budget = reduced text (searched-on text budget st .state)
 
 -- a writing answers its byte count
 pub record WriteAnswer : Type 0 where
@@ -119,6 +140,11 @@ check sheet-bytes book-bytes =
 pub record Loads (before : Session) (text : Bytes) (answer : LoadAnswer) (after : Session) : Type 0 where
   pub answers : answer ≡ load-answer text
   pub leaves : after ≡ after-load before text
+
+-- what a reduction promises
+pub record Reduces (before : Session) (answer : ReduceAnswer) (after : Session) : Type 0 where
+  pub answers : answer ≡ reduce-answer before
+  pub leaves : after ≡ after-reduce before
 
 -- what a search promises
 pub record Searches (before : Session) (budget : ℕ) (answer : SearchAnswer) (after : Session) : Type 0 where

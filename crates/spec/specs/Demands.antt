@@ -1,8 +1,9 @@
 -- The customer's three demands as statements. The limits that they speak of stand here and in `Rules` and `Right` as
--- the paper has them, and not by the names that the tests and the machine use; the refusal numbers stand once, in
--- `Refusal`, 2·(1!+2!+..+k!)+1 in `Sequence`, and what equal names are in `Text`.
-use Rattle.spec.specs.Vocabulary.{ℕ, _+_, _≤_, _≡_, _≢_, _⊎_, _↔_, So, none, some, List, [], _∷_, List·Memᴰ}
-use Rattle.spec.specs.Vocabulary.{length}
+-- the paper has them, and not by the names that the tests and the machine use; so do 10, 16 and 11, which demand 3 owes
+-- by the calls before. The numbers of sheets and books stand once, in `Refusal`, 2·(1!+2!+..+k!)+1 in `Sequence`, and
+-- what equal names are in `Text`.
+use Rattle.spec.specs.Vocabulary.{ℕ, _+_, _≤_, _≡_, _≢_, _⊎_, _↔_, So, false, none, some, List, [], _∷_}
+use Rattle.spec.specs.Vocabulary.{_++_, List·Memᴰ, length}
 use Rattle.spec.specs.Text.{Bytes}
 use Rattle.spec.specs.Sheet.{Sheet, sheet-of}
 use Rattle.spec.specs.Rules.{Keeps}
@@ -12,34 +13,39 @@ use Rattle.spec.specs.Roles.{witnessed, searched, unsettled}
 use Rattle.spec.specs.Book.{Said, book-text}
 use Rattle.spec.specs.Right.{Right}
 use Rattle.spec.specs.Session.{Session}
-use Rattle.spec.specs.Refusal.{Cause, sheet-causes, search-causes, write-causes, check-causes, accepted}
-use Rattle.spec.specs.Calls.{LoadAnswer, load-answer, load-refused, SearchAnswer, search-refused, WriteAnswer}
-use Rattle.spec.specs.Calls.{write-refused, CheckAnswer, check, check-refused, check-counts, Loads, Searches}
-use Rattle.spec.specs.Calls.{Writes, Checks}
-use Rattle.spec.specs.Sequence.{Call, load, search, write, WriteOutcome, Outcome, Happens, Event, Led, calls}
-use Rattle.spec.specs.Sequence.{last-accepted, budgets-given, enough, brought-out}
+use Rattle.spec.specs.Refusal.{Cause, sheet-causes, reduce-causes, not-reduced, search-causes, write-causes}
+use Rattle.spec.specs.Refusal.{check-causes, accepted}
+use Rattle.spec.specs.Calls.{LoadAnswer, load-answer, load-refused, ReduceAnswer, reduce-refused, reduce-counts}
+use Rattle.spec.specs.Calls.{SearchAnswer, search-refused, WriteAnswer, write-refused, CheckAnswer, check}
+use Rattle.spec.specs.Calls.{check-refused, check-counts, Loads, Reduces, Searches, Writes, Checks}
+use Rattle.spec.specs.Sequence.{Call, load, reduce, search, write, WriteOutcome, Outcome, Happens, Event, Led}
+use Rattle.spec.specs.Sequence.{calls, last-accepted, last-reduced, budgets-given, enough, brought-out}
 
--- number is the lowest of the causes that apply, and 0 exactly where none applies
-pub record LowestThatApplies (causes : List Cause) (number : ℕ) : Type 0 where
-  pub none-lower : (cause : Cause) → List·Memᴰ cause causes → So (cause .applies) → (number ≢ 0)
-      × (number ≤ cause .number)
-  pub applies : number ≢ 0 → (cause : Cause) × List·Memᴰ cause causes × So (cause .applies) × (cause .number ≡ number)
+-- number is that of the first of the causes, in their order, that applies, and 0 exactly where none applies
+pub record FirstThatApplies (causes : List Cause) (number : ℕ) : Type 0 where
+  pub none-applies : number ≡ 0 → (cause : Cause) → List·Memᴰ cause causes → cause .applies ≡ false
+  pub first : number ≢ 0 → (passed : List Cause) × (cause : Cause) × (later : List Cause)
+      × (causes ≡ passed ++ cause ∷ later) × ((other : Cause) → List·Memᴰ other passed → other .applies ≡ false)
+      × So (cause .applies) × (cause .number ≡ number)
 
--- what a call owes whose answer has this number: it is the lowest that applies, and a refusal is as it should be
+-- what a call owes whose answer has this number: it is the first that applies, and a refusal is as it should be
 pub record Judged (causes : List Cause) (number : ℕ) (Refused : Type 0) : Type 0 where
-  pub lowest : LowestThatApplies causes number
+  pub first : FirstThatApplies causes number
   pub refused : number ≢ 0 → Refused
 
--- demand 1: every sheet, budget, book and lent buffer, however wrong, gets a result or the lowest refusal number that
--- applies, and a refusal returns that number and counts 0 and leaves the session and every lent byte untouched
+-- demand 1: every sheet, budget, book and lent buffer, however wrong, gets a result or the first refusal number that
+-- applies in the order of checks, and a refusal returns that number and counts 0 and leaves the session and every lent
+-- byte untouched
 pub record Demand1 : Type 0 where
   -- every call gets an answer, on every session
   pub answered : (call : Call) (before : Session) → (outcome : Outcome call) × (after : Session)
       × Happens call outcome before after
   pub checked : (sheet-bytes book-bytes : Bytes) → (answer : CheckAnswer) × Checks sheet-bytes book-bytes answer
-  -- and it is judged by the paper's table
+  -- and it is judged by its causes
   pub loads : (before after : Session) (text : Bytes) (answer : LoadAnswer) → Loads before text answer after
       → Judged (sheet-causes text) (answer .number) ((answer ≡ load-refused (answer .number)) × (after ≡ before))
+  pub reduces : (before after : Session) (answer : ReduceAnswer) → Reduces before answer after
+      → Judged (reduce-causes before) (answer .number) ((answer ≡ reduce-refused (answer .number)) × (after ≡ before))
   pub searches : (before after : Session) (budget : ℕ) (answer : SearchAnswer) → Searches before budget answer after
       → Judged (search-causes before) (answer .number) ((answer ≡ search-refused (answer .number)) × (after ≡ before))
   pub writes : (before after : Session) (buffer lent : Bytes) (answer : WriteAnswer) → Writes before buffer answer
@@ -48,6 +54,26 @@ pub record Demand1 : Type 0 where
       ((answer ≡ write-refused (answer .number)) × (lent ≡ buffer) × (after ≡ before))
   pub checks : (sheet-bytes book-bytes : Bytes) (answer : CheckAnswer) → Checks sheet-bytes book-bytes answer
       → Judged (check-causes sheet-bytes book-bytes) (answer .number) (answer ≡ check-refused (answer .number))
+
+-- number is the lowest of the causes that apply, and 0 exactly where none applies
+pub record LowestThatApplies (causes : List Cause) (number : ℕ) : Type 0 where
+  pub none-lower : (cause : Cause) → List·Memᴰ cause causes → So (cause .applies) → (number ≢ 0)
+      × (number ≤ cause .number)
+  pub applies : number ≢ 0 → (cause : Cause) × List·Memᴰ cause causes × So (cause .applies) × (cause .number ≡ number)
+
+-- demand 1 as document 01 has it: for its calls the first number that applies is the lowest. A writing has 16 before
+-- 11: on a sheet not reduced, with too short a buffer, both apply and 16 is answered; on any other session 16 does not
+-- apply
+pub record FirstIsLowest : Type 0 where
+  pub loads : (before after : Session) (text : Bytes) (answer : LoadAnswer) → Loads before text answer after
+      → LowestThatApplies (sheet-causes text) (answer .number)
+  pub searches : (before after : Session) (budget : ℕ) (answer : SearchAnswer) → Searches before budget answer after
+      → LowestThatApplies (search-causes before) (answer .number)
+  pub writes : (before after : Session) (buffer lent : Bytes) (answer : WriteAnswer) → Writes before buffer answer
+      lent after
+      → not-reduced before ≡ false → LowestThatApplies (write-causes before buffer) (answer .number)
+  pub checks : (sheet-bytes book-bytes : Bytes) (answer : CheckAnswer) → Checks sheet-bytes book-bytes answer
+      → LowestThatApplies (check-causes sheet-bytes book-bytes) (answer .number)
 
 -- demand 2: a sheet is accepted exactly when it keeps the rules, and is then read as the sheet it is; the checker
 -- accepts a book, whoever wrote it, exactly when form, counts, product and witness are right, and answers its counts;
@@ -87,11 +113,12 @@ pub record BudgetsSuffice (k given : ℕ) : Type 0 where
 
 -- what is owed of a book that an accepted writing brought out, after the earlier calls
 pub record BookOwed (book : Bytes) (earlier : List Call) : Type 0 where
-  -- the sheet of the last accepted load
+  -- the sheet of the last accepted load, which was reduced since
   pub text : Bytes
   pub last : last-accepted earlier ≡ some text
+  pub reduced : last-reduced earlier ≡ some text
   pub believed : Believed text book
-  -- once the budgets since that load add up, no book says `open`
+  -- once the budgets since its first reduction add up, no book says `open`
   pub settled : BudgetsSuffice (kernel-size (sheet-of text)) (budgets-given earlier) → believed .says .standing ≢
       unsettled
 
@@ -99,27 +126,41 @@ pub record BookOwed (book : Bytes) (earlier : List Call) : Type 0 where
 abbrev pub LoadOwed : Bytes → LoadAnswer → Type 0
 LoadOwed text answer = (answer .number ≡ 0) ↔ So (accepted text)
 
+-- what is owed of a reduction, after the earlier calls: 10 with no accepted sheet, and otherwise k and w of the sheet
+-- of the last accepted load, whether it was reduced since or not
+pub record ReduceOwed (answer : ReduceAnswer) (earlier : List Call) : Type 0 where
+  pub sheetless : last-accepted earlier ≡ none → answer ≡ reduce-refused 10
+  pub answered : (text : Bytes) → last-accepted earlier ≡ some text → answer ≡ reduce-counts (sheet-of text)
+
 -- what is owed of a search, after the earlier calls
 pub record SearchOwed (budget : ℕ) (answer : SearchAnswer) (earlier : List Call) : Type 0 where
-  -- 10 with no accepted sheet, and no refusal otherwise
+  -- 10 with no accepted sheet, 16 with one that was not reduced since, and no refusal otherwise
   pub sheetless : last-accepted earlier ≡ none → answer ≡ search-refused 10
-  pub answered : (text : Bytes) → last-accepted earlier ≡ some text → answer .number ≡ 0
-  -- once the budgets since that load add up, the answering one included, no search answers `open`
-  pub settled : (text : Bytes) → last-accepted earlier ≡ some text
+  pub unreduced : (text : Bytes) → last-accepted earlier ≡ some text → last-reduced earlier ≡ none
+      → answer ≡ search-refused 16
+  pub answered : (text : Bytes) → last-reduced earlier ≡ some text → answer .number ≡ 0
+  -- once the budgets since its first reduction add up, the answering one included, no search answers `open`
+  pub settled : (text : Bytes) → last-reduced earlier ≡ some text
       → BudgetsSuffice (kernel-size (sheet-of text)) (budget + budgets-given earlier) → answer .standing ≢ some
       unsettled
 
 -- what is owed of a writing, after the earlier calls
 pub record WriteOwed (buffer : Bytes) (written : WriteOutcome) (earlier : List Call) : Type 0 where
-  -- 10 with no accepted sheet, and no refusal otherwise of a buffer of as many bytes as the checker takes
+  -- 10 with no accepted sheet, 16 with one that was not reduced since, and otherwise no refusal but 11, which demand 1
+  -- gives to a buffer shorter than the book, and none of a buffer of as many bytes as the checker takes
   pub sheetless : last-accepted earlier ≡ none → written .answer ≡ write-refused 10
-  pub answered : (text : Bytes) → last-accepted earlier ≡ some text → 131_072 ≤ length buffer → written .answer .number
-      ≡ 0
+  pub unreduced : (text : Bytes) → last-accepted earlier ≡ some text → last-reduced earlier ≡ none
+      → written .answer ≡ write-refused 16
+  pub only-short : (text : Bytes) → last-reduced earlier ≡ some text
+      → (written .answer .number ≡ 0) ⊎ (written .answer ≡ write-refused 11)
+  pub answered : (text : Bytes) → last-reduced earlier ≡ some text → 131_072 ≤ length buffer
+      → written .answer .number ≡ 0
   pub book : written .answer .number ≡ 0 → BookOwed (brought-out written) earlier
 
 -- what is owed of one outcome, after the earlier calls
 abbrev pub Owed : (call : Call) → Outcome call → List Call → Type 0
 Owed (load text) answer earlier = LoadOwed text answer
+Owed reduce answer earlier = ReduceOwed answer earlier
 Owed (search budget) answer earlier = SearchOwed budget answer earlier
 Owed (write buffer) written earlier = WriteOwed buffer written earlier
 
@@ -128,9 +169,9 @@ abbrev pub OwedOfAll : List Event → Type 0
 OwedOfAll [] = Unit {0}
 OwedOfAll (event ∷ earlier) = Owed (event .call) (event .outcome) (calls earlier) × OwedOfAll earlier
 
--- demand 3: one claim about every sequence of loads, searches and writings on one session, refused ones included, from
--- a fresh session. No sequence is left out: whatever the calls are, there are events and a session to which they led
--- with exactly those calls
+-- demand 3: one claim about every sequence of loads, reductions, searches and writings on one session, refused ones
+-- included, from a fresh session. No sequence is left out: whatever the calls are, there are events and a session to
+-- which they led with exactly those calls
 pub record Demand3 : Type 0 where
   pub owed : (events : List Event) (session : Session) → Led events session → OwedOfAll events
   pub happens : (made : List Call) → (events : List Event) × (session : Session) × Led events session

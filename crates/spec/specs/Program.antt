@@ -7,7 +7,7 @@ use Rattle.spec.specs.Text.{Bytes, line-feed}
 use Rattle.spec.specs.Decimal.{decimal, is-digit, number-of}
 use Rattle.spec.specs.Session.{Session, fresh}
 use Rattle.spec.specs.Refusal.{refusal, accepted}
-use Rattle.spec.specs.Calls.{after-load, after-search, WriteAnswer, write-answer, buffer-after}
+use Rattle.spec.specs.Calls.{after-load, after-reduce, after-search, WriteAnswer, write-answer, buffer-after}
 
 -- a number of that range: decimal digits, at least one; leading zeros are taken, a sign or a space is not
 unfoldable pub is-budget : Bytes → Bool
@@ -28,9 +28,9 @@ printed session buffer =
     let answer : WriteAnswer = write-answer session buffer in
     cond (eqb (answer .number) 0) (take (answer .count) (buffer-after session buffer)) (number-line (answer .number))
 
--- what the program prints: it loads, searches once and writes
+-- what the program prints: it loads, reduces, searches once and writes
 unfoldable pub program-output : Bytes → List Bytes → Bytes
 program-output text arguments =
     let found : Bytes =
-    printed (after-search (after-load fresh text) (budget-of arguments)) (replicate program-buffer 0) in
+    printed (after-search (after-reduce (after-load fresh text)) (budget-of arguments)) (replicate program-buffer 0) in
     cond (accepted text) found (number-line (refusal text))

@@ -1,5 +1,6 @@
--- "Refused, and how": the causes of the paper's table, and the lowest number that applies. Each cause looks at the
--- whole text, whatever the others say.
+-- "Refused, and how": the causes of the paper's table and those of document 02, for each call a list in the order in
+-- which they are judged, and the first number that applies. Each cause looks at the whole text, whatever the others
+-- say.
 use Rattle.spec.specs.Vocabulary.{ℕ, suc, Bool, true, false, _&&_, _||_, not, Bool·beq, List, [], _∷_, _++_}
 use Rattle.spec.specs.Vocabulary.{tail, eqb, ltb, length, every-below, empty, any, all, repeats}
 use Rattle.spec.specs.Limits.{sheet-limit, permission-limit, user-limit, name-limit, grant-limit, book-limit}
@@ -12,9 +13,9 @@ use Rattle.spec.specs.RoleSet.{RoleSet, product}
 use Rattle.spec.specs.Roles.{Standing, witnessed, searched, unsettled}
 use Rattle.spec.specs.Book.{Said}
 use Rattle.spec.specs.Form.{form, said}
-use Rattle.spec.specs.Session.{Session, no-sheet, loaded, session-book}
+use Rattle.spec.specs.Session.{Session, no-sheet, read, reduced, session-book}
 
--- a cause of the paper's table: its number, and whether it applies
+-- a cause of refusal: its number, and whether it applies
 pub record Cause : Type 0 where
   pub number : ℕ
   pub applies : Bool
@@ -24,7 +25,7 @@ abbrev pub refuse-if : Bool → ℕ → ℕ → ℕ
 refuse-if true number later = number
 refuse-if false number later = later
 
--- the number of the first cause that applies, and 0 where none does: with rising numbers, the lowest
+-- the number of the first cause of a list that applies, and 0 where none does
 abbrev pub first-number : List Cause → ℕ
 first-number [] = 0
 first-number (cause ∷ later) = refuse-if (cause .applies) (cause .number) (first-number later)
@@ -98,7 +99,7 @@ sheet-causes text =
     ∷ record { number = 9; applies = too-many-grants sheet }
     ∷ []
 
--- the lowest number of 1 to 9 that applies to the sheet, and 0 where none does
+-- the first of 1 to 9 that applies to the sheet, and 0 where none does
 unfoldable pub refusal : Bytes → ℕ
 unfolding sheet-causes
 refusal text = first-number (sheet-causes text)
@@ -107,18 +108,30 @@ refusal text = first-number (sheet-causes text)
 abbrev pub accepted : Bytes → Bool
 accepted text = eqb (refusal text) 0
 
--- 10: search or book with no accepted sheet
+-- 10: reduction, search or book with no accepted sheet
 abbrev pub lacks-sheet : Session → Bool
 lacks-sheet no-sheet = true
-lacks-sheet (loaded text st) = false
+lacks-sheet (read text) = false
+lacks-sheet (reduced text st) = false
+
+abbrev pub reduce-causes : Session → List Cause
+reduce-causes session = record { number = 10; applies = lacks-sheet session } ∷ []
+
+-- 16: search or book on a sheet not yet reduced
+abbrev pub not-reduced : Session → Bool
+not-reduced no-sheet = false
+not-reduced (read text) = true
+not-reduced (reduced text st) = false
 
 abbrev pub search-causes : Session → List Cause
-search-causes session = record { number = 10; applies = lacks-sheet session } ∷ []
+search-causes session =
+    record { number = 10; applies = lacks-sheet session } ∷ record { number = 16; applies = not-reduced session } ∷ []
 
--- 11: buffer shorter than the book
+-- 11: buffer shorter than the book; 16 is judged after 10 and before 11
 unfoldable pub write-causes : Session → Bytes → List Cause
 write-causes session buffer =
     record { number = 10; applies = lacks-sheet session }
+    ∷ record { number = 16; applies = not-reduced session }
     ∷ record { number = 11; applies = ltb (length buffer) (length (session-book session)) }
     ∷ []
 

@@ -1,15 +1,17 @@
--- "The sequence of demand 3": sequences of calls on one session from a fresh one, the last accepted load, the budgets
--- given and those that are enough, and the books brought out.
+-- "The sequence of demand 3": sequences of calls on one session from a fresh one, the last accepted load and whether
+-- its sheet was reduced since, the budgets given and those that are enough, and the books brought out.
 use Rattle.spec.specs.Vocabulary.{ℕ, zero, suc, _+_, _*_, _≡_, cond, Option, none, some, List, [], _∷_, map, take}
 use Rattle.spec.specs.Text.{Bytes}
 use Rattle.spec.specs.Session.{Session, fresh}
 use Rattle.spec.specs.Refusal.{accepted}
-use Rattle.spec.specs.Calls.{LoadAnswer, SearchAnswer, WriteAnswer, Loads, Searches, Writes}
+use Rattle.spec.specs.Calls.{LoadAnswer, ReduceAnswer, SearchAnswer, WriteAnswer, Loads, Reduces, Searches}
+use Rattle.spec.specs.Calls.{Writes}
 
--- a load brings its own sheet, a search its budget, a writing its own buffer; a check has no session and changes
--- nothing between any two. Any number is a budget here, also those above the range of document 01
+-- a load brings its own sheet, a search its budget, a writing its own buffer, a reduction nothing; a check has no
+-- session and changes nothing between any two. Any number is a budget here, also those above the range of document 01
 pub data Call : Type 0 where
   load : Bytes → Call
+  reduce : Call
   search : ℕ → Call
   write : Bytes → Call
 
@@ -21,6 +23,7 @@ pub record WriteOutcome : Type 0 where
 -- what a call gives back
 abbrev pub Outcome : Call → Type 0
 Outcome (load text) = LoadAnswer
+Outcome reduce = ReduceAnswer
 Outcome (search budget) = SearchAnswer
 Outcome (write buffer) = WriteOutcome
 
@@ -32,6 +35,7 @@ pub record Event : Type 0 where
 -- a call took the session from before to after, with this outcome, as the call promises
 abbrev pub Happens : (call : Call) → Outcome call → Session → Session → Type 0
 Happens (load text) answer before after = Loads before text answer after
+Happens reduce answer before after = Reduces before answer after
 Happens (search budget) answer before after = Searches before budget answer after
 Happens (write buffer) written before after = Writes before buffer (written .answer) (written .lent) after
 
@@ -50,14 +54,29 @@ calls events = map (λ event. event .call) events
 abbrev pub last-accepted : List Call → Option Bytes
 last-accepted [] = none
 last-accepted (load text ∷ earlier) = cond (accepted text) (some text) (last-accepted earlier)
+last-accepted (reduce ∷ earlier) = last-accepted earlier
 last-accepted (search budget ∷ earlier) = last-accepted earlier
 last-accepted (write buffer ∷ earlier) = last-accepted earlier
 
--- the budgets of the searches since the last accepted load, each counted whole
+-- that sheet, if it was reduced: there was a reduction since that load
+abbrev pub last-reduced : List Call → Option Bytes
+last-reduced [] = none
+last-reduced (load text ∷ earlier) = cond (accepted text) none (last-reduced earlier)
+last-reduced (reduce ∷ earlier) = last-accepted earlier
+last-reduced (search budget ∷ earlier) = last-reduced earlier
+last-reduced (write buffer ∷ earlier) = last-reduced earlier
+
+-- a budget counts whole on a sheet that was reduced, and else not at all
+abbrev pub counted-on : Option Bytes → ℕ → ℕ
+counted-on none budget = 0
+counted-on (some text) budget = budget
+
+-- the budgets of the searches since the first reduction after the last accepted load, each counted whole
 abbrev pub budgets-given : List Call → ℕ
 budgets-given [] = 0
 budgets-given (load text ∷ earlier) = cond (accepted text) 0 (budgets-given earlier)
-budgets-given (search budget ∷ earlier) = budget + budgets-given earlier
+budgets-given (reduce ∷ earlier) = budgets-given earlier
+budgets-given (search budget ∷ earlier) = counted-on (last-reduced earlier) budget + budgets-given earlier
 budgets-given (write buffer ∷ earlier) = budgets-given earlier
 
 -- 1 · 2 · .. · n

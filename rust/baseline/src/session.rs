@@ -4,7 +4,7 @@ use second::checker::CheckAnswer;
 use second::implementation::Implementation;
 use second::refusal::Refusal;
 use second::roles::State;
-use second::session::{LoadAnswer, SearchAnswer};
+use second::session::{LoadAnswer, ReduceAnswer, SearchAnswer};
 
 use crate::book::{Counts, book_length, write_book};
 use crate::checker;
@@ -19,8 +19,18 @@ use crate::witness::Witness;
 /// A session. All its room is made once.
 #[derive(Clone, Debug)]
 pub struct Session {
-    is_loaded: bool,
+    stage: Stage,
     room: Box<Room>,
+}
+
+/// How much of the room means something.
+#[derive(Clone, Copy, Debug, PartialEq, Eq)]
+enum Stage {
+    NoSheet,
+    /// The accepted sheet alone.
+    NotReduced,
+    /// All of it.
+    Reduced,
 }
 
 #[derive(Clone, Debug)]
@@ -46,33 +56,35 @@ impl Implementation for Session {
             best: Placement::none(),
             machine: Machine::none(),
         };
-        Session { is_loaded: false, room: Box::new(room) }
+        Session { stage: Stage::NoSheet, room: Box::new(room) }
     }
 
     fn load(&mut self, sheet: &[u8]) -> Result<LoadAnswer, Refusal> {
         let other = 1 - self.room.accepted;
         self.room.sheets[other].read(sheet)?;
         self.room.accepted = other;
-        self.room.prepare();
-        self.is_loaded = true;
+        self.stage = Stage::NotReduced;
         Ok(self.room.load_answer())
     }
 
-    fn search(&mut self, budget: u32) -> Result<SearchAnswer, Refusal> {
-        if !self.is_loaded {
-            return Err(Refusal::NoSheet);
+    fn reduce(&mut self) -> Result<ReduceAnswer, Refusal> {
+        if self.stage == Stage::NotReduced {
+            self.room.prepare();
+            self.stage = Stage::Reduced;
         }
-        let room = &mut *self.room;
+        let room = self.reduced()?;
+        Ok(ReduceAnswer { kernel: room.kernel.count, witness: room.witness.count })
+    }
+
+    fn search(&mut self, budget: u32) -> Result<SearchAnswer, Refusal> {
+        let room = self.reduced()?;
         let steps = room.machine.run(room.kernel.count, &mut room.best, budget);
         let Counts { roles, bound, state } = room.counts();
         Ok(SearchAnswer { steps, roles, bound, state })
     }
 
     fn write(&mut self, buffer: &mut [u8]) -> Result<usize, Refusal> {
-        if !self.is_loaded {
-            return Err(Refusal::NoSheet);
-        }
-        let room = &*self.room;
+        let room = self.reduced()?;
         let (sheet, counts, witness) = (room.sheet(), room.counts(), room.witness.cells());
         let length = book_length(sheet, &counts, witness);
         let book = buffer.get_mut(..length).ok_or(Refusal::BufferLength)?;
@@ -86,12 +98,23 @@ impl Implementation for Session {
     }
 }
 
+impl Session {
+    /// The room of a reduced sheet, or the first cause to refuse a call where there is none.
+    fn reduced(&mut self) -> Result<&mut Room, Refusal> {
+        match self.stage {
+            Stage::NoSheet => Err(Refusal::NoSheet),
+            Stage::NotReduced => Err(Refusal::NotReduced),
+            Stage::Reduced => Ok(&mut self.room),
+        }
+    }
+}
+
 impl Room {
     fn sheet(&self) -> &Sheet {
         &self.sheets[self.accepted]
     }
 
-    /// Finds out what follows from the accepted sheet.
+    /// Reduces the accepted sheet and makes the first cover.
     fn prepare(&mut self) {
         let sheet = &self.sheets[self.accepted];
         self.reduction.reduce(sheet);
@@ -107,8 +130,6 @@ impl Room {
             users: self.sheet().users.count(),
             permissions: self.sheet().permissions.count(),
             grants: self.sheet().grants,
-            kernel: self.kernel.count,
-            witness: self.witness.count,
         }
     }
 

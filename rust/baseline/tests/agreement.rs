@@ -1,7 +1,7 @@
 //! The baseline held to the second implementation: it would measure nothing if it did something else.
 
 use baseline::session::Session;
-use trials::agreement;
+use trials::agreement::{self, reducing};
 use trials::families::{any, any_wide};
 
 #[test]
@@ -62,6 +62,46 @@ fn lengths_of_names() {
 #[test]
 fn sequences() {
     agreement::sequences_agree::<Session>(1_000, 30, 8);
+}
+
+#[test]
+fn calls_without_a_sheet() {
+    reducing::calls_without_a_sheet_agree::<Session>(200);
+}
+
+#[test]
+fn sheets_not_reduced() {
+    reducing::sheets_not_reduced_agree::<Session>(1_000, |random| any(random, 8));
+}
+
+#[test]
+fn wide_sheets_not_reduced() {
+    reducing::sheets_not_reduced_agree::<Session>(200, |random| any_wide(random, 8));
+}
+
+#[test]
+fn repeated_reductions() {
+    reducing::repeated_reductions_agree::<Session>(2_000, |random| any(random, 10));
+}
+
+#[test]
+fn repeated_reductions_of_wide_sheets() {
+    reducing::repeated_reductions_agree::<Session>(300, |random| any_wide(random, 10));
+}
+
+#[test]
+fn reloaded_sheets() {
+    reducing::reloaded_sheets_agree::<Session>(1_000, |random| any(random, 10));
+}
+
+#[test]
+fn corrected_sheets() {
+    reducing::corrected_sheets_agree::<Session>(1_000);
+}
+
+#[test]
+fn budgets_before_the_reduction() {
+    reducing::budgets_before_the_reduction_agree::<Session>();
 }
 
 #[test]

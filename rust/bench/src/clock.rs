@@ -13,6 +13,13 @@ impl<Item> Pair<Item> {
     }
 }
 
+impl Pair<f64> {
+    /// What is left of these times without those.
+    pub fn less(self, other: Pair<f64>) -> Pair<f64> {
+        Pair { baseline: self.baseline - other.baseline, library: self.library - other.library }
+    }
+}
+
 /// A round goes on for at least this many nanoseconds.
 const ROUND: f64 = 10_000_000.0;
 
@@ -81,6 +88,12 @@ mod tests {
     fn median_is_the_middle_time() {
         assert_eq!(median(vec![9.0, 1.0, 4.0]), 4.0);
         assert_eq!(median(vec![2.0]), 2.0);
+    }
+
+    #[test]
+    fn times_are_taken_off_each_for_itself() {
+        let left = Pair { baseline: 5.0, library: 9.0 }.less(Pair { baseline: 1.0, library: 6.0 });
+        assert_eq!((left.baseline, left.library), (4.0, 3.0));
     }
 
     #[test]

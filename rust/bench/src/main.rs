@@ -13,6 +13,8 @@ use baseline::session::Session;
 use compare::library::{Library, SESSION_BYTES, with_room};
 use second::implementation::Implementation;
 use second::limits::BOOK_BYTES;
+use second::session::{LoadAnswer, ReduceAnswer};
+use trials::sessions::reduced;
 
 use crate::clock::{Pair, measure};
 use crate::sheets::{Sheet, searched_sheets, sheets};
@@ -24,16 +26,16 @@ const ROUNDS: usize = 15;
 /// Steps of a search that is measured.
 const STEPS: u32 = 1_000_000;
 
+/// The unit of all calls but searches.
+const MICROSECONDS: &str = "microseconds a call";
+
 fn main() {
     let rounds =
         std::env::args().nth(1).map_or(ROUNDS, |text| text.parse().expect("the rounds are a number"));
     with_room(move || {
         println!("A session of the proved library has {SESSION_BYTES} bytes.\n");
         print_sizes();
-        print_calls("Load", rounds, |sheet| Pair {
-            baseline: load::<Session>(sheet),
-            library: load::<Library>(sheet),
-        });
+        print_loads_and_reductions(rounds);
         print_calls("Write", rounds, |sheet| Pair {
             baseline: write::<Session>(sheet),
             library: write::<Library>(sheet),
@@ -57,9 +59,18 @@ fn load<Kind: Implementation + 'static>(sheet: &Sheet) -> Call<'_> {
     })
 }
 
+/// A reduction needs a sheet that is not reduced, so it is made after a load.
+fn load_and_reduce<Kind: Implementation + 'static>(sheet: &Sheet) -> Call<'_> {
+    let mut session = Kind::fresh();
+    Box::new(move || {
+        black_box(session.load(black_box(&sheet.bytes)).expect("the sheet is acceptable"));
+        black_box(session.reduce().expect("a sheet is loaded"));
+    })
+}
+
 /// The buffer is as long as the longest book that is checked, and not cleared between the calls.
 fn write<Kind: Implementation + 'static>(sheet: &Sheet) -> Call<'_> {
-    let mut session = loaded::<Kind>(sheet);
+    let mut session: Kind = reduced(&sheet.bytes);
     let mut buffer = vec![0; BOOK_BYTES];
     Box::new(move || {
         black_box(session.write(black_box(&mut buffer)).expect("the buffer is long enough"));
@@ -68,24 +79,18 @@ fn write<Kind: Implementation + 'static>(sheet: &Sheet) -> Call<'_> {
 
 fn check<Kind: Implementation + 'static>(sheet: &Sheet) -> Call<'_> {
     let mut buffer = vec![0; BOOK_BYTES];
-    let length = loaded::<Kind>(sheet).write(&mut buffer).expect("the buffer is long enough");
+    let length = reduced::<Kind>(&sheet.bytes).write(&mut buffer).expect("the buffer is long enough");
     buffer.truncate(length);
     Box::new(move || {
         black_box(Kind::check(black_box(&sheet.checked), black_box(&buffer)).expect("the book is right"));
     })
 }
 
-fn loaded<Kind: Implementation>(sheet: &Sheet) -> Kind {
-    let mut session = Kind::fresh();
-    session.load(&sheet.bytes).expect("the sheet is acceptable");
-    session
-}
-
-/// Steps of a search from the load on, which is not measured.
+/// Steps of a search from the reduction on, which is not measured.
 fn search<Kind: Implementation + Clone + 'static>(sheet: &Sheet) -> Call<'_> {
-    let session = loaded::<Kind>(sheet);
+    let session: Kind = reduced(&sheet.bytes);
     Box::new(move || {
-        black_box(session.clone().search(STEPS).expect("a sheet is loaded"));
+        black_box(session.clone().search(STEPS).expect("the sheet is reduced"));
     })
 }
 
@@ -93,22 +98,37 @@ fn print_sizes() {
     println!("| Sheet | Users | Permissions | Grants | k | w | Bytes |");
     println!("|---|---:|---:|---:|---:|---:|---:|");
     for sheet in sheets().iter().chain(&searched_sheets(STEPS)) {
-        let answer = Session::fresh().load(&sheet.bytes).expect("the sheet is acceptable");
-        println!(
-            "| {} | {} | {} | {} | {} | {} | {} |",
-            sheet.name,
-            answer.users,
-            answer.permissions,
-            answer.grants,
-            answer.kernel,
-            answer.witness,
-            sheet.bytes.len()
-        );
+        let mut session = Session::fresh();
+        let LoadAnswer { users, permissions, grants } =
+            session.load(&sheet.bytes).expect("the sheet is acceptable");
+        let ReduceAnswer { kernel, witness } = session.reduce().expect("a sheet is loaded");
+        let bytes = sheet.bytes.len();
+        println!("| {} | {users} | {permissions} | {grants} | {kernel} | {witness} | {bytes} |", sheet.name);
+    }
+}
+
+/// What a reduction takes is what a load and a reduction in a row take, less the load.
+fn print_loads_and_reductions(rounds: usize) {
+    let sheets = sheets();
+    let measured = |calls: fn(&Sheet) -> Pair<Call<'_>>| {
+        sheets.iter().map(|sheet| measure(rounds, calls(sheet))).collect::<Vec<_>>()
+    };
+    let loads = measured(|sheet| Pair { baseline: load::<Session>(sheet), library: load::<Library>(sheet) });
+    let both = measured(|sheet| Pair {
+        baseline: load_and_reduce::<Session>(sheet),
+        library: load_and_reduce::<Library>(sheet),
+    });
+    let reductions = both.iter().zip(&loads).map(|(both, load)| both.less(*load)).collect::<Vec<_>>();
+    for (title, times) in [("Load", loads), ("Reduction", reductions)] {
+        print_heading(title, MICROSECONDS);
+        for (sheet, nanoseconds) in sheets.iter().zip(times) {
+            print_row(&sheet.name, nanoseconds.map(|time| time / 1_000.0));
+        }
     }
 }
 
 fn print_calls<'a>(title: &str, rounds: usize, calls: impl Fn(&Sheet) -> Pair<Call<'_>> + 'a) {
-    print_heading(title, "microseconds a call");
+    print_heading(title, MICROSECONDS);
     for sheet in sheets() {
         let nanoseconds = measure(rounds, calls(&sheet));
         print_row(&sheet.name, nanoseconds.map(|time| time / 1_000.0));
@@ -131,7 +151,7 @@ fn print_refused_calls(rounds: usize) {
             black_box(session.write(black_box(&mut buffer)).expect_err("there is no sheet"));
         })
     }
-    print_heading("Refused calls", "microseconds a call");
+    print_heading("Refused calls", MICROSECONDS);
     let searches = Pair { baseline: search::<Session>(), library: search::<Library>() };
     print_row("search", measure(rounds, searches).map(|time| time / 1_000.0));
     let writings = Pair { baseline: write::<Session>(), library: write::<Library>() };
@@ -141,9 +161,9 @@ fn print_refused_calls(rounds: usize) {
 fn print_searches(rounds: usize) {
     print_heading("Search", "nanoseconds a step");
     for sheet in searched_sheets(STEPS) {
-        let found = loaded::<Session>(&sheet).search(STEPS);
-        assert_eq!(loaded::<Library>(&sheet).search(STEPS), found, "{}", sheet.name);
-        let steps = found.expect("a sheet is loaded").steps;
+        let found = reduced::<Session>(&sheet.bytes).search(STEPS);
+        assert_eq!(reduced::<Library>(&sheet.bytes).search(STEPS), found, "{}", sheet.name);
+        let steps = found.expect("the sheet is reduced").steps;
         let calls = Pair { baseline: search::<Session>(&sheet), library: search::<Library>(&sheet) };
         let name = format!("{}, {steps} steps", sheet.name);
         print_row(&name, measure(rounds, calls).map(|time| time / f64::from(steps)));

@@ -7,6 +7,7 @@ use trials::extremes;
 use trials::families;
 use trials::paper::GRANTS;
 use trials::random::Random;
+use trials::sessions;
 use trials::spelling;
 
 pub struct Sheet {
@@ -37,7 +38,7 @@ fn in_mixed_case(random: &mut Random) -> Sheet {
 /// The sheet of document 01's worked example.
 const WORKED: &str = "user,rec,id,map\nann,1,1,0\nbo,0,1,1\ncy,1,1,1\n";
 
-/// Sheets to load, write and check: a small one, and large ones with as many grants as there can be or nearly
+/// Sheets to load, reduce, write and check: a small one, and large ones with as many grants as there can be or nearly
 /// as many, but for the one with two grants a user.
 pub fn sheets() -> Vec<Sheet> {
     let mut random = Random::from_seed(1);
@@ -82,8 +83,8 @@ fn open_kernel(random: &mut Random, size: usize, side: usize, steps: u32) -> Dra
         let permissions = random.between(side - 3, side + 3);
         let grants = size + random.between(0, 20);
         let draft = extremes::with_grants(random, users, permissions, grants);
-        let mut session = Session::fresh();
-        let kernel = session.load(&draft.bytes()).expect("the sheet is acceptable").kernel;
+        let mut session: Session = sessions::loaded(&draft.bytes());
+        let kernel = session.reduce().expect("a sheet is loaded").kernel;
         (kernel == size && session.search(steps).is_ok_and(|answer| answer.steps == steps)).then_some(draft)
     })
 }
@@ -133,8 +134,8 @@ mod tests {
         let kernels: Vec<usize> = searched_sheets(steps)
             .iter()
             .map(|sheet| {
-                let mut session = Session::fresh();
-                let kernel = session.load(&sheet.bytes).expect("the sheet is acceptable").kernel;
+                let mut session: Session = sessions::loaded(&sheet.bytes);
+                let kernel = session.reduce().expect("a sheet is loaded").kernel;
                 assert_eq!(session.search(steps).map(|answer| answer.steps), Ok(steps), "{}", sheet.name);
                 kernel
             })

@@ -9,7 +9,7 @@ use second::checker::CheckAnswer;
 use second::implementation::Implementation;
 use second::refusal::Refusal;
 use second::roles::State;
-use second::session::{LoadAnswer, SearchAnswer};
+use second::session::{LoadAnswer, ReduceAnswer, SearchAnswer};
 
 mod session;
 
@@ -23,8 +23,6 @@ struct LoadNumbers {
     users: usize,
     permissions: usize,
     grants: usize,
-    kernel: usize,
-    witness: usize,
 }
 
 #[repr(C)]
@@ -32,6 +30,21 @@ struct LoadNumbers {
 struct Loaded {
     session: Session,
     answer: LoadNumbers,
+}
+
+#[repr(C)]
+#[derive(Clone, Copy)]
+struct ReduceNumbers {
+    number: usize,
+    kernel: usize,
+    witness: usize,
+}
+
+#[repr(C)]
+#[derive(Clone, Copy)]
+struct Reduced {
+    session: Session,
+    answer: ReduceNumbers,
 }
 
 #[repr(C)]
@@ -65,7 +78,7 @@ struct CheckNumbers {
     witness_lines: usize,
 }
 
-// The first three are declared as they are called on x86-64, with the place for what they hand back as their first
+// The first four are declared as they are called on x86-64, with the place for what they hand back as their first
 // argument: a session then stays where it was written. They are declared once more where the sizes are asked for.
 #[allow(clashing_extern_declarations)]
 unsafe extern "C" {
@@ -76,6 +89,7 @@ unsafe extern "C" {
         sheet: *const u8,
         sheet_length: usize,
     ) -> *mut Handed;
+    fn porvuund_reduce(place: *mut Handed, session: Session) -> *mut Handed;
     fn porvuund_search(place: *mut Handed, session: Session, budget: u32) -> *mut Handed;
     fn porvuund_write(session: Session, out: *mut u8, out_length: usize) -> WriteNumbers;
     fn porvuund_check(
@@ -99,12 +113,13 @@ unsafe extern "C" {
 union Handed {
     session: Session,
     loaded: Loaded,
+    reduced: Reduced,
     searched: Searched,
 }
 
-/// A session of the proved implementation. It is a value that goes into each call, and comes back from a load and
-/// a search; only the calls make one. A call writes to the other place than the one that its session is at, and then
-/// the two change places.
+/// A session of the proved implementation. It is a value that goes into each call, and comes back from a load, a
+/// reduction and a search; only the calls make one. A call writes to the other place than the one that its session is
+/// at, and then the two change places.
 #[derive(Clone)]
 pub struct Library {
     at: Box<MaybeUninit<Handed>>,
@@ -136,9 +151,19 @@ impl Implementation for Library {
             swap(&mut self.at, &mut self.other);
             self.at.assume_init_ref().loaded.answer
         };
-        let LoadNumbers { number, users, permissions, grants, kernel, witness } = answer;
-        let counts = [users, permissions, grants, kernel, witness];
-        result(number, &counts, LoadAnswer { users, permissions, grants, kernel, witness })
+        let LoadNumbers { number, users, permissions, grants } = answer;
+        result(number, &[users, permissions, grants], LoadAnswer { users, permissions, grants })
+    }
+
+    fn reduce(&mut self) -> Result<ReduceAnswer, Refusal> {
+        // SAFETY: the session comes from a call, and the place is another than the session's.
+        let answer = unsafe {
+            porvuund_reduce(self.other.as_mut_ptr(), self.at.assume_init_ref().session);
+            swap(&mut self.at, &mut self.other);
+            self.at.assume_init_ref().reduced.answer
+        };
+        let ReduceNumbers { number, kernel, witness } = answer;
+        result(number, &[kernel, witness], ReduceAnswer { kernel, witness })
     }
 
     fn search(&mut self, budget: u32) -> Result<SearchAnswer, Refusal> {
@@ -175,7 +200,7 @@ impl Implementation for Library {
     }
 }
 
-/// The book of a sheet after one search, written into a buffer by one call.
+/// The book of a sheet, reduced and then searched once, written into a buffer by one call.
 pub fn book(sheet: &[u8], budget: u32, buffer: &mut [u8]) -> Result<usize, Refusal> {
     // SAFETY: the pointers are those of a slice and of a lent slice of those lengths.
     let written =
@@ -183,7 +208,7 @@ pub fn book(sheet: &[u8], budget: u32, buffer: &mut [u8]) -> Result<usize, Refus
     result(written.number, &[written.count], written.count)
 }
 
-/// A result has the number 0. A refusal has a number of document 01's, and counts 0.
+/// A result has the number 0. A refusal has a number of the papers', and counts 0.
 fn result<Answer>(number: usize, counts: &[usize], answer: Answer) -> Result<Answer, Refusal> {
     if number == 0 {
         return Ok(answer);

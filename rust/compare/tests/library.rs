@@ -3,8 +3,8 @@
 use compare::library::{Library, book, with_room, wrong_size};
 use second::refusal::Refusal;
 use second::script::lent_buffer;
-use second::session::Session;
-use trials::agreement;
+use second::session;
+use trials::agreement::{self, reducing};
 use trials::cases::cases;
 use trials::damage;
 use trials::extremes;
@@ -79,6 +79,46 @@ fn sequences() {
 }
 
 #[test]
+fn calls_without_a_sheet() {
+    with_room(|| reducing::calls_without_a_sheet_agree::<Library>(200));
+}
+
+#[test]
+fn sheets_not_reduced() {
+    with_room(|| reducing::sheets_not_reduced_agree::<Library>(1_000, |random| any(random, 8)));
+}
+
+#[test]
+fn wide_sheets_not_reduced() {
+    with_room(|| reducing::sheets_not_reduced_agree::<Library>(200, |random| any_wide(random, 8)));
+}
+
+#[test]
+fn repeated_reductions() {
+    with_room(|| reducing::repeated_reductions_agree::<Library>(1_000, |random| any(random, 10)));
+}
+
+#[test]
+fn repeated_reductions_of_wide_sheets() {
+    with_room(|| reducing::repeated_reductions_agree::<Library>(300, |random| any_wide(random, 10)));
+}
+
+#[test]
+fn reloaded_sheets() {
+    with_room(|| reducing::reloaded_sheets_agree::<Library>(1_000, |random| any(random, 10)));
+}
+
+#[test]
+fn corrected_sheets() {
+    with_room(|| reducing::corrected_sheets_agree::<Library>(1_000));
+}
+
+#[test]
+fn budgets_before_the_reduction() {
+    with_room(reducing::budgets_before_the_reduction_agree::<Library>);
+}
+
+#[test]
 fn smallest() {
     with_room(|| agreement::roles_are_smallest::<Library>(1_000));
 }
@@ -113,25 +153,17 @@ fn kernels() {
     with_room(|| agreement::kernels_agree::<Library>(2));
 }
 
-/// The second implementation's answer to a load, a search and a writing in a row.
-fn expected_book(sheet: &[u8], budget: u32, buffer: &mut [u8]) -> Result<usize, Refusal> {
-    let mut session = Session::fresh();
-    session.load(sheet)?;
-    session.search(budget)?;
-    session.write(buffer)
-}
-
-/// Both implementations' answers to one call that loads, searches and writes, which must be the same.
+/// Both implementations' answers to one call that loads, reduces, searches and writes, which must be the same.
 fn book_by_one_call(sheet: &[u8], budget: u32, length: usize) -> Result<usize, Refusal> {
     let mut buffer = lent_buffer(length);
     let mut expected_buffer = buffer.clone();
-    let expected = expected_book(sheet, budget, &mut expected_buffer);
+    let expected = session::book(sheet, budget, &mut expected_buffer);
     assert_eq!(book(sheet, budget, &mut buffer), expected, "{}", String::from_utf8_lossy(sheet));
     assert!(buffer == expected_buffer, "{}", String::from_utf8_lossy(sheet));
     expected
 }
 
-/// One call that loads, searches and writes, on good and on damaged sheets and with buffers of all lengths.
+/// One call that loads, reduces, searches and writes, on good and on damaged sheets and with buffers of all lengths.
 #[test]
 fn books_by_one_call() {
     with_room(|| {

@@ -14,6 +14,7 @@ use trials::extremes;
 use trials::families;
 use trials::paper;
 use trials::random::Random;
+use trials::sessions::first_book;
 use trials::spelling;
 
 fn expected_book(sheet: &[u8], budget: u32) -> String {
@@ -206,9 +207,7 @@ fn longest_sheets_and_books_are_judged_alike() {
     let (sheet_path, book_path) = (folder.join("sheet"), folder.join("book"));
     let paths = [&sheet_path, &book_path].map(|path| path.to_str().expect("the path is plain text"));
     let draft = extremes::with_longest_book();
-    let mut session = Session::fresh();
-    session.load(&draft.bytes()).expect("the sheet is acceptable");
-    let book = session.accepted().map(|accepted| accepted.book_bytes()).unwrap_or_default();
+    let book = first_book(&draft.bytes());
     let text = String::from_utf8_lossy(&book);
     let books = [
         book.clone(),
@@ -224,7 +223,8 @@ fn longest_sheets_and_books_are_judged_alike() {
         extremes::of_bytes(1 << 20),
     ];
     for sheet in &sheets {
-        let mut calls = vec![Call::Load(sheet.clone()), Call::Write(paper::BOOK_BYTES)];
+        let writing = Call::Write(paper::BOOK_BYTES);
+        let mut calls = vec![Call::Load(sheet.clone()), writing.clone(), Call::Reduce, writing];
         for book in &books {
             std::fs::write(&sheet_path, sheet).expect("the sheet can be written");
             std::fs::write(&book_path, book).expect("the book can be written");
@@ -239,16 +239,86 @@ fn longest_sheets_and_books_are_judged_alike() {
     assert_eq!(check_output(&sheets[2], &books[0]), b"1\n");
 }
 
+/// The lines that the second implementation gives.
+fn expected_lines(calls: &[Call]) -> String {
+    let mut session = Session::fresh();
+    calls.iter().map(|call| answer_line(&mut session, call) + "\n").collect()
+}
+
 /// The play program gives the lines that the second implementation gives.
 fn assert_played(calls: &[Call], folder: &Path) {
-    let mut session = Session::fresh();
-    let expected: String = calls.iter().map(|call| answer_line(&mut session, call) + "\n").collect();
     let script = script(calls, folder).expect("the files can be written");
-    assert_eq!(printed("play", &[], script.as_bytes()), expected);
+    assert_eq!(printed("play", &[], script.as_bytes()), expected_lines(calls));
 }
 
 #[test]
 fn play_program_answers_whole_sequences() {
     let folder = folder("played");
     cases(40, |random| assert_played(&sequence(random, 40, 8), &folder));
+}
+
+/// Loads, refused ones among them, with none, one or more reductions behind each, and searches and writings before and
+/// after them.
+#[test]
+fn play_program_reduces_when_it_is_told_to() {
+    let folder = folder("reduced");
+    let (four, stairs) = (families::crown(4).bytes(), families::staircase(3).bytes());
+    let refused = b"user,p\nu,2\n".to_vec();
+    let book = first_book(&four).len();
+    let tried = || {
+        let lengths = [0, book - 1, book, book + 1];
+        [0, 60, u32::MAX].map(Call::Search).into_iter().chain(lengths.map(Call::Write))
+    };
+    let mut calls = vec![Call::Reduce];
+    for sheet in [&refused, &four, &refused, &four, &stairs, &stairs, &refused] {
+        for reductions in [0, 1, 2] {
+            calls.extend(tried());
+            calls.push(Call::Load(sheet.clone()));
+            calls.extend(tried().take(2));
+            calls.extend(vec![Call::Reduce; reductions]);
+            calls.extend(tried().take(2));
+            calls.extend(vec![Call::Reduce; reductions]);
+        }
+    }
+    let expected = expected_lines(&calls);
+    for number in ["search 10 ", "search 16 ", "write 10 ", "write 11 ", "write 16 ", "reduce 10 "] {
+        assert!(expected.contains(number), "{number}");
+    }
+    assert_played(&calls, &folder);
+}
+
+/// Lines that are no call, most of them nearly a reduction.
+const NO_CALLS: [&str; 12] = [
+    "reduce now",
+    "reduce ",
+    " reduce",
+    "reduce 0",
+    "reduce\t",
+    "reduce\r",
+    "Reduce",
+    "REDUCE",
+    "reduc",
+    "reduced",
+    "reducereduce",
+    "",
+];
+
+/// A line that is no call is answered by a question mark and changes nothing.
+#[test]
+fn play_program_passes_over_lines_that_are_no_call() {
+    let folder = folder("no-calls");
+    cases(20, |random| {
+        let calls = sequence(random, 40, 8);
+        let plain = script(&calls, &folder).expect("the files can be written");
+        let (mut mixed, mut expected) = (String::new(), String::new());
+        for (line, answer) in plain.lines().zip(expected_lines(&calls).lines()) {
+            if random.percent(40) {
+                mixed += &format!("{}\n", random.pick(&NO_CALLS));
+                expected += "?\n";
+            }
+            mixed += &format!("{line}\n");
+            expected += &format!("{answer}\n");
+        }
+        assert_eq!(printed("play", &[], mixed.as_bytes()), expected, "{mixed}");
+    });
 }

@@ -6,7 +6,7 @@ use std::str::FromStr;
 use second::checker::check;
 use second::limits::PROGRAM_BUFFER_BYTES;
 use second::refusal::Refusal;
-use second::session::Session;
+use second::session::book;
 
 /// The number that decimal digits say, if it is in range.
 pub fn number<Number: FromStr>(text: &str) -> Option<Number> {
@@ -26,11 +26,8 @@ pub fn book_output(sheet: &[u8], budget: u32) -> Vec<u8> {
 }
 
 fn searched_book(sheet: &[u8], budget: u32) -> Result<Vec<u8>, Refusal> {
-    let mut session = Session::fresh();
-    session.load(sheet)?;
-    session.search(budget)?;
     let mut buffer = vec![0; PROGRAM_BUFFER_BYTES];
-    let count = session.write(&mut buffer)?;
+    let count = book(sheet, budget, &mut buffer)?;
     buffer.truncate(count);
     Ok(buffer)
 }

@@ -160,11 +160,14 @@ fn play_program_answers_each_call_with_a_line() {
     let example = file("play-example", EXAMPLE);
     let book = file("play-book", EXAMPLE_BOOK);
     let script = format!(
-        "search 1\nwrite 5\nload {book}\nload {four}\nsearch 100\nload {book}\nsearch 4294967295\nload {example}\n\
+        "reduce\nsearch 1\nwrite 5\nload {book}\nreduce\nload {four}\nsearch 4294967295\nwrite 5\nload {book}\nreduce\n\
+         search 100\nload {book}\nreduce\nsearch 4294967295\nload {example}\nwrite 0\nwrite 133\nreduce\nreduce\n\
          search 0\nwrite 0\nwrite 132\nwrite 133\nwrite 200\ncheck {example} {book}\ncheck {four} {book}\n"
     );
-    let expected = "search 10 0 0 0 -\nwrite 10 0 02da015a\nload 3 0 0 0 0 0\nload 0 4 4 12 12 3\n\
-        search 0 100 4 3 open\nload 3 0 0 0 0 0\nsearch 0 25 4 4 searched\nload 0 3 3 7 0 2\n\
+    let expected = "reduce 10 0 0\nsearch 10 0 0 0 -\nwrite 10 0 02da015a\nload 3 0 0 0\nreduce 10 0 0\nload 0 4 4 12\n\
+        search 16 0 0 0 -\nwrite 16 0 02da015a\nload 3 0 0 0\nreduce 0 12 3\n\
+        search 0 100 4 3 open\nload 3 0 0 0\nreduce 0 12 3\nsearch 0 25 4 4 searched\nload 0 3 3 7\n\
+        write 16 0 00000001\nwrite 16 0 5c19429a\nreduce 0 0 2\nreduce 0 0 2\n\
         search 0 0 2 2 witnessed\nwrite 11 0 00000001\nwrite 11 0 197f4297\nwrite 0 133 aade27d3\n\
         write 0 133 77404876\ncheck 0 2 2\ncheck 12 0 0\n";
     assert_eq!(printed(run(env!("CARGO_BIN_EXE_second-play"), &[], script.as_bytes())), expected);
@@ -182,6 +185,12 @@ fn play_program_stops_at_a_line_that_is_no_call() {
         "write 262145\n",
         "load\n",
         "load no-such-file\n",
+        "reduce \n",
+        " reduce\n",
+        "reduce now\n",
+        "reduce 0\n",
+        "Reduce\n",
+        "reduced\n",
         "\n",
     ] {
         let output = run(program, &[], script.as_bytes());
@@ -189,6 +198,7 @@ fn play_program_stops_at_a_line_that_is_no_call() {
         assert!(output.stdout.is_empty() && !output.stderr.is_empty(), "{output:?}");
     }
     assert!(printed(run(program, &[], b"write 262144\n")).starts_with("write 10 0 "));
+    assert_eq!(printed(run(program, &[], b"reduce")), "reduce 10 0 0\n");
 }
 
 /// The program gives the lines that the library gives.

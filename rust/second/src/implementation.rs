@@ -1,15 +1,19 @@
-//! The calls of document 01 as any implementation answers them, so that implementations can be compared.
+//! The calls of document 01, as the requests of document 02 have moved them, as any implementation answers them, so
+//! that implementations can be compared.
 
 use crate::checker::{self, CheckAnswer};
 use crate::refusal::Refusal;
-use crate::session::{LoadAnswer, SearchAnswer, Session};
+use crate::session::{LoadAnswer, ReduceAnswer, SearchAnswer, Session};
 
 /// A session of an implementation, and its checker.
 pub trait Implementation {
     fn fresh() -> Self;
 
-    /// Puts a sheet in place of the former one; the search starts anew.
+    /// Puts a sheet, not reduced, in place of the former one.
     fn load(&mut self, sheet: &[u8]) -> Result<LoadAnswer, Refusal>;
+
+    /// Reduces the sheet and makes the first cover; does nothing to a reduced one.
+    fn reduce(&mut self) -> Result<ReduceAnswer, Refusal>;
 
     /// Moves the search forward by at most this many steps.
     fn search(&mut self, budget: u32) -> Result<SearchAnswer, Refusal>;
@@ -28,6 +32,10 @@ impl Implementation for Session {
 
     fn load(&mut self, sheet: &[u8]) -> Result<LoadAnswer, Refusal> {
         Session::load(self, sheet)
+    }
+
+    fn reduce(&mut self) -> Result<ReduceAnswer, Refusal> {
+        Session::reduce(self)
     }
 
     fn search(&mut self, budget: u32) -> Result<SearchAnswer, Refusal> {

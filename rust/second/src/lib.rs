@@ -5,8 +5,8 @@
 //! is an ordered set of such pairs. The modules follow the data: a `sheet` is read, its `grants` go through
 //! the `reduction`, give a `witness` and a first `cover`, the `machine` improves on that, `roles` and the
 //! `book` come out, and the `checker` judges any book. When two `names` are one is said once, for the sheet and for the
-//! checker. A `session` holds a sheet between calls; a `script` is a list of calls. What any other `implementation` has
-//! to offer to be compared is a trait.
+//! checker. A `session` holds a sheet between calls, reduced or not yet; a `script` is a list of calls. What any other
+//! `implementation` has to offer to be compared is a trait.
 
 pub mod book;
 pub mod checker;

@@ -1,6 +1,7 @@
 //! The causes to refuse a call, with the number of each.
 
-/// A cause; the number is document 01's, and a lower one goes before a higher one.
+/// A cause; the number is that of document 01, or of the request of document 02 that adds it. Of several causes a call
+/// answers the first in its own order of checks, and that need not be the lowest: a writing is judged by 10, 16 and 11.
 #[derive(Clone, Copy, Debug, PartialEq, Eq, PartialOrd, Ord, Hash)]
 pub enum Refusal {
     /// The sheet has too many bytes.
@@ -21,7 +22,7 @@ pub enum Refusal {
     NameTwice = 8,
     /// There are too many grants.
     GrantCount = 9,
-    /// A search or a writing came before any accepted sheet.
+    /// A reduction, a search or a writing came before any accepted sheet.
     NoSheet = 10,
     /// The lent buffer is shorter than the book.
     BufferLength = 11,
@@ -33,11 +34,13 @@ pub enum Refusal {
     BookProduct = 14,
     /// A witness grant is not held, or two of them fit.
     BookWitness = 15,
+    /// A search or a writing came while the sheet was not yet reduced.
+    NotReduced = 16,
 }
 
 impl Refusal {
     /// In the order of their numbers.
-    pub const ALL: [Refusal; 15] = [
+    pub const ALL: [Refusal; 16] = [
         Refusal::SheetLength,
         Refusal::SheetBytes,
         Refusal::FirstLine,
@@ -53,6 +56,7 @@ impl Refusal {
         Refusal::BookCounts,
         Refusal::BookProduct,
         Refusal::BookWitness,
+        Refusal::NotReduced,
     ];
 
     /// The cause that has this number.

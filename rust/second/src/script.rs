@@ -2,12 +2,13 @@
 
 use crate::checker::{CheckAnswer, check};
 use crate::refusal::Refusal;
-use crate::session::{LoadAnswer, SearchAnswer, Session};
+use crate::session::{LoadAnswer, ReduceAnswer, SearchAnswer, Session};
 
 /// One call with everything that it brings along.
 #[derive(Clone, Debug, PartialEq, Eq)]
 pub enum Call {
     Load(Vec<u8>),
+    Reduce,
     Search(u32),
     /// A writing into a buffer of this length.
     Write(usize),
@@ -22,6 +23,7 @@ pub enum Call {
 pub fn answer_line(session: &mut Session, call: &Call) -> String {
     match call {
         Call::Load(sheet) => load_line(session.load(sheet)),
+        Call::Reduce => reduce_line(session.reduce()),
         Call::Search(budget) => search_line(session.search(*budget)),
         Call::Write(length) => {
             let mut buffer = lent_buffer(*length);
@@ -51,11 +53,15 @@ pub fn digest(bytes: &[u8]) -> u32 {
 
 fn load_line(answer: Result<LoadAnswer, Refusal>) -> String {
     match answer {
-        Ok(counts) => format!(
-            "load 0 {} {} {} {} {}",
-            counts.users, counts.permissions, counts.grants, counts.kernel, counts.witness
-        ),
-        Err(refusal) => format!("load {} 0 0 0 0 0", refusal.number()),
+        Ok(counts) => format!("load 0 {} {} {}", counts.users, counts.permissions, counts.grants),
+        Err(refusal) => format!("load {} 0 0 0", refusal.number()),
+    }
+}
+
+fn reduce_line(answer: Result<ReduceAnswer, Refusal>) -> String {
+    match answer {
+        Ok(counts) => format!("reduce 0 {} {}", counts.kernel, counts.witness),
+        Err(refusal) => format!("reduce {} 0 0", refusal.number()),
     }
 }
 

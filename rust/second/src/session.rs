@@ -1,4 +1,6 @@
-//! The session: loads, searches and writings, each starting where the call before left it.
+//! The session: loads, reductions, searches and writings, each starting where the call before left it.
+
+use std::mem;
 
 use crate::book::Book;
 use crate::cover;
@@ -16,6 +18,11 @@ pub struct LoadAnswer {
     pub users: usize,
     pub permissions: usize,
     pub grants: usize,
+}
+
+/// What an accepted reduction answers.
+#[derive(Clone, Copy, Debug, PartialEq, Eq)]
+pub struct ReduceAnswer {
     pub kernel: usize,
     pub witness: usize,
 }
@@ -29,15 +36,21 @@ pub struct SearchAnswer {
     pub state: State,
 }
 
-/// A session; the default one is fresh and has no accepted sheet.
+/// A session; the default one is fresh.
 #[derive(Clone, Debug, Default, PartialEq, Eq)]
-pub struct Session {
-    accepted: Option<Accepted>,
+pub enum Session {
+    /// No sheet was accepted yet.
+    #[default]
+    NoSheet,
+    /// The last accepted sheet is not yet reduced.
+    NotReduced(Sheet),
+    /// The last accepted sheet is reduced.
+    Reduced(Reduced),
 }
 
-/// The last accepted sheet, what follows from it, and how far it has been searched.
+/// A sheet, what its reduction found out, and how far it has been searched.
 #[derive(Clone, Debug, PartialEq, Eq)]
-pub struct Accepted {
+pub struct Reduced {
     sheet: Sheet,
     reduction: Reduction,
     witness: Vec<Grant>,
@@ -49,42 +62,75 @@ impl Session {
         Session::default()
     }
 
-    /// Puts a sheet in place of the former one; the search starts anew.
+    /// Puts a sheet, not reduced, in place of the former one.
     pub fn load(&mut self, sheet: &[u8]) -> Result<LoadAnswer, Refusal> {
-        let accepted = Accepted::new(Sheet::read(sheet)?);
-        let answer = accepted.load_answer();
-        self.accepted = Some(accepted);
+        let sheet = Sheet::read(sheet)?;
+        let answer = load_answer(&sheet);
+        *self = Session::NotReduced(sheet);
         Ok(answer)
     }
 
-    /// Moves the search forward by at most this many steps.
+    /// Reduces the sheet and makes the first cover, from which the search starts. A reduced sheet stays as it is, and
+    /// so does its search.
+    pub fn reduce(&mut self) -> Result<ReduceAnswer, Refusal> {
+        let reduced = match mem::take(self) {
+            Session::NoSheet => return Err(Refusal::NoSheet),
+            Session::NotReduced(sheet) => Reduced::of(sheet),
+            Session::Reduced(reduced) => reduced,
+        };
+        let answer = reduced.reduce_answer();
+        *self = Session::Reduced(reduced);
+        Ok(answer)
+    }
+
+    /// Moves the search forward by at most this many steps. Where there is none, no step is made.
     pub fn search(&mut self, budget: u32) -> Result<SearchAnswer, Refusal> {
-        let accepted = self.accepted.as_mut().ok_or(Refusal::NoSheet)?;
-        let steps = accepted.search(budget);
-        Ok(accepted.search_answer(steps))
+        let steps = if let Session::Reduced(reduced) = self { reduced.search(budget) } else { 0 };
+        Ok(self.reduced()?.search_answer(steps))
     }
 
     /// Writes the book to the front of the buffer and gives its byte count; the bytes past it stay.
     pub fn write(&self, buffer: &mut [u8]) -> Result<usize, Refusal> {
-        let book = self.accepted().ok_or(Refusal::NoSheet)?.book_bytes();
+        let book = self.reduced()?.book_bytes();
         let front = buffer.get_mut(..book.len()).ok_or(Refusal::BufferLength)?;
         front.copy_from_slice(&book);
         Ok(book.len())
     }
 
-    /// What the last accepted load left, if there was one.
-    pub fn accepted(&self) -> Option<&Accepted> {
-        self.accepted.as_ref()
+    /// The reduced sheet, or the first cause to refuse a search or a writing where there is none.
+    pub fn reduced(&self) -> Result<&Reduced, Refusal> {
+        match self {
+            Session::NoSheet => Err(Refusal::NoSheet),
+            Session::NotReduced(_) => Err(Refusal::NotReduced),
+            Session::Reduced(reduced) => Ok(reduced),
+        }
     }
 }
 
-impl Accepted {
-    fn new(sheet: Sheet) -> Accepted {
+/// Loads, reduces and searches a sheet in a session of its own and writes its book to the front of the buffer.
+pub fn book(sheet: &[u8], budget: u32, buffer: &mut [u8]) -> Result<usize, Refusal> {
+    let mut session = Session::fresh();
+    session.load(sheet)?;
+    session.reduce()?;
+    session.search(budget)?;
+    session.write(buffer)
+}
+
+fn load_answer(sheet: &Sheet) -> LoadAnswer {
+    LoadAnswer {
+        users: sheet.users().count(),
+        permissions: sheet.permissions().count(),
+        grants: grants::all(sheet).len(),
+    }
+}
+
+impl Reduced {
+    fn of(sheet: Sheet) -> Reduced {
         let reduction = Reduction::of(&sheet);
         let witness = witness::of(&sheet, &reduction);
         let first_best = cover::first_best(&sheet, &reduction.kernel);
         let machine = Machine::start(&task(&sheet, &reduction, &witness), first_best);
-        Accepted { sheet, reduction, witness, machine }
+        Reduced { sheet, reduction, witness, machine }
     }
 
     pub fn sheet(&self) -> &Sheet {
@@ -129,14 +175,8 @@ impl Accepted {
         State::of(role_count, self.witness.len(), self.machine.is_finished())
     }
 
-    fn load_answer(&self) -> LoadAnswer {
-        LoadAnswer {
-            users: self.sheet.users().count(),
-            permissions: self.sheet.permissions().count(),
-            grants: grants::all(&self.sheet).len(),
-            kernel: self.reduction.kernel.len(),
-            witness: self.witness.len(),
-        }
+    fn reduce_answer(&self) -> ReduceAnswer {
+        ReduceAnswer { kernel: self.reduction.kernel.len(), witness: self.witness.len() }
     }
 
     /// Each class of the kernel and each single is a role.

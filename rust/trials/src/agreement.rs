@@ -6,7 +6,7 @@ use second::implementation::Implementation;
 use second::refusal::Refusal;
 use second::roles::State;
 use second::script::{Call, lent_buffer};
-use second::session::{LoadAnswer, SearchAnswer, Session};
+use second::session::{LoadAnswer, ReduceAnswer, SearchAnswer, Session};
 
 use crate::book_draft::{BookDraft, Place, with_fields};
 use crate::brute;
@@ -22,6 +22,8 @@ use crate::random::Random;
 use crate::restated::spelling::settled;
 use crate::spelling;
 use crate::tally::Tally;
+
+pub mod reducing;
 
 /// Steps within which nearly all small sheets are finished.
 const SMALL_BUDGET: u32 = 100_000;
@@ -40,10 +42,17 @@ impl<Other: Implementation> Pair<Other> {
         Pair { second: Session::fresh(), other: Other::fresh() }
     }
 
-    /// Sessions with this sheet, which must be acceptable.
+    /// Sessions with this sheet, which must be acceptable. It is not reduced.
     pub fn loaded(draft: &Draft) -> Self {
         let mut pair = Pair::fresh();
         pair.load(&draft.bytes()).expect("the sheet is acceptable");
+        pair
+    }
+
+    /// Sessions with this sheet, which must be acceptable, reduced.
+    pub fn reduced(draft: &Draft) -> Self {
+        let mut pair = Pair::loaded(draft);
+        pair.reduce().expect("a sheet is loaded");
         pair
     }
 
@@ -53,18 +62,29 @@ impl<Other: Implementation> Pair<Other> {
         expected
     }
 
-    pub fn search(&mut self, budget: u32) -> Result<SearchAnswer, Refusal> {
-        let expected = self.second.search(budget);
-        assert_eq!(self.other.search(budget), expected, "{:?}", self.second.accepted());
+    pub fn reduce(&mut self) -> Result<ReduceAnswer, Refusal> {
+        let expected = self.second.reduce();
+        assert_eq!(self.other.reduce(), expected, "{:?}", self.second);
         expected
     }
 
-    /// A writing into a buffer of this length; the buffers are then compared whole.
+    pub fn search(&mut self, budget: u32) -> Result<SearchAnswer, Refusal> {
+        let expected = self.second.search(budget);
+        assert_eq!(self.other.search(budget), expected, "{:?}", self.second);
+        expected
+    }
+
+    /// A writing into a buffer of this length; the buffers are then compared whole. A refused one leaves every byte.
     pub fn write(&mut self, length: usize) -> Result<usize, Refusal> {
         let mut expected_buffer = lent_buffer(length);
         let expected = self.second.write(&mut expected_buffer);
         let mut buffer = lent_buffer(length);
-        assert_eq!(self.other.write(&mut buffer), expected, "{:?}", self.second.accepted());
+        assert!(
+            expected.is_ok() || expected_buffer == buffer,
+            "{}",
+            String::from_utf8_lossy(&expected_buffer)
+        );
+        assert_eq!(self.other.write(&mut buffer), expected, "{:?}", self.second);
         assert!(
             buffer == expected_buffer,
             "{}\nand not\n{}",
@@ -76,17 +96,28 @@ impl<Other: Implementation> Pair<Other> {
 
     /// Writings of the book into buffers of its length, one byte shorter and some bytes longer. Gives the book.
     pub fn book(&mut self) -> Vec<u8> {
-        let book = self.second.accepted().map(|accepted| accepted.book_bytes()).unwrap_or_default();
+        let book = self.second.reduced().expect("the sheet is reduced").book_bytes();
         assert_eq!(self.write(book.len()), Ok(book.len()));
         assert_eq!(self.write(book.len() - 1), Err(Refusal::BufferLength));
         assert_eq!(self.write(book.len() + 100), Ok(book.len()));
         book
     }
 
+    /// Searches of any budget and writings into buffers of these lengths, all refused by this cause.
+    fn assert_refused(&mut self, refusal: Refusal, lengths: &[usize]) {
+        for budget in [0, 1, u32::MAX] {
+            assert_eq!(self.search(budget), Err(refusal));
+        }
+        for length in lengths {
+            assert_eq!(self.write(*length), Err(refusal));
+        }
+    }
+
     /// Makes a call and gives its name and the number of the refusal, 0 if there is none.
     fn call(&mut self, call: &Call) -> (&'static str, u32) {
         let (name, refusal) = match call {
             Call::Load(sheet) => ("load", self.load(sheet).err()),
+            Call::Reduce => ("reduce", self.reduce().err()),
             Call::Search(budget) => ("search", self.search(*budget).err()),
             Call::Write(length) => ("write", self.write(*length).err()),
             Call::Check { sheet, book } => ("check", checked::<Other>(sheet, book).err()),
@@ -103,13 +134,13 @@ pub fn checked<Other: Implementation>(sheet: &[u8], book: &[u8]) -> Result<Check
     expected
 }
 
-/// Loads, searches and books of such sheets.
+/// Loads, reductions, searches and books of such sheets.
 pub fn books_agree<Other: Implementation>(count: u64, sheet: impl Fn(&mut Random) -> Draft) {
     let mut states = Tally::default();
     cases(count, |random| {
-        let mut pair = Pair::<Other>::loaded(&sheet(random));
+        let mut pair = Pair::<Other>::reduced(&sheet(random));
         for budget in [0, 1, random.below(20) as u32, random.below(3_000) as u32] {
-            let answer = pair.search(budget).expect("a sheet is loaded");
+            let answer = pair.search(budget).expect("the sheet is reduced");
             states.note(answer.state.word());
         }
         pair.book();
@@ -141,8 +172,8 @@ pub fn checks_agree<Other: Implementation>(count: u64, sheet: impl Fn(&mut Rando
     let mut numbers = Tally::default();
     cases(count, |random| {
         let draft = sheet(random);
-        let mut pair = Pair::<Other>::loaded(&draft);
-        pair.search(random.below(500) as u32).expect("a sheet is loaded");
+        let mut pair = Pair::<Other>::reduced(&draft);
+        pair.search(random.below(500) as u32).expect("the sheet is reduced");
         let book = pair.book();
         checked::<Other>(&draft.bytes(), &book).expect("a written book is accepted");
         let damaged = match random.below(10) {
@@ -163,11 +194,11 @@ pub fn checks_agree<Other: Implementation>(count: u64, sheet: impl Fn(&mut Rando
 pub fn spelled_sheets_agree<Other: Implementation>(count: u64) {
     cases(count, |random| {
         let draft = families::any(random, 8);
-        let mut pair = Pair::<Other>::loaded(&draft);
-        let counts = pair.load(&draft.bytes());
+        let mut pair = Pair::<Other>::fresh();
+        let counts = (pair.load(&draft.bytes()), pair.reduce());
         assert_spelled_as(&draft, &pair.book());
         let respelt = spelling::sheet(random, &draft);
-        assert_eq!(pair.load(&respelt.bytes()), counts, "{respelt:?}");
+        assert_eq!((pair.load(&respelt.bytes()), pair.reduce()), counts, "{respelt:?}");
         let book = pair.book();
         assert_spelled_as(&respelt, &book);
         let refused = [
@@ -199,8 +230,8 @@ pub fn spelled_books_agree<Other: Implementation>(count: u64, sheet: impl Fn(&mu
     let mut doubled_books = Tally::default();
     cases(count, |random| {
         let draft = sheet(random);
-        let mut pair = Pair::<Other>::loaded(&draft);
-        pair.search(random.below(500) as u32).expect("a sheet is loaded");
+        let mut pair = Pair::<Other>::reduced(&draft);
+        pair.search(random.below(500) as u32).expect("the sheet is reduced");
         let book = pair.book();
         let judged = |draft: &Draft, book: &[u8]| checked::<Other>(&draft.bytes(), book);
         let answer = judged(&draft, &book).expect("a written book is accepted");
@@ -227,7 +258,7 @@ pub fn bytes_of_names_agree<Other: Implementation>() {
     let mut pair = Pair::<Other>::fresh();
     for own in NAME_CHARACTERS {
         let draft = named_alike(&char::from(*own).to_string());
-        let book = Pair::<Other>::loaded(&draft).book();
+        let book = Pair::<Other>::reduced(&draft).book();
         for other in 0..=u8::MAX {
             let are_one = settled(&[*own]) == settled(&[other]);
             for place in Place::ALL {
@@ -252,7 +283,7 @@ pub fn lengths_of_names_agree<Other: Implementation>() {
         let name: String =
             (0..length).map(|_| char::from(*random.pick(&NAME_CHARACTERS[..2 * 26]))).collect();
         let draft = named_alike(&name);
-        let book = Pair::<Other>::loaded(&draft).book();
+        let book = Pair::<Other>::reduced(&draft).book();
         let turned = spelling::all_turned(&name);
         let mut assert_agree = |other: &str, are_one: bool| {
             assert_names_agree(&mut pair, [&name, other].map(str::to_string), are_one);
@@ -311,10 +342,11 @@ pub fn sequences_agree<Other: Implementation>(count: u64, length: usize, size: u
             seen.note(pair.call(&call));
         }
     });
-    let outcomes: [(&str, &[u32]); 4] = [
+    let outcomes: [(&str, &[u32]); 5] = [
         ("load", &[0, 1, 2, 3, 5, 6, 7, 8]),
-        ("search", &[0, 10]),
-        ("write", &[0, 10, 11]),
+        ("reduce", &[0, 10]),
+        ("search", &[0, 10, 16]),
+        ("write", &[0, 10, 11, 16]),
         ("check", &[0, 12, 13, 14, 15]),
     ];
     for (call, numbers) in outcomes {
@@ -330,9 +362,9 @@ pub fn roles_are_smallest<Other: Implementation>(count: u64) {
         let density = random.between(20, 90);
         let draft = families::random(random, users, permissions, density);
         let smallest = brute::smallest(&draft.held);
-        let mut pair = Pair::<Other>::loaded(&draft);
+        let mut pair = Pair::<Other>::reduced(&draft);
         for budget in [0, random.below(50) as u32, SMALL_BUDGET] {
-            let answer = pair.search(budget).expect("a sheet is loaded");
+            let answer = pair.search(budget).expect("the sheet is reduced");
             assert!(answer.bound <= smallest && smallest <= answer.roles, "{smallest} {answer:?} {draft:?}");
             let is_settled = answer.state != State::Open;
             assert!(!is_settled || answer.roles == smallest, "{smallest} {answer:?} {draft:?}");
@@ -343,13 +375,16 @@ pub fn roles_are_smallest<Other: Implementation>(count: u64) {
     states.expect(State::ALL.map(State::word), 5);
 }
 
-/// Sheets as large as there can be, searched and written, with their books checked, as written, with names in other
-/// case and with one name misspelt.
+/// Sheets as large as there can be, reduced, searched and written, with their books checked, as written, with names in
+/// other case and with one name misspelt.
 pub fn large_sheets_agree<Other: Implementation>(drafts: &[Draft]) {
     let mut random = Random::from_seed(7);
     for draft in drafts {
         let mut pair = Pair::<Other>::loaded(draft);
-        pair.search(LARGE_BUDGET).expect("a sheet is loaded");
+        pair.assert_refused(Refusal::NotReduced, &[0, paper::BOOK_BYTES]);
+        let counts = pair.reduce();
+        pair.search(LARGE_BUDGET).expect("the sheet is reduced");
+        assert_eq!(pair.reduce(), counts);
         let book = pair.book();
         let answer = checked::<Other>(&draft.bytes(), &book).expect("a written book is accepted");
         let spelled = spelling::book(&mut random, draft, &book);
@@ -426,7 +461,7 @@ pub fn random_large_sheets_agree<Other: Implementation>(count: u64) {
     });
 }
 
-/// Each limit passes, and one more is refused.
+/// Each limit passes and is reduced, and one more is refused.
 pub fn limits_agree<Other: Implementation>() {
     let mut random = Random::from_seed(6);
     let named = |bytes| extremes::with_name_bytes(extremes::full(2, 2), bytes).bytes();
@@ -457,14 +492,16 @@ pub fn limits_agree<Other: Implementation>() {
         (Vec::new(), Some(Refusal::SheetBytes)),
     ];
     for (sheet, expected) in outcomes {
-        assert_eq!(Pair::<Other>::fresh().load(&sheet).err(), expected);
+        let mut pair = Pair::<Other>::fresh();
+        assert_eq!(pair.load(&sheet).err(), expected);
+        assert_eq!(pair.reduce().err(), expected.map(|_| Refusal::NoSheet));
     }
 }
 
 /// Books of as many role lines and bytes as are read, and of one more.
 pub fn book_limits_agree<Other: Implementation>() {
     let draft = families::crown(4);
-    let book = Pair::<Other>::loaded(&draft).book();
+    let book = Pair::<Other>::reduced(&draft).book();
     let number = |book: &BookDraft| {
         checked::<Other>(&draft.bytes(), book.text(&draft).as_bytes()).err().map_or(0, Refusal::number)
     };
@@ -484,7 +521,8 @@ pub fn book_limits_agree<Other: Implementation>() {
     }
 }
 
-/// Kernels of 127 and 128 grants are searched, one of 129 is not, wherever their permissions stand.
+/// Kernels of 127 and 128 grants are searched, one of 129 is not, wherever their permissions stand and however often
+/// they are reduced.
 pub fn kernels_agree<Other: Implementation>(count: u64) {
     cases(count, |random| {
         for size in [127, paper::SEARCHED_KERNEL, 129] {
@@ -497,7 +535,11 @@ pub fn kernels_agree<Other: Implementation>(count: u64) {
 
 fn kernel_agrees<Other: Implementation>(draft: &Draft, size: usize) {
     let mut pair = Pair::<Other>::loaded(draft);
-    let steps = [10_000, 20_000].map(|budget| pair.search(budget).expect("a sheet is loaded").steps);
+    pair.assert_refused(Refusal::NotReduced, &[0, paper::BOOK_BYTES]);
+    let steps = [10_000, 20_000].map(|budget| {
+        assert_eq!(pair.reduce().map(|counts| counts.kernel), Ok(size));
+        pair.search(budget).expect("the sheet is reduced").steps
+    });
     assert_eq!(steps[0] > 0, size <= paper::SEARCHED_KERNEL);
     let book = pair.book();
     checked::<Other>(&draft.bytes(), &book).expect("a written book is accepted");
@@ -507,8 +549,8 @@ fn kernel_agrees<Other: Implementation>(draft: &Draft, size: usize) {
 fn unfinished_kernel<Other: Implementation>(random: &mut Random, size: usize) -> Draft {
     random.until_found(|random| {
         let draft = with_kernel(random, size);
-        let mut pair = Pair::<Other>::loaded(&draft);
-        let state = pair.search(0).expect("a sheet is loaded").state;
+        let mut pair = Pair::<Other>::reduced(&draft);
+        let state = pair.search(0).expect("the sheet is reduced").state;
         (state == State::Open).then_some(draft)
     })
 }

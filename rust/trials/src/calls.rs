@@ -11,6 +11,7 @@ use crate::extremes;
 use crate::families;
 use crate::paper;
 use crate::random::Random;
+use crate::sessions::first_book;
 use crate::spelling;
 
 /// Searches of a sequence stay below this budget unless nothing is left to search.
@@ -30,6 +31,7 @@ pub fn sequence(random: &mut Random, length: usize, size: usize) -> Vec<Call> {
         let call = any_call(random, &sheets, &session);
         match &call {
             Call::Load(sheet) => drop(session.load(sheet)),
+            Call::Reduce => drop(session.reduce()),
             Call::Search(budget) => drop(session.search(*budget)),
             Call::Write(_) | Call::Check { .. } => (),
         }
@@ -42,12 +44,15 @@ fn any_draft(random: &mut Random, size: usize) -> Draft {
     if random.percent(15) { families::any_wide(random, size) } else { families::any(random, size) }
 }
 
-/// A call that goes well with the state of the session: a buffer just long enough, say, or one byte short.
+/// A call that goes well with the state of the session: a buffer just long enough, say, or one byte short. Reductions
+/// come anywhere, and more often while the sheet is not reduced.
 fn any_call(random: &mut Random, sheets: &[Draft], session: &Session) -> Call {
-    match random.below(10) {
+    match random.below(14) {
         0..=1 => Call::Load(any_sheet(random, sheets)),
-        2..=5 => Call::Search(any_budget(random, session)),
-        6..=8 => Call::Write(any_length(random, session)),
+        2 => Call::Reduce,
+        3..=5 if matches!(session, Session::NotReduced(_)) => Call::Reduce,
+        3..=8 => Call::Search(any_budget(random, session)),
+        9..=12 => Call::Write(any_length(random, session)),
         _ => any_check(random, sheets),
     }
 }
@@ -64,7 +69,7 @@ fn any_sheet(random: &mut Random, sheets: &[Draft]) -> Vec<u8> {
 }
 
 fn any_budget(random: &mut Random, session: &Session) -> u32 {
-    let nothing_left = session.accepted().is_none_or(|accepted| accepted.machine().is_finished());
+    let nothing_left = session.reduced().map_or(true, |reduced| reduced.machine().is_finished());
     let budget = match random.below(6) {
         0 => 0,
         1 => 1,
@@ -75,8 +80,11 @@ fn any_budget(random: &mut Random, session: &Session) -> u32 {
     budget as u32
 }
 
+/// Goes by the length of the book that there is, or would be if the sheet were reduced.
 fn any_length(random: &mut Random, session: &Session) -> usize {
-    let needed = session.accepted().map_or(0, |accepted| accepted.book_bytes().len());
+    let mut session = session.clone();
+    session.reduce().ok();
+    let needed = session.reduced().map_or(0, |reduced| reduced.book_bytes().len());
     match random.below(5) {
         0 => needed,
         1 => needed.saturating_sub(1),
@@ -87,9 +95,7 @@ fn any_length(random: &mut Random, session: &Session) -> usize {
 
 fn any_check(random: &mut Random, sheets: &[Draft]) -> Call {
     let draft = random.pick(sheets);
-    let mut session = Session::fresh();
-    session.load(&draft.bytes()).expect("a sheet of a family is acceptable");
-    let book = session.accepted().map(|accepted| accepted.book_bytes()).unwrap_or_default();
+    let book = first_book(&draft.bytes());
     let book = match random.below(10) {
         0..=4 => damage::book(random, draft, &book),
         5 => spelling::book(random, draft, &book),
@@ -112,6 +118,7 @@ pub fn script(calls: &[Call], directory: &Path) -> std::io::Result<String> {
         };
         let line = match call {
             Call::Load(sheet) => format!("load {}", file("sheet", sheet)?),
+            Call::Reduce => "reduce".to_string(),
             Call::Search(budget) => format!("search {budget}"),
             Call::Write(length) => format!("write {length}"),
             Call::Check { sheet, book } => format!("check {} {}", file("sheet", sheet)?, file("book", book)?),

@@ -1,10 +1,9 @@
 //! Sheets at the limits and one beyond.
 
-use second::session::Session;
-
 use crate::draft::Draft;
 use crate::paper;
 use crate::random::Random;
+use crate::sessions::first_book;
 use crate::spelling;
 
 /// Everyone holds everything.
@@ -119,19 +118,12 @@ pub fn with_longest_book() -> Draft {
 pub fn with_book_bytes(bytes: usize) -> Draft {
     const HOLDERS: usize = 100;
     let sized = |users| Draft::plain(users, HOLDERS, |user, permission| user == permission);
-    let is_within = |draft: &Draft| book_length(draft) <= bytes;
+    let is_within = |draft: &Draft| first_book(&draft.bytes()).len() <= bytes;
     let within = (HOLDERS..=paper::USERS).map(sized).take_while(is_within);
     let mut draft = within.last().expect("the book of the first hundred is shorter");
-    let missing = bytes - book_length(&draft);
+    let missing = bytes - first_book(&draft.bytes()).len();
     fill(draft.users[HOLDERS..].iter_mut(), missing);
     draft
-}
-
-/// The bytes of the book of an acceptable sheet before any search.
-fn book_length(draft: &Draft) -> usize {
-    let mut session = Session::fresh();
-    session.load(&draft.bytes()).expect("the sheet is acceptable");
-    session.accepted().map_or(0, |accepted| accepted.book_bytes().len())
 }
 
 /// A sheet of exactly this many bytes with nothing wrong but one user's name, which is as long as that takes.

@@ -3,7 +3,7 @@
 //!
 //! Generators, all from seeds: `families` of sheets, sheets at the limits (`extremes`), sheets with a kernel
 //! of a given size (`kernels`), damaged sheets and books (`damage`), sheets and books with names and words in another
-//! `spelling`, and sequences of `calls`. Answers from
+//! `spelling`, and sequences of `calls`. Ready to be tried: `sessions` with a sheet. Answers from
 //! elsewhere: `brute` finds the smallest number of roles from the two matrices alone, and `restated` says the
 //! rules of document 01 a second time, in another way. Any other implementation is held to the second one by
 //! `agreement`.
@@ -21,5 +21,6 @@ pub mod kernels;
 pub mod paper;
 pub mod random;
 pub mod restated;
+pub mod sessions;
 pub mod spelling;
 pub mod tally;

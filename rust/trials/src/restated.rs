@@ -3,6 +3,7 @@
 
 pub mod causes;
 pub mod form;
+pub mod history;
 pub mod recursion;
 pub mod spelling;
 pub mod tables;

@@ -15,14 +15,15 @@ use Rattle.spec.specs.Sheet.{sheet-of}
 use Rattle.spec.specs.Machine.{State}
 use Rattle.spec.specs.Roles.{start-of}
 use Rattle.spec.specs.Book.{book}
-use Rattle.spec.specs.Session.{loaded}
+use Rattle.spec.specs.Session.{reduced}
 use Rattle.spec.specs.Refusal.{refusal, accepted}
-use Rattle.spec.specs.Calls.{searched-on, after-load, after-search, write-answer, CheckAnswer, check}
+use Rattle.spec.specs.Calls.{searched-on, after-load, after-reduce, after-search, WriteAnswer, write-answer}
+use Rattle.spec.specs.Calls.{CheckAnswer, check}
 use Rattle.spec.specs.Program.{budget-of, number-line, printed, program-output}
 use Rattle.spec.specs.Sequence.{WriteOutcome, brought-out}
 use Rattle.spec.specs.Demands.{Believed}
 use Rattle.text.specs.Written.{Written}
-use Rattle.demands.specs.Answers.{loaded-write, loaded-write-short}
+use Rattle.demands.specs.Answers.{reduced-write, reduced-write-short}
 use Rattle.right.specs.CheckOwed.{CheckOwed, check-owed}
 use Rattle.porvuund.specs.OneShot.{searched-once, book-answer, book-buffer}
 use Rattle.porvuund.specs.Laws.TaskOwed.{TaskOwed, task-owed}
@@ -57,8 +58,8 @@ module _ (text : Bytes) (arguments : List Bytes) where
   abbrev pub task-book : Bytes
   task-book = book (sheet-of text) own-state
 
-  sheet-there : So (accepted text) → searched-once text (budget-of arguments) ≡ loaded text own-state
-  unfolding after-load after-search
+  sheet-there : So (accepted text) → searched-once text (budget-of arguments) ≡ reduced text own-state
+  unfolding after-load after-reduce after-search
   sheet-there takes = rw takes
 
   room : length zeros ≡ 65_536
@@ -68,12 +69,13 @@ module _ (text : Bytes) (arguments : List Bytes) where
   -- its buffer takes a book of up to 65,536 bytes, and no longer one
   answered : So (accepted text) → length task-book ≤ 65_536 → task .answer .number ≡ 0
   unfolding book-answer
-  answered takes short = rw (takes, sheet-there takes) (loaded-write text own-state zeros (omega (arith, room, short)))
+  answered takes short = rw (takes, sheet-there takes) (reduced-write text own-state zeros (omega (arith, room, short)))
 
   not-taken : So (accepted text) → 65_536 < length task-book
       → write-answer (searched-once text (budget-of arguments)) zeros .number ≡ 11
   not-taken takes long =
-      rw (sheet-there takes) (loaded-write-short text own-state zeros (omega (arith, room, long)))
+      rw (sheet-there takes)
+      (ap (λ (a : WriteAnswer). a .number) (reduced-write-short text own-state zeros (omega (arith, room, long))))
 
   -- what it prints is what the task brings out
   prints-the-book : So (accepted text) → length task-book ≤ 65_536 → program-output text arguments ≡ brought-out task

@@ -1,21 +1,15 @@
--- How a load finds what there is to find of an accepted sheet: its rows show it, the cells that the reduction left
--- are those of its kernel, and the cells logged as single are those of its singles.
+-- How a reduction finds what there is to find of a sheet that the rows show: the cells that it left are those of the
+-- sheet's kernel, and the cells logged as single are those of its singles.
 use Prim.Native.Nat.{ℕ, _*_, _≤_}
 use mathlib.Core.Path.{_≡_, sym, ap, _∙_}
 use mathlib.Core.List.{List, map}
 use lib.ListN.{length, take, length-map}
 use lib.Seq.{length-take-le}
-use Rattle.spec.specs.Limits.{user-limit, grant-limit}
-use Rattle.spec.specs.Text.{Bytes}
-use Rattle.spec.specs.Sheet.{Sheet, sheet-of, grants}
+use Rattle.spec.specs.Limits.{grant-limit}
+use Rattle.spec.specs.Sheet.{Sheet, grants}
 use Rattle.spec.specs.Reduction.{kernel, singles, singles-of}
-use Rattle.rules.specs.AcceptedFacts.{Lawful, accepted-lawful}
-use Rattle.names.specs.LaidOut.{LaidOut}
 use Rattle.cell_rows.specs.Rows.{row-bits}
-use Rattle.cells.specs.RowsRead.{RowsRead}
-use Rattle.names.specs.declared.layout.Layout.{Layout}
 use Rattle.cell_rows.specs.CellPlaces.{grant-of, Shown, Shows}
-use Rattle.cells.specs.Laws.CellLawful.{lawful-shown, lawful-shows}
 use Rattle.reduction.specs.ReductionResult.{ReducedFrom, log-in}
 use Rattle.cells.specs.KernelArray.{Roomy, Listed, KernelListed, shown-roomy, listed-grants}
 use Rattle.cover.specs.CoverPlaced.{Placed}
@@ -23,21 +17,6 @@ use Rattle.witness.specs.WitnessRows.{ReducedTo, ReducedRows}
 use Rattle.witness.specs.WitnessSingles.{CellsOf, grants-part}
 use Rattle.reduction.specs.declared.reduction.Reduced.{Reduced}
 use Rattle.minimality.specs.Singles.{single-granted}
-
--- the rows read of an accepted sheet
-module _ {text : Bytes} {layout : Layout} (laid : LaidOut text layout) where
-  pub laid-lawful : Lawful (sheet-of text)
-  laid-lawful = accepted-lawful text (laid .accepts)
-
-  pub laid-few-users : layout .users ≤ user-limit
-  laid-few-users = rw (laid .user-total) (laid-lawful .few-users)
-
-  module _ {rows : List ℕ} (read : RowsRead rows (sheet-of text)) where
-    pub laid-shown : Shown rows (layout .users) (sheet-of text)
-    laid-shown = rw (laid .user-total) (lawful-shown laid-lawful (read .rows))
-
-    pub laid-shows : Shows rows (layout .users)
-    laid-shows = rw (laid .user-total) (lawful-shows laid-lawful (read .rows))
 
 -- what the reduction of the grants that the rows show left and logged
 module _ {rows : List ℕ} {users : ℕ} {reduced : Reduced} (from : ReducedFrom rows users reduced) {sheet : Sheet}

@@ -10,8 +10,7 @@ use borrow.Author.Tests.{lt-ltb}
 use lib.Dec.{ltb}
 use lib.ListN.{length}
 use Rattle.spec.specs.Limits.{search-limit}
-use Rattle.spec.specs.Text.{Bytes}
-use Rattle.spec.specs.Sheet.{sheet-of}
+use Rattle.spec.specs.Sheet.{Sheet}
 use Rattle.spec.specs.Reduction.{kernel}
 use Rattle.spec.specs.Cover.{fit-at}
 use Rattle.spec.specs.Machine.{Kernel}
@@ -41,27 +40,27 @@ read-alike : (table : List ℕ) (i j : ℕ) → fit-in table i j ≡ table-bit t
 unfolding table-row
 read-alike table i j = refl
 
-module _ {text : Bytes} {p : Prepared} (found : PreparedFor text p) where
+module _ {sheet : Sheet} {rows : List ℕ} {users : ℕ} {p : Prepared} (found : PreparedFor sheet rows users p) where
   -- the table says of two grants of the kernel whether they fit
   table-fit : p .kernel .size ≤ search-limit → (i j : ℕ) → i < p .kernel .size → j < p .kernel .size
-      → fit-in (p .table) i j ≡ fit-at (sheet-of text) (kernel (sheet-of text)) i j
+      → fit-in (p .table) i j ≡ fit-at sheet (kernel sheet) i j
   table-fit l i j h k =
       let size = found .kernel-size in
-      let first : So (ltb i (length (kernel (sheet-of text)))) = lt-ltb i (length (kernel (sheet-of text)))
+      let first : So (ltb i (length (kernel sheet))) = lt-ltb i (length (kernel sheet))
       (omega arith) in
-      let second : So (ltb j (length (kernel (sheet-of text)))) = lt-ltb j (length (kernel (sheet-of text)))
+      let second : So (ltb j (length (kernel sheet))) = lt-ltb j (length (kernel sheet))
       (omega arith) in
       read-alike (p .table) i j
       ∙ found .table .entry i j (within-table i (p .kernel .size) l h) (within-table j (p .kernel .size) l k)
       ∙ rw (first, second)
 
   -- no search tells the two kernels apart
-  pub same-kernel : p .kernel .size ≤ search-limit → SameKernel (table-kernel p) (kernel-of (sheet-of text))
+  pub same-kernel : p .kernel .size ≤ search-limit → SameKernel (table-kernel p) (kernel-of sheet)
   unfolding kernel-of
   same-kernel l =
       record {
         size = found .kernel-size;
-        singles = found .reduced .single-count (sheet-of text) (found .shown);
+        singles = found .reduced .single-count sheet (found .shown);
         witness = found .witness .counted;
         fit = table-fit l;
       }

@@ -1,4 +1,4 @@
--- The best placement of a session with a sheet: where the kernel can be searched it is the position's, and else the
+-- The best placement of a session whose sheet is reduced: where the kernel can be searched it is the position's, and else the
 -- first cover, which no search changes. Its classes are counted in the position, and with it the arrays that the
 -- session keeps are what the sheet's roles are found from.
 use Prim.Native.Nat.{ℕ, _≤_, _<_}
@@ -40,7 +40,7 @@ best-in s = best-classes (s .prepared .first .classes) (s .position .best) (size
 -- the sheet's roles are found from these parts of what the session keeps, with these classes
 abbrev pub PartsBelong : CodeSession → List ℕ → Type 0
 PartsBelong s classes =
-    Belongs (s .prepared .rows) (s .prepared .layout .users) (take (size-in s) (s .prepared .kernel .cells)) classes
+    Belongs (s .rows) (s .layout .users) (take (size-in s) (s .prepared .kernel .cells)) classes
     (s .position .cursor .count) (take (s .prepared .reduced .count) (s .prepared .reduced .removed))
     (take (s .prepared .reduced .count) (s .prepared .reduced .partner)) (sheet-of (text-in s)) (state-in s .best)
 
@@ -78,7 +78,7 @@ module _ {s : CodeSession} (h : Holds s) where
     pub best-belongs : PartsBelong s (take (size-in s) (best-in s))
     best-belongs =
         let found = h .prepared in
-        reduced-belongs (found .shown) (few-users (found .laid))
-        (accepted-lawful (text-in s) (found .laid .accepts) .few-grants)
+        reduced-belongs (found .shown) (few-users (h .sheet .laid))
+        (accepted-lawful (text-in s) (h .sheet .laid .accepts) .few-grants)
         (s .prepared .reduced) (s .prepared .kernel) (found .reduced) (found .listed) (found .room) best-held
         best-room few-classes few-roles

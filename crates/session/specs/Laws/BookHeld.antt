@@ -1,4 +1,4 @@
--- The book of a session with a sheet, from what the session keeps: the witness's cells are cells of grants, its roles
+-- The book of a session whose sheet is reduced, from what the session keeps: the witness's cells are cells of grants, its roles
 -- have places in the rows of words, and what is written of its counts, its roles and its witness is the book of the
 -- sheet where the search stands.
 use Prim.Native.Nat.{ℕ, _≤_, _<_}
@@ -43,7 +43,7 @@ part-granted {rows} {words} {sheet = sheet} shown fit part = record { held = λ 
 
 module _ {s : CodeSession} (h : Holds s) where
   room-for-permissions : permission-count (sheet-of (text-in s)) ≤ row-bits
-  room-for-permissions = let laid = h .prepared .laid in omega (arith, laid-permissions-fit laid, laid .permission-total)
+  room-for-permissions = let laid = h .sheet .laid in omega (arith, laid-permissions-fit laid, laid .permission-total)
 
   -- the witness's cells are cells of grants
   pub witness-cells-granted : GrantCells (s .prepared .witness .cells) (sheet-of (text-in s))
@@ -57,11 +57,11 @@ module _ {s : CodeSession} (h : Holds s) where
 
     -- what is written is the book
     pub book-held : {has gives : List ℕ} {count : ℕ}
-        → RolesAt has gives count (s .prepared .layout .users) (roles-of (sheet-of (text-in s)) (state-in s .best))
+        → RolesAt has gives count (s .layout .users) (roles-of (sheet-of (text-in s)) (state-in s .best))
         → rows-book (text-in s) has gives (s .prepared .witness .cells) counts ≡ book (sheet-of (text-in s))
         (state-in s)
     unfolding role-count
     book-held at =
         rows-book-in (text-in s) (s .prepared .witness .cells) counts (state-in s)
-        (record { rows = rw (h .prepared .laid .user-total) at (at .rows); total = counted .roles })
+        (record { rows = rw (h .sheet .laid .user-total) at (at .rows); total = counted .roles })
         room-for-permissions (counted .bound) (counted .standing) (h .prepared .witness .in-order)

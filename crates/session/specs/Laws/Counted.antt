@@ -20,7 +20,16 @@ pub record CountsIn (s : CodeSession) (counts : Counts) : Type 0 where
 -- the session with its search at another position
 abbrev pub moved-to : CodeSession → Position → CodeSession
 moved-to s at =
-    record { loaded = s .loaded; length = s .length; text = s .text; prepared = s .prepared; position = at }
+    record {
+      loaded = s .loaded;
+      reduced = s .reduced;
+      length = s .length;
+      text = s .text;
+      layout = s .layout;
+      rows = s .rows;
+      position = at;
+      prepared = s .prepared;
+    }
 
 -- the search goes on as the machine does, and the session holds what it did
 pub record RanIn (s : CodeSession) (budget : ℕ) (ran : Ran) : Type 0 where

@@ -32,7 +32,7 @@ module _ {s : CodeSession} (h : Holds s) where
   -- never more than permissions
   pub few-roles-held : roles-in s ≤ permission-limit
   few-roles-held =
-      let accepts = h .prepared .laid .accepts in
+      let accepts = h .sheet .laid .accepts in
       omega (
         arith,
         roles-held,

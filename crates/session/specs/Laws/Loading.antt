@@ -1,5 +1,5 @@
--- What a load comes to: a sheet to which a cause applies is answered by the lowest such number and changes nothing;
--- any other is answered by its counts and started anew.
+-- What a load comes to: a sheet to which a cause applies is answered by the first such number and changes nothing; any
+-- other is answered by its counts, and is then the session's, not reduced.
 use Prim.Native.Nat.{ℕ, _≤_}
 use mathlib.Core.Path.{_≡_, _∙_}
 use mathlib.Core.Bool.{false, So}
@@ -9,13 +9,12 @@ use lib.ListN.{length}
 use Rattle.spec.specs.Limits.{sheet-limit}
 use Rattle.spec.specs.Text.{Bytes}
 use Rattle.spec.specs.Sheet.{sheet-of}
-use Rattle.spec.specs.Roles.{start-of}
-use Rattle.spec.specs.Session.{Session, loaded}
+use Rattle.spec.specs.Session.{Session, read}
 use Rattle.spec.specs.Refusal.{refusal, accepted}
 use Rattle.spec.specs.Calls.{LoadAnswer, load-refused, load-counts, load-answer, after-load, Loads}
 use Rattle.rules.specs.AcceptedFacts.{accepted-short}
-use Rattle.preparing.specs.Prepared.{PreparedFor, counts-in}
-use Rattle.preparing.specs.declared.prepared.Prepared.{Prepared}
+use Rattle.names.specs.LaidOut.{LaidOut}
+use Rattle.names.specs.declared.layout.Layout.{Layout}
 
 module _ (before : Session) (text : Bytes) where
   -- refused
@@ -29,23 +28,22 @@ module _ (before : Session) (text : Bytes) where
 
   -- accepted
   pub accepted-loads : {answer : LoadAnswer} {after : Session} → refusal text ≡ 0 → answer ≡ load-counts (sheet-of text)
-      → after ≡ loaded text (start-of (sheet-of text)) → Loads before text answer after
+      → after ≡ read text → Loads before text answer after
   unfolding load-answer after-load
-  accepted-loads none-applies said anew =
+  accepted-loads none-applies said left =
       let passes : So (accepted text) = eq-eqb (refusal text) 0 none-applies in
-      record { answers = rw passes said; leaves = rw passes anew }
+      record { answers = rw passes said; leaves = rw passes left }
 
 -- an unrefused sheet is short enough to be kept
 pub unrefused-short : (text : Bytes) → refusal text ≡ 0 → length text ≤ sheet-limit
 unrefused-short text none-applies = accepted-short text (eq-eqb (refusal text) 0 none-applies)
 
--- the counts found of an accepted sheet are the sheet's own
-pub counts-found : (text : Bytes) (p : Prepared) → PreparedFor text p → counts-in p ≡ load-counts (sheet-of text)
-counts-found text p found =
-    cc (
-      found .laid .user-total,
-      found .laid .permission-total,
-      found .laid .grant-total,
-      found .kernel-size,
-      found .witness .counted,
-    )
+-- the counts of an accepted sheet's layout
+abbrev pub counts-in : Layout → LoadAnswer
+counts-in layout =
+    record { number = 0; users = layout .users; permissions = layout .permissions; grants = layout .grants }
+
+-- are the sheet's own
+pub counts-found : (text : Bytes) (layout : Layout) → LaidOut text layout → counts-in layout ≡ load-counts
+    (sheet-of text)
+counts-found text layout laid = cc (laid .user-total, laid .permission-total, laid .grant-total)

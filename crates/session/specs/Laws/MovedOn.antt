@@ -43,7 +43,8 @@ module _ {s : CodeSession} (h : Holds s) (budget : ℕ) (ran : Ran)
           state = state;
           steps = steps;
           holds = record {
-            whole = h .whole;
+            accepts = h .accepts;
+            sheet = record { whole = h .sheet .whole; laid = h .sheet .laid; cells = h .sheet .cells };
             prepared = h .prepared;
             stands = stands;
             searching = rw state (searching-on budget (h .searching));

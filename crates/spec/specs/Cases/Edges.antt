@@ -11,13 +11,14 @@ use Rattle.spec.specs.Roles.{Standing, witnessed, searched, unsettled, k
 use Rattle.spec.specs.Roles.{standing}
 use Rattle.spec.specs.Decimal.{decimal}
 use Rattle.spec.specs.Book.{book}
-use Rattle.spec.specs.Session.{Session, no-sheet, loaded, fresh, session-book}
+use Rattle.spec.specs.Session.{Session, no-sheet, read, reduced, fresh, session-book}
 use Rattle.spec.specs.Refusal.{refusal, write-causes}
-use Rattle.spec.specs.Calls.{LoadAnswer, load-answer, load-refused, after-load, SearchAnswer, search-answer}
-use Rattle.spec.specs.Calls.{search-refused, searched-on, after-search, write-answer, buffer-after}
+use Rattle.spec.specs.Calls.{LoadAnswer, load-answer, load-refused, after-load, ReduceAnswer, reduce-answer}
+use Rattle.spec.specs.Calls.{reduce-refused, after-reduce, SearchAnswer, search-answer, search-refused}
+use Rattle.spec.specs.Calls.{searched-on, after-search, write-answer, buffer-after}
 use Rattle.spec.specs.Program.{is-budget, budget-of, printed, program-output}
 
--- a sheet to load into a fresh session, and the budget of one search after it
+-- a sheet to load into a fresh session and to reduce, and the budget of one search after it
 record Trial : Type 0 where
   sheet : Bytes
   budget : ℕ
@@ -25,26 +26,31 @@ record Trial : Type 0 where
 -- what they answer, the witness of the sheet, and how many grants are placed then
 record Finding : Type 0 where
   load : LoadAnswer
+  reduce : ReduceAnswer
   witness : List Grant
   search : SearchAnswer
   placed : ℕ
 
 placed-in-session : Session → ℕ
 placed-in-session no-sheet = 0
-placed-in-session (loaded text st) = depth st
+placed-in-session (read text) = 0
+placed-in-session (reduced text st) = depth st
 
 session-witness : Session → List Grant
 unfolding witness sheet-of
 session-witness no-sheet = []
-session-witness (loaded text st) = witness (sheet-of text)
+session-witness (read text) = []
+session-witness (reduced text st) = witness (sheet-of text)
 
 finding : Trial → Finding
-unfolding load-answer search-answer after-load after-search placed-in-session session-witness searched-on refusal
-    sheet-of kernel witness start-of kernel-of search role-count bound standing
+unfolding load-answer reduce-answer search-answer after-load after-reduce after-search placed-in-session
+    session-witness searched-on refusal sheet-of kernel witness start-of kernel-of search role-count bound standing
 finding trial =
-    let session : Session = after-load fresh (trial .sheet) in
+    let loaded : Session = after-load fresh (trial .sheet) in
+    let session : Session = after-reduce loaded in
     record {
       load = load-answer (trial .sheet);
+      reduce = reduce-answer loaded;
       witness = session-witness session;
       search = search-answer session (trial .budget);
       placed = placed-in-session (after-search session (trial .budget));
@@ -76,10 +82,12 @@ reaches = ascii "user,a,b,c,d,e\nv,1,1,1,1,0\nw,1,1,0,1,0\nx,1,0,0,1,1\ny,0,1,1,
 trial : Bytes → ℕ → Trial
 trial sheet budget = record { sheet = sheet; budget = budget }
 
--- counts of an accepted load
-counts : ℕ → ℕ → ℕ → ℕ → ℕ → LoadAnswer
-counts users permissions grants kernel witness =
-    record { number = 0; users = users; permissions = permissions; grants = grants; kernel = kernel; witness = witness }
+-- counts of an accepted load, and of a reduction
+counts : ℕ → ℕ → ℕ → LoadAnswer
+counts users permissions grants = record { number = 0; users = users; permissions = permissions; grants = grants }
+
+sizes : ℕ → ℕ → ReduceAnswer
+sizes kernel witness = record { number = 0; kernel = kernel; witness = witness }
 
 -- figures of an accepted search
 figures : ℕ → ℕ → ℕ → Standing → SearchAnswer
@@ -112,8 +120,9 @@ trials =
 at : ℕ → ℕ → Grant
 at u p = record { user = u; permission = p }
 
-found : LoadAnswer → List Grant → SearchAnswer → ℕ → Finding
-found load witness search placed = record { load = load; witness = witness; search = search; placed = placed }
+found : LoadAnswer → ReduceAnswer → List Grant → SearchAnswer → ℕ → Finding
+found load reduce witness search placed =
+    record { load = load; reduce = reduce; witness = witness; search = search; placed = placed }
 
 crown-witness : List Grant
 unfolding at
@@ -130,25 +139,25 @@ reaches-witness = at 0 2 ∷ at 1 0 ∷ at 2 4 ∷ at 4 1 ∷ []
 -- the starred cases of "Around the edges" in its order, `Ann` and `ann` an 8 as request [3] has it, then sheets for the
 -- slips, and last one that takes four sweeps
 edges : map finding trials ≡
-    found (counts 3 3 7 0 2) (at 0 0 ∷ at 1 2 ∷ []) (figures 0 2 2 witnessed) 0
-    ∷ found (counts 1 1 0 0 0) [] (figures 0 0 0 witnessed) 0
-    ∷ found (counts 1 2 2 0 1) (at 0 1 ∷ []) (figures 0 1 1 witnessed) 0
-    ∷ found (counts 3 3 6 6 3) crown-witness (figures 0 3 3 witnessed) 0
-    ∷ found (counts 4 4 12 12 3) crown-witness (figures 0 4 3 unsettled) 0
-    ∷ found (counts 4 4 12 12 3) crown-witness (figures 1 4 3 unsettled) 1
-    ∷ found (counts 1 1 1 0 1) (at 0 0 ∷ []) (figures 0 1 1 witnessed) 0
-    ∷ found (load-refused 5) [] (search-refused 10) 0
-    ∷ found (load-refused 8) [] (search-refused 10) 0
-    ∷ found (load-refused 2) [] (search-refused 10) 0
-    ∷ found (counts 2 2 4 0 1) (at 1 1 ∷ []) (figures 0 1 1 witnessed) 0
-    ∷ found (counts 7 7 36 10 4) improves-witness (figures 17 5 4 unsettled) 7
-    ∷ found (counts 7 7 36 10 4) improves-witness (figures 20 5 4 unsettled) 4
-    ∷ found (counts 7 7 36 10 4) improves-witness (figures 45 5 5 searched) 0
-    ∷ found (counts 5 5 16 7 4) reaches-witness (figures 0 5 4 unsettled) 0
-    ∷ found (counts 5 5 16 7 4) reaches-witness (figures 21 4 4 witnessed) 7
-    ∷ found (counts 4 4 10 0 4) (at 0 0 ∷ at 1 2 ∷ at 2 1 ∷ at 3 3 ∷ []) (figures 0 4 4 witnessed) 0
+    found (counts 3 3 7) (sizes 0 2) (at 0 0 ∷ at 1 2 ∷ []) (figures 0 2 2 witnessed) 0
+    ∷ found (counts 1 1 0) (sizes 0 0) [] (figures 0 0 0 witnessed) 0
+    ∷ found (counts 1 2 2) (sizes 0 1) (at 0 1 ∷ []) (figures 0 1 1 witnessed) 0
+    ∷ found (counts 3 3 6) (sizes 6 3) crown-witness (figures 0 3 3 witnessed) 0
+    ∷ found (counts 4 4 12) (sizes 12 3) crown-witness (figures 0 4 3 unsettled) 0
+    ∷ found (counts 4 4 12) (sizes 12 3) crown-witness (figures 1 4 3 unsettled) 1
+    ∷ found (counts 1 1 1) (sizes 0 1) (at 0 0 ∷ []) (figures 0 1 1 witnessed) 0
+    ∷ found (load-refused 5) (reduce-refused 10) [] (search-refused 10) 0
+    ∷ found (load-refused 8) (reduce-refused 10) [] (search-refused 10) 0
+    ∷ found (load-refused 2) (reduce-refused 10) [] (search-refused 10) 0
+    ∷ found (counts 2 2 4) (sizes 0 1) (at 1 1 ∷ []) (figures 0 1 1 witnessed) 0
+    ∷ found (counts 7 7 36) (sizes 10 4) improves-witness (figures 17 5 4 unsettled) 7
+    ∷ found (counts 7 7 36) (sizes 10 4) improves-witness (figures 20 5 4 unsettled) 4
+    ∷ found (counts 7 7 36) (sizes 10 4) improves-witness (figures 45 5 5 searched) 0
+    ∷ found (counts 5 5 16) (sizes 7 4) reaches-witness (figures 0 5 4 unsettled) 0
+    ∷ found (counts 5 5 16) (sizes 7 4) reaches-witness (figures 21 4 4 witnessed) 7
+    ∷ found (counts 4 4 10) (sizes 0 4) (at 0 0 ∷ at 1 2 ∷ at 2 1 ∷ at 3 3 ∷ []) (figures 0 4 4 witnessed) 0
     ∷ []
-unfolding finding trials counts figures found at crown-witness improves-witness reaches-witness lowest-below
+unfolding finding trials counts sizes figures found at crown-witness improves-witness reaches-witness lowest-below
 edges = refl
 
 -- the worked example's whole book from the sheet's bytes
@@ -156,6 +165,6 @@ worked-book : program-output worked [] ≡
     ascii
     "roles,bound,state\n2,2,witnessed\n\nrole,rec,id,map\nR1,1,1,0\nR2,0,1,1\n\nuser,R1,R2\nann,1,0\nbo,0,1\ncy,1,1\n\nuser,permission\nann,rec\nbo,map\n"
 unfolding program-output printed program-buffer write-answer write-causes buffer-after worked lowest-below
-    budget-of is-budget budget-limit after-load after-search searched-on session-book refusal sheet-of kernel-of
-    start-of search book decimal
+    budget-of is-budget budget-limit after-load after-reduce after-search searched-on session-book refusal sheet-of
+    kernel-of start-of search book decimal
 worked-book = refl

@@ -3,7 +3,7 @@
 
 use std::mem::MaybeUninit;
 
-use super::{Loaded, Searched};
+use super::{Loaded, Reduced, Searched};
 
 /// The bytes of a session. No other place says how many they are.
 pub const SESSION_BYTES: usize = 98_696;
@@ -32,6 +32,8 @@ mod into_place {
         pub fn fresh(place: *mut Roomy) -> *mut Roomy;
         #[link_name = "porvuund_load"]
         pub fn load(place: *mut Roomy, session: Roomy, sheet: *const u8, sheet_length: usize) -> *mut Roomy;
+        #[link_name = "porvuund_reduce"]
+        pub fn reduce(place: *mut Roomy, session: Roomy) -> *mut Roomy;
         #[link_name = "porvuund_search"]
         pub fn search(place: *mut Roomy, session: Roomy, budget: u32) -> *mut Roomy;
     }
@@ -59,10 +61,11 @@ fn fresh() -> Box<Roomy> {
 pub fn wrong_size() -> Option<String> {
     // SAFETY: the places are aligned for what the calls hand back and have room for it, the session comes from a
     // call, and no byte of the sheet is read beyond its length 0.
-    let (session, loaded, searched) = unsafe {
+    let (session, loaded, reduced, searched) = unsafe {
         (
             written(|place| _ = into_place::fresh(place)),
             written(|place| _ = into_place::load(place, *fresh(), [].as_ptr(), 0)),
+            written(|place| _ = into_place::reduce(place, *fresh())),
             written(|place| _ = into_place::search(place, *fresh(), 0)),
         )
     };
@@ -72,7 +75,11 @@ pub fn wrong_size() -> Option<String> {
              set SESSION_BYTES to {session} in rust/compare/src/library/session.rs"
         ));
     }
-    let answers = [("Loaded", size_of::<Loaded>(), loaded), ("Searched", size_of::<Searched>(), searched)];
+    let answers = [
+        ("Loaded", size_of::<Loaded>(), loaded),
+        ("Reduced", size_of::<Reduced>(), reduced),
+        ("Searched", size_of::<Searched>(), searched),
+    ];
     answers.into_iter().find(|(_, declared, given)| declared != given).map(|(name, declared, given)| {
         format!(
             "the library hands back {given} bytes as {name} and here it has {declared}: \

@@ -28,6 +28,7 @@ fn read_call(line: &str) -> Result<Call, String> {
     let words: Vec<&str> = line.split(' ').collect();
     match words[..] {
         ["load", path] => Ok(Call::Load(read_file(path)?)),
+        ["reduce"] => Ok(Call::Reduce),
         ["search", budget] => Ok(Call::Search(read_number(budget)?)),
         ["write", length] => Ok(Call::Write(read_length(length)?)),
         ["check", sheet, book] => Ok(Call::Check { sheet: read_file(sheet)?, book: read_file(book)? }),

@@ -7,7 +7,7 @@ use crate::draft::Draft;
 use crate::restated::recursion::Search;
 use crate::restated::tables::{self, Removal, Table, class_count};
 
-/// An acceptable sheet with what its load finds out.
+/// An acceptable sheet with what its reduction finds out.
 pub struct Prepared<'a> {
     draft: &'a Draft,
     pub table: Table,

@@ -7,9 +7,10 @@ use trials::draft::Draft;
 use trials::extremes;
 use trials::families::{self, crown};
 use trials::restated::form::verdict;
+use trials::sessions::first_book;
 use trials::tally::Tally;
 
-use crate::support::{accepted, book, loaded};
+use crate::support::{book, session_with};
 
 /// The judgement of a damaged book, and of the second way to judge it.
 fn judge(draft: &Draft, damaged: impl AsRef<[u8]>) -> Result<(usize, usize), u32> {
@@ -27,8 +28,7 @@ fn damaged_books_get_the_same_judgement_in_the_second_way() {
     cases(20_000, |random| {
         let is_wide = random.percent(10);
         let draft = if is_wide { families::any_wide(random, 6) } else { families::any(random, 6) };
-        let session = loaded(&draft.bytes());
-        let text = accepted(&session).book_bytes();
+        let text = first_book(&draft.bytes());
         let damaged = if random.percent(70) {
             damage::book(random, &draft, &text)
         } else {
@@ -53,7 +53,7 @@ fn is_word(book: &str, place: usize) -> bool {
 #[test]
 fn every_single_byte_of_a_book_is_judged_alike_in_both_ways() {
     for draft in [crown(3), extremes::full(2, 3), Draft::plain(2, 1, |_, _| false)] {
-        let text = book(&loaded(&draft.bytes()));
+        let text = book(&session_with(&draft.bytes()));
         let witness_lines = text.find("user,permission").expect("a book has witness lines");
         for place in 0..text.len() {
             let with = |piece: &str, rest: usize| [&text[..place], piece, &text[rest..]].concat();

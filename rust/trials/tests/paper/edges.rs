@@ -6,17 +6,20 @@ use trials::extremes;
 use trials::families::crown;
 
 use crate::support::{
-    EXAMPLE, EXAMPLE_BOOK, accepted, book, check_number, load_answer, load_number, loaded, search_answer,
+    EXAMPLE, EXAMPLE_BOOK, book, check_number, load_answer, load_number, reduce_answer, reduced,
+    search_answer, session_with,
 };
 
 #[test]
 fn worked_example_has_seven_grants_and_no_kernel() {
-    assert_eq!(Session::fresh().load(EXAMPLE.as_bytes()), Ok(load_answer(3, 3, 7, 0, 2)));
+    let mut session = Session::fresh();
+    assert_eq!(session.load(EXAMPLE.as_bytes()), Ok(load_answer(3, 3, 7)));
+    assert_eq!(session.reduce(), Ok(reduce_answer(0, 2)));
 }
 
 #[test]
 fn worked_example_gives_its_book_byte_for_byte() {
-    let mut session = loaded(EXAMPLE.as_bytes());
+    let mut session = session_with(EXAMPLE.as_bytes());
     assert_eq!(session.search(0), Ok(search_answer(0, 2, 2, State::Witnessed)));
     let mut buffer = vec![b'#'; 200];
     assert_eq!(session.write(&mut buffer), Ok(EXAMPLE_BOOK.len()));
@@ -33,7 +36,8 @@ fn worked_example_is_accepted_by_the_checker() {
 #[test]
 fn one_user_without_the_one_permission_needs_no_role() {
     let mut session = Session::fresh();
-    assert_eq!(session.load(b"user,p\nu,0\n"), Ok(load_answer(1, 1, 0, 0, 0)));
+    assert_eq!(session.load(b"user,p\nu,0\n"), Ok(load_answer(1, 1, 0)));
+    assert_eq!(session.reduce(), Ok(reduce_answer(0, 0)));
     assert_eq!(session.search(7), Ok(search_answer(0, 0, 0, State::Witnessed)));
     assert_eq!(book(&session), "roles,bound,state\n0,0,witnessed\n\nrole,p\n\nuser\nu\n\nuser,permission\n");
 }
@@ -41,7 +45,8 @@ fn one_user_without_the_one_permission_needs_no_role() {
 #[test]
 fn one_user_with_two_ones_has_one_role_and_the_second_grant_as_witness() {
     let mut session = Session::fresh();
-    assert_eq!(session.load(b"user,p,q\nu,1,1\n"), Ok(load_answer(1, 2, 2, 0, 1)));
+    assert_eq!(session.load(b"user,p,q\nu,1,1\n"), Ok(load_answer(1, 2, 2)));
+    assert_eq!(session.reduce(), Ok(reduce_answer(0, 1)));
     assert_eq!(session.search(0), Ok(search_answer(0, 1, 1, State::Witnessed)));
     assert_eq!(
         book(&session),
@@ -52,33 +57,35 @@ fn one_user_with_two_ones_has_one_role_and_the_second_grant_as_witness() {
 #[test]
 fn three_users_each_lacking_their_own_permission_are_witnessed_at_once() {
     let mut session = Session::fresh();
-    assert_eq!(session.load(&crown(3).bytes()), Ok(load_answer(3, 3, 6, 6, 3)));
+    assert_eq!(session.load(&crown(3).bytes()), Ok(load_answer(3, 3, 6)));
+    assert_eq!(session.reduce(), Ok(reduce_answer(6, 3)));
     assert_eq!(session.search(1_000), Ok(search_answer(0, 3, 3, State::Witnessed)));
 }
 
 #[test]
 fn four_such_users_are_open_at_budget_zero() {
     let mut session = Session::fresh();
-    assert_eq!(session.load(&crown(4).bytes()), Ok(load_answer(4, 4, 12, 12, 3)));
-    assert_eq!(accepted(&session).machine().best().count, 4);
+    assert_eq!(session.load(&crown(4).bytes()), Ok(load_answer(4, 4, 12)));
+    assert_eq!(session.reduce(), Ok(reduce_answer(12, 3)));
+    assert_eq!(reduced(&session).machine().best().count, 4);
     assert_eq!(session.search(0), Ok(search_answer(0, 4, 3, State::Open)));
     assert!(book(&session).starts_with("roles,bound,state\n4,3,open\n\n"));
 }
 
 #[test]
 fn four_such_users_with_budget_one_have_one_grant_placed() {
-    let mut session = loaded(&crown(4).bytes());
+    let mut session = session_with(&crown(4).bytes());
     assert_eq!(session.search(1), Ok(search_answer(1, 4, 3, State::Open)));
-    assert_eq!(accepted(&session).machine().placed(), [0]);
-    assert_eq!(accepted(&session).machine().next_try(), 0);
+    assert_eq!(reduced(&session).machine().placed(), [0]);
+    assert_eq!(reduced(&session).machine().next_try(), 0);
 }
 
 #[test]
 fn four_such_users_are_closed_within_the_stated_steps() {
-    let mut session = loaded(&crown(4).bytes());
+    let mut session = session_with(&crown(4).bytes());
     let few = session.clone().search(1_000).map(|answer| answer.state);
     assert_eq!(few, Ok(State::Searched));
-    let answer = session.search(1_045_912_627).expect("a sheet is loaded");
+    let answer = session.search(1_045_912_627).expect("the sheet is reduced");
     assert_eq!((answer.roles, answer.bound, answer.state), (4, 4, State::Searched));
     assert!(book(&session).starts_with("roles,bound,state\n4,4,searched\n\n"));
 }

@@ -1,6 +1,8 @@
 //! The form of a book to the byte: what the checker refuses with 12.
 
-use crate::support::{EXAMPLE, EXAMPLE_BOOK, book, check_number, check_of_replaced, example_book, loaded};
+use crate::support::{
+    EXAMPLE, EXAMPLE_BOOK, book, check_number, check_of_replaced, example_book, session_with,
+};
 
 #[test]
 fn every_changed_line_end_gives_12() {
@@ -122,7 +124,7 @@ fn unknown_witness_name_gives_12() {
 #[test]
 fn names_may_be_words_of_the_book() {
     let sheet = "user,permission,user,R1\nuser,1,1,0\nrole,0,1,1\nR1,1,1,1\n";
-    let text = book(&loaded(sheet.as_bytes()));
+    let text = book(&session_with(sheet.as_bytes()));
     assert_eq!(check_number(sheet, &text), 0);
     assert!(text.contains("\n\nuser,permission\nuser,permission\nrole,R1\n"), "{text}");
 }

@@ -9,10 +9,9 @@ use trials::extremes;
 use trials::families;
 use trials::random::Random;
 use trials::restated::causes::lowest_cause;
+use trials::sessions::first_book;
 use trials::spelling;
 use trials::tally::Tally;
-
-use crate::support::{accepted, loaded};
 
 #[test]
 fn one_seed_gives_one_sheet() {
@@ -56,7 +55,7 @@ fn other_spellings_are_as_asked() {
     cases(500, |random| {
         let draft = families::any(random, 8);
         let sheet = draft.bytes();
-        let book = accepted(&loaded(&sheet)).book_bytes();
+        let book = first_book(&sheet);
         let respelt_sheet = spelling::sheet(random, &draft).bytes();
         let respelt_book = spelling::book(random, &draft, &book);
         assert!(respelt_sheet.eq_ignore_ascii_case(&sheet) && respelt_book.eq_ignore_ascii_case(&book));
@@ -100,8 +99,7 @@ fn sheets_and_books_are_as_long_as_asked() {
         let draft = extremes::filled(&mut Random::from_seed(1), 245, 128, bytes);
         assert_eq!(draft.bytes().len(), bytes);
         assert_eq!(draft.grants().len(), 2_048);
-        let session = loaded(&extremes::with_book_bytes(bytes).bytes());
-        assert_eq!(accepted(&session).book_bytes().len(), bytes);
+        assert_eq!(first_book(&extremes::with_book_bytes(bytes).bytes()).len(), bytes);
     }
 }
 
@@ -115,14 +113,15 @@ fn number_of_grants_is_as_asked() {
 
 #[test]
 fn sequences_have_every_kind_of_call() {
-    let mut kinds = [0; 4];
+    let mut kinds = [0; 5];
     cases(50, |random| {
         for call in sequence(random, 20, 5) {
             let kind = match call {
                 Call::Load(_) => 0,
-                Call::Search(_) => 1,
-                Call::Write(_) => 2,
-                Call::Check { .. } => 3,
+                Call::Reduce => 1,
+                Call::Search(_) => 2,
+                Call::Write(_) => 3,
+                Call::Check { .. } => 4,
             };
             kinds[kind] += 1;
         }

@@ -9,14 +9,14 @@ use trials::kernels::with_kernel;
 use trials::random::Random;
 use trials::restated::whole::Prepared;
 
-use crate::support::{accepted, check_answer, loaded, search_answer};
+use crate::support::{check_answer, reduced, search_answer, session_with};
 
 /// A sheet with a kernel of this size that is not finished by its first cover.
 fn unfinished(random: &mut Random, size: usize) -> (Draft, Session) {
     random.until_found(|random| {
         let draft = with_kernel(random, size);
-        let session = loaded(&draft.bytes());
-        (!accepted(&session).machine().is_finished()).then_some((draft, session))
+        let session = session_with(&draft.bytes());
+        (!reduced(&session).machine().is_finished()).then_some((draft, session))
     })
 }
 
@@ -25,16 +25,16 @@ fn kernels_of_127_and_128_are_searched_as_the_recursion_does() {
     cases(4, |random| {
         for size in [127, 128] {
             let (draft, mut session) = unfinished(random, size);
-            assert_eq!(accepted(&session).reduction().kernel.len(), size);
+            assert_eq!(reduced(&session).reduction().kernel.len(), size);
             let prepared = Prepared::of(&draft);
             let expected = prepared.search(30_000);
             let steps =
-                [10_000, 20_000].map(|budget| session.search(budget).expect("a sheet is loaded").steps);
-            let machine = accepted(&session).machine();
+                [10_000, 20_000].map(|budget| session.search(budget).expect("the sheet is reduced").steps);
+            let machine = reduced(&session).machine();
             assert_eq!(u64::from(steps[0] + steps[1]), expected.steps);
             assert_eq!(machine.placed(), expected.placed);
             assert_eq!(machine.best().classes, expected.best);
-            assert_eq!(accepted(&session).book_bytes(), prepared.book(&expected).as_bytes());
+            assert_eq!(reduced(&session).book_bytes(), prepared.book(&expected).as_bytes());
         }
     });
 }
@@ -43,16 +43,16 @@ fn kernels_of_127_and_128_are_searched_as_the_recursion_does() {
 fn kernel_of_129_makes_no_step_and_its_book_stands() {
     cases(4, |random| {
         let (draft, mut session) = unfinished(random, 129);
-        assert_eq!(accepted(&session).reduction().kernel.len(), 129);
+        assert_eq!(reduced(&session).reduction().kernel.len(), 129);
         let before = session.clone();
-        let witness = accepted(&session).witness().len();
+        let witness = reduced(&session).witness().len();
         let roles =
-            accepted(&session).machine().best().count + accepted(&session).reduction().singles().count();
+            reduced(&session).machine().best().count + reduced(&session).reduction().singles().count();
         for budget in [0, 1, 1_000, u32::MAX] {
             assert_eq!(session.search(budget), Ok(search_answer(0, roles, witness, State::Open)));
             assert_eq!(session, before);
         }
-        let checked = check(&draft.bytes(), &accepted(&session).book_bytes());
+        let checked = check(&draft.bytes(), &reduced(&session).book_bytes());
         assert_eq!(checked, Ok(check_answer(roles, witness)));
     });
 }

@@ -10,22 +10,23 @@ use trials::random::Random;
 use trials::restated::form::verdict;
 use trials::restated::whole::Prepared;
 
-use crate::support::{accepted, load_number, numbers};
+use crate::support::{load_number, numbers, reduced};
 
 /// Reduction, witness, first cover and book of a large sheet.
 fn try_large(draft: &Draft) {
     let mut session = Session::fresh();
-    let answer = session.load(&draft.bytes()).expect("the sheet is acceptable");
+    let loaded = session.load(&draft.bytes()).expect("the sheet is acceptable");
+    let answer = session.reduce().expect("a sheet is loaded");
     let expected = Prepared::of(draft);
-    let state = accepted(&session);
+    let state = reduced(&session);
     assert_eq!(numbers(draft, &state.reduction().kernel), expected.kernel);
     assert_eq!(numbers(draft, state.witness()), expected.witness);
     assert_eq!(state.machine().best().classes, expected.first_best);
     let (kernel, witness) = (expected.kernel.len(), expected.witness.len());
-    assert_eq!((answer.grants, answer.kernel, answer.witness), (draft.grants().len(), kernel, witness));
-    let roles = session.search(1_000).expect("a sheet is loaded").roles;
+    assert_eq!((loaded.grants, answer.kernel, answer.witness), (draft.grants().len(), kernel, witness));
+    let roles = session.search(1_000).expect("the sheet is reduced").roles;
     assert!(roles <= paper::ROLES);
-    let book = accepted(&session).book_bytes();
+    let book = reduced(&session).book_bytes();
     assert_eq!(verdict(draft, &book), Ok((roles, witness)));
 }
 

@@ -8,11 +8,11 @@ use trials::families::crown;
 use trials::restated::tables::class_count;
 use trials::restated::whole::Prepared;
 
-use crate::support::{WATCHED_STEPS, accepted, loaded, search_answer, unfinished};
+use crate::support::{WATCHED_STEPS, reduced, search_answer, session_with, unfinished};
 
 #[test]
 fn four_user_case_closes_with_step_125_in_one_search() {
-    let mut session = loaded(&crown(4).bytes());
+    let mut session = session_with(&crown(4).bytes());
     assert_eq!(session.clone().search(124), Ok(search_answer(124, 4, 3, State::Open)));
     assert_eq!(session.clone().search(125), Ok(search_answer(125, 4, 4, State::Searched)));
     assert_eq!(session.search(u32::MAX), Ok(search_answer(125, 4, 4, State::Searched)));
@@ -22,7 +22,7 @@ fn four_user_case_closes_with_step_125_in_one_search() {
 #[test]
 fn four_user_case_closes_with_step_125_in_many_searches() {
     for portion in [1, 2, 3, 7, 50, 124] {
-        let mut session = loaded(&crown(4).bytes());
+        let mut session = session_with(&crown(4).bytes());
         let mut sum = 0;
         while sum + portion < 125 {
             assert_eq!(session.search(portion), Ok(search_answer(portion, 4, 3, State::Open)));
@@ -34,27 +34,27 @@ fn four_user_case_closes_with_step_125_in_many_searches() {
 
 #[test]
 fn four_user_case_places_62_takes_62_back_and_closes_once() {
-    let mut session = loaded(&crown(4).bytes());
+    let mut session = session_with(&crown(4).bytes());
     let (mut placed, mut taken_back, mut closing) = (0, 0, 0);
     for _ in 0..125 {
-        let before = accepted(&session).machine().placed().len();
-        session.search(1).expect("a sheet is loaded");
-        match accepted(&session).machine().placed().len() {
+        let before = reduced(&session).machine().placed().len();
+        session.search(1).expect("the sheet is reduced");
+        match reduced(&session).machine().placed().len() {
             after if after > before => placed += 1,
             after if after < before => taken_back += 1,
             _ => closing += 1,
         }
     }
     assert_eq!((placed, taken_back, closing), (62, 62, 1));
-    assert!(accepted(&session).machine().is_finished());
+    assert!(reduced(&session).machine().is_finished());
 }
 
-/// With k = 0 nothing is left at the load; a full sheet has one role and its witness.
+/// With k = 0 nothing is left at the reduction; a full sheet has one role and its witness.
 #[test]
-fn empty_kernel_is_finished_at_the_load() {
-    let mut session = loaded(&Draft::plain(3, 3, |_, _| true).bytes());
-    assert!(accepted(&session).reduction().kernel.is_empty());
-    assert!(accepted(&session).machine().is_finished());
+fn empty_kernel_is_finished_at_the_reduction() {
+    let mut session = session_with(&Draft::plain(3, 3, |_, _| true).bytes());
+    assert!(reduced(&session).reduction().kernel.is_empty());
+    assert!(reduced(&session).machine().is_finished());
     assert_eq!(session.search(9), Ok(search_answer(0, 1, 1, State::Witnessed)));
 }
 
@@ -86,12 +86,12 @@ fn each_step_places_one_takes_one_back_or_closes() {
         let (_, mut session) = unfinished(random);
         let mut last_placed = Vec::new();
         for _ in 0..WATCHED_STEPS {
-            let before = accepted(&session).machine().clone();
+            let before = reduced(&session).machine().clone();
             if before.is_finished() {
                 break;
             }
-            session.search(1).expect("a sheet is loaded");
-            let after = accepted(&session).machine();
+            session.search(1).expect("the sheet is reduced");
+            let after = reduced(&session).machine();
             judge_step(&before, after);
             if after.placed().len() > before.placed().len() {
                 assert!(last_placed[..] < *after.placed(), "{last_placed:?} {:?}", after.placed());
@@ -112,8 +112,8 @@ fn machine_agrees_with_the_recursion_after_any_number_of_steps() {
         let budget = random.between(1, 20_000) as u32;
         let prepared = Prepared::of(&draft);
         let expected = prepared.search(u64::from(budget));
-        let answer = session.search(budget).expect("a sheet is loaded");
-        let machine = accepted(&session).machine();
+        let answer = session.search(budget).expect("the sheet is reduced");
+        let machine = reduced(&session).machine();
         assert_eq!(u64::from(answer.steps), expected.steps, "{draft:?}");
         assert_eq!(machine.placed(), expected.placed, "{draft:?}");
         assert_eq!(machine.best().classes, expected.best, "{draft:?}");
@@ -132,9 +132,9 @@ fn portions_add_up() {
         let (mut in_portions, mut in_one) = (fresh.clone(), fresh);
         let portions: Vec<u32> = (0..random.between(1, 12)).map(|_| random.below(400) as u32).collect();
         let made =
-            portions.iter().map(|portion| in_portions.search(*portion).expect("a sheet is loaded").steps);
+            portions.iter().map(|portion| in_portions.search(*portion).expect("the sheet is reduced").steps);
         let made: u32 = made.sum();
-        let answer = in_one.search(portions.iter().sum()).expect("a sheet is loaded");
+        let answer = in_one.search(portions.iter().sum()).expect("the sheet is reduced");
         assert_eq!(answer.steps, made);
         assert_eq!(in_portions, in_one);
     });
@@ -146,9 +146,9 @@ fn meeting_the_witness_adds_no_step() {
     let mut met = 0;
     cases(300, |random| {
         let (_, mut session) = unfinished(random);
-        let answer = session.search(20_000).expect("a sheet is loaded");
+        let answer = session.search(20_000).expect("the sheet is reduced");
         if answer.state == State::Witnessed {
-            let machine = accepted(&session).machine();
+            let machine = reduced(&session).machine();
             assert_eq!(machine.placed(), machine.best().classes);
             assert_eq!(session.search(1).map(|answer| answer.steps), Ok(0));
             met += 1;
@@ -160,13 +160,13 @@ fn meeting_the_witness_adds_no_step() {
 /// After an improvement that does not finish, the next step takes the last grant back.
 #[test]
 fn whole_placement_is_taken_back_by_the_next_step() {
-    let mut session = loaded(&crown(5).bytes());
+    let mut session = session_with(&crown(5).bytes());
     let improved = (0..WATCHED_STEPS).any(|_| {
-        session.search(1).expect("a sheet is loaded");
-        accepted(&session).machine().best().count < 5
+        session.search(1).expect("the sheet is reduced");
+        reduced(&session).machine().best().count < 5
     });
     assert!(improved);
-    assert_eq!(accepted(&session).machine().placed().len(), 20);
-    session.search(1).expect("a sheet is loaded");
-    assert_eq!(accepted(&session).machine().placed().len(), 19);
+    assert_eq!(reduced(&session).machine().placed().len(), 20);
+    session.search(1).expect("the sheet is reduced");
+    assert_eq!(reduced(&session).machine().placed().len(), 19);
 }

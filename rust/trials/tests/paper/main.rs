@@ -13,6 +13,7 @@ mod limits;
 mod machine;
 mod progress;
 mod readings;
+mod reducing;
 mod reduction;
 mod sequences;
 mod slips;

@@ -12,8 +12,11 @@ use trials::extremes;
 use trials::families::crown;
 use trials::paper;
 use trials::random::Random;
+use trials::sessions::first_book;
 
-use crate::support::{EXAMPLE, accepted, book, load_answer, load_number, loaded, numbers, search_answer};
+use crate::support::{
+    EXAMPLE, book, load_answer, load_number, numbers, reduce_answer, reduced, search_answer, session_with,
+};
 
 #[test]
 fn blank_lines_are_user_lines() {
@@ -74,8 +77,8 @@ fn every_grant_fits_itself() {
 #[test]
 fn removal_takes_effect_in_the_same_sweep() {
     let draft = Draft::plain(2, 2, |user, permission| permission <= user);
-    let session = loaded(&draft.bytes());
-    let removals = &accepted(&session).reduction().removals;
+    let session = session_with(&draft.bytes());
+    let removals = &reduced(&session).reduction().removals;
     let removed: Vec<_> = removals.iter().map(|removal| removal.grant).collect();
     assert_eq!(numbers(&draft, &removed), [1, 2, 0]);
 }
@@ -84,7 +87,7 @@ fn removal_takes_effect_in_the_same_sweep() {
 /// only the second user: it is not widened.
 #[test]
 fn role_has_only_what_its_grants_have() {
-    let session = loaded(b"user,p,q\nu,1,0\nv,1,1\n");
+    let session = session_with(b"user,p,q\nu,1,0\nv,1,1\n");
     assert_eq!(
         book(&session),
         "roles,bound,state\n2,2,witnessed\n\nrole,p,q\nR1,1,0\nR2,0,1\n\nuser,R1,R2\nu,1,0\nv,1,1\n\n\
@@ -96,7 +99,7 @@ fn role_has_only_what_its_grants_have() {
 /// role comes before the role of the second grant, though the second is the lower one of the two singles.
 #[test]
 fn roles_are_numbered_by_the_lowest_grant_tied_ones_included() {
-    let session = loaded(b"user,p,q\nu,1,0\nv,0,1\nw,1,0\n");
+    let session = session_with(b"user,p,q\nu,1,0\nv,0,1\nw,1,0\n");
     assert_eq!(
         book(&session),
         "roles,bound,state\n2,2,witnessed\n\nrole,p,q\nR1,1,0\nR2,0,1\n\nuser,R1,R2\nu,1,0\nv,0,1\nw,1,0\n\n\
@@ -106,18 +109,18 @@ fn roles_are_numbered_by_the_lowest_grant_tied_ones_included() {
 
 #[test]
 fn without_roles_the_users_stand_without_commas() {
-    let session = loaded(b"user,p,q\nann,0,0\nbo,0,0\n");
+    let session = session_with(b"user,p,q\nann,0,0\nbo,0,0\n");
     assert!(book(&session).ends_with("\n\nrole,p,q\n\nuser\nann\nbo\n\nuser,permission\n"));
 }
 
 #[test]
 fn first_grouping_can_have_more_than_255_classes() {
     let draft = extremes::with_grants(&mut Random::from_seed(1), 256, 64, 2_048);
-    let session = loaded(&draft.bytes());
-    let accepted = accepted(&session);
-    let [by_fit, by_permission, by_user] = cover::groupings(accepted.sheet(), &accepted.reduction().kernel);
+    let session = session_with(&draft.bytes());
+    let state = reduced(&session);
+    let [by_fit, by_permission, by_user] = cover::groupings(state.sheet(), &state.reduction().kernel);
     assert!(by_fit.count > 255 && by_user.count > 255 && by_permission.count <= 64);
-    assert_eq!(accepted.machine().best(), &by_permission);
+    assert_eq!(state.machine().best(), &by_permission);
 }
 
 #[test]
@@ -125,21 +128,22 @@ fn kernel_of_2048_grants_is_covered_and_written_but_not_searched() {
     for (users, permissions) in [(100, 64), (100, 96), (100, 128)] {
         let draft = extremes::with_grants(&mut Random::from_seed(1), users, permissions, 2_048);
         let mut session = Session::fresh();
-        let answer = session.load(&draft.bytes()).expect("the sheet is acceptable");
-        assert_eq!((answer.grants, answer.kernel), (2_048, 2_048));
+        assert_eq!(session.load(&draft.bytes()), Ok(load_answer(users, permissions, 2_048)));
+        let answer = session.reduce().expect("a sheet is loaded");
+        assert_eq!(answer.kernel, 2_048);
         let before = session.clone();
         let roles = users.min(permissions);
         assert_eq!(session.search(u32::MAX), Ok(search_answer(0, roles, answer.witness, State::Open)));
         assert_eq!(session, before);
-        let checked = second::checker::check(&draft.bytes(), &accepted(&session).book_bytes());
+        let checked = second::checker::check(&draft.bytes(), &reduced(&session).book_bytes());
         assert_eq!(checked.map(|counts| counts.roles), Ok(roles));
     }
 }
 
 #[test]
 fn refused_load_keeps_the_sheet_and_the_position() {
-    let mut session = loaded(&crown(4).bytes());
-    session.search(60).expect("a sheet is loaded");
+    let mut session = session_with(&crown(4).bytes());
+    session.search(60).expect("the sheet is reduced");
     let before = session.clone();
     assert_eq!(session.load(b"user,p\nu,2\n").map_err(|refusal| refusal.number()), Err(7));
     assert_eq!(session, before);
@@ -148,9 +152,10 @@ fn refused_load_keeps_the_sheet_and_the_position() {
 
 #[test]
 fn accepted_load_of_the_same_bytes_starts_anew() {
-    let mut session = loaded(&crown(4).bytes());
-    session.search(60).expect("a sheet is loaded");
-    assert_eq!(session.load(&crown(4).bytes()), Ok(load_answer(4, 4, 12, 12, 3)));
+    let mut session = session_with(&crown(4).bytes());
+    session.search(60).expect("the sheet is reduced");
+    assert_eq!(session.load(&crown(4).bytes()), Ok(load_answer(4, 4, 12)));
+    assert_eq!(session.reduce(), Ok(reduce_answer(12, 3)));
     assert_eq!(session.search(200), Ok(search_answer(125, 4, 4, State::Searched)));
 }
 
@@ -170,8 +175,8 @@ fn search_without_a_sheet_gives_10() {
 
 #[test]
 fn buffer_one_byte_short_gives_11_and_stays() {
-    let session = loaded(EXAMPLE.as_bytes());
-    let needed = accepted(&session).book_bytes().len();
+    let session = session_with(EXAMPLE.as_bytes());
+    let needed = reduced(&session).book_bytes().len();
     let mut buffer = vec![b'#'; needed - 1];
     assert_eq!(session.write(&mut buffer).map_err(|refusal| refusal.number()), Err(11));
     assert!(buffer.iter().all(|byte| *byte == b'#'));
@@ -204,7 +209,7 @@ fn every_book_is_within_the_length_that_the_checker_reads() {
     let longest = sizes.filter_map(|(users, permissions)| longest_book(users, permissions)).max();
     assert_eq!(longest, Some(103_780));
     let draft = extremes::with_longest_book();
-    let book = accepted(&loaded(&draft.bytes())).book_bytes();
+    let book = first_book(&draft.bytes());
     assert_eq!((draft.bytes().len(), book.len()), (paper::SHEET_BYTES, 103_780));
     let checked = second::checker::check(&draft.bytes(), &book);
     assert_eq!(checked.map(|counts| (counts.roles, counts.witness_lines)), Ok((128, 128)));
@@ -214,7 +219,7 @@ fn every_book_is_within_the_length_that_the_checker_reads() {
 #[test]
 fn book_longer_than_the_lent_buffer_gives_11() {
     for (bytes, expected) in [(65_536, Ok(65_536)), (65_537, Err(11))] {
-        let session = loaded(&extremes::with_book_bytes(bytes).bytes());
+        let session = session_with(&extremes::with_book_bytes(bytes).bytes());
         let mut buffer = vec![b'#'; paper::PROGRAM_BUFFER_BYTES];
         assert_eq!(session.write(&mut buffer).map_err(|refusal| refusal.number()), expected);
         assert_eq!(buffer.iter().all(|byte| *byte == b'#'), expected.is_err());

@@ -10,7 +10,7 @@ use trials::families;
 use trials::restated::tables;
 use trials::restated::whole::Prepared;
 
-use crate::support::{accepted, loaded, numbers};
+use crate::support::{numbers, reduced, session_with};
 
 /// The removals by number, as the restated rules give them.
 fn removals_by_number(draft: &Draft, removals: &[second::reduction::Removal]) -> Vec<tables::Removal> {
@@ -27,8 +27,8 @@ fn removals_are_those_of_the_restated_rules() {
     let (mut with_kernel, mut with_ties) = (0, 0);
     cases(8_000, |random| {
         let draft = families::any(random, 9);
-        let session = loaded(&draft.bytes());
-        let reduction = accepted(&session).reduction();
+        let session = session_with(&draft.bytes());
+        let reduction = reduced(&session).reduction();
         let expected = Prepared::of(&draft);
         assert_eq!(removals_by_number(&draft, &reduction.removals), expected.removals, "{draft:?}");
         assert_eq!(numbers(&draft, &reduction.kernel), expected.kernel, "{draft:?}");
@@ -42,9 +42,9 @@ fn removals_are_those_of_the_restated_rules() {
 fn witness_is_that_of_the_restated_rules() {
     cases(8_000, |random| {
         let draft = families::any(random, 9);
-        let session = loaded(&draft.bytes());
+        let session = session_with(&draft.bytes());
         let expected = Prepared::of(&draft).witness;
-        assert_eq!(numbers(&draft, accepted(&session).witness()), expected, "{draft:?}");
+        assert_eq!(numbers(&draft, reduced(&session).witness()), expected, "{draft:?}");
     });
 }
 
@@ -56,8 +56,8 @@ fn groupings_are_those_of_the_restated_rules() {
     cases(4_000, |random| {
         let draft =
             if random.percent(50) { families::any(random, 9) } else { families::random(random, 9, 6, 50) };
-        let session = loaded(&draft.bytes());
-        let (sheet, kernel) = (accepted(&session).sheet(), &accepted(&session).reduction().kernel);
+        let session = session_with(&draft.bytes());
+        let (sheet, kernel) = (reduced(&session).sheet(), &reduced(&session).reduction().kernel);
         let expected = tables::groupings(&draft, &tables::fit_table(&draft), &numbers(&draft, kernel));
         let found = cover::groupings(sheet, kernel);
         for (grouping, classes) in found.iter().zip(&expected) {
@@ -67,7 +67,7 @@ fn groupings_are_those_of_the_restated_rules() {
         let fewest = found.iter().map(|grouping| grouping.count).min();
         let first =
             found.iter().position(|grouping| Some(grouping.count) == fewest).expect("there are three");
-        assert_eq!(accepted(&session).machine().best(), &found[first], "{draft:?}");
+        assert_eq!(reduced(&session).machine().best(), &found[first], "{draft:?}");
         chosen[first] += 1;
     });
     assert!(chosen[0] > 100 && chosen[1] > 20 && chosen[2] == 0, "{chosen:?}");
@@ -77,8 +77,8 @@ fn groupings_are_those_of_the_restated_rules() {
 fn no_two_witness_grants_fit() {
     cases(2_000, |random| {
         let draft = families::any(random, 12);
-        let session = loaded(&draft.bytes());
-        let (sheet, witness) = (accepted(&session).sheet(), accepted(&session).witness());
+        let session = session_with(&draft.bytes());
+        let (sheet, witness) = (reduced(&session).sheet(), reduced(&session).witness());
         for (index, grant) in witness.iter().enumerate() {
             assert!(grants::is_held(sheet, *grant));
             assert!(!witness[..index].iter().any(|other| fits(sheet, *other, *grant)), "{draft:?}");
@@ -94,9 +94,9 @@ fn partners_are_counted_among_those_open_to_choice() {
     let mut differing = 0;
     cases(500, |random| {
         let draft = families::random(random, 7, 7, 50);
-        let session = loaded(&draft.bytes());
+        let session = session_with(&draft.bytes());
         let expected = Prepared::of(&draft);
-        assert_eq!(numbers(&draft, accepted(&session).witness()), expected.witness);
+        assert_eq!(numbers(&draft, reduced(&session).witness()), expected.witness);
         differing += usize::from(by_kernel_count(&expected) != expected.witness);
     });
     assert!(differing > 10, "only {differing} sheets tell the two counts apart");
@@ -125,8 +125,8 @@ fn by_kernel_count(prepared: &Prepared<'_>) -> Vec<usize> {
 fn roles_never_outnumber_permissions() {
     cases(2_000, |random| {
         let draft = families::any(random, 12);
-        let session = loaded(&draft.bytes());
-        let state = accepted(&session);
+        let session = session_with(&draft.bytes());
+        let state = reduced(&session);
         let roles = state.machine().best().count + state.reduction().singles().count();
         assert!(roles <= draft.permissions.len(), "{draft:?}");
     });

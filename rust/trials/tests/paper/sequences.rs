@@ -6,24 +6,15 @@ use second::refusal::Refusal;
 use second::roles::State;
 use second::script::{Call, answer_line, digest, lent_buffer};
 use second::session::{SearchAnswer, Session};
+use second::sheet::Sheet;
 use trials::brute;
 use trials::calls::sequence;
 use trials::cases::cases;
 use trials::draft::Draft;
-use trials::restated::causes::lowest_cause;
+use trials::restated::history::{Known, known, number};
 use trials::tally::Tally;
 
-use crate::support::{accepted, loaded};
-
-/// The last accepted load and what was given since, found from the calls and never from the session.
-struct Known {
-    sheet: Vec<u8>,
-    /// Sum of the budgets, each counted whole.
-    budgets: u64,
-    /// Sum of the steps answered.
-    steps: u64,
-    smallest: Option<usize>,
-}
+use crate::support::{loaded, reduced, session_with};
 
 /// How often each call ended with each number.
 type Seen = Tally<(&'static str, u32)>;
@@ -31,58 +22,95 @@ type Seen = Tally<(&'static str, u32)>;
 /// The numbers that have to come up for the trial to mean something.
 const OUTCOMES: &[(&str, &[u32])] = &[
     ("load", &[0, 1, 2, 3, 5, 6, 7, 8]),
-    ("search", &[0, 10]),
-    ("write", &[0, 10, 11]),
+    ("reduce", &[0, 10]),
+    ("search", &[0, 10, 16]),
+    ("write", &[0, 10, 11, 16]),
     ("check", &[0, 12, 13, 14, 15]),
 ];
 
+/// A session and the calls made on it. What it has to answer is found from the calls, never from the session.
+#[derive(Default)]
 struct Trial {
     session: Session,
-    known: Option<Known>,
+    calls: Vec<Call>,
+    /// The sum of the steps answered since the last accepted load.
+    steps: u64,
+    /// The smallest number of roles for the last accepted sheet, where it can be found.
+    smallest: Option<usize>,
 }
 
 impl Trial {
     fn make(&mut self, call: &Call, seen: &mut Seen) {
         let before = self.session.clone();
-        let (name, refusal) = match call {
+        let may_change = self.may_change(call);
+        let expected = number(&self.calls, call);
+        self.calls.push(call.clone());
+        let (name, refusal) = self.answer(call);
+        if refusal.is_some() || !may_change {
+            assert_eq!(self.session, before, "{call:?}");
+        }
+        let refusal = refusal.map(Refusal::number);
+        let is_judged_elsewhere = match call {
+            Call::Check { .. } => true,
+            Call::Write(_) => expected.is_none() && refusal == Some(11),
+            Call::Load(_) | Call::Reduce | Call::Search(_) => false,
+        };
+        assert!(is_judged_elsewhere || refusal == expected, "{call:?} {refusal:?} {expected:?}");
+        seen.note((name, refusal.unwrap_or(0)));
+    }
+
+    /// Whether the call, if it is accepted, may leave another session.
+    fn may_change(&self, call: &Call) -> bool {
+        match call {
+            Call::Load(_) | Call::Search(_) => true,
+            Call::Reduce => !is_reduced(&self.calls),
+            Call::Write(_) | Call::Check { .. } => false,
+        }
+    }
+
+    /// The call's name and its refusal, if it is refused.
+    fn answer(&mut self, call: &Call) -> (&'static str, Option<Refusal>) {
+        match call {
             Call::Load(sheet) => ("load", self.load(sheet)),
+            Call::Reduce => ("reduce", self.reduce()),
             Call::Search(budget) => ("search", self.search(*budget)),
             Call::Write(length) => ("write", self.write(*length)),
             Call::Check { sheet, book } => ("check", check(sheet, book).err()),
-        };
-        if refusal.is_some() || matches!(call, Call::Write(_) | Call::Check { .. }) {
-            assert_eq!(self.session, before, "{call:?}");
         }
-        seen.note((name, refusal.map_or(0, Refusal::number)));
     }
 
     fn load(&mut self, sheet: &[u8]) -> Option<Refusal> {
         let refusal = self.session.load(sheet).err();
-        assert_eq!(refusal.map(Refusal::number), lowest_cause(sheet));
         if refusal.is_none() {
-            self.known = Some(Known {
-                sheet: sheet.to_vec(),
-                budgets: 0,
-                steps: 0,
-                smallest: smallest(&self.session),
-            });
+            self.steps = 0;
+            self.smallest = smallest(sheet);
             assert_eq!(self.session, loaded(sheet));
         }
         refusal
     }
 
+    fn reduce(&mut self) -> Option<Refusal> {
+        let answer = self.session.reduce();
+        if let Some(known) = known(&self.calls) {
+            assert_eq!(answer, loaded(known.sheet).reduce());
+            self.judge_session(&known);
+        }
+        answer.err()
+    }
+
     fn search(&mut self, budget: u32) -> Option<Refusal> {
         let answer = self.session.search(budget);
-        let Some(known) = &mut self.known else {
-            assert_eq!(answer, Err(Refusal::NoSheet));
-            return answer.err();
-        };
-        let answer = answer.expect("a sheet is loaded");
-        known.budgets += u64::from(budget);
-        known.steps += u64::from(answer.steps);
-        assert!(answer.steps <= budget);
-        judge_search(&self.session, known, &answer);
-        None
+        if let Ok(answer) = answer {
+            assert!(answer.steps <= budget);
+            self.steps += u64::from(answer.steps);
+            let known = known(&self.calls).expect("a sheet was accepted");
+            let whole = self.judge_session(&known);
+            assert_eq!((whole.roles, whole.bound, whole.state), (answer.roles, answer.bound, answer.state));
+            let unfinished = known.budgets == Some(self.steps);
+            assert!(unfinished || answer.state != State::Open);
+            self.judge_counts(answer.roles, answer.bound, answer.state.word());
+        }
+        answer.err()
     }
 
     fn write(&mut self, length: usize) -> Option<Refusal> {
@@ -91,65 +119,65 @@ impl Trial {
         let written = self.session.write(&mut buffer);
         let count = written.unwrap_or(0);
         assert_eq!(buffer[count..], before[count..]);
-        match &self.known {
-            None => assert_eq!(written, Err(Refusal::NoSheet)),
-            Some(known) if written.is_ok() => judge_book(known, &buffer[..count]),
-            Some(_) => {
-                assert_eq!(written, Err(Refusal::BufferLength));
-                assert!(length < accepted(&self.session).book_bytes().len());
-            }
+        if written.is_ok() {
+            self.judge_book(&buffer[..count]);
+        } else if written == Err(Refusal::BufferLength) {
+            assert!(length < reduced(&self.session).book_bytes().len());
         }
         written.err()
     }
-}
 
-/// The smallest number of roles, where it can be found from the matrices.
-fn smallest(session: &Session) -> Option<usize> {
-    let sheet = accepted(session).sheet();
-    let row = |user| sheet.permissions().map(|permission| sheet.holds(user, permission)).collect();
-    let held: Vec<Vec<bool>> = sheet.users().map(row).collect();
-    (held.len() <= 6 && held[0].len() <= 6).then(|| brute::smallest(&held))
-}
+    /// One search from the first reduction after the load with the sum of the budgets leaves the same session, and the
+    /// steps add up to its steps.
+    fn judge_session(&self, known: &Known<'_>) -> SearchAnswer {
+        let mut in_one = session_with(known.sheet);
+        let budgets = known.budgets.expect("the sheet is reduced");
+        let whole = in_one.search(u32::try_from(budgets).unwrap_or(u32::MAX)).expect("the sheet is reduced");
+        assert_eq!(in_one, self.session);
+        assert_eq!(u64::from(whole.steps), self.steps);
+        whole
+    }
 
-/// One search from the load with the sum of the budgets leaves the same session, and the steps add up to its
-/// steps.
-fn judge_search(session: &Session, known: &Known, answer: &SearchAnswer) {
-    let mut in_one = loaded(&known.sheet);
-    let budget = u32::try_from(known.budgets).unwrap_or(u32::MAX);
-    let whole = in_one.search(budget).expect("a sheet is loaded");
-    assert_eq!(&in_one, session);
-    assert_eq!(u64::from(whole.steps), known.steps);
-    assert_eq!((whole.roles, whole.bound, whole.state), (answer.roles, answer.bound, answer.state));
-    let unfinished = known.steps == known.budgets;
-    assert!(unfinished || answer.state != State::Open);
-    judge_counts(known, answer.roles, answer.bound, answer.state.word());
-}
+    /// Against every role set: the bound is never above the smallest, and the roles are the smallest unless the state
+    /// is open.
+    fn judge_counts(&self, roles: usize, bound: usize, state: &str) {
+        if let Some(smallest) = self.smallest {
+            assert!(bound <= smallest && smallest <= roles, "{bound} {smallest} {roles}");
+            assert!(state == "open" || (bound, roles) == (smallest, smallest), "{bound} {smallest} {roles}");
+        }
+    }
 
-/// Against every role set: the bound is never above the smallest, and the roles are the smallest unless the
-/// state is open.
-fn judge_counts(known: &Known, roles: usize, bound: usize, state: &str) {
-    if let Some(smallest) = known.smallest {
-        assert!(bound <= smallest && smallest <= roles, "{bound} {smallest} {roles}");
-        assert!(state == "open" || (bound, roles) == (smallest, smallest), "{bound} {smallest} {roles}");
+    /// A book brought out is accepted for the sheet of the last accepted load, which says that its product is that
+    /// sheet.
+    fn judge_book(&self, book: &[u8]) {
+        let known = known(&self.calls).expect("a sheet was accepted");
+        let answer = check(known.sheet, book).expect("a written book is accepted");
+        let text = String::from_utf8_lossy(book);
+        let counts: Vec<&str> = text.lines().nth(1).unwrap_or("").split(',').collect();
+        let bound = counts[1].parse().expect("the bound is a number");
+        assert_eq!(counts[0], answer.roles.to_string());
+        self.judge_counts(answer.roles, bound, counts[2]);
     }
 }
 
-/// A book brought out is accepted for the sheet of the last accepted load, which says that its product is
-/// that sheet.
-fn judge_book(known: &Known, book: &[u8]) {
-    let answer = check(&known.sheet, book).expect("a written book is accepted");
-    let text = String::from_utf8_lossy(book);
-    let counts: Vec<&str> = text.lines().nth(1).unwrap_or("").split(',').collect();
-    let bound = counts[1].parse().expect("the bound is a number");
-    assert_eq!(counts[0], answer.roles.to_string());
-    judge_counts(known, answer.roles, bound, counts[2]);
+/// Whether these calls leave a reduced sheet.
+fn is_reduced(calls: &[Call]) -> bool {
+    known(calls).is_some_and(|known| known.budgets.is_some())
+}
+
+/// The smallest number of roles for an acceptable sheet, where it can be found from the matrices.
+fn smallest(sheet: &[u8]) -> Option<usize> {
+    let sheet = Sheet::read(sheet).expect("the sheet is acceptable");
+    let row = |user| sheet.permissions().map(|permission| sheet.holds(user, permission)).collect();
+    let held: Vec<Vec<bool>> = sheet.users().map(row).collect();
+    (held.len() <= 6 && held[0].len() <= 6).then(|| brute::smallest(&held))
 }
 
 #[test]
 fn the_claim_about_sequences_stands() {
     let mut seen = Seen::default();
     cases(1_500, |random| {
-        let mut trial = Trial { session: Session::fresh(), known: None };
+        let mut trial = Trial::default();
         for call in sequence(random, 30, 6) {
             trial.make(&call, &mut seen);
         }
@@ -159,21 +187,55 @@ fn the_claim_about_sequences_stands() {
     }
 }
 
-/// A check between two calls changes nothing: leaving the checks out gives the same answers to the rest.
+/// The answers to the calls on one session, without those calls that are left out.
+fn lines(calls: &[Call], is_left_out: impl Fn(usize) -> bool) -> Vec<String> {
+    let mut session = Session::fresh();
+    let kept = calls.iter().enumerate().filter(|(index, _)| !is_left_out(*index));
+    kept.map(|(_, call)| answer_line(&mut session, call)).collect()
+}
+
+/// Leaving these calls out gives the same answers to the rest. Gives how many were left out.
+fn assert_left_out(calls: &[Call], is_left_out: impl Fn(usize) -> bool) -> usize {
+    let all = lines(calls, |_| false).into_iter().enumerate();
+    let rest: Vec<String> = all.filter(|(index, _)| !is_left_out(*index)).map(|(_, line)| line).collect();
+    assert_eq!(lines(calls, &is_left_out), rest);
+    calls.len() - rest.len()
+}
+
+/// A check between two calls changes nothing.
 #[test]
 fn checks_can_be_left_out() {
+    let mut left_out = 0;
     cases(100, |random| {
         let calls = sequence(random, 25, 6);
-        let is_check = |call: &Call| matches!(call, Call::Check { .. });
-        let lines = |calls: &[&Call]| {
-            let mut session = Session::fresh();
-            let answered: Vec<String> = calls.iter().map(|call| answer_line(&mut session, call)).collect();
-            answered.into_iter().filter(|line| !line.starts_with("check")).collect::<Vec<_>>()
-        };
-        let all: Vec<&Call> = calls.iter().collect();
-        let without: Vec<&Call> = calls.iter().filter(|call| !is_check(call)).collect();
-        assert_eq!(lines(&all), lines(&without));
+        left_out += assert_left_out(&calls, |index| matches!(calls[index], Call::Check { .. }));
     });
+    assert!(left_out > 50, "only {left_out} checks");
+}
+
+/// A reduction changes nothing if there was one since the last accepted load.
+#[test]
+fn reductions_after_the_first_can_be_left_out() {
+    let mut left_out = 0;
+    cases(200, |random| {
+        let calls = sequence(random, 25, 6);
+        left_out +=
+            assert_left_out(&calls, |index| calls[index] == Call::Reduce && is_reduced(&calls[..index]));
+    });
+    assert!(left_out > 50, "only {left_out} reductions");
+}
+
+/// A search that is refused counts for no budget.
+#[test]
+fn refused_searches_can_be_left_out() {
+    let mut left_out = 0;
+    cases(200, |random| {
+        let calls = sequence(random, 25, 6);
+        let is_refused = |index: usize| number(&calls[..index], &calls[index]).is_some();
+        left_out +=
+            assert_left_out(&calls, |index| matches!(calls[index], Call::Search(_)) && is_refused(index));
+    });
+    assert!(left_out > 50, "only {left_out} refused searches");
 }
 
 #[test]
@@ -184,9 +246,14 @@ fn answer_lines_are_as_agreed() {
     let untouched = format!("{:08x}", digest(&lent_buffer(10)));
     assert_eq!(line(Call::Search(3)), "search 10 0 0 0 -");
     assert_eq!(line(Call::Write(10)), format!("write 10 0 {untouched}"));
-    assert_eq!(line(Call::Load(b"user\n".to_vec())), "load 3 0 0 0 0 0");
-    assert_eq!(line(Call::Load(sheet.clone())), "load 0 4 4 12 12 3");
+    assert_eq!(line(Call::Load(b"user\n".to_vec())), "load 3 0 0 0");
+    assert_eq!(line(Call::Reduce), "reduce 10 0 0");
+    assert_eq!(line(Call::Load(sheet.clone())), "load 0 4 4 12");
+    assert_eq!(line(Call::Search(3)), "search 16 0 0 0 -");
+    assert_eq!(line(Call::Write(10)), format!("write 16 0 {untouched}"));
+    assert_eq!(line(Call::Reduce), "reduce 0 12 3");
     assert_eq!(line(Call::Search(124)), "search 0 124 4 3 open");
+    assert_eq!(line(Call::Reduce), "reduce 0 12 3");
     assert_eq!(line(Call::Search(9)), "search 0 1 4 4 searched");
     assert_eq!(line(Call::Write(10)), format!("write 11 0 {untouched}"));
     let book = b"roles,bound,state\n".to_vec();

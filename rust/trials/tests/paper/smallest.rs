@@ -7,7 +7,7 @@ use trials::cases::cases;
 use trials::draft::Draft;
 use trials::families::{self, crown};
 
-use crate::support::{accepted, loaded};
+use crate::support::{reduced, session_with};
 
 /// Steps within which nearly all of these small sheets are finished.
 const BUDGET: u32 = 100_000;
@@ -32,9 +32,9 @@ fn judge_all(users: usize, permissions: usize) -> usize {
     let mut searched = 0;
     for (cells, smallest) in smallest.iter().enumerate() {
         let draft = numbered(users, permissions, cells);
-        let mut session = loaded(&draft.bytes());
-        judge(&session.search(0).expect("a sheet is loaded"), *smallest, &draft);
-        let answer = session.search(BUDGET).expect("a sheet is loaded");
+        let mut session = session_with(&draft.bytes());
+        judge(&session.search(0).expect("the sheet is reduced"), *smallest, &draft);
+        let answer = session.search(BUDGET).expect("the sheet is reduced");
         judge(&answer, *smallest, &draft);
         assert_ne!(answer.state, State::Open, "{draft:?}");
         searched += usize::from(answer.state == State::Searched);
@@ -67,10 +67,10 @@ fn random_sheets_of_up_to_six_users_and_permissions() {
         let density = random.between(20, 90);
         let draft = families::random(random, users, permissions, density);
         let smallest = brute::smallest(&draft.held);
-        let mut session = loaded(&draft.bytes());
-        judge(&session.search(0).expect("a sheet is loaded"), smallest, &draft);
-        judge(&session.search(random.below(50) as u32).expect("a sheet is loaded"), smallest, &draft);
-        let answer = session.search(BUDGET).expect("a sheet is loaded");
+        let mut session = session_with(&draft.bytes());
+        judge(&session.search(0).expect("the sheet is reduced"), smallest, &draft);
+        judge(&session.search(random.below(50) as u32).expect("the sheet is reduced"), smallest, &draft);
+        let answer = session.search(BUDGET).expect("the sheet is reduced");
         judge(&answer, smallest, &draft);
         searched += usize::from(answer.state == State::Searched);
         open += usize::from(answer.state == State::Open);
@@ -85,8 +85,8 @@ fn structured_sheets() {
         if draft.users.len() * draft.permissions.len() > 64 {
             return;
         }
-        let mut session = loaded(&draft.bytes());
-        let answer = session.search(BUDGET).expect("a sheet is loaded");
+        let mut session = session_with(&draft.bytes());
+        let answer = session.search(BUDGET).expect("the sheet is reduced");
         judge(&answer, brute::smallest(&draft.held), &draft);
     });
 }
@@ -99,13 +99,13 @@ fn crowns_have_the_known_smallest_numbers() {
         [(3, 3), (4, 4), (5, 4), (6, 4), (7, 5), (10, 5), (11, 6), (12, 6), (20, 6), (21, 7), (45, 8)];
     for (users, smallest) in known {
         let draft = crown(users);
-        let mut session = loaded(&draft.bytes());
-        judge(&session.search(BUDGET).expect("a sheet is loaded"), smallest, &draft);
+        let mut session = session_with(&draft.bytes());
+        judge(&session.search(BUDGET).expect("the sheet is reduced"), smallest, &draft);
     }
     for users in 3..=6 {
-        let mut session = loaded(&crown(users).bytes());
+        let mut session = session_with(&crown(users).bytes());
         assert_ne!(session.search(BUDGET).map(|answer| answer.state), Ok(State::Open));
-        assert!(accepted(&session).machine().is_finished());
+        assert!(reduced(&session).machine().is_finished());
     }
 }
 

@@ -11,12 +11,13 @@ use trials::extremes;
 use trials::families;
 use trials::restated::causes::lowest_cause;
 use trials::restated::form::verdict;
+use trials::sessions::first_book;
 use trials::spelling;
 use trials::tally::Tally;
 
 use crate::support::{
-    EXAMPLE, EXAMPLE_BOOK, accepted, book, check_answer, check_number, check_of_replaced, example_book,
-    load_answer, load_number, loaded,
+    EXAMPLE, EXAMPLE_BOOK, book, check_answer, check_number, check_of_replaced, example_book, load_answer,
+    load_number, reduce_answer, session_with,
 };
 
 /// The number of a sheet with these two users, and of one with these two permissions, which must be the same.
@@ -108,8 +109,10 @@ fn user_and_permission_may_share_a_name_in_any_case() {
     let sheet = "user,ANN,bo\nann,1,0\nBO,0,1\n";
     let text = "roles,bound,state\n2,2,witnessed\n\nrole,ANN,bo\nR1,1,0\nR2,0,1\n\nuser,R1,R2\nann,1,0\nBO,0,1\n\n\
         user,permission\nann,ANN\nBO,bo\n";
-    assert_eq!(Session::fresh().load(sheet.as_bytes()), Ok(load_answer(2, 2, 2, 0, 2)));
-    assert_eq!(book(&loaded(sheet.as_bytes())), text);
+    let mut session = Session::fresh();
+    assert_eq!(session.load(sheet.as_bytes()), Ok(load_answer(2, 2, 2)));
+    assert_eq!(session.reduce(), Ok(reduce_answer(0, 2)));
+    assert_eq!(book(&session), text);
     assert_eq!(check_number(sheet, text), 0);
     assert_eq!(check_number(sheet, &text.replace("ann,ANN\nBO,bo\n", "ANN,ann\nbo,BO\n")), 0);
     assert_eq!(check_number(sheet, &text.replace("ann,ANN\nBO,bo\n", "ANN,bo\nBO,bo\n")), 15);
@@ -211,7 +214,7 @@ fn role_names_keep_their_case_where_names_are_spelled_alike() {
     let sheet = "user,r1\nR1,1\n";
     let text =
         "roles,bound,state\n1,1,witnessed\n\nrole,r1\nR1,1\n\nuser,R1\nR1,1\n\nuser,permission\nR1,r1\n";
-    assert_eq!(book(&loaded(sheet.as_bytes())), text);
+    assert_eq!(book(&session_with(sheet.as_bytes())), text);
     let number = |piece: &str, other: &str| check_of_one(sheet, text, piece, other);
     assert_eq!(number("role,r1\nR1,1\n", "role,R1\nR1,1\n"), 0);
     assert_eq!(number("role,r1\nR1,1\n", "role,r1\nr1,1\n"), 12);
@@ -223,7 +226,7 @@ fn role_names_keep_their_case_where_names_are_spelled_alike() {
 #[test]
 fn words_of_the_form_keep_their_case_where_names_are_spelled_alike() {
     let sheet = "user,permission\nuser,1\n";
-    let text = book(&loaded(sheet.as_bytes()));
+    let text = book(&session_with(sheet.as_bytes()));
     let heading = "\n\nuser,permission\nuser,permission\n";
     assert!(text.ends_with(heading), "{text}");
     let number = |other: &str| check_number(sheet, &text.replacen(heading, other, 1));
@@ -238,7 +241,7 @@ fn bytes_that_are_no_letters_have_no_case() {
     let sheet = "user,a_b,p-0\nu.9,1,1\n";
     let text = "roles,bound,state\n1,1,witnessed\n\nrole,a_b,p-0\nR1,1,1\n\nuser,R1\nu.9,1\n\n\
         user,permission\nu.9,p-0\n";
-    assert_eq!(book(&loaded(sheet.as_bytes())), text);
+    assert_eq!(book(&session_with(sheet.as_bytes())), text);
     let number = |piece: &str, other: &str| check_of_one(sheet, text, piece, other);
     assert_eq!(number("role,a_b,p-0", "role,A_B,P-0"), 0);
     assert_eq!(number("\nu.9,1", "\nU.9,1"), 0);
@@ -310,9 +313,10 @@ fn book_is_spelled_as_its_sheet_is() {
     let sheet = "user,Rec,ID,map\nAnn,1,1,0\nBO,0,1,1\ncY,1,1,1\n";
     let text = "roles,bound,state\n2,2,witnessed\n\nrole,Rec,ID,map\nR1,1,1,0\nR2,0,1,1\n\n\
         user,R1,R2\nAnn,1,0\nBO,0,1\ncY,1,1\n\nuser,permission\nAnn,Rec\nBO,map\n";
-    let mut session = loaded(EXAMPLE.as_bytes());
+    let mut session = session_with(EXAMPLE.as_bytes());
     assert_eq!(book(&session), EXAMPLE_BOOK);
-    assert_eq!(session.load(sheet.as_bytes()), Ok(load_answer(3, 3, 7, 0, 2)));
+    assert_eq!(session.load(sheet.as_bytes()), Ok(load_answer(3, 3, 7)));
+    assert_eq!(session.reduce(), Ok(reduce_answer(0, 2)));
     assert_eq!(book(&session), text);
     let refused = sheet.replace("BO", "aNN");
     assert_eq!(session.load(refused.as_bytes()).map_err(|refusal| refusal.number()), Err(8));
@@ -373,7 +377,7 @@ fn spelled_books_get_the_same_judgement_in_the_second_way() {
     cases(3_000, |random| {
         let is_wide = random.percent(10);
         let draft = if is_wide { families::any_wide(random, 6) } else { families::any(random, 6) };
-        let text = accepted(&loaded(&draft.bytes())).book_bytes();
+        let text = first_book(&draft.bytes());
         assert_eq!(judge(&draft, &spelling::book(random, &draft, &text)), 0);
         assert_eq!(judge(&spelling::sheet(random, &draft), &text), 0);
         let (place, misspelt) = spelling::misspelt_book(random, &draft, &text);

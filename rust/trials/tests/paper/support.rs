@@ -3,10 +3,11 @@
 use second::checker::{CheckAnswer, check};
 use second::grants::Grant;
 use second::roles::State;
-use second::session::{Accepted, LoadAnswer, SearchAnswer, Session};
+use second::session::{LoadAnswer, ReduceAnswer, Reduced, SearchAnswer, Session};
 use trials::draft::Draft;
 use trials::families;
 use trials::random::Random;
+use trials::sessions;
 
 /// The sheet of the worked example.
 pub const EXAMPLE: &str = "user,rec,id,map\nann,1,1,0\nbo,0,1,1\ncy,1,1,1\n";
@@ -18,21 +19,24 @@ pub const EXAMPLE_BOOK: &str = "roles,bound,state\n2,2,witnessed\n\nrole,rec,id,
 /// Steps after which a trial stops watching.
 pub const WATCHED_STEPS: u32 = 2_000;
 
-/// A session with this sheet, which must be acceptable.
+/// A session with this sheet, which must be acceptable. It is not reduced.
 pub fn loaded(sheet: &[u8]) -> Session {
-    let mut session = Session::fresh();
-    session.load(sheet).expect("the sheet is acceptable");
-    session
+    sessions::loaded(sheet)
 }
 
-/// What the last accepted load left.
-pub fn accepted(session: &Session) -> &Accepted {
-    session.accepted().expect("a sheet was accepted")
+/// A session with this sheet, which must be acceptable, reduced.
+pub fn session_with(sheet: &[u8]) -> Session {
+    sessions::reduced(sheet)
+}
+
+/// The session's sheet, what its reduction found out, and how far it has been searched.
+pub fn reduced(session: &Session) -> &Reduced {
+    session.reduced().expect("the sheet is reduced")
 }
 
 /// The book as text.
 pub fn book(session: &Session) -> String {
-    String::from_utf8(accepted(session).book_bytes()).expect("names are of plain bytes")
+    String::from_utf8(reduced(session).book_bytes()).expect("names are of plain bytes")
 }
 
 /// The number of the refusal of a load, 0 if there is none.
@@ -51,14 +55,12 @@ pub fn check_number(sheet: &str, book: &str) -> u32 {
     }
 }
 
-pub fn load_answer(
-    users: usize,
-    permissions: usize,
-    grants: usize,
-    kernel: usize,
-    witness: usize,
-) -> LoadAnswer {
-    LoadAnswer { users, permissions, grants, kernel, witness }
+pub fn load_answer(users: usize, permissions: usize, grants: usize) -> LoadAnswer {
+    LoadAnswer { users, permissions, grants }
+}
+
+pub fn reduce_answer(kernel: usize, witness: usize) -> ReduceAnswer {
+    ReduceAnswer { kernel, witness }
 }
 
 pub fn search_answer(steps: u32, roles: usize, bound: usize, state: State) -> SearchAnswer {
@@ -104,7 +106,7 @@ pub fn unfinished(random: &mut Random) -> (Draft, Session) {
         let density = random.between(40, 80);
         let (users, permissions) = (random.between(4, 7), random.between(4, 7));
         let draft = families::random(random, users, permissions, density);
-        let session = loaded(&draft.bytes());
-        (!accepted(&session).machine().is_finished()).then_some((draft, session))
+        let session = session_with(&draft.bytes());
+        (!reduced(&session).machine().is_finished()).then_some((draft, session))
     })
 }

@@ -20,25 +20,32 @@ returns-2 c =
 returns-3 : tie.Need-returns-3
 returns-3 c =
     let put = c .before .before in
-    written-as (sym (ap line-of (put .before .before .before .answer2 .given .1))) (put .put-searched .ensures)
+    let lent = put .before .before .before in
+    written-as (sym (ap line-of (lent .before .before .before .answer2 .given .1))) (put .put-line2 .ensures)
 
 returns-4 : tie.Need-returns-4
 returns-4 c =
     let put = c .before .before in
-    let lent = put .before .before in
-    written-as (sym (ap line-of (lent .before .before .before .answer3 .given .1))) (put .put-digest-line .ensures)
+    written-as (sym (ap line-of (put .before .before .before .answer3 .given .1))) (put .put-searched .ensures)
 
 returns-5 : tie.Need-returns-5
 returns-5 c =
     let put = c .before .before in
+    let lent = put .before .before in
+    written-as (sym (ap line-of (lent .before .before .before .answer4 .given .1))) (put .put-digest-line .ensures)
+
+returns-6 : tie.Need-returns-6
+returns-6 c =
+    let put = c .before .before in
     let lent = put .before .before .before in
-    written-as (sym (ap line-of (lent .before .before .before .answer4 .given .1))) (put .put-line2 .ensures)
+    written-as (sym (ap line-of (lent .before .before .before .answer5 .given .1))) (put .put-line3 .ensures)
 
 pub put-answer-spec : {M : Type 1} → statement M
 put-answer-spec =
     tie.close (tie.spec (λ c. search needs) (λ c. search needs) (λ c κs. search needs) (λ c. search needs)
     (λ c. search needs) (λ c. search needs) (λ c. search needs) (λ c κs. search needs) (λ c. search needs)
+    (λ c. search needs) (λ c. search needs) (λ c. search needs) (λ c κs. search needs) (λ c. search needs)
     (λ c κs. search needs) (λ c. search needs) (λ c. search needs) (λ c. search needs) (λ c κs. search needs)
     (λ c. search needs) (λ c. search needs) (λ c. search needs) (λ c. search needs) (λ c κs. search needs)
     (λ c. search needs) returns (λ c. search needs) returns-2 (λ c. search needs) returns-3 (λ c. search needs)
-    returns-4 (λ c. search needs) returns-5)
+    returns-4 (λ c. search needs) returns-5 (λ c. search needs) returns-6)

@@ -1,16 +1,16 @@
 -- `session::Session::load`: the number that the sheet was read with decides. A refused sheet is answered by it and
--- leaves the session. An accepted one is short enough to be kept whole: the session is then one made anew from it
--- (`Anew`), and the counts are those found of it.
+-- leaves the session. An accepted one is short enough to be kept whole: the session then has its bytes, its layout and
+-- its rows, and nothing that only a reduction finds; and the counts are those of the layout.
 use native.Mathlib.Omega.{arith}
-use mathlib.Core.Path.{_≡_, refl, sym, _∙_}
+use mathlib.Core.Path.{_≡_, refl, sym, ap, _∙_}
 use borrow.Author.Needs.{needs}
 use lib.ListN.{length}
 use Rattle.spec.specs.Limits.{sheet-limit}
 use Rattle.spec.specs.Text.{Bytes}
+use Rattle.spec.specs.Session.{read}
 use Rattle.spec.specs.Refusal.{refusal}
-use Rattle.preparing.specs.Prepared.{PreparedFor}
-use Rattle.session.specs.Laws.Anew.{held-of, Anew, view-anew, holds-anew}
 use Rattle.session.specs.Laws.Loading.{refused-loads, accepted-loads, unrefused-short, counts-found}
+use Rattle.session.specs.Laws.SheetHeld.{unreduced-sound}
 use Rattle.session.proofs.Session.load.Statement.{statement}
 use Rattle.session.proofs.Session.load.Tie as tie
 
@@ -38,44 +38,27 @@ room : (c : tie.After-copied) → length (c .copied .result) ≡ sheet-limit
 unfolding sheet-limit
 room c = search needs
 
-prepare-requires : tie.Need-prepare-requires
-prepare-requires c κs =
-    let e = c .before .before .before in
-    let read = e .before .read .ensures .1 .0 (zero e) in
-    record { text = sheet-text e; laid = read .0; read = read .1 }
-
-abbrev copied-at : tie.After-prepare → tie.After-copied
-copied-at c = c .before .before .before
-
--- what was found of the sheet
-found : (c : tie.After-prepare) → PreparedFor (sheet-text (copied-at c .before)) (c .prepare .result)
-found c =
-    let e = copied-at c .before in
-    let read = e .before .read .ensures .1 .0 (zero e) in
-    c .prepare .ensures .0 (sheet-text e) (read .0) (read .1)
-
 returns-2 : tie.Need-returns-2
 returns-2 c =
-    let at-prepared = c .before .before .before .before in
-    let at-copied = copied-at at-prepared in
+    let at-copied = c .before .before .before .before in
     let e = at-copied .before in
-    let text = sheet-text e in
-    let p = at-prepared .prepare .result in
-    let made : Anew text (held-of text (at-copied .copied .result) p (c .start .result)) =
-    record {
-      accepts = refl;
-      whole = omega (arith, room at-copied, unrefused-short text (unrefused e));
-      kept = at-copied .copied .ensures .0;
-      found = found at-prepared;
-      first = c .before .first-classes .result;
-      same = λ l. c .before .first-classes .ensures _ l;
-      starts = c .start .ensures;
-    } in (
-      accepted-loads _ _ (unrefused e) (counts-found text p (found at-prepared)) (view-anew made),
-      (record { held = λ _. holds-anew made }, λ refused. absurd (refused refl)),
+    let found = e .before .read .ensures .1 .0 (zero e) in
+    let kept = at-copied .copied .ensures .0 in (
+      accepted-loads _ _ (unrefused e) (counts-found (sheet-text e) _ (found .0)) (ap read kept),
+      (
+        unreduced-sound
+            (λ accepts.
+            record {
+              whole = omega (arith, room at-copied, unrefused-short (sheet-text e) (unrefused e));
+              laid = rw kept (found .0);
+              cells = rw kept (found .1);
+            })
+            refl (c .none .ensures) (c .before .no-position .ensures),
+        λ refused. absurd (refused refl),
+      ),
     )
 
 pub load-spec : {M : Type 1} → statement M
 load-spec =
-    tie.close (tie.spec (λ c κs. search needs) (λ c κs. search needs) returns copied-requires prepare-requires
-    (λ c κs. search needs) (λ c κs. search needs) returns-2)
+    tie.close (tie.spec (λ c κs. search needs) (λ c κs. search needs) returns copied-requires (λ c κs. search needs)
+    (λ c κs. search needs) returns-2)
