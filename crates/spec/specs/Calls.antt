@@ -64,16 +64,30 @@ after-reduce no-sheet = no-sheet
 after-reduce (read text) = reduced text (start-of (sheet-of text))
 after-reduce (reduced text st) = reduced text st
 
--- a search answers its steps, roles, bound and state; a refused one names no state
+-- a search answers its steps, how many of them placed, took back and closed, roles, bound and state; a refused one names
+-- no state
 pub record SearchAnswer : Type 0 where
   pub number : ℕ
   pub steps : ℕ
+  pub placed : ℕ
+  pub taken-back : ℕ
+  pub closed : ℕ
   pub roles : ℕ
   pub bound : ℕ
   pub standing : Option Standing
 
 abbrev pub search-refused : ℕ → SearchAnswer
-search-refused number = record { number = number; steps = 0; roles = 0; bound = 0; standing = none }
+search-refused number =
+    record {
+      number = number;
+      steps = 0;
+      placed = 0;
+      taken-back = 0;
+      closed = 0;
+      roles = 0;
+      bound = 0;
+      standing = none;
+    }
 
 -- the session's own position moved forward
 unfoldable pub searched-on : Bytes → ℕ → State → Ran
@@ -84,6 +98,9 @@ search-found sheet ran =
     record {
       number = 0;
       steps = ran .steps;
+      placed = ran .kinds .placed;
+      taken-back = ran .kinds .taken-back;
+      closed = ran .kinds .closed;
       roles = role-count sheet (ran .state);
       bound = bound sheet (ran .state);
       standing = some (standing sheet (ran .state));

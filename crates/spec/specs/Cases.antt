@@ -8,3 +8,5 @@ pub mod Roles
 pub mod Checker
 pub mod Edges
 pub mod Calls
+pub mod Searches
+pub mod LongSearch

@@ -8,6 +8,7 @@ use Rattle.spec.specs.Text.{Bytes}
 use Rattle.spec.specs.Sheet.{Sheet, sheet-of}
 use Rattle.spec.specs.Rules.{Keeps}
 use Rattle.spec.specs.Reduction.{kernel-size}
+use Rattle.spec.specs.Machine.{State, Ran, depth}
 use Rattle.spec.specs.RoleSet.{RoleSet, Multiplies}
 use Rattle.spec.specs.Roles.{witnessed, searched, unsettled}
 use Rattle.spec.specs.Book.{Said, book-text}
@@ -19,7 +20,8 @@ use Rattle.spec.specs.Calls.{LoadAnswer, load-answer, load-refused, Redu
 use Rattle.spec.specs.Calls.{SearchAnswer, search-refused, WriteAnswer, write-refused, CheckAnswer, check}
 use Rattle.spec.specs.Calls.{check-refused, check-counts, Loads, Reduces, Searches, Writes, Checks}
 use Rattle.spec.specs.Sequence.{Call, load, reduce, search, write, WriteOutcome, Outcome, Happens, Event, Led}
-use Rattle.spec.specs.Sequence.{calls, last-accepted, last-reduced, budgets-given, enough, brought-out}
+use Rattle.spec.specs.Sequence.{calls, last-accepted, last-reduced, budgets-given, searched-in-all, reached}
+use Rattle.spec.specs.Sequence.{search-answers, total, enough, brought-out}
 
 -- number is that of the first of the causes, in their order, that applies, and 0 exactly where none applies
 pub record FirstThatApplies (causes : List Cause) (number : ℕ) : Type 0 where
@@ -132,6 +134,17 @@ pub record ReduceOwed (answer : ReduceAnswer) (earlier : List Call) : Type 0 whe
   pub sheetless : last-accepted earlier ≡ none → answer ≡ reduce-refused 10
   pub answered : (text : Bytes) → last-accepted earlier ≡ some text → answer ≡ reduce-counts (sheet-of text)
 
+-- what a search owes that took the machine from one state to another
+pub record StepsOwed (before after : State) (answer : SearchAnswer) : Type 0 where
+  -- the three counts add up to the step count
+  pub add-up : answer .placed + answer .taken-back + answer .closed ≡ answer .steps
+  -- placed minus taken back is the depth gained, and falling below the start counts as negative
+  pub depth-gained : depth after + answer .taken-back ≡ depth before + answer .placed
+  -- at most one step closed, and one did exactly where this search closed the machine: it was not finished before, and
+  -- now it is, with no grant placed
+  pub closed-once : answer .closed ≤ 1
+  pub closed-here : (answer .closed ≡ 1) ↔ ((before .finished ≡ false) × So (after .finished) × (depth after ≡ 0))
+
 -- what is owed of a search, after the earlier calls
 pub record SearchOwed (budget : ℕ) (answer : SearchAnswer) (earlier : List Call) : Type 0 where
   -- 10 with no accepted sheet, 16 with one that was not reduced since, and no refusal otherwise
@@ -143,6 +156,9 @@ pub record SearchOwed (budget : ℕ) (answer : SearchAnswer) (earlier : List Cal
   pub settled : (text : Bytes) → last-reduced earlier ≡ some text
       → BudgetsSuffice (kernel-size (sheet-of text)) (budget + budgets-given earlier) → answer .standing ≢ some
       unsettled
+  -- what the steps were, from where the budgets given before had moved the machine to where this one moves it
+  pub steps-owed : (text : Bytes) → last-reduced earlier ≡ some text
+      → StepsOwed (reached text (budgets-given earlier)) (reached text (budget + budgets-given earlier)) answer
 
 -- what is owed of a writing, after the earlier calls
 pub record WriteOwed (buffer : Bytes) (written : WriteOutcome) (earlier : List Call) : Type 0 where
@@ -169,10 +185,21 @@ abbrev pub OwedOfAll : List Event → Type 0
 OwedOfAll [] = Unit {0}
 OwedOfAll (event ∷ earlier) = Owed (event .call) (event .outcome) (calls earlier) × OwedOfAll earlier
 
+-- some searches are together one that ran so: each of their counts adds up to its own
+pub record Together (answers : List SearchAnswer) (ran : Ran) : Type 0 where
+  pub steps : total (λ answer. answer .steps) answers ≡ ran .steps
+  pub placed : total (λ answer. answer .placed) answers ≡ ran .kinds .placed
+  pub taken-back : total (λ answer. answer .taken-back) answers ≡ ran .kinds .taken-back
+  pub closed : total (λ answer. answer .closed) answers ≡ ran .kinds .closed
+
 -- demand 3: one claim about every sequence of loads, reductions, searches and writings on one session, refused ones
--- included, from a fresh session. No sequence is left out: whatever the calls are, there are events and a session to
--- which they led with exactly those calls
+-- included, from a fresh session. However the searches since the last accepted load shared out the budgets given, their
+-- counts are together those of one search with all of them. No sequence is left out: whatever the calls are, there are
+-- events and a session to which they led with exactly those calls
 pub record Demand3 : Type 0 where
   pub owed : (events : List Event) (session : Session) → Led events session → OwedOfAll events
+  pub together : (events : List Event) (session : Session) → Led events session → (text : Bytes)
+      → last-reduced (calls events) ≡ some text
+      → Together (search-answers events) (searched-in-all text (budgets-given (calls events)))
   pub happens : (made : List Call) → (events : List Event) × (session : Session) × Led events session
       × (calls events ≡ made)

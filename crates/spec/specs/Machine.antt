@@ -62,39 +62,72 @@ place kernel st c =
     let after : State = placed-in st c in
     cond (eqb (depth after) (kernel .size)) (improved kernel after) after
 
+-- which of the three a step was: it placed one grant, took one back, or closed the search
+pub data StepKind : Type 0 where
+  placing : StepKind
+  taking-back : StepKind
+  closing : StepKind
+
+-- the next state, and which of the three the step was
+pub record Step : Type 0 where
+  pub state : State
+  pub kind : StepKind
+
 -- nothing is left to try: if d = 0, the search is closed: finished; otherwise d falls by 1 and t is the class taken
 -- back plus 1
-abbrev pub take-back-or-close : State → List ℕ → State
-take-back-or-close st [] = record { placed = []; next = st .next; best = st .best; finished = true }
+abbrev pub take-back-or-close : State → List ℕ → Step
+take-back-or-close st [] =
+    record { state = record { placed = []; next = st .next; best = st .best; finished = true }; kind = closing }
 take-back-or-close st (a ∷ earlier) =
-    record { placed = earlier; next = suc a; best = st .best; finished = st .finished }
+    record {
+      state = record { placed = earlier; next = suc a; best = st .best; finished = st .finished };
+      kind = taking-back;
+    }
 
-abbrev pub move : Kernel → State → Option ℕ → State
-move kernel st (some c) = place kernel st c
+abbrev pub move : Kernel → State → Option ℕ → Step
+move kernel st (some c) = record { state = place kernel st c; kind = placing }
 move kernel st none = take-back-or-close st (st .placed)
 
 -- one step places one grant, takes one back, or closes the search. No list of classes is placed twice within one load:
 -- the law `placed-once-a-load` (demands, PlacedOnce)
-unfoldable pub step : Kernel → State → State
+unfoldable pub step : Kernel → State → Step
 step kernel st = move kernel st (choice kernel st)
 
--- where some steps led, and how many they were
+-- how many of some steps placed, took back and closed
+pub record Kinds : Type 0 where
+  pub placed : ℕ
+  pub taken-back : ℕ
+  pub closed : ℕ
+
+abbrev pub no-kinds : Kinds
+no-kinds = record { placed = 0; taken-back = 0; closed = 0 }
+
+-- one more of a kind
+abbrev pub counted : StepKind → Kinds → Kinds
+counted placing n = record { placed = suc (n .placed); taken-back = n .taken-back; closed = n .closed }
+counted taking-back n = record { placed = n .placed; taken-back = suc (n .taken-back); closed = n .closed }
+counted closing n = record { placed = n .placed; taken-back = n .taken-back; closed = suc (n .closed) }
+
+-- where some steps led, how many they were, and how many of each kind
 pub record Ran : Type 0 where
   pub state : State
   pub steps : ℕ
+  pub kinds : Kinds
 
 abbrev pub no-step : State → Ran
-no-step st = record { state = st; steps = 0 }
+no-step st = record { state = st; steps = 0; kinds = no-kinds }
 
-abbrev pub one-more : Ran → Ran
-one-more ran = record { state = ran .state; steps = suc (ran .steps) }
+-- a step of this kind, and then those
+abbrev pub one-more : StepKind → Ran → Ran
+one-more kind ran = record { state = ran .state; steps = suc (ran .steps); kinds = counted kind (ran .kinds) }
 
 -- as many steps as the budget, or those left until finished if fewer
 unfoldable pub run : Kernel → ℕ → State → Ran
 unfolding step
 run kernel zero st = no-step st
 run kernel (suc budget) st =
-    let later : Ran = one-more (run kernel budget (step kernel st)) in
+    let made : Step = step kernel st in
+    let later : Ran = one-more (made .kind) (run kernel budget (made .state)) in
     cond (st .finished) (no-step st) later
 
 -- a search: with k above 128 it makes no step

@@ -1,11 +1,15 @@
 -- "The sequence of demand 3": sequences of calls on one session from a fresh one, the last accepted load and whether
--- its sheet was reduced since, the budgets given and those that are enough, and the books brought out.
+-- its sheet was reduced since, the budgets given and those that are enough, what the searches answered, and the books
+-- brought out.
 use Rattle.spec.specs.Vocabulary.{ℕ, zero, suc, _+_, _*_, _≡_, cond, Option, none, some, List, [], _∷_, map, take}
 use Rattle.spec.specs.Text.{Bytes}
+use Rattle.spec.specs.Sheet.{sheet-of}
+use Rattle.spec.specs.Machine.{State, Ran}
+use Rattle.spec.specs.Roles.{start-of}
 use Rattle.spec.specs.Session.{Session, fresh}
 use Rattle.spec.specs.Refusal.{accepted}
-use Rattle.spec.specs.Calls.{LoadAnswer, ReduceAnswer, SearchAnswer, WriteAnswer, Loads, Reduces, Searches}
-use Rattle.spec.specs.Calls.{Writes}
+use Rattle.spec.specs.Calls.{LoadAnswer, ReduceAnswer, SearchAnswer, WriteAnswer, searched-on, Loads, Reduces}
+use Rattle.spec.specs.Calls.{Searches, Writes}
 
 -- a load brings its own sheet, a search its budget, a writing its own buffer, a reduction nothing; a check has no
 -- session and changes nothing between any two. Any number is a budget here, also those above the range of document 01
@@ -78,6 +82,34 @@ budgets-given (load text ∷ earlier) = cond (accepted text) 0 (budgets-given ea
 budgets-given (reduce ∷ earlier) = budgets-given earlier
 budgets-given (search budget ∷ earlier) = counted-on (last-reduced earlier) budget + budgets-given earlier
 budgets-given (write buffer ∷ earlier) = budgets-given earlier
+
+-- one search from the machine's start on a sheet, with so much budget
+unfoldable pub searched-in-all : Bytes → ℕ → Ran
+unfolding searched-on start-of
+searched-in-all text given = searched-on text given (start-of (sheet-of text))
+
+-- where the machine stands on a sheet that is reduced, once so much budget was given since
+unfoldable pub reached : Bytes → ℕ → State
+unfolding searched-in-all
+reached text given = searched-in-all text given .state
+
+-- what the searches since an accepted load answered, after one more call: an accepted load begins anew, a search adds
+-- its answer
+abbrev pub answers-since : (call : Call) → Outcome call → List SearchAnswer → List SearchAnswer
+answers-since (load text) answer earlier = cond (accepted text) [] earlier
+answers-since reduce answer earlier = earlier
+answers-since (search budget) answer earlier = answer ∷ earlier
+answers-since (write buffer) written earlier = earlier
+
+-- what the searches since the last accepted load answered, the latest first; a refused one answered counts 0
+abbrev pub search-answers : List Event → List SearchAnswer
+search-answers [] = []
+search-answers (event ∷ earlier) = answers-since (event .call) (event .outcome) (search-answers earlier)
+
+-- one of their counts, added up
+abbrev pub total : (SearchAnswer → ℕ) → List SearchAnswer → ℕ
+total count [] = 0
+total count (answer ∷ earlier) = count answer + total count earlier
 
 -- 1 · 2 · .. · n
 abbrev pub factorial : ℕ → ℕ

@@ -7,12 +7,12 @@ use Rattle.spec.specs.Limits.{budget-limit, program-buffer}
 use Rattle.spec.specs.Text.{Bytes, ascii}
 use Rattle.spec.specs.Sheet.{sheet-of}
 use Rattle.spec.specs.Machine.{search}
-use Rattle.spec.specs.Roles.{kernel-of, start-of, role-count, standing, bound}
+use Rattle.spec.specs.Roles.{searched, kernel-of, start-of, role-count, standing, bound}
 use Rattle.spec.specs.Decimal.{decimal}
 use Rattle.spec.specs.Book.{book}
 use Rattle.spec.specs.Session.{Session, fresh, session-book}
 use Rattle.spec.specs.Refusal.{refusal, not-reduced, search-causes, write-causes}
-use Rattle.spec.specs.Calls.{after-load, reduce-answer, after-reduce, search-answer, searched-on}
+use Rattle.spec.specs.Calls.{after-load, reduce-answer, after-reduce, SearchAnswer, search-answer, searched-on}
 use Rattle.spec.specs.Calls.{after-search, WriteAnswer, write-answer, buffer-after}
 use Rattle.spec.specs.Program.{is-budget, budget-of, printed, program-output}
 use Rattle.spec.specs.Sequence.{Call, load, reduce, search as searching, write, last-accepted, last-reduced}
@@ -106,7 +106,17 @@ refused-reduction : reduce-answer fresh ≡ record { number = 10; kernel = 0; wi
 unfolding reduce-answer
 refused-reduction = refl
 
-refused-search : search-answer reads 3 ≡ record { number = 16; steps = 0; roles = 0; bound = 0; standing = none }
+refused-search : search-answer reads 3 ≡
+    record {
+      number = 16;
+      steps = 0;
+      placed = 0;
+      taken-back = 0;
+      closed = 0;
+      roles = 0;
+      bound = 0;
+      standing = none;
+    }
 unfolding search-answer reads worked
 refused-search = refl
 
@@ -123,18 +133,42 @@ moved : Session
 unfolding improves after-load after-reduce after-search searched-on refusal sheet-of start-of kernel-of search
 moved = after-search (after-reduce (after-load fresh improves)) 17
 
-steps-of : Session → ℕ
+-- the steps of a search of 100, and how many of them placed, took back and closed
+steps-of : Session → List ℕ
 unfolding search-answer searched-on search kernel-of sheet-of role-count bound standing
-steps-of session = search-answer session 100 .steps
+steps-of session =
+    let answer : SearchAnswer = search-answer session 100 in
+    answer .steps ∷ answer .placed ∷ answer .taken-back ∷ answer .closed ∷ []
 
 -- a second search goes on where the first ended, also after a refused load and after one more reduction; after an
 -- accepted load of the same sheet it makes no step before a reduction, and then starts anew
 goes-on : map steps-of
     (moved ∷ after-load moved [] ∷ after-reduce moved ∷ after-load moved improves ∷ after-reduce
     (after-load moved improves) ∷ [])
-    ≡ 28 ∷ 28 ∷ 28 ∷ 0 ∷ 45 ∷ []
+    ≡ (28 ∷ 10 ∷ 17 ∷ 1 ∷ [])
+    ∷ (28 ∷ 10 ∷ 17 ∷ 1 ∷ [])
+    ∷ (28 ∷ 10 ∷ 17 ∷ 1 ∷ [])
+    ∷ (0 ∷ 0 ∷ 0 ∷ 0 ∷ [])
+    ∷ (45 ∷ 22 ∷ 22 ∷ 1 ∷ [])
+    ∷ []
 unfolding moved improves steps-of after-load after-reduce refusal sheet-of start-of kernel-of lowest-below
 goes-on = refl
+
+-- a search of a finished machine answers where it stands, with counts 0
+finished-search : search-answer (after-search moved 28) 100
+    ≡ record {
+      number = 0;
+      steps = 0;
+      placed = 0;
+      taken-back = 0;
+      closed = 0;
+      roles = 5;
+      bound = 5;
+      standing = some searched;
+    }
+unfolding moved improves after-search search-answer searched-on search kernel-of sheet-of start-of role-count bound
+    standing lowest-below
+finished-search = refl
 
 -- to reduce a sheet that is reduced already changes nothing
 same-session : after-reduce moved ≡ moved

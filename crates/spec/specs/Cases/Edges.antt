@@ -6,7 +6,7 @@ use Rattle.spec.specs.Text.{Bytes, ascii}
 use Rattle.spec.specs.Sheet.{Grant, sheet-of}
 use Rattle.spec.specs.Reduction.{kernel}
 use Rattle.spec.specs.Witness.{witness}
-use Rattle.spec.specs.Machine.{depth, search}
+use Rattle.spec.specs.Machine.{Kinds, no-kinds, depth, search}
 use Rattle.spec.specs.Roles.{Standing, witnessed, searched, unsettled, kernel-of, start-of, role-count, bound}
 use Rattle.spec.specs.Roles.{standing}
 use Rattle.spec.specs.Decimal.{decimal}
@@ -23,18 +23,18 @@ record Trial : Type 0 where
   sheet : Bytes
   budget : ℕ
 
--- what they answer, the witness of the sheet, and how many grants are placed then
+-- what they answer, the witness of the sheet, and the depth then
 record Finding : Type 0 where
   load : LoadAnswer
   reduce : ReduceAnswer
   witness : List Grant
   search : SearchAnswer
-  placed : ℕ
+  depth : ℕ
 
-placed-in-session : Session → ℕ
-placed-in-session no-sheet = 0
-placed-in-session (read text) = 0
-placed-in-session (reduced text st) = depth st
+depth-in-session : Session → ℕ
+depth-in-session no-sheet = 0
+depth-in-session (read text) = 0
+depth-in-session (reduced text st) = depth st
 
 session-witness : Session → List Grant
 unfolding witness sheet-of
@@ -43,7 +43,7 @@ session-witness (read text) = []
 session-witness (reduced text st) = witness (sheet-of text)
 
 finding : Trial → Finding
-unfolding load-answer reduce-answer search-answer after-load after-reduce after-search placed-in-session
+unfolding load-answer reduce-answer search-answer after-load after-reduce after-search depth-in-session
     session-witness searched-on refusal sheet-of kernel witness start-of kernel-of search role-count bound standing
 finding trial =
     let loaded : Session = after-load fresh (trial .sheet) in
@@ -53,7 +53,7 @@ finding trial =
       reduce = reduce-answer loaded;
       witness = session-witness session;
       search = search-answer session (trial .budget);
-      placed = placed-in-session (after-search session (trial .budget));
+      depth = depth-in-session (after-search session (trial .budget));
     }
 
 -- the sheet of the paper's example
@@ -89,10 +89,28 @@ counts users permissions grants = record { number = 0; users = users; permission
 sizes : ℕ → ℕ → ReduceAnswer
 sizes kernel witness = record { number = 0; kernel = kernel; witness = witness }
 
+-- what the steps of a search were: how many placed, took back and closed
+kinds : ℕ → ℕ → ℕ → Kinds
+kinds placed taken-back closed = record { placed = placed; taken-back = taken-back; closed = closed }
+
 -- figures of an accepted search
-figures : ℕ → ℕ → ℕ → Standing → SearchAnswer
-figures steps roles bound standing =
-    record { number = 0; steps = steps; roles = roles; bound = bound; standing = some standing }
+figures : ℕ → Kinds → ℕ → ℕ → Standing → SearchAnswer
+figures steps were roles bound standing =
+    record {
+      number = 0;
+      steps = steps;
+      placed = were .placed;
+      taken-back = were .taken-back;
+      closed = were .closed;
+      roles = roles;
+      bound = bound;
+      standing = some standing;
+    }
+
+-- of one that made no step
+unmoved : ℕ → ℕ → Standing → SearchAnswer
+unfolding figures
+unmoved roles bound standing = figures 0 no-kinds roles bound standing
 
 trials : List Trial
 unfolding trial worked crown-of-three crown-of-four improves reaches
@@ -103,6 +121,7 @@ trials =
     ∷ trial crown-of-three 5
     ∷ trial crown-of-four 0
     ∷ trial crown-of-four 1
+    ∷ trial crown-of-four 125
     ∷ trial (ascii "user,a\nabcdefghijklmnop,1\n") 0
     ∷ trial (ascii "user,a\nabcdefghijklmnopq,1\n") 0
     ∷ trial (ascii "user,a\nAnn,1\nann,0\n") 0
@@ -112,6 +131,7 @@ trials =
     ∷ trial improves 20
     ∷ trial improves 100
     ∷ trial reaches 0
+    ∷ trial reaches 20
     ∷ trial reaches 100
     ∷ trial (ascii "user,a,b,c,d\nw,1,1,0,0\nx,1,0,1,0\ny,0,1,1,1\nz,1,0,1,1\n") 0
     ∷ []
@@ -121,8 +141,8 @@ at : ℕ → ℕ → Grant
 at u p = record { user = u; permission = p }
 
 found : LoadAnswer → ReduceAnswer → List Grant → SearchAnswer → ℕ → Finding
-found load reduce witness search placed =
-    record { load = load; reduce = reduce; witness = witness; search = search; placed = placed }
+found load reduce witness search reached =
+    record { load = load; reduce = reduce; witness = witness; search = search; depth = reached }
 
 crown-witness : List Grant
 unfolding at
@@ -136,28 +156,30 @@ reaches-witness : List Grant
 unfolding at
 reaches-witness = at 0 2 ∷ at 1 0 ∷ at 2 4 ∷ at 4 1 ∷ []
 
--- the starred cases of "Around the edges" in its order, `Ann` and `ann` an 8 as request [3] has it, then sheets for the
--- slips, and last one that takes four sweeps
+-- the starred cases of "Around the edges" in its order, `Ann` and `ann` an 8 as request [3] has it, and the four-user
+-- search closed; then sheets for the slips, and last one that takes four sweeps
 edges : map finding trials ≡
-    found (counts 3 3 7) (sizes 0 2) (at 0 0 ∷ at 1 2 ∷ []) (figures 0 2 2 witnessed) 0
-    ∷ found (counts 1 1 0) (sizes 0 0) [] (figures 0 0 0 witnessed) 0
-    ∷ found (counts 1 2 2) (sizes 0 1) (at 0 1 ∷ []) (figures 0 1 1 witnessed) 0
-    ∷ found (counts 3 3 6) (sizes 6 3) crown-witness (figures 0 3 3 witnessed) 0
-    ∷ found (counts 4 4 12) (sizes 12 3) crown-witness (figures 0 4 3 unsettled) 0
-    ∷ found (counts 4 4 12) (sizes 12 3) crown-witness (figures 1 4 3 unsettled) 1
-    ∷ found (counts 1 1 1) (sizes 0 1) (at 0 0 ∷ []) (figures 0 1 1 witnessed) 0
+    found (counts 3 3 7) (sizes 0 2) (at 0 0 ∷ at 1 2 ∷ []) (unmoved 2 2 witnessed) 0
+    ∷ found (counts 1 1 0) (sizes 0 0) [] (unmoved 0 0 witnessed) 0
+    ∷ found (counts 1 2 2) (sizes 0 1) (at 0 1 ∷ []) (unmoved 1 1 witnessed) 0
+    ∷ found (counts 3 3 6) (sizes 6 3) crown-witness (unmoved 3 3 witnessed) 0
+    ∷ found (counts 4 4 12) (sizes 12 3) crown-witness (unmoved 4 3 unsettled) 0
+    ∷ found (counts 4 4 12) (sizes 12 3) crown-witness (figures 1 (kinds 1 0 0) 4 3 unsettled) 1
+    ∷ found (counts 4 4 12) (sizes 12 3) crown-witness (figures 125 (kinds 62 62 1) 4 4 searched) 0
+    ∷ found (counts 1 1 1) (sizes 0 1) (at 0 0 ∷ []) (unmoved 1 1 witnessed) 0
     ∷ found (load-refused 5) (reduce-refused 10) [] (search-refused 10) 0
     ∷ found (load-refused 8) (reduce-refused 10) [] (search-refused 10) 0
     ∷ found (load-refused 2) (reduce-refused 10) [] (search-refused 10) 0
-    ∷ found (counts 2 2 4) (sizes 0 1) (at 1 1 ∷ []) (figures 0 1 1 witnessed) 0
-    ∷ found (counts 7 7 36) (sizes 10 4) improves-witness (figures 17 5 4 unsettled) 7
-    ∷ found (counts 7 7 36) (sizes 10 4) improves-witness (figures 20 5 4 unsettled) 4
-    ∷ found (counts 7 7 36) (sizes 10 4) improves-witness (figures 45 5 5 searched) 0
-    ∷ found (counts 5 5 16) (sizes 7 4) reaches-witness (figures 0 5 4 unsettled) 0
-    ∷ found (counts 5 5 16) (sizes 7 4) reaches-witness (figures 21 4 4 witnessed) 7
-    ∷ found (counts 4 4 10) (sizes 0 4) (at 0 0 ∷ at 1 2 ∷ at 2 1 ∷ at 3 3 ∷ []) (figures 0 4 4 witnessed) 0
+    ∷ found (counts 2 2 4) (sizes 0 1) (at 1 1 ∷ []) (unmoved 1 1 witnessed) 0
+    ∷ found (counts 7 7 36) (sizes 10 4) improves-witness (figures 17 (kinds 12 5 0) 5 4 unsettled) 7
+    ∷ found (counts 7 7 36) (sizes 10 4) improves-witness (figures 20 (kinds 12 8 0) 5 4 unsettled) 4
+    ∷ found (counts 7 7 36) (sizes 10 4) improves-witness (figures 45 (kinds 22 22 1) 5 5 searched) 0
+    ∷ found (counts 5 5 16) (sizes 7 4) reaches-witness (unmoved 5 4 unsettled) 0
+    ∷ found (counts 5 5 16) (sizes 7 4) reaches-witness (figures 20 (kinds 13 7 0) 5 4 unsettled) 6
+    ∷ found (counts 5 5 16) (sizes 7 4) reaches-witness (figures 21 (kinds 14 7 0) 4 4 witnessed) 7
+    ∷ found (counts 4 4 10) (sizes 0 4) (at 0 0 ∷ at 1 2 ∷ at 2 1 ∷ at 3 3 ∷ []) (unmoved 4 4 witnessed) 0
     ∷ []
-unfolding finding trials counts sizes figures found at crown-witness improves-witness reaches-witness lowest-below
+unfolding finding trials counts sizes kinds figures unmoved found at crown-witness improves-witness reaches-witness lowest-below
 edges = refl
 
 -- the worked example's whole book from the sheet's bytes
