@@ -14,7 +14,11 @@ use Rattle.bits.specs.Laws.Lowest.{lowest-below-ext}
 use Rattle.marks.specs.Marks.{mark-limit}
 use Rattle.moves.specs.declared.cursor.Cursor.{Cursor}
 use Rattle.moves.specs.declared.cursor.Sizes.{Sizes}
+use Rattle.moves.specs.declared.cursor.Step.{Step}
+use Rattle.moves.specs.declared.kinds.StepKind.{StepKind}
+use Rattle.moves.specs.declared.kinds.StepKind.the-variants.{Placed, TookBack, Closed}
 use Rattle.moves.specs.FitTable.{kernel-given}
+use Rattle.moves.specs.StepKinds.{kind-case}
 use Rattle.moves.specs.Parts.{at-position, parts-view, PartsStand}
 use Rattle.moves.specs.CursorAfter.{CursorPlaced, ended-at, taken-back}
 use Rattle.moves.specs.Gathered.{Gathered, MemberSet, gathered-more, gathered-fewer}
@@ -29,14 +33,20 @@ pub record Ready (size : ℕ) (at : Cursor) (classes best members : List ℕ) : 
   pub classes-sized : length classes ≡ mark-limit
   pub gathered : Gathered classes (at .depth) members
 
--- the view moved as the machine does in one step, and all is ready for the next
-pub record Moved (table : List ℕ) (sizes : Sizes) (at : Cursor) (classes best : List ℕ) (after : Cursor)
+-- a cursor and what the step to it was
+abbrev pub step-to : Cursor → StepKind → Step
+step-to cursor kind = record { cursor = cursor; kind = kind }
+
+-- the view moved as the machine does in one step, which says what it was, and all is ready for the next
+pub record Moved (table : List ℕ) (sizes : Sizes) (at : Cursor) (classes best : List ℕ) (after : Step)
     (classes′ best′ members′ : List ℕ)
     : Type 0 where
   pub stepped :
-      parts-view (at-position after classes′ best′) (sizes .kernel) ≡ step (kernel-given table sizes)
-      (parts-view (at-position at classes best) (sizes .kernel))
-  pub ready : Ready (sizes .kernel) after classes′ best′ members′
+      record {
+        state = parts-view (at-position (after .cursor) classes′ best′) (sizes .kernel);
+        kind = kind-case (after .kind);
+      } ≡ step (kernel-given table sizes) (parts-view (at-position at classes best) (sizes .kernel))
+  pub ready : Ready (sizes .kernel) (after .cursor) classes′ best′ members′
 
 -- the four ways that a step goes, over a table of members from which a class was looked for
 module _ (table : List ℕ) (sizes : Sizes) {at : Cursor} {classes best members : List ℕ}
@@ -55,16 +65,17 @@ module _ (table : List ℕ) (sizes : Sizes) {at : Cursor} {classes best members 
             (omega (arith, end-within-limit (r .stands) end ends))));
       }
 
-  moves : {after : Cursor} {classes′ best′ members′ : List ℕ}
-      → Follows table sizes (at-position at classes best) (at-position after classes′ best′)
-      → length classes′ ≡ mark-limit → Gathered classes′ (after .depth) members′
+  moves : {after : Step} {classes′ best′ members′ : List ℕ}
+      → Follows table sizes (at-position at classes best) (kind-case (after .kind))
+      (at-position (after .cursor) classes′ best′)
+      → length classes′ ≡ mark-limit → Gathered classes′ (after .cursor .depth) members′
       → Moved table sizes at classes best after classes′ best′ members′
   moves f sized gathered =
       record { stepped = f .0; ready = record { stands = f .1; classes-sized = sized; gathered = gathered } }
 
   -- no class is found and no grant is placed
   pub closed : end ≤ class → at .depth ≡ 0
-      → Moved table sizes at classes best (ended-at at (at .count) true) classes best members
+      → Moved table sizes at classes best (step-to (ended-at at (at .count) true) Closed) classes best members
   closed l e =
       moves (closes table sizes (at-position at classes best) (r .stands) looked l e) (r .classes-sized) (r .gathered)
 
@@ -72,7 +83,7 @@ module _ (table : List ℕ) (sizes : Sizes) {at : Cursor} {classes best members 
   pub took-back : end ≤ class → 0 < at .depth → (after : Cursor) (left : List ℕ)
       → after ≡ taken-back at (getD classes (at .depth - 1) 0)
       → MemberSet members (getD classes (at .depth - 1) 0) (at .depth - 1) false left
-      → Moved table sizes at classes best after classes best left
+      → Moved table sizes at classes best (step-to after TookBack) classes best left
   took-back l pos after left e leaves =
       moves (takes-back table sizes (at-position at classes best) (r .stands) looked l pos after e) (r .classes-sized)
       (rw e (gathered-fewer (rw latest at (r .gathered)) leaves))
@@ -96,7 +107,7 @@ module _ (table : List ℕ) (sizes : Sizes) {at : Cursor} {classes best members 
         (getD-set-same classes (at .depth) class 0 stored))
 
     pub put : (suc (at .depth) ≡ sizes .kernel → ⊥)
-        → Moved table sizes at classes best after (set classes (at .depth) class) best joined
+        → Moved table sizes at classes best (step-to after Placed) (set classes (at .depth) class) best joined
     put not-whole =
         moves (places table sizes (at-position at classes best) (r .stands) looked l stored after placed not-whole)
         sized-after gathered-after
@@ -104,8 +115,8 @@ module _ (table : List ℕ) (sizes : Sizes) {at : Cursor} {classes best members 
     -- all grants are placed, and the placement is the best one
     pub put-last : suc (at .depth) ≡ sizes .kernel → (finished : Bool)
         → finished ≡ eqb (after .used + sizes .singles) (sizes .witness)
-        → Moved table sizes at classes best (ended-at after (after .used) finished) (set classes (at .depth) class)
-        (set classes (at .depth) class) joined
+        → Moved table sizes at classes best (step-to (ended-at after (after .used) finished) Placed)
+        (set classes (at .depth) class) (set classes (at .depth) class) joined
     put-last whole finished e =
         moves (improves table sizes (at-position at classes best) (r .stands) looked l stored after placed whole
         finished e) sized-after gathered-after

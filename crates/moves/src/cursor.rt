@@ -1,4 +1,5 @@
-// Where the machine stands within a kernel, and the sizes that it goes by.
+// Where the machine stands within a kernel, what a step gives, and the sizes that it goes by.
+use crate::kinds::StepKind;
 use marks::Marks;
 
 // Depth d, next try t, classes in use, class count b of the best placement, finished or not, and which grants opened
@@ -11,6 +12,12 @@ pub struct Cursor {
     pub count: usize,
     pub finished: bool,
     pub opened: Marks,
+}
+
+// Where a step led, and which of the three it was.
+pub struct Step {
+    pub cursor: Cursor,
+    pub kind: StepKind,
 }
 
 // How many grants a kernel has, how many singles were removed, and how many grants are in the witness.

@@ -10,12 +10,16 @@
 // state of Machine in `spec` (`Parts`). The contracts say that a step moves that state as the machine does.
 mod choice;
 mod cursor;
+mod kinds;
 mod lent;
 mod members;
 mod moves;
 
 pub use cursor::Cursor;
 pub use cursor::Sizes;
+pub use cursor::Step;
+pub use kinds::Kinds;
+pub use kinds::StepKind;
 pub use lent::advanced;
 pub use members::gathered;
 pub use moves::moved;

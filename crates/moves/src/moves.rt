@@ -3,6 +3,8 @@
 use crate::choice;
 use crate::cursor::Cursor;
 use crate::cursor::Sizes;
+use crate::cursor::Step;
+use crate::kinds::StepKind;
 use crate::members;
 use numbers::GrantNo;
 use numbers::KERNEL_LIMIT;
@@ -67,8 +69,8 @@ impl Cursor {
     }
 }
 
-// One step: the cursor that it leads to. The classes, the best placement and the members of each class are then as
-// that cursor has them.
+// One step: the cursor that it leads to, and which of the three it was. The classes, the best placement and the members
+// of each class are then as that cursor has them.
 pub fn moved<'a>(
     at: Cursor,
     classes: &'a mut [u8; KERNEL_LIMIT],
@@ -76,7 +78,7 @@ pub fn moved<'a>(
     members: &'a mut [u64; TABLE_WORDS],
     fit: &'a [u64; TABLE_WORDS],
     sizes: Sizes,
-) -> Cursor
+) -> Step
     requires { ⌜ Ready (sizes .kernel) at (now classes) (now best) (now members) ⌝ }
     ensures { λ r. ⌜ Moved (now (fit .entry)) sizes at (now (classes .entry)) (now (best .entry)) r
         (now (classes .exit)) (now (best .exit)) (now (members .exit)) ⌝ }
@@ -92,16 +94,29 @@ pub fn moved<'a>(
             placed.count = placed.used;
             placed.finished = reaches(placed.used, sizes);
             *best = *classes;
-            return placed;
+            return Step {
+                cursor: placed,
+                kind: StepKind::Placed,
+            };
         }
-        return placed;
+        return Step {
+            cursor: placed,
+            kind: StepKind::Placed,
+        };
     }
     if d == 0 {
         let mut closed = at;
         closed.finished = true;
-        return closed;
+        return Step {
+            cursor: closed,
+            kind: StepKind::Closed,
+        };
     }
     let last = classes[d - 1] as usize;
     members::set(members, last, GrantNo(d - 1), false);
-    at.taken_back(last)
+    let back = at.taken_back(last);
+    Step {
+        cursor: back,
+        kind: StepKind::TookBack,
+    }
 }

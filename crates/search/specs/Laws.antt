@@ -1,7 +1,9 @@
 -- The laws behind what contracts cite.
 pub mod Steps
 pub mod Runs
+pub mod StepCounts
 pub mod Best
+pub mod Reaching
 pub mod Admissible
 pub mod SoundState
 pub mod Canonical

@@ -9,7 +9,9 @@ use Rattle.spec.specs.Machine as machine
 use Rattle.marks.specs.Marks.{mark-limit}
 use Rattle.moves.specs.declared.cursor.Sizes.{Sizes}
 use Rattle.search.specs.declared.machine.Position.{Position}
+use Rattle.search.specs.declared.machine.Stepped.{Stepped}
 use Rattle.search.specs.declared.machine.Ran.{Ran}
+use Rattle.moves.specs.StepKinds.{kind-case, kinds-said}
 use Rattle.moves.specs.Parts.{Parts, at-position, parts-view, PartsStand}
 
 -- what a search takes apart and lends
@@ -20,9 +22,14 @@ parts-of position = at-position (position .cursor) (position .classes) (position
 abbrev pub view : Position → ℕ → State
 view position size = parts-view (parts-of position) size
 
--- the position and the step count of a run
+-- the position after a step, and what the step was
+abbrev pub view-stepped : Stepped → ℕ → machine.Step
+view-stepped stepped size = record { state = view (stepped .position) size; kind = kind-case (stepped .kind) }
+
+-- the position, the step count and the counts of each kind of a run
 abbrev pub view-ran : Ran → ℕ → machine.Ran
-view-ran ran size = record { state = view (ran .position) size; steps = ran .steps }
+view-ran ran size =
+    record { state = view (ran .position) size; steps = ran .steps; kinds = kinds-said (ran .kinds) }
 
 -- a position over a kernel that can be searched: its placed grants, and the class count of its best placement
 abbrev pub PositionStands : ℕ → Position → Type 0

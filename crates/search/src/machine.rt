@@ -1,7 +1,9 @@
 // Where the machine stands, one step from there, and a run within a budget.
 use marks::Marks;
 use moves::Cursor;
+use moves::Kinds;
 use moves::Sizes;
+use moves::StepKind;
 use numbers::KERNEL_LIMIT;
 use numbers::TABLE_WORDS;
 ghost use mathlib.Core.Path.{_≡_};
@@ -9,7 +11,7 @@ ghost use Prim.Native.Nat.{_<_, _≤_};
 ghost use Rattle.spec.specs.Limits.{search-limit};
 ghost use Rattle.spec.specs.Machine.{step, run, search};
 ghost use Rattle.moves.specs.FitTable.{kernel-given};
-ghost use Rattle.search.specs.View.{view, view-ran, PositionStands, started};
+ghost use Rattle.search.specs.View.{view, view-stepped, view-ran, PositionStands, started};
 
 // The state of the machine: a cursor, the classes of the grants placed, and the best placement. Which positions stand
 // for a state is said by `PositionStands`; whoever makes one otherwise than by `start` and the steps from there has
@@ -21,10 +23,17 @@ pub struct Position {
     pub best: [u8; KERNEL_LIMIT],
 }
 
-// Where some steps led, and how many they were.
+// Where one step led, and which of the three it was.
+pub struct Stepped {
+    pub position: Position,
+    pub kind: StepKind,
+}
+
+// Where some steps led, how many they were, and how many of each kind.
 pub struct Ran {
     pub position: Position,
     pub steps: u32,
+    pub kinds: Kinds,
 }
 
 impl Position {
@@ -54,20 +63,23 @@ impl Position {
         Position::of(cursor, [0u8; KERNEL_LIMIT], first)
     }
 
-    // One step: it places one grant, takes one back, or closes the search. The members of each class are gathered for
-    // it.
-    pub fn step(self, fit: &[u64; TABLE_WORDS], sizes: Sizes) -> Position
+    // One step: it places one grant, takes one back, or closes the search, and says which. The members of each class
+    // are gathered for it.
+    pub fn step(self, fit: &[u64; TABLE_WORDS], sizes: Sizes) -> Stepped
         requires { ⌜ PositionStands (sizes .kernel) self ⌝ }
-        ensures { λ r. ⌜ view r (sizes .kernel) ≡ step (kernel-given (now (fit .entry)) sizes)
+        ensures { λ r. ⌜ view-stepped r (sizes .kernel) ≡ step (kernel-given (now (fit .entry)) sizes)
             (view self (sizes .kernel)) ⌝ }
-        ensures { λ r. ⌜ PositionStands (sizes .kernel) r ⌝ }
+        ensures { λ r. ⌜ PositionStands (sizes .kernel) (r .position) ⌝ }
     {
         let at = self.cursor;
         let mut classes = self.classes;
         let mut best = self.best;
         let mut members = moves::gathered(&classes, at.depth);
-        let after = moves::moved(at, &mut classes, &mut best, &mut members, fit, sizes);
-        Position::of(after, classes, best)
+        let step = moves::moved(at, &mut classes, &mut best, &mut members, fit, sizes);
+        let cursor = step.cursor;
+        let position = Position::of(cursor, classes, best);
+        let kind = step.kind;
+        Stepped { position, kind }
     }
 
     // As many steps as the budget, or those left until finished if fewer. The cursor and the arrays are lent to each.
@@ -82,12 +94,20 @@ impl Position {
         let mut best = self.best;
         let mut members = moves::gathered(&classes, at.depth);
         let mut steps = 0;
+        let mut kinds = Kinds::none();
         while steps < budget && !at.finished {
-            at = moves::advanced(at, &mut classes, &mut best, &mut members, fit, sizes);
             steps += 1;
+            let step = moves::advanced(at, &mut classes, &mut best, &mut members, fit, sizes);
+            at = step.cursor;
+            let kind = step.kind;
+            kinds = kinds.counted(kind);
         }
         let position = Position::of(at, classes, best);
-        Ran { position, steps }
+        Ran {
+            position,
+            steps,
+            kinds,
+        }
     }
 
     // A search: a run, or no step with more kernel grants than are searched.
@@ -102,6 +122,7 @@ impl Position {
             return Ran {
                 position: self,
                 steps: 0,
+                kinds: Kinds::none(),
             };
         }
         self.run(fit, sizes, budget)

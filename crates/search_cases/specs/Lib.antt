@@ -1,3 +1,4 @@
--- The kernel that the program closes, and what it compares.
+-- The kernel that the program closes, what it compares, and what it adds up.
 pub mod Crown
 pub mod Same
+pub mod AddUp

@@ -1,15 +1,20 @@
--- A test that tells whether something holds, and when two placements and two runs are the same. Assumes nothing.
+-- A test that tells whether something holds, and when two placements, the counts of two runs' steps and two runs are
+-- the same. Assumes nothing.
 use Prim.Native.Nat.{ℕ, zero, suc, _<_}
 use native.Mathlib.Nat.{not-suc-le-zero}
 use mathlib.Core.Path.{_≡_, refl, sym, ap, _∙_}
 use mathlib.Core.Bool.{Bool, So, true, false, not, Bool·beq}
 use mathlib.Core.Logic.{⊎-elim}
 use mathlib.Core.List.{List}
+use lib.Dec.{eqb}
 use lib.ListN.{length, getD, drop}
+use borrow.Author.Tests.{eqb-true, eq-eqb}
 use Rattle.spec.specs.Machine as machine
 use Rattle.bits.specs.Truth.{not-both}
 use Rattle.bits.specs.Laws.Below.{last-or-below}
 use Rattle.lists.specs.LatestFirst.{latest-first, latest-first-length}
+use Rattle.moves.specs.declared.kinds.Kinds.{Kinds}
+use Rattle.moves.specs.StepKinds.{kinds-said}
 use Rattle.search.specs.declared.machine.Ran.{Ran}
 use Rattle.search.specs.View.{view-ran}
 
@@ -42,6 +47,15 @@ same-class a b (suc n) i l e =
     ⊎-elim (λ last. rw last (ap (λ (placed : List ℕ). getD placed 0 0) e)) (λ below. same-class a b n i below
     (ap (drop 1) e)) (last-or-below l)
 
+-- with the other two counts alike, that of the closing steps tells
+pub closed-tells : (a b : Kinds) → a .placed ≡ b .placed → a .«taken_back» ≡ b .«taken_back»
+    → Tells (eqb (a .closed) (b .closed)) (kinds-said a ≡ kinds-said b)
+closed-tells a b placed taken-back =
+    record {
+      passes = λ s. rw (placed, taken-back, eqb-true (a .closed) (b .closed) s);
+      when = λ e. eq-eqb (a .closed) (b .closed) (ap (λ (n : machine.Kinds). n .closed) e);
+    }
+
 -- ---- runs that came to the same state
 
 module _ (a b : Ran) (size : ℕ) where
@@ -66,16 +80,20 @@ module _ (a b : Ran) (size : ℕ) where
   same-placed e = ap (λ (r : machine.Ran). r .state .placed) e ∙ ap (latest-first (b .position .classes))
       (sym (same-depth e))
 
+  pub same-kinds : view-ran a size ≡ view-ran b size → kinds-said (a .kinds) ≡ kinds-said (b .kinds)
+  same-kinds e = ap (λ (r : machine.Ran). r .kinds) e
+
   -- with all else alike, the best placements tell
   pub best-tells : {test : Bool} → a .steps ≡ b .steps → a .position .cursor .depth ≡ b .position .cursor .depth
       → a .position .cursor .next ≡ b .position .cursor .next → a .position .cursor .finished ≡
       b .position .cursor .finished
       → latest-first (a .position .classes) (a .position .cursor .depth) ≡ latest-first (b .position .classes)
       (a .position .cursor .depth)
+      → kinds-said (a .kinds) ≡ kinds-said (b .kinds)
       → Tells test (latest-first (a .position .best) size ≡ latest-first (b .position .best) size)
       → Tells test (view-ran a size ≡ view-ran b size)
-  best-tells steps depth next finished placed best =
+  best-tells steps depth next finished placed kinds best =
       record {
-        passes = λ s. rw (placed, best .passes s, depth, steps, next, finished);
+        passes = λ s. rw (placed, best .passes s, depth, steps, next, finished, kinds);
         when = λ e. best .when (ap (λ (r : machine.Ran). r .state .best) e);
       }

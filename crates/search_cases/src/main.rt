@@ -1,15 +1,18 @@
 // Closes the search of the kernel of four users who hold every permission but their own: 12 grants, a first placement
-// of 4 classes, a witness of 3 and no singles. For one search of 124 steps, for one of 125, and for searches of 7
-// steps that each go on where the one before came to, a line has the steps made, the searches, whether the machine is
-// then finished, and the classes of the best placement. Then, for both budgets, a line has whether the steps made one
-// by one came to the same as the one search.
+// of 4 classes, a witness of 3 and no singles. For one search of 124 steps, for one of 125, for searches of 7 steps
+// that each go on where the one before came to, and for one more of the finished machine, a line has the steps made,
+// how many of them placed, took back and closed, the searches, whether the machine is then finished, and the classes of
+// the best placement. Then, for both budgets, a line has whether the steps made one by one came to the same as the one
+// search, and were of the same kinds.
 mod crown;
 mod one_by_one;
 mod print;
 
+use moves::Kinds;
 use numbers::TABLE_WORDS;
 use one_by_one::as_the_search;
 use search::Position;
+use search::Ran;
 ghost use Rattle.search_cases.specs.Crown.{grants};
 ghost use Rattle.search.specs.View.{PositionStands};
 
@@ -30,37 +33,62 @@ fn start() -> Position
     Position::start(crown::by_user(), crown::USERS, crown::SIZES)
 }
 
-fn report(steps: u32, searches: u32, position: Position) {
-    print::number(steps as usize);
+// A line about some searches, which together led so.
+fn report(ran: Ran, searches: u32) {
+    print::number(ran.steps as usize);
+    print::text(b",");
+    print::number(ran.kinds.placed as usize);
+    print::text(b",");
+    print::number(ran.kinds.taken_back as usize);
+    print::text(b",");
+    print::number(ran.kinds.closed as usize);
     print::text(b",");
     print::number(searches as usize);
-    if position.cursor.finished {
+    if ran.position.cursor.finished {
         print::text(b",finished,");
     } else {
         print::text(b",open,");
     }
-    print::number(position.cursor.count);
+    print::number(ran.position.cursor.count);
     print::text(b"\n");
 }
 
 // One search from the start.
 fn one_search(fit: &[u64; TABLE_WORDS], budget: u32) {
-    let ran = start().search(fit, crown::SIZES, budget);
-    report(ran.steps, 1, ran.position);
+    report(start().search(fit, crown::SIZES, budget), 1);
 }
 
-// Searches from the start until the machine is finished.
+// Searches from the start until the machine is finished, and then one more of the finished machine by itself.
 fn many_searches(fit: &[u64; TABLE_WORDS]) {
     let mut position = start();
     let mut steps = 0;
+    let mut placed = 0;
+    let mut taken_back = 0;
+    let mut closed = 0;
     let mut searches = 0;
     while searches < MOST && !position.cursor.finished {
         let ran = position.search(fit, crown::SIZES, PART);
         position = ran.position;
         steps += ran.steps;
+        placed += ran.kinds.placed;
+        taken_back += ran.kinds.taken_back;
+        closed += ran.kinds.closed;
         searches += 1;
     }
-    report(steps, searches, position);
+    let kinds = Kinds {
+        placed,
+        taken_back,
+        closed,
+    };
+    report(
+        Ran {
+            position,
+            steps,
+            kinds,
+        },
+        searches,
+    );
+    report(position.search(fit, crown::SIZES, PART), 1);
 }
 
 // The steps of one search made one by one, beside the search.
@@ -75,7 +103,7 @@ fn steps_beside(fit: &[u64; TABLE_WORDS], budget: u32) {
 
 fn main() {
     let fit = crown::table();
-    print::text(b"steps,searches,state,classes\n");
+    print::text(b"steps,placed,taken back,closed,searches,state,classes\n");
     one_search(&fit, TOO_FEW);
     one_search(&fit, ENOUGH);
     many_searches(&fit);

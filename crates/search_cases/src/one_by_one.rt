@@ -1,6 +1,7 @@
 // The steps of a search made one by one, each a position that is handed the next, and whether they come to the same
 // as the search.
 use crate::crown;
+use moves::Kinds;
 use numbers::KERNEL_LIMIT;
 use numbers::TABLE_WORDS;
 use search::Position;
@@ -12,6 +13,7 @@ ghost use Rattle.spec.specs.Limits.{search-limit};
 ghost use Rattle.spec.specs.Machine.{run};
 ghost use Rattle.lists.specs.LatestFirst.{latest-first};
 ghost use Rattle.moves.specs.FitTable.{kernel-given};
+ghost use Rattle.moves.specs.StepKinds.{kinds-said};
 ghost use Rattle.search.specs.View.{view, view-ran, PositionStands};
 ghost use Rattle.search_cases.specs.Crown.{grants, sizes};
 ghost use Rattle.search_cases.specs.Same.{Tells};
@@ -24,11 +26,19 @@ pub fn steps_from(from: Position, fit: &[u64; TABLE_WORDS], budget: u32) -> Ran
 {
     let mut position = from;
     let mut steps = 0;
+    let mut kinds = Kinds::none();
     while steps < budget && !position.cursor.finished {
-        position = position.step(fit, crown::SIZES);
         steps += 1;
+        let stepped = position.step(fit, crown::SIZES);
+        position = stepped.position;
+        let kind = stepped.kind;
+        kinds = kinds.counted(kind);
     }
-    Ran { position, steps }
+    Ran {
+        position,
+        steps,
+        kinds,
+    }
 }
 
 // Whether the first grants are placed alike.
@@ -46,7 +56,20 @@ fn same_classes<'a>(a: &'a [u8; KERNEL_LIMIT], b: &'a [u8; KERNEL_LIMIT], count:
     true
 }
 
-// Whether two runs made as many steps and came to the same state.
+// Whether there are as many steps of each kind.
+fn same_kinds(a: Kinds, b: Kinds) -> bool
+    ensures { λ r. ⌜ Tells r (kinds-said a ≡ kinds-said b) ⌝ }
+{
+    if a.placed != b.placed {
+        return false;
+    }
+    if a.taken_back != b.taken_back {
+        return false;
+    }
+    a.closed == b.closed
+}
+
+// Whether two runs made as many steps of each kind and came to the same state.
 pub fn same(a: Ran, b: Ran) -> bool
     requires { ⌜ PositionStands grants (a .position) ⌝ }
     ensures { λ r. ⌜ Tells r (view-ran a grants ≡ view-ran b grants) ⌝ }
@@ -66,6 +89,9 @@ pub fn same(a: Ran, b: Ran) -> bool
         return false;
     }
     if !same_classes(&a.position.classes, &b.position.classes, at.depth) {
+        return false;
+    }
+    if !same_kinds(a.kinds, b.kinds) {
         return false;
     }
     same_classes(&a.position.best, &b.position.best, crown::GRANTS)

@@ -14,7 +14,8 @@ use lib.ListN.{length, getD, set}
 use Rattle.spec.specs.Vocabulary.{lowest-below}
 use Rattle.spec.specs.Limits.{search-limit}
 use Rattle.spec.specs.Cover.{used}
-use Rattle.spec.specs.Machine.{State, choice, place, take-back-or-close, move, step}
+use Rattle.spec.specs.Machine.{State, StepKind, placing, taking-back, closing, Step, choice, place}
+use Rattle.spec.specs.Machine.{take-back-or-close, move, step}
 use Rattle.marks.specs.Marks.{mark-limit}
 use Rattle.moves.specs.declared.cursor.Cursor.{Cursor}
 use Rattle.moves.specs.declared.cursor.Sizes.{Sizes}
@@ -28,10 +29,11 @@ use Rattle.moves.specs.Laws.ClassEnd.{Tried, below-class-end, choice-bel
 use Rattle.bits.specs.Laws.Cut.{getD-found, getD-missing}
 use Rattle.lists.specs.LatestFirst.{latest-first, latest-first-length, latest-first-next}
 
--- the view of the parts moves as the machine does in one step, and they stand
-abbrev pub Follows : List ℕ → Sizes → Parts → Parts → Type 0
-Follows table sizes before after =
-    (parts-view after (sizes .kernel) ≡ step (kernel-given table sizes) (parts-view before (sizes .kernel)))
+-- the view of the parts moves as the machine does in one step, which is of this kind, and they stand
+abbrev pub Follows : List ℕ → Sizes → Parts → StepKind → Parts → Type 0
+Follows table sizes before kind after =
+    (record { state = parts-view after (sizes .kernel); kind = kind }
+    ≡ step (kernel-given table sizes) (parts-view before (sizes .kernel)))
     × PartsStand (sizes .kernel) after
 
 -- a class was found for the next grant below the end of the classes to try, or it is the end
@@ -46,6 +48,11 @@ same-state : {a b : List ℕ} {m n : ℕ} {c d : List ℕ} {f g : Bool} → a �
     → _≡_ {A = State} (record { placed = a; next = m; best = c; finished = f })
     (record { placed = b; next = n; best = d; finished = g })
 same-state p q r s i = record { placed = p i; next = q i; best = r i; finished = s i }
+
+-- two steps of one kind are the same if they lead to the same state
+same-step : {a b : State} (kind : StepKind) → a ≡ b
+    → _≡_ {A = Step} (record { state = a; kind = kind }) (record { state = b; kind = kind })
+same-step kind e = ap (λ (st : State). record { state = st; kind = kind }) e
 
 -- ---- how many there can be
 
@@ -91,8 +98,8 @@ module _ (table : List ℕ) (sizes : Sizes) (p : Parts) (s : PartsStand (sizes .
       ∙ rw (← s .trail .used-counted, ← s .best-counted, ← w .ends)
 
   steps-by-placing : class < end
-      → step (kernel-given table sizes) (parts-view p (sizes .kernel)) ≡ place (kernel-given table sizes)
-      (parts-view p (sizes .kernel)) class
+      → step (kernel-given table sizes) (parts-view p (sizes .kernel))
+      ≡ record { state = place (kernel-given table sizes) (parts-view p (sizes .kernel)) class; kind = placing }
   unfolding step
   steps-by-placing l =
       ap (move (kernel-given table sizes) (parts-view p (sizes .kernel)))
@@ -112,7 +119,7 @@ module _ (table : List ℕ) (sizes : Sizes) (p : Parts) (s : PartsStand (sizes .
 
   -- no grant is placed, and no class is found: the search is closed
   pub closes : end ≤ class → p .cursor .depth ≡ 0
-      → Follows table sizes p
+      → Follows table sizes p closing
       (record { cursor = ended-at (p .cursor) (p .cursor .count) true; classes = p .classes; best = p .best })
   closes l e = (
     rw (steps-by-taking-back l, e),
@@ -122,10 +129,10 @@ module _ (table : List ℕ) (sizes : Sizes) (p : Parts) (s : PartsStand (sizes .
   -- no class is found: the latest grant is taken back
   pub takes-back : end ≤ class → 0 < p .cursor .depth → (after : Cursor)
       → after ≡ taken-back (p .cursor) (getD (p .classes) (p .cursor .depth - 1) 0)
-      → Follows table sizes p (record { cursor = after; classes = p .classes; best = p .best })
+      → Follows table sizes p taking-back (record { cursor = after; classes = p .classes; best = p .best })
   takes-back l pos after e = (
     rw (e, steps-by-taking-back l, ap (latest-first (p .classes)) latest)
-        (same-state refl (add-one (getD (p .classes) (p .cursor .depth - 1) 0)) refl refl),
+        (same-step taking-back (same-state refl (add-one (getD (p .classes) (p .cursor .depth - 1) 0)) refl refl)),
     record {
       size-within = s .size-within;
       trail = rw e (trail-taken-back (p .cursor .depth - 1) (rw latest at (s .trail)));
@@ -154,7 +161,7 @@ module _ (table : List ℕ) (sizes : Sizes) (p : Parts) (s : PartsStand (sizes .
         (placed .in-use) (placed .opened))
 
     pub places : (suc (p .cursor .depth) ≡ sizes .kernel → ⊥)
-        → Follows table sizes p
+        → Follows table sizes p placing
         (record { cursor = after; classes = set (p .classes) (p .cursor .depth) class; best = p .best })
     places not-whole = (
       rw (
@@ -163,14 +170,14 @@ module _ (table : List ℕ) (sizes : Sizes) (p : Parts) (s : PartsStand (sizes .
         ne-eqb (suc (p .cursor .depth)) (sizes .kernel)
             not-whole,
       )
-          (same-state placed-next (placed .next) refl (placed .finished)),
+          (same-step placing (same-state placed-next (placed .next) refl (placed .finished))),
       record { size-within = s .size-within; trail = trail-after; best-counted = placed .count ∙ s .best-counted },
     )
 
     -- all grants are placed: the placement is the best one
     pub improves : suc (p .cursor .depth) ≡ sizes .kernel → (finished : Bool)
         → finished ≡ eqb (after .used + sizes .singles) (sizes .witness)
-        → Follows table sizes p
+        → Follows table sizes p placing
         (record {
           cursor = ended-at after (after .used) finished;
           classes = set (p .classes) (p .cursor .depth) class;
@@ -183,7 +190,7 @@ module _ (table : List ℕ) (sizes : Sizes) (p : Parts) (s : PartsStand (sizes .
         eq-eqb (suc (p .cursor .depth)) (sizes .kernel)
             whole,
       )
-          (same-state placed-next (placed .next) best-is (e ∙ rw counted)),
+          (same-step placing (same-state placed-next (placed .next) best-is (e ∙ rw counted))),
       record { size-within = s .size-within; trail = trail-after; best-counted = counted ∙ ap used (sym best-is) },
     )
       where

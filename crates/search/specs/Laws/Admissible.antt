@@ -6,7 +6,7 @@ use mathlib.Core.List.{List, _∷_}
 use lib.ListN.{length}
 use native.Mathlib.Nat.{le-of-lt}
 use Rattle.spec.specs.Cover.{used}
-use Rattle.spec.specs.Machine.{Kernel, State, depth, start, step}
+use Rattle.spec.specs.Machine.{Kernel, State, Step, depth, start, step}
 use Rattle.lists.specs.Classing.{Grown}
 use Rattle.search.specs.Laws.Steps.{Stepped, placing, improving, taking-back, closing, step-cases}
 
@@ -18,10 +18,10 @@ pub record Admissible (kernel : Kernel) (st : State) : Type 0 where
 pub start-admissible : (kernel : Kernel) (first : List ℕ) → Admissible kernel (start kernel first)
 start-admissible kernel first = record { grown = tt; next-le = zero-le; depth-le = zero-le }
 
-pub step-admissible : (kernel : Kernel) (st : State) → Admissible kernel st → Admissible kernel (step kernel st)
+pub step-admissible : (kernel : Kernel) (st : State) → Admissible kernel st → Admissible kernel (step kernel st .state)
 step-admissible kernel st s = by-cases (step-cases kernel st)
   where
-    by-cases : {after : State} → Stepped kernel st after → Admissible kernel after
+    by-cases : {after : Step} → Stepped kernel st after → Admissible kernel (after .state)
     by-cases (placing c w not-whole) = record {
       grown = (w .used-or-next, s .grown);
       next-le = zero-le;

@@ -7,7 +7,7 @@ use mathlib.Core.Logic.{_⊎_, inl, inr, ⊎-elim}
 use native.Mathlib.Nat.{le-refl, le-of-eq, le-of-lt, le-trans}
 use native.Mathlib.Omega.{arith}
 use Rattle.spec.specs.Cover.{used}
-use Rattle.spec.specs.Machine.{Kernel, State, depth, best-count, step, search}
+use Rattle.spec.specs.Machine.{Kernel, State, Step, depth, best-count, step, search}
 use Rattle.search.specs.Laws.Steps.{Stepped, placing, improving, taking-back, closing, step-cases}
 use Rattle.search.specs.Laws.Runs.{search-keeps}
 
@@ -18,18 +18,18 @@ pub record Improves (kernel : Kernel) (before after : State) : Type 0 where
   pub better : best-count after < best-count before
 
 -- a step keeps the best placement, or improves it
-pub step-keeps-or-improves : (kernel : Kernel) (st : State) → (step kernel st .best ≡ st .best) ⊎ Improves kernel st
-    (step kernel st)
+pub step-keeps-or-improves : (kernel : Kernel) (st : State)
+    → (step kernel st .state .best ≡ st .best) ⊎ Improves kernel st (step kernel st .state)
 step-keeps-or-improves kernel st = by-cases (step-cases kernel st)
   where
-    by-cases : {after : State} → Stepped kernel st after → (after .best ≡ st .best) ⊎ Improves kernel st after
+    by-cases : {after : Step} → Stepped kernel st after → (after .state .best ≡ st .best) ⊎ Improves kernel st (after .state)
     by-cases (placing c w not-whole) = inl refl
     by-cases (improving c w whole) = inr
         (record { whole = whole; copied = refl; better = omega (arith, w .below-best) })
     by-cases (taking-back a earlier e h) = inl refl
     by-cases (closing e h) = inl refl
 
-pub step-best-le : (kernel : Kernel) (st : State) → best-count (step kernel st) ≤ best-count st
+pub step-best-le : (kernel : Kernel) (st : State) → best-count (step kernel st .state) ≤ best-count st
 step-best-le kernel st =
     ⊎-elim (λ e. le-of-eq (ap used e)) (λ i. le-of-lt (i .better)) (step-keeps-or-improves kernel st)
 

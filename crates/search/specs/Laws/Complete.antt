@@ -12,7 +12,7 @@ use native.Mathlib.Nat.{le-trans, eq-or-lt-of-le}
 use native.Mathlib.Omega.{arith}
 use borrow.Author.Tests.{lt-ltb, le-leb}
 use Rattle.spec.specs.Cover.{used}
-use Rattle.spec.specs.Machine.{Kernel, State, depth, best-count, reaches-witness, start, possible, step, search}
+use Rattle.spec.specs.Machine.{Kernel, State, Step, depth, best-count, reaches-witness, start, possible, step, search}
 use Rattle.bits.specs.Truth.{and-intro, not-both}
 use Rattle.bits.specs.Laws.Below.{below-or-from}
 use Rattle.lists.specs.Classing.{Classing}
@@ -118,10 +118,10 @@ closing-leaves-none-better kernel st s p e h x w =
     (below-or-from (used x) (best-count st))
 
 pub passed-step : (kernel : Kernel) (st : State) → SoundState kernel st → Passed kernel st
-    → Passed kernel (step kernel st)
+    → Passed kernel (step kernel st .state)
 passed-step kernel st s p = by-cases (step-cases kernel st)
   where
-    by-cases : {after : State} → Stepped kernel st after → Passed kernel after
+    by-cases : {after : Step} → Stepped kernel st after → Passed kernel (after .state)
     by-cases (placing c chosen unfilled) =
         record {
           ahead = λ x w l. placing-passes-none kernel st x c chosen (still-ahead kernel st x p w l);
@@ -150,7 +150,7 @@ passed-step kernel st s p = by-cases (step-cases kernel st)
 -- ---- runs and searches
 
 both-step : (kernel : Kernel) (st : State) → st .finished ≡ false → SoundState kernel st × Passed kernel st
-    → SoundState kernel (step kernel st) × Passed kernel (step kernel st)
+    → SoundState kernel (step kernel st .state) × Passed kernel (step kernel st .state)
 both-step kernel st e h = (sound-step kernel st (h .0), passed-step kernel st (h .0) (h .1))
 
 pub passed-search : (kernel : Kernel) (budget : ℕ) (st : State) → SoundState kernel st → Passed kernel st

@@ -10,7 +10,7 @@ use lib.ListN.{length}
 use native.Mathlib.Nat.{le-trans, le-of-eq}
 use native.Mathlib.Omega.{arith}
 use Rattle.spec.specs.Limits.{search-limit}
-use Rattle.spec.specs.Machine.{Kernel, State, depth, start, step, run, search}
+use Rattle.spec.specs.Machine.{Kernel, State, Step, depth, start, step, run, search}
 use Rattle.spec.specs.Sequence.{enough}
 use Rattle.bits.specs.Truth.{passes-or-fails}
 use Rattle.lists.specs.GrownLaws.{grown-used-le}
@@ -26,7 +26,7 @@ one-more-left size d l = omega arith
 
 -- a step closes the search, or lowers the potential
 pub step-closes-or-lowers : (kernel : Kernel) (st : State) → Admissible kernel st
-    → So (step kernel st .finished) ⊎ (potential kernel (step kernel st) < potential kernel st)
+    → So (step kernel st .state .finished) ⊎ (potential kernel (step kernel st .state) < potential kernel st)
 step-closes-or-lowers kernel st s = by-cases (step-cases kernel st)
   where
     by-placing : (c : ℕ) → Chosen kernel st c → potential-of (kernel .size - suc (depth st)) (c ∷ st .placed) 0 <
@@ -36,7 +36,7 @@ step-closes-or-lowers kernel st s = by-cases (step-cases kernel st)
         (placing-lowers (kernel .size - suc (depth st)) (st .placed) (st .next) c (w .not-tried)
         (le-trans (w .used-or-next) (grown-used-le (st .placed) (s .grown))))
 
-    by-cases : {after : State} → Stepped kernel st after → So (after .finished) ⊎ (potential kernel after < potential
+    by-cases : {after : Step} → Stepped kernel st after → So (after .state .finished) ⊎ (potential kernel (after .state) < potential
         kernel st)
     by-cases (placing c w not-whole) = inr (by-placing c w)
     by-cases (improving c w whole) = inr (by-placing c w)
@@ -56,15 +56,15 @@ potential-ends kernel (suc budget) st s l =
     ⊎-elim (λ e. rw (run-finished kernel (suc budget) st e) e)
     (λ u.
     rw (run-step kernel budget st u)
-    (after-step (step-closes-or-lowers kernel st s) (potential-ends kernel budget (step kernel st)
+    (after-step (step-closes-or-lowers kernel st s) (potential-ends kernel budget (step kernel st .state)
     (step-admissible kernel st s))))
     (passes-or-fails (st .finished))
   where
     after-step :
-        So (step kernel st .finished) ⊎ (potential kernel (step kernel st) < potential kernel st)
-        → (potential kernel (step kernel st) ≤ budget → So (run kernel budget (step kernel st) .state .finished))
-        → So (run kernel budget (step kernel st) .state .finished)
-    after-step (inl e) ends = rw (run-finished kernel budget (step kernel st) e) e
+        So (step kernel st .state .finished) ⊎ (potential kernel (step kernel st .state) < potential kernel st)
+        → (potential kernel (step kernel st .state) ≤ budget → So (run kernel budget (step kernel st .state) .state .finished))
+        → So (run kernel budget (step kernel st .state) .state .finished)
+    after-step (inl e) ends = rw (run-finished kernel budget (step kernel st .state) e) e
     after-step (inr lower) ends = ends (omega arith)
 
 -- the machine is finished as soon as the budget is enough

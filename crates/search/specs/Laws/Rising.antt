@@ -10,7 +10,7 @@ use mathlib.Core.List.{List, [], _∷_, reverse, reverse-cons}
 use lib.ListN.{length}
 use native.Mathlib.Nat.{le-refl, le-step, eq-or-lt-of-le}
 use native.Mathlib.Omega.{arith}
-use Rattle.spec.specs.Machine.{Kernel, State, depth, start, step, run}
+use Rattle.spec.specs.Machine.{Kernel, State, Step, depth, start, step, run}
 use Rattle.bits.specs.Truth.{passes-or-fails, not-both, fails-unless}
 use Rattle.lists.specs.Lexicographic.{Before, before-irreflexive, before-trans, before-reverse, before-end}
 use Rattle.search.specs.Laws.Steps.{Stepped, placing, improving, taking-back, closing, step-cases}
@@ -33,10 +33,10 @@ taking-back-rises earlier a t = before-reverse earlier (a ∷ t ∷ []) (suc a �
 
 -- a step closes the search, or the position rises
 pub step-closes-or-rises : (kernel : Kernel) (st : State)
-    → So (step kernel st .finished) ⊎ Before (position st) (position (step kernel st))
+    → So (step kernel st .state .finished) ⊎ Before (position st) (position (step kernel st .state))
 step-closes-or-rises kernel st = by-cases (step-cases kernel st)
   where
-    by-cases : {after : State} → Stepped kernel st after → So (after .finished) ⊎ Before (position st) (position after)
+    by-cases : {after : Step} → Stepped kernel st after → So (after .state .finished) ⊎ Before (position st) (position (after .state))
     by-cases (placing c w not-whole) = inr (placing-rises (st .placed) (st .next) c (w .not-tried))
     by-cases (improving c w whole) = inr (placing-rises (st .placed) (st .next) c (w .not-tried))
     by-cases (taking-back a earlier e h) = inr (rw e (taking-back-rises earlier a (st .next)))
@@ -51,16 +51,16 @@ run-rises kernel (suc count) st later u b =
     ⊎-elim (λ e. rw (run-finished kernel (suc count) st e) at b)
     (λ e.
     after-step (step-closes-or-rises kernel st) (rw (run-step kernel count st e) at u)
-    (run-rises kernel count (step kernel st) later (rw (run-step kernel count st e) at u)
+    (run-rises kernel count (step kernel st .state) later (rw (run-step kernel count st e) at u)
     (rw (run-step kernel count st e) at b)))
     (passes-or-fails (st .finished))
   where
     after-step :
-        So (step kernel st .finished) ⊎ Before (position st) (position (step kernel st))
-        → run kernel count (step kernel st) .state .finished ≡ false → Before (position (step kernel st)) later
+        So (step kernel st .state .finished) ⊎ Before (position st) (position (step kernel st .state))
+        → run kernel count (step kernel st .state) .state .finished ≡ false → Before (position (step kernel st .state)) later
         → Before (position st) later
-    after-step (inl e) v b = absurd (not-both e (rw (run-finished kernel count (step kernel st) e) at v))
-    after-step (inr r) v b = before-trans (position st) (position (step kernel st)) later r b
+    after-step (inl e) v b = absurd (not-both e (rw (run-finished kernel count (step kernel st .state) e) at v))
+    after-step (inr r) v b = before-trans (position st) (position (step kernel st .state)) later r b
 
 -- ---- placed lists
 
@@ -79,10 +79,10 @@ record Raised (before after : State) : Type 0 where
   rises : Before (position before) (position after)
   anew : after .next ≡ 0
 
-placing-raises : (kernel : Kernel) (st : State) → depth (step kernel st) ≡ suc (depth st) → Raised st (step kernel st)
+placing-raises : (kernel : Kernel) (st : State) → depth (step kernel st .state) ≡ suc (depth st) → Raised st (step kernel st .state)
 placing-raises kernel st = by-cases (step-cases kernel st)
   where
-    by-cases : {after : State} → Stepped kernel st after → depth after ≡ suc (depth st) → Raised st after
+    by-cases : {after : Step} → Stepped kernel st after → depth (after .state) ≡ suc (depth st) → Raised st (after .state)
     by-cases (placing c w not-whole) g = record {
       rises = placing-rises (st .placed) (st .next) c (w .not-tried);
       anew = refl;

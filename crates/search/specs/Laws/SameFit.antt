@@ -14,7 +14,8 @@ use lib.Dec.{ltb}
 use lib.ListN.{length}
 use Rattle.spec.specs.Limits.{search-limit}
 use Rattle.spec.specs.Cover.{used, joins}
-use Rattle.spec.specs.Machine.{Kernel, State, Ran, depth, possible, choice, move, step, no-step, one-more, run, search}
+use Rattle.spec.specs.Machine.{Kernel, State, Ran, depth, possible, choice, move, step, no-step, run}
+use Rattle.spec.specs.Machine.{search}
 use Rattle.bits.specs.Truth.{passes-or-fails}
 use Rattle.bits.specs.Laws.Lowest.{lowest-below-ext}
 
@@ -65,8 +66,7 @@ module _ (one other : Kernel) (same : SameKernel one other) where
   unfolding run
   run-same zero st = refl
   run-same (suc budget) st =
-      ap (λ (later : Ran). cond (st .finished) (no-step st) (one-more later))
-      (run-same budget (step one st) ∙ ap (run other budget) (step-same st))
+      rw (step-same st, run-same budget (step other st .state))
 
   pub search-same : (budget : ℕ) (st : State) → search one budget st ≡ search other budget st
   unfolding search

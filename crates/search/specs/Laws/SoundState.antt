@@ -8,7 +8,7 @@ use lib.ListN.{length}
 use native.Mathlib.Nat.{le-refl}
 use native.Mathlib.Omega.{arith}
 use Rattle.spec.specs.Cover.{used}
-use Rattle.spec.specs.Machine.{Kernel, State, depth, best-count, start, step, search}
+use Rattle.spec.specs.Machine.{Kernel, State, Step, depth, best-count, start, step, search}
 use Rattle.lists.specs.Classing.{Valid, Grown}
 use Rattle.lists.specs.GrownLaws.{grown-used-le}
 use Rattle.search.specs.Laws.Steps.{Stepped, placing, improving, taking-back, closing, step-cases}
@@ -36,10 +36,10 @@ sound-start kernel first w = record {
   whole-no-better = λ e. omega (arith, grown-used-le first (w .grown), w .size);
 }
 
-pub sound-step : (kernel : Kernel) (st : State) → SoundState kernel st → SoundState kernel (step kernel st)
+pub sound-step : (kernel : Kernel) (st : State) → SoundState kernel st → SoundState kernel (step kernel st .state)
 sound-step kernel st s = by-cases (step-cases kernel st) (step-admissible kernel st (s .admissible))
   where
-    by-cases : {after : State} → Stepped kernel st after → Admissible kernel after → SoundState kernel after
+    by-cases : {after : Step} → Stepped kernel st after → Admissible kernel (after .state) → SoundState kernel (after .state)
     by-cases (placing c w unfilled) m =
         record {
           admissible = m;

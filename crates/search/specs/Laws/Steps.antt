@@ -10,8 +10,9 @@ use lib.Dec.{eqb}
 use native.Mathlib.Omega.{arith}
 use borrow.Author.Tests.{ltb-true, leb-true, eqb-true, eqb-false}
 use Rattle.spec.specs.Cover.{used, joins}
-use Rattle.spec.specs.Machine.{Kernel, State, depth, best-count, possible, choice, improved, placed-in, place}
+use Rattle.spec.specs.Machine.{Kernel, State, Step, depth, best-count, possible, choice, improved, placed-in, place}
 use Rattle.spec.specs.Machine.{take-back-or-close, move, step}
+use Rattle.spec.specs.Machine as machine
 use Rattle.bits.specs.Laws.Lowest.{lowest-below-elim, lowest-below-none-elim}
 
 -- class c is the one in which grant d is placed
@@ -27,11 +28,16 @@ pub record Chosen (kernel : Kernel) (st : State) (c : ℕ) : Type 0 where
 abbrev pub NoneChosen : Kernel → State → Type 0
 NoneChosen kernel st = (c : ℕ) → c ≤ used (st .placed) → possible kernel st c ≡ false
 
--- the state that one step leads to
-pub data Stepped (kernel : Kernel) (st : State) : State → Type 0 where
-  placing : (c : ℕ) → Chosen kernel st c → (suc (depth st) ≡ kernel .size → ⊥) → Stepped kernel st (placed-in st c)
+-- a step that placed, with the state after it
+abbrev pub by-placing : State → Step
+by-placing after = record { state = after; kind = machine.placing }
+
+-- the state that one step leads to, and what the step was
+pub data Stepped (kernel : Kernel) (st : State) : Step → Type 0 where
+  placing : (c : ℕ) → Chosen kernel st c → (suc (depth st) ≡ kernel .size → ⊥)
+      → Stepped kernel st (by-placing (placed-in st c))
   improving : (c : ℕ) → Chosen kernel st c → suc (depth st) ≡ kernel .size
-      → Stepped kernel st (improved kernel (placed-in st c))
+      → Stepped kernel st (by-placing (improved kernel (placed-in st c)))
   taking-back : (a : ℕ) (earlier : List ℕ) → st .placed ≡ a ∷ earlier → NoneChosen kernel st
       → Stepped kernel st (take-back-or-close st (a ∷ earlier))
   closing : st .placed ≡ [] → NoneChosen kernel st → Stepped kernel st (take-back-or-close st [])
@@ -53,12 +59,13 @@ chosen kernel st c e =
 pub none-chosen : (kernel : Kernel) (st : State) → choice kernel st ≡ none → NoneChosen kernel st
 none-chosen kernel st e c l = lowest-below-none-elim (suc (used (st .placed))) (possible kernel st) e (omega arith)
 
-stepped-by-placing : (kernel : Kernel) (st : State) (c : ℕ) → Chosen kernel st c → Stepped kernel st (place kernel st c)
+stepped-by-placing : (kernel : Kernel) (st : State) (c : ℕ) → Chosen kernel st c
+    → Stepped kernel st (by-placing (place kernel st c))
 stepped-by-placing kernel st c w = by-size (eqb (suc (depth st)) (kernel .size)) refl
   where
     by-size :
         (full : Bool) → eqb (suc (depth st)) (kernel .size) ≡ full
-        → Stepped kernel st (cond full (improved kernel (placed-in st c)) (placed-in st c))
+        → Stepped kernel st (by-placing (cond full (improved kernel (placed-in st c)) (placed-in st c)))
     by-size true e = improving c w (eqb-true (suc (depth st)) (kernel .size) e)
     by-size false e = placing c w (eqb-false (suc (depth st)) (kernel .size) e)
 

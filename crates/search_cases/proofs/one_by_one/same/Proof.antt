@@ -1,5 +1,5 @@
--- `one_by_one::same`: each part of a state that differs tells the runs apart, and behind all other parts the best
--- placements tell.
+-- `one_by_one::same`: each count and each part of a state that differs tells the runs apart, and behind all others the
+-- best placements tell.
 use borrow.Author.Needs.{needs}
 use borrow.Author.Tests.{not-true, not-false}
 use native.Mathlib.Omega.{arith}
@@ -8,7 +8,7 @@ use Rattle.spec.specs.Limits.{search-limit}
 use Rattle.bits.specs.Truth.{not-both}
 use Rattle.search_cases.specs.Crown.{grants}
 use Rattle.search_cases.specs.Same.{told-apart, truth-differs, truth-same, same-steps, same-depth, same-next}
-use Rattle.search_cases.specs.Same.{same-finished, same-placed, best-tells}
+use Rattle.search_cases.specs.Same.{same-finished, same-placed, same-kinds, best-tells}
 use Rattle.search_cases.proofs.one_by_one.same.Statement.{statement}
 use Rattle.search_cases.proofs.one_by_one.same.Tie as tie
 
@@ -29,6 +29,9 @@ abbrev fourth : tie.Else5 → tie.Else4
 fourth c =
     let earlier = c .before .before .before .before .before .before in
     earlier
+
+abbrev fifth : tie.Else6 → tie.Else5
+fifth c = c .before .before .before .before
 
 few : grants ≤ search-limit
 unfolding search-limit
@@ -61,12 +64,20 @@ returns-5 c =
     told-apart (λ e. not-both (c .before .same-classes .ensures .when (same-placed (a .t1) (a .t2) grants e))
     (not-true (c .before .same-classes .result) (c .if5 .taken)))
 
+returns-6 : tie.Need-returns-6
+returns-6 c =
+    let past5 = c .before .before .before .before in
+    let a = start-1 (first (second (third (fourth past5)))) .args in
+    told-apart (λ e. not-both (c .before .same-kinds .ensures .when (same-kinds (a .t1) (a .t2) grants e))
+    (not-true (c .before .same-kinds .result) (c .if6 .taken)))
+
 same-classes-requires-2 : tie.Need-same-classes-requires-2
 same-classes-requires-2 c κs = few
 
-returns-6 : tie.Need-returns-6
-returns-6 c =
-    let past5 = c .before .before .before .before .before in
+returns-7 : tie.Need-returns-7
+returns-7 c =
+    let past6 = c .before .before .before .before .before in
+    let past5 = fifth past6 in
     let past4 = fourth past5 in
     let past3 = third past4 in
     let past2 = second past3 in
@@ -75,9 +86,10 @@ returns-6 c =
     best-tells (a .t1) (a .t2) grants (past1 .if1 .left) (past2 .if2 .left) (past3 .if3 .left)
     (truth-same (a .t1 .position .cursor .finished) (a .t2 .position .cursor .finished) (past4 .if4 .left))
     (past5 .before .same-classes .ensures .passes (not-false (past5 .before .same-classes .result) (past5 .if5 .left)))
+    (past6 .before .same-kinds .ensures .passes (not-false (past6 .before .same-kinds .result) (past6 .if6 .left)))
     (c .same-classes2 .ensures)
 
 pub same-spec : {M : Type 1} → statement M
 same-spec =
-    tie.close (tie.spec returns returns-2 returns-3 returns-4 (λ c κs. search needs) returns-5 same-classes-requires-2
-    returns-6)
+    tie.close (tie.spec returns returns-2 returns-3 returns-4 (λ c κs. search needs) returns-5 (λ c κs. search needs)
+    returns-6 same-classes-requires-2 returns-7)

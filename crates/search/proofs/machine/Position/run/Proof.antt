@@ -10,6 +10,7 @@ use borrow.Author.Tests.{not-true, not-false}
 use lib.ListN.{length}
 use Rattle.marks.specs.Marks.{mark-limit}
 use Rattle.moves.specs.FitTable.{kernel-given}
+use Rattle.moves.specs.StepKinds.{kind-case, kinds-said}
 use Rattle.moves.specs.Parts.{at-position, parts-view}
 use Rattle.search.specs.View.{parts-of, view}
 use Rattle.moves.specs.Lent.{Ready}
@@ -19,13 +20,13 @@ use Rattle.search.proofs.machine.Position.run.Statement.{statement}
 use Rattle.search.proofs.machine.Position.run.Tie as tie
 
 abbrev Inv-loop : tie.InvT-loop
-Inv-loop fit sizes budget at₀ classes₀ best₀ members₀ steps₀ at classes best members steps =
+Inv-loop fit sizes budget at₀ classes₀ best₀ members₀ steps₀ kinds₀ at classes best members steps kinds =
     Running (kernel-given fit sizes) budget (parts-view (at-position at₀ classes₀ best₀) (sizes .kernel))
-    (at-position at classes best) steps
+    (at-position at classes best) steps (kinds-said kinds)
     × Ready (sizes .kernel) at classes best members
 
 abbrev μ-loop : tie.MeasureT-loop
-μ-loop fit sizes budget at₀ classes₀ best₀ members₀ steps₀ at classes best members steps = budget - steps
+μ-loop fit sizes budget at₀ classes₀ best₀ members₀ steps₀ kinds₀ at classes best members steps kinds = budget - steps
 
 gathered-requires : tie.Need-gathered-requires Inv-loop μ-loop
 gathered-requires c κs = let s = c .before .before .before .before .pre in (depth-le-limit s, class-below-limit s)
@@ -36,11 +37,12 @@ whole-array c = search needs
 
 loop-holds : tie.Need-loop-holds Inv-loop μ-loop
 loop-holds c =
-    let start = c .before .before .before .before .before in
+    let gathered = c .before in
+    let start = gathered .before .before .before .before .before in
     let a = start .args in (
-      running-none (kernel-given (a .fit .now) (a .sizes)) (a .budget) (parts-of (a .self))
-          (start .pre),
-      record { stands = start .pre; classes-sized = whole-array start; gathered = c .gathered .ensures },
+      rw (c .none .ensures)
+          (running-none (kernel-given (a .fit .now) (a .sizes)) (a .budget) (parts-of (a .self)) (start .pre)),
+      record { stands = start .pre; classes-sized = whole-array start; gathered = gathered .gathered .ensures },
     )
 
 advanced-requires : tie.Need-advanced-requires Inv-loop μ-loop
@@ -48,28 +50,39 @@ advanced-requires c κs =
     let at-if1 = c .before .before .before in
     at-if1 .before .before .before .loop .inv .1
 
+-- the place where the step is made, from behind it
+abbrev if1-at : tie.After-advanced Inv-loop μ-loop → tie.Then1 Inv-loop μ-loop
+if1-at c = c .before .before .before .before
+
+-- the counts add up to the steps made, so that there is room for one more
+counted-requires : tie.Need-counted-requires Inv-loop μ-loop
+counted-requires c κs =
+    let at-test = if1-at (c .before) .before .before in
+    omega (arith, at-test .before .loop .inv .0 .add-up, at-test .loop-test .taken)
+
 loop-again : tie.Need-loop-again Inv-loop μ-loop
 loop-again c =
-    let at-if1 = c .before .before .before .before in
+    let at-moved = c .before .before in
+    let at-if1 = if1-at at-moved in
     let at-loop-test = at-if1 .before .before in
     let at-loop = at-loop-test .before in
-    let at-gathered = at-loop .before in
-    let a = at-gathered .before .before .before .before .before .args in
+    let a = at-loop .before .before .before .before .before .before .before .args in
     let loop = at-loop .loop in
-    let moved = c .advanced .ensures in (
-      running-more (kernel-given (a .fit .now) (a .sizes)) (a .budget)
+    let moved = at-moved .advanced in (
+      rw (c .counted .ensures)
+          (running-more (kernel-given (a .fit .now) (a .sizes)) (a .budget)
           (view (a .self) (a .sizes .kernel)) (loop .inv .0)
-          (at-position (c .advanced .result) (c .advanced .last .1 .0) (c .advanced .last .1 .1 .0))
-          (at-loop-test .loop-test .taken)
-          (not-true (loop .at .finished) (at-if1 .if1 .taken)) (moved .stepped) (moved .ready .stands),
-      moved .ready,
+          (at-position (moved .result .cursor) (moved .last .1 .0) (moved .last .1 .1 .0))
+          (kind-case (moved .result .kind)) (at-loop-test .loop-test .taken)
+          (not-true (loop .at .finished) (at-if1 .if1 .taken)) (moved .ensures .stepped)
+          (moved .ensures .ready .stands)),
+      moved .ensures .ready,
     )
 
 returns : tie.Need-returns Inv-loop μ-loop
 returns c =
     let at-loop = c .before .before in
-    let at-gathered = at-loop .before in
-    let a = at-gathered .before .before .before .before .before .args in
+    let a = at-loop .before .before .before .before .before .before .before .args in
     let kernel = kernel-given (a .fit .now) (a .sizes) in
     let from = view (a .self) (a .sizes .kernel) in
     let loop = at-loop .loop in
@@ -82,5 +95,5 @@ returns c =
 
 pub run-spec : {M : Type 1} → statement M
 run-spec =
-    tie.close (tie.spec Inv-loop μ-loop gathered-requires loop-holds advanced-requires (λ c. omega arith)
-    (λ c. omega arith) loop-again (λ c κs. search needs) returns)
+    tie.close (tie.spec Inv-loop μ-loop gathered-requires (λ c κs. search needs) loop-holds (λ c. omega arith)
+    advanced-requires counted-requires (λ c. omega arith) loop-again (λ c κs. search needs) returns)

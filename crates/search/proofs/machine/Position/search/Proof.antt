@@ -2,6 +2,7 @@
 use Prim.Native.Nat.{_≤_, _<_}
 use mathlib.Core.Path.{refl, sym}
 use native.Mathlib.Omega.{arith}
+use borrow.Author.Needs.{needs}
 use Rattle.spec.specs.Limits.{search-limit}
 use Rattle.search.specs.Laws.Runs.{search-within, search-above}
 use Rattle.moves.specs.FitTable.{kernel-given}
@@ -19,10 +20,12 @@ within c = c .if1 .left
 
 returns : tie.Need-returns
 returns c =
-    let a = c .before .before .args in
+    let start = c .before .before .before in
+    let a = start .args in
     let kernel = kernel-given (a .fit .now) (a .sizes) in (
-      sym (search-above kernel (a .budget) (view (a .self) (a .sizes .kernel)) (above c)),
-      (λ l. c .before .before .pre l, λ l. refl),
+      rw (c .none .ensures)
+          (sym (search-above kernel (a .budget) (view (a .self) (a .sizes .kernel)) (above (c .before)))),
+      (λ l. start .pre l, λ l. refl),
     )
 
 run-requires : tie.Need-run-requires
@@ -39,4 +42,4 @@ returns-2 c =
 
 pub search-spec : {M : Type 1} → statement M
 search-spec =
-    tie.close (tie.spec returns run-requires returns-2)
+    tie.close (tie.spec (λ c κs. search needs) returns run-requires returns-2)

@@ -23,7 +23,7 @@ moved-requires c κs =
 
 returns : tie.Need-returns
 returns c =
-    let moved = c .before .moved .ensures in
+    let moved = c .before .before .moved .ensures in
     rw (c .of .ensures) (moved .stepped, moved .ready .stands)
 
 pub step-spec : {M : Type 1} → statement M
