@@ -68,11 +68,14 @@ abbrev pub state-word : Option Standing → Bytes
 state-word none = ascii "-"
 state-word (some standing) = standing-word standing
 
--- `search NUMBER STEPS ROLES BOUND STATE`
+-- `search NUMBER STEPS PLACED BACK CLOSED ROLES BOUND STATE`
 abbrev pub search-line : SearchAnswer → Bytes
 search-line a =
     answer-line
-    (ascii "search" ∷ map decimal (a .number ∷ a .steps ∷ a .roles ∷ a .bound ∷ []) ++ state-word (a .standing) ∷ [])
+    (ascii "search"
+    ∷ map decimal
+    (a .number ∷ a .steps ∷ a .placed ∷ a .taken-back ∷ a .closed ∷ a .roles ∷ a .bound ∷ [])
+    ++ state-word (a .standing) ∷ [])
 
 -- `write NUMBER COUNT DIGEST`, from the number that the digest spells
 abbrev pub digest-line : WriteAnswer → ℕ → Bytes

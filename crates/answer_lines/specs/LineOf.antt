@@ -11,7 +11,7 @@ use Rattle.answer_lines.specs.declared.answer.Answer.the-variants.{Check
 
 -- the bytes that a line is lent, which are more than any answer has
 abbrev pub answer-most : ℕ
-answer-most = 160
+answer-most = 192
 
 abbrev pub line-of : Answer → Bytes
 line-of NoCall = no-call-line

@@ -18,7 +18,7 @@ ghost use Rattle.answer_lines.specs.Answers.{search-line, write-line};
 ghost use Rattle.answer_lines.specs.LineOf.{answer-most, line-of};
 
 // The bytes of an answer, at most.
-pub const ANSWER_BUFFER: usize = 160;
+pub const ANSWER_BUFFER: usize = 192;
 
 // The answer of a call, or that a line is no call. A writing's has the Adler-32 of the bytes that it was lent.
 pub enum Answer {
@@ -45,6 +45,9 @@ fn put_searched(out: &mut [u8], answer: SearchAnswer) -> usize
     let numbers = [
         answer.number,
         answer.steps as usize,
+        answer.placed as usize,
+        answer.taken_back as usize,
+        answer.closed as usize,
         answer.roles,
         answer.bound,
     ];

@@ -26,6 +26,9 @@ search-said a =
     record {
       number = a .number;
       steps = a .steps;
+      placed = a .placed;
+      taken-back = a .«taken_back»;
+      closed = a .closed;
       roles = a .roles;
       bound = a .bound;
       standing = state-said (a .state);

@@ -1,6 +1,7 @@
 // What the calls of a session answer: a result comes with the number 0, a refusal with its own number and counts 0.
 use book_lines::Counts;
 use book_lines::Writing;
+use moves::Kinds;
 use standing::Standing;
 ghost use mathlib.Core.Path.{_≡_};
 ghost use mathlib.Core.Option.{some};
@@ -32,10 +33,13 @@ pub enum Named {
     State(Standing),
 }
 
-// A search's steps, roles, bound and state.
+// A search's steps, how many of them placed, took back and closed, its roles, bound and state.
 pub struct SearchAnswer {
     pub number: usize,
     pub steps: u32,
+    pub placed: u32,
+    pub taken_back: u32,
+    pub closed: u32,
     pub roles: usize,
     pub bound: usize,
     pub state: Named,
@@ -94,17 +98,23 @@ impl SearchAnswer {
         SearchAnswer {
             number,
             steps: 0,
+            placed: 0,
+            taken_back: 0,
+            closed: 0,
             roles: 0,
             bound: 0,
             state: Named::Nothing,
         }
     }
 
-    // The steps made, and the counts where the search then stands.
-    pub fn found(steps: u32, counts: Counts) -> SearchAnswer
+    // The steps made, what they were, and the counts where the search then stands.
+    pub fn found(steps: u32, kinds: Kinds, counts: Counts) -> SearchAnswer
         ensures { λ r. ⌜ search-said r ≡ record {
           number = 0;
           steps = steps;
+          placed = kinds .placed;
+          taken-back = kinds .«taken_back»;
+          closed = kinds .closed;
           roles = counts .roles;
           bound = counts .bound;
           standing = some (standing-case (counts .standing));
@@ -114,6 +124,9 @@ impl SearchAnswer {
         SearchAnswer {
             number: 0,
             steps,
+            placed: kinds.placed,
+            taken_back: kinds.taken_back,
+            closed: kinds.closed,
             roles: counts.roles,
             bound: counts.bound,
             state: Named::State(standing),

@@ -16,6 +16,7 @@ use Rattle.spec.specs.Book.{said-in, book-text, book}
 use Rattle.spec.specs.Right.{WitnessStands, Right}
 use Rattle.spec.specs.Refusal.{accepted}
 use Rattle.spec.specs.Calls.{searched-on}
+use Rattle.spec.specs.Sequence.{searched-in-all, reached}
 use Rattle.spec.specs.Demands.{Believed}
 use Rattle.cells.specs.Laws.Grant.{grant-held}
 use Rattle.rules.specs.Accepted.{accepted-keeps}
@@ -25,11 +26,10 @@ use Rattle.minimality.specs.GrantClassing.{Even}
 use Rattle.minimality.specs.WitnessLaws.{witness-granted, witness-independent}
 use Rattle.minimality.specs.StateBound.{Searching, searching-start, searching-on, state-multiplies}
 use Rattle.minimality.specs.StateBound.{state-le-permissions, witness-le-state, settled-is-smallest, bound-bounds}
-use Rattle.demands.specs.Reached.{reached}
 
 -- whatever was given, the state is one that searches come to
 pub reached-searching : (text : Bytes) (given : ℕ) → Searching (sheet-of text) (reached text given)
-unfolding reached searched-on
+unfolding reached searched-in-all searched-on
 reached-searching text given = searching-on given (searching-start (sheet-of text))
 
 pub accepted-even : (text : Bytes) → So (accepted text) → Even (sheet-of text)

@@ -17,7 +17,7 @@ use Rattle.spec.specs.Session.{Session, no-sheet, read, reduced, session-book}
 use Rattle.spec.specs.Calls.{ReduceAnswer, reduce-answer, reduce-counts, SearchAnswer, search-answer, searched-on}
 use Rattle.spec.specs.Calls.{WriteAnswer, write-answer, write-refused, Reduces, Searches, Writes}
 use Rattle.spec.specs.Sequence.{Call, load, reduce, search, write, WriteOutcome, Event, Happens, Led, Outcome, calls}
-use Rattle.spec.specs.Sequence.{last-accepted, last-reduced, budgets-given, brought-out}
+use Rattle.spec.specs.Sequence.{last-accepted, last-reduced, budgets-given, reached, brought-out}
 use Rattle.spec.specs.Demands.{BudgetsSuffice, ReduceOwed, SearchOwed, WriteOwed, BookOwed, Owed, OwedOfAll}
 use Rattle.bits.specs.Laws.Below.{below-or-from}
 use Rattle.demands.specs.Answers.{load-owed, sheetless-reduce, sheetless-search, sheetless-write}
@@ -26,7 +26,8 @@ use Rattle.demands.specs.Answers.{reduced-search, reduced-book, reduced-
 use Rattle.demands.specs.Answers.{brings-the-book}
 use Rattle.demands.specs.Believed.{book-believed, book-says}
 use Rattle.demands.specs.Settled.{ended-settles}
-use Rattle.demands.specs.Reached.{reached, reached-further, session-after, led-session}
+use Rattle.demands.specs.StepsOwed.{steps-owed}
+use Rattle.demands.specs.Reached.{reached-further, session-after, led-session}
 use Rattle.demands.specs.Reached.{reduced-is-last, last-is-accepted}
 
 module _ (earlier : List Call) (before : Session) (e : before ≡ session-after earlier) where
@@ -82,6 +83,8 @@ module _ (earlier : List Call) (before : Session) (e : before ≡ session-after 
             ap (λ (a : SearchAnswer). a .number) (answers-on (sheet-reduced text since))
             ∙ reduced-search text (reached text (budgets-given earlier)) budget;
         settled = search-settled budget answer after h;
+        steps-owed = λ text since.
+            steps-owed text budget (budgets-given earlier) answer (answers-on (sheet-reduced text since));
       }
     where
       answers-on : {session : Session} → before ≡ session → answer ≡ search-answer session budget

@@ -12,10 +12,10 @@ use Rattle.spec.specs.Cover.{first-best}
 use Rattle.spec.specs.Machine.{Ran, depth, run, start}
 use Rattle.spec.specs.Roles.{kernel-of, start-of}
 use Rattle.spec.specs.Calls.{searched-on}
+use Rattle.spec.specs.Sequence.{searched-in-all, reached}
 use Rattle.bits.specs.Laws.Below.{below-or-from}
 use Rattle.search.specs.Laws.Runs.{search-within, search-above}
 use Rattle.search.specs.Laws.Rising.{placed-once}
-use Rattle.demands.specs.Reached.{reached}
 
 -- the step after so much budget places a grant
 abbrev pub PlacesAfter : Bytes → ℕ → Type 0
@@ -26,14 +26,14 @@ module _ (text : Bytes) where
   reached-by-run : kernel-of (sheet-of text) .size ≤ search-limit → (given : ℕ)
       → reached text given ≡ run (kernel-of (sheet-of text)) given (start (kernel-of (sheet-of text))
       (first-best (sheet-of text))) .state
-  unfolding reached searched-on start-of
+  unfolding reached searched-in-all searched-on start-of
   reached-by-run small given = ap (λ (ran : Ran). ran .state) (search-within (kernel-of (sheet-of text)) given
       (start-of (sheet-of text)) small)
 
   -- on any other it never moves
   never-moved : search-limit < kernel-of (sheet-of text) .size → (given : ℕ) → reached text given ≡ start-of
       (sheet-of text)
-  unfolding reached searched-on
+  unfolding reached searched-in-all searched-on
   never-moved large given = ap (λ (ran : Ran). ran .state) (search-above (kernel-of (sheet-of text)) given
       (start-of (sheet-of text)) large)
 

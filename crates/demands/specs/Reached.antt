@@ -19,15 +19,10 @@ use Rattle.spec.specs.Session.{Session, no-sheet, read, reduced}
 use Rattle.spec.specs.Refusal.{accepted}
 use Rattle.spec.specs.Calls.{searched-on, after-load, after-reduce, after-search}
 use Rattle.spec.specs.Sequence.{Call, load, reduce, search, write, Event, Happens, Outcome, Led, calls}
-use Rattle.spec.specs.Sequence.{last-accepted, last-reduced, counted-on, budgets-given}
+use Rattle.spec.specs.Sequence.{last-accepted, last-reduced, counted-on, budgets-given, searched-in-all, reached}
 use Rattle.bits.specs.Truth.{passes-or-fails}
 use Rattle.bits.specs.Laws.Below.{below-or-from}
-use Rattle.search.specs.Laws.Runs.{run-none, search-within, search-above, search-add}
-
--- the machine's state on a sheet that is reduced, once so much budget was given since
-unfoldable pub reached : Bytes → ℕ → State
-unfolding searched-on start-of
-reached text given = searched-on text given (start-of (sheet-of text)) .state
+use Rattle.search.specs.Laws.Runs.{run-none, followed-by, search-within, search-above, search-add}
 
 -- the session that some calls lead to, from the calls alone: by the sheet of the last accepted load, whether it was
 -- reduced since, and the budgets given since its first reduction
@@ -40,23 +35,29 @@ abbrev pub session-after : List Call → Session
 session-after earlier = session-of (last-accepted earlier) (last-reduced earlier) (budgets-given earlier)
 
 -- no budget moves nothing
-search-none : (kernel : Kernel) (st : State) → Machine.search kernel 0 st ≡ no-step st
+pub search-none : (kernel : Kernel) (st : State) → Machine.search kernel 0 st ≡ no-step st
 search-none kernel st =
     ⊎-elim (λ l. search-above kernel 0 st l) (λ l. search-within kernel 0 st l ∙ run-none kernel st)
     (below-or-from search-limit (kernel .size))
 
-reached-at-first : (text : Bytes) → reached text 0 ≡ start-of (sheet-of text)
-unfolding reached searched-on
+pub reached-at-first : (text : Bytes) → reached text 0 ≡ start-of (sheet-of text)
+unfolding reached searched-in-all searched-on
 reached-at-first text =
     ap (λ (ran : Ran). ran .state) (search-none (kernel-of (sheet-of text)) (start-of (sheet-of text)))
 
+-- so much more budget goes on where the machine stood
+pub searched-further : (text : Bytes) (budget given : ℕ)
+    → searched-in-all text (budget + given)
+    ≡ followed-by (searched-in-all text given) (searched-on text budget (reached text given))
+unfolding reached searched-in-all searched-on
+searched-further text budget given =
+    ap (searched-in-all text) (add-comm budget given)
+    ∙ search-add (kernel-of (sheet-of text)) given budget (start-of (sheet-of text))
+
 pub reached-further : (text : Bytes) (budget given : ℕ) → searched-on text budget (reached text given) .state ≡
     reached text (budget + given)
-unfolding reached searched-on
-reached-further text budget given =
-    sym
-    (ap (λ (n : ℕ). reached text n) (add-comm budget given)
-    ∙ ap (λ (ran : Ran). ran .state) (search-add (kernel-of (sheet-of text)) given budget (start-of (sheet-of text))))
+unfolding reached
+reached-further text budget given = sym (ap (λ (ran : Ran). ran .state) (searched-further text budget given))
 
 -- ---- the sheet that was reduced
 
@@ -73,7 +74,7 @@ reduced-is-last (search budget ∷ earlier) text e = reduced-is-last earlier tex
 reduced-is-last (write buffer ∷ earlier) text e = reduced-is-last earlier text e
 
 -- so there is none where no load was accepted
-none-reduced : (earlier : List Call) → last-accepted earlier ≡ none → last-reduced earlier ≡ none
+pub none-reduced : (earlier : List Call) → last-accepted earlier ≡ none → last-reduced earlier ≡ none
 none-reduced earlier e = choose (last-reduced earlier) refl
   where
     choose : (since : Option Bytes) → last-reduced earlier ≡ since → since ≡ none
@@ -81,7 +82,7 @@ none-reduced earlier e = choose (last-reduced earlier) refl
     choose (some text) l = absurd (Option·none-ne-some text (sym e ∙ reduced-is-last earlier text l))
 
 -- and where there is none, no budget counts
-none-given : (earlier : List Call) → last-reduced earlier ≡ none → budgets-given earlier ≡ 0
+pub none-given : (earlier : List Call) → last-reduced earlier ≡ none → budgets-given earlier ≡ 0
 none-given [] e = refl
 none-given (load text ∷ earlier) e =
     ⊎-elim (λ (p : So (accepted text)). rw p)

@@ -14,14 +14,14 @@ use Rattle.spec.specs.Witness.{witness}
 use Rattle.spec.specs.Cover.{first-best}
 use Rattle.spec.specs.Roles.{unsettled, standing-of, kernel-of, start-of, role-count, standing}
 use Rattle.spec.specs.Calls.{searched-on}
+use Rattle.spec.specs.Sequence.{searched-in-all, reached}
 use Rattle.spec.specs.Demands.{BudgetsSuffice}
 use Rattle.search.specs.Laws.Progress.{enough-ends-search}
-use Rattle.demands.specs.Reached.{reached}
 
 -- enough budget finishes the machine
 pub ended-finishes : (text : Bytes) (given : ℕ) → BudgetsSuffice (kernel-size (sheet-of text)) given
     → So (reached text given .finished)
-unfolding reached searched-on start-of kernel-of search-limit
+unfolding reached searched-in-all searched-on start-of kernel-of search-limit
 ended-finishes text given ended =
     enough-ends-search (kernel-of (sheet-of text)) (first-best (sheet-of text)) given (ended .searchable)
     (ended .sufficient)

@@ -2,7 +2,7 @@
 //
 // - `load FILE` is answered by `load NUMBER USERS PERMISSIONS GRANTS`,
 // - `reduce`, with nothing behind it, by `reduce NUMBER K W`,
-// - `search N` by `search NUMBER STEPS ROLES BOUND STATE`,
+// - `search N` by `search NUMBER STEPS PLACED BACK CLOSED ROLES BOUND STATE`,
 // - `write LENGTH` by `write NUMBER COUNT DIGEST`,
 // - `check SHEETFILE BOOKFILE` by `check NUMBER ROLES WITNESSLINES`.
 //

@@ -20,6 +20,9 @@ state-number (some unsettled) = 3
 pub record Numbers (answer : SearchAnswer) (n : SearchNumbers) : Type 0 where
   pub number : n .number ≡ answer .number
   pub steps : n .steps ≡ answer .steps
+  pub placed : n .placed ≡ answer .placed
+  pub taken-back : n .«taken_back» ≡ answer .taken-back
+  pub closed : n .closed ≡ answer .closed
   pub state : n .state ≡ state-number (answer .standing)
   pub roles : n .roles ≡ answer .roles
   pub bound : n .bound ≡ answer .bound
@@ -53,6 +56,9 @@ numbers-said n =
     record {
       number = n .number;
       steps = n .steps;
+      placed = n .placed;
+      taken-back = n .«taken_back»;
+      closed = n .closed;
       roles = n .roles;
       bound = n .bound;
       standing = state-of
@@ -60,7 +66,19 @@ numbers-said n =
     }
 
 numbers-are : (answer : SearchAnswer) (n : SearchNumbers) → Numbers answer n → numbers-said n ≡ answer
-numbers-are answer n h = rw (h .number, h .steps, h .roles, h .bound, h .state, numbered-state (answer .standing))
+numbers-are answer n h =
+    rw (
+      h .number,
+      h .steps,
+      h .placed,
+      h .taken-back,
+      h .closed,
+      h .roles,
+      h .bound,
+      h .state,
+      numbered-state
+          (answer .standing),
+    )
 
 -- what a search promises, of the answer that its numbers are
 pub numbers-searched : {before after : Session} {budget : ℕ} {n : SearchNumbers} → SearchesAs before budget n after

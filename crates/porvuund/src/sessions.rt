@@ -22,6 +22,9 @@ ghost use Rattle.porvuund.specs.SearchNumbers.{state-number, SearchesAs}
 pub struct SearchNumbers {
     pub number: usize,
     pub steps: u32,
+    pub placed: u32,
+    pub taken_back: u32,
+    pub closed: u32,
     pub state: u32,
     pub roles: usize,
     pub bound: usize,
@@ -93,6 +96,9 @@ pub extern "C" fn porvuund_search(session: Session, budget: u32) -> SearchedNumb
         answer: SearchNumbers {
             number: answer.number,
             steps: answer.steps,
+            placed: answer.placed,
+            taken_back: answer.taken_back,
+            closed: answer.closed,
             state: number_of(named),
             roles: answer.roles,
             bound: answer.bound,

@@ -48,9 +48,10 @@ impl Session {
             self.prepared.witness.count,
             self.position.cursor.finished,
         );
+        let kinds = ran.kinds;
         Searched {
             session: self,
-            answer: SearchAnswer::found(ran.steps, counts),
+            answer: SearchAnswer::found(ran.steps, kinds, counts),
         }
     }
 }

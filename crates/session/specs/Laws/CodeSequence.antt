@@ -17,8 +17,9 @@ use Rattle.spec.specs.Refusal.{Cause, sheet-causes, reduce-causes, not-reduced,
 use Rattle.spec.specs.Calls.{LoadAnswer, ReduceAnswer, SearchAnswer, load-refused, reduce-refused, search-refused}
 use Rattle.spec.specs.Calls.{write-refused}
 use Rattle.spec.specs.Sequence.{Call, load, reduce, search, write, WriteOutcome, Outcome, Event, Happens, Led, calls}
-use Rattle.spec.specs.Sequence.{last-accepted, brought-out}
-use Rattle.spec.specs.Demands.{LowestThatApplies, Judged, OwedOfAll}
+use Rattle.spec.specs.Sequence.{last-accepted, last-reduced, budgets-given, searched-in-all, search-answers}
+use Rattle.spec.specs.Sequence.{brought-out}
+use Rattle.spec.specs.Demands.{LowestThatApplies, Judged, OwedOfAll, Together}
 use Rattle.bits.specs.Truth.{not-both}
 use Rattle.rules.specs.CauseLaws.{first-is-lowest}
 use Rattle.demands.specs.Demand1.{demand-1}
@@ -160,9 +161,13 @@ pub record Demand2Of (calling : Calling) : Type 1 where
       → (text : Bytes) × (says : Said) × (last-accepted (calls earlier) ≡ some text) × Right (sheet-of text)
       (brought-out written) says × (brought-out written ≡ book-text (sheet-of text) says)
 
--- demand 3: all that is owed of every sequence is owed of the calls of the code
-abbrev pub Demand3Of : Calling → Type 1
-Demand3Of calling = (events : List Event) (s : CodeSession) → Ran calling events s → OwedOfAll events
+-- demand 3: all that is owed of every sequence is owed of the calls of the code, and the searches since the last
+-- accepted load are together one
+pub record Demand3Of (calling : Calling) : Type 1 where
+  pub owed : (events : List Event) (s : CodeSession) → Ran calling events s → OwedOfAll events
+  pub together : (events : List Event) (s : CodeSession) → Ran calling events s → (text : Bytes)
+      → last-reduced (calls events) ≡ some text
+      → Together (search-answers events) (searched-in-all text (budgets-given (calls events)))
 
 -- the three demands of calls of the code, demand 1 also as document 01 has it; which value a reduction hands back; and
 -- what a value keeps whose sheet is not reduced
@@ -280,7 +285,11 @@ module _ {calling : Calling} (tied : Tied calling) where
       }
 
   tied-demand-3 : Demand3Of calling
-  tied-demand-3 events s ran = demand-3 .owed events (view s) (ran-led events s ran)
+  tied-demand-3 =
+      record {
+        owed = λ events s ran. demand-3 .owed events (view s) (ran-led events s ran);
+        together = λ events s ran. demand-3 .together events (view s) (ran-led events s ran);
+      }
 
   pub tied-demands : DemandsOf calling
   tied-demands =

@@ -4,6 +4,7 @@ use mathlib.Core.Path.{_≡_}
 use Rattle.spec.specs.Sheet.{sheet-of}
 use Rattle.spec.specs.Machine.{search}
 use Rattle.spec.specs.Roles.{kernel-of, role-count, standing, bound}
+use Rattle.moves.specs.StepKinds.{kinds-said}
 use Rattle.search.specs.declared.machine.Position.{Position}
 use Rattle.search.specs.declared.machine.Ran.{Ran}
 use Rattle.standing.specs.StandingCases.{standing-case}
@@ -36,4 +37,5 @@ pub record RanIn (s : CodeSession) (budget : ℕ) (ran : Ran) : Type 0 where
   pub state : state-in (moved-to s (ran .position)) ≡ search (kernel-of (sheet-of (text-in s))) budget
       (state-in s) .state
   pub steps : ran .steps ≡ search (kernel-of (sheet-of (text-in s))) budget (state-in s) .steps
+  pub kinds : kinds-said (ran .kinds) ≡ search (kernel-of (sheet-of (text-in s))) budget (state-in s) .kinds
   pub holds : Holds (moved-to s (ran .position))

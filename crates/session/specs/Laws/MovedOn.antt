@@ -11,6 +11,7 @@ use Rattle.spec.specs.Machine.{State, best-count, search, no-step}
 use Rattle.spec.specs.Machine as machine
 use Rattle.spec.specs.Roles.{kernel-of}
 use Rattle.bits.specs.Laws.Below.{below-or-from}
+use Rattle.moves.specs.StepKinds.{kinds-said}
 use Rattle.search.specs.View.{view, view-ran, PositionStands}
 use Rattle.search.specs.Laws.SameFit.{search-same}
 use Rattle.search.specs.Laws.Runs.{search-above}
@@ -36,12 +37,14 @@ module _ {s : CodeSession} (h : Holds s) (budget : ℕ) (ran : Ran)
     -- once the position stands for the state that the machine came to
     on-position : (size-in s ≤ search-limit → PositionStands (size-in s) (ran .position))
         → state-in (moved-to s (ran .position)) ≡ ran-on s budget .state → ran .steps ≡ ran-on s budget .steps
+        → kinds-said (ran .kinds) ≡ ran-on s budget .kinds
         → ran .position .cursor .count ≡ best-count (state-in (moved-to s (ran .position)))
         → ran .position .cursor .finished ≡ state-in (moved-to s (ran .position)) .finished → RanIn s budget ran
-    on-position stands state steps counted finished =
+    on-position stands state steps kinds counted finished =
         record {
           state = state;
           steps = steps;
+          kinds = kinds;
           holds = record {
             accepts = h .accepts;
             sheet = record { whole = h .sheet .whole; laid = h .sheet .laid; cells = h .sheet .cells };
@@ -66,7 +69,8 @@ module _ {s : CodeSession} (h : Holds s) (budget : ℕ) (ran : Ran)
     ran-within l stands =
         let viewed = state-within (moved-to s (ran .position)) l in
         on-position (λ k. stands) (viewed ∙ ap (λ (r : machine.Ran). r .state) (as-the-machine l))
-        (ap (λ (r : machine.Ran). r .steps) (as-the-machine l)) (stands .best-counted ∙ ap best-count (sym viewed))
+        (ap (λ (r : machine.Ran). r .steps) (as-the-machine l)) (ap (λ (r : machine.Ran). r .kinds) (as-the-machine l))
+        (stands .best-counted ∙ ap best-count (sym viewed))
         (ap (λ (st : State). st .finished) (sym viewed))
 
     -- above the limit the machine makes no step
@@ -85,6 +89,8 @@ module _ {s : CodeSession} (h : Holds s) (budget : ℕ) (ran : Ran)
         on-position stands (same ∙ sym (ap (λ (r : machine.Ran). r .state) (no-step-above l)))
         (ap (λ (r : machine.Ran). r .steps) (searched ∙ none)
         ∙ sym (ap (λ (r : machine.Ran). r .steps) (no-step-above l)))
+        (ap (λ (r : machine.Ran). r .kinds) (searched ∙ none)
+        ∙ sym (ap (λ (r : machine.Ran). r .kinds) (no-step-above l)))
         (ap (λ (at : Position). at .cursor .count) kept ∙ h .counted ∙ ap best-count (sym same))
         (ap (λ (at : Position). at .cursor .finished) kept ∙ h .finished ∙ ap (λ (st : State). st .finished) (sym same))
 

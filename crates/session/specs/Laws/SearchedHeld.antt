@@ -1,13 +1,14 @@
 -- A search of a session whose sheet is reduced does what the definition of a search says: its answer has the steps
--- made and the counts where the search then stands, and the session after it has the state that the machine came to.
+-- made, what they were, and the counts where the search then stands, and the session after it has the state that the machine came to.
 -- Without a sheet, and on one not yet reduced, it is refused, and the session stays.
 use Prim.Native.Nat.{ℕ}
 use mathlib.Core.Path.{_≡_, refl, ap, _∙_}
 use mathlib.Core.Bool.{So, false}
 use mathlib.Core.Option.{some}
-use Rattle.spec.specs.Machine.{State}
+use Rattle.spec.specs.Machine.{State, Kinds}
 use Rattle.spec.specs.Session.{no-sheet, read, reduced}
 use Rattle.spec.specs.Calls.{SearchAnswer, search-refused, searched-on, search-answer, after-search, Searches}
+use Rattle.moves.specs.StepKinds.{kinds-said}
 use Rattle.search.specs.declared.machine.Ran.{Ran}
 use Rattle.standing.specs.StandingCases.{standing-case}
 use Rattle.book_lines.specs.declared.counts.Counts.{Counts}
@@ -38,12 +39,15 @@ pub searches-unreduced : (s : CodeSession) → So (s .loaded) → s .reduced ≡
 unfolding search-answer after-search
 searches-unreduced s p f budget answer e = rw (view-read s p f) (record { answers = e; leaves = refl })
 
--- the answer for the steps of a run and some counts
-abbrev pub found-answer : ℕ → Counts → SearchAnswer
-found-answer steps counts =
+-- the answer for the steps of a run, their kinds and some counts
+abbrev pub found-answer : ℕ → Kinds → Counts → SearchAnswer
+found-answer steps kinds counts =
     record {
       number = 0;
       steps = steps;
+      placed = kinds .placed;
+      taken-back = kinds .taken-back;
+      closed = kinds .closed;
       roles = counts .roles;
       bound = counts .bound;
       standing = some (standing-case (counts .standing));
@@ -51,9 +55,20 @@ found-answer steps counts =
 
 module _ {s : CodeSession} {budget : ℕ} {ran : Ran} (on : RanIn s budget ran) where
   found-answers : {counts : Counts} → CountsIn (moved-to s (ran .position)) counts
-      → found-answer (ran .steps) counts ≡ search-answer (reduced (text-in s) (state-in s)) budget
+      → found-answer (ran .steps) (kinds-said (ran .kinds)) counts ≡ search-answer
+      (reduced (text-in s) (state-in s)) budget
   unfolding search-answer searched-on
-  found-answers c = rw (on .steps, c .roles, c .bound, c .standing, on .state)
+  found-answers c =
+      rw (
+        on .steps,
+        ap (λ (n : Kinds). n .placed) (on .kinds),
+        ap (λ (n : Kinds). n .taken-back) (on .kinds),
+        ap (λ (n : Kinds). n .closed) (on .kinds),
+        c .roles,
+        c .bound,
+        c .standing,
+        on .state,
+      )
 
   moved-leaves : reduced (text-in s) (state-in (moved-to s (ran .position))) ≡ after-search
       (reduced (text-in s) (state-in s)) budget
@@ -63,7 +78,8 @@ module _ {s : CodeSession} {budget : ℕ} {ran : Ran} (on : RanIn s budget ran) 
   -- with one that is reduced
   pub searches-held : So (s .reduced) → {counts : Counts} → CountsIn (moved-to s (ran .position)) counts
       → (answer : SearchAnswer)
-      → answer ≡ found-answer (ran .steps) counts → Searches (view s) budget answer (view (moved-to s (ran .position)))
+      → answer ≡ found-answer (ran .steps) (kinds-said (ran .kinds)) counts
+      → Searches (view s) budget answer (view (moved-to s (ran .position)))
   searches-held r c answer e =
       rw (view-reduced s (on .holds .accepts) r, view-reduced (moved-to s (ran .position)) (on .holds .accepts) r)
       (record { answers = e ∙ found-answers c; leaves = moved-leaves })

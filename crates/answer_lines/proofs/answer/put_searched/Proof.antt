@@ -17,18 +17,20 @@ use Rattle.answer_lines.proofs.answer.put_searched.Tie as tie
 abbrev line : tie.Start → Named → Bytes
 line s n =
     let a = s .args .answer in
-    answer-line (ascii "search" ∷ map decimal (a .number ∷ a .steps ∷ a .roles ∷ a .bound ∷ [])
+    answer-line (ascii "search"
+    ∷ map decimal
+    (a .number ∷ a .steps ∷ a .placed ∷ a .«taken_back» ∷ a .closed ∷ a .roles ∷ a .bound ∷ [])
     ++ state-word (state-said n) ∷ [])
 
 returns : tie.Need-returns
 returns c =
     let put = c .before .before in
     let told = put .before .before .before .before .before in
-    written-as (sym (ap (line (told .before .before .before .before)) (told .enum-told .given .1)))
+    written-as (sym (ap (line (told .before .before .before .before .before .before .before)) (told .enum-told .given .1)))
     (put .put-line .ensures)
 
 abbrev start : tie.After-named → tie.Start
-start c = c .before .before .before .before
+start c = c .before .before .before .before .before .before .before
 
 abbrev standing-line : tie.After-named → StandingValue → Bytes
 standing-line c s = line (start c) (named.State s)
@@ -60,7 +62,8 @@ returns-4 c =
 pub put-searched-spec : {M : Type 1} → statement M
 put-searched-spec =
     tie.close (tie.spec (λ c. search needs) (λ c. search needs) (λ c. search needs) (λ c. search needs)
-    (λ c. search needs) (λ c κs. search needs) (λ c. search needs) (λ c. search needs) (λ c. search needs)
+    (λ c. search needs) (λ c. search needs) (λ c. search needs) (λ c. search needs) (λ c κs. search needs)
+    (λ c. search needs) (λ c. search needs) (λ c. search needs)
     (λ c. search needs) (λ c. search needs) (λ c κs. search needs) (λ c. search needs) (λ c. search needs)
     (λ c. search needs) (λ c. search needs) (λ c κs. search needs) (λ c. search needs) (λ c. search needs)
     (λ c. search needs) (λ c. search needs) (λ c κs. search needs) (λ c. search needs) returns (λ c. search needs)

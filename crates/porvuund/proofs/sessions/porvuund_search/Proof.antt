@@ -11,6 +11,9 @@ returns c =
       searches-as (searched .0) (record {
         number = refl;
         steps = refl;
+        placed = refl;
+        taken-back = refl;
+        closed = refl;
         state = c .number-of .ensures;
         roles = refl;
         bound = refl;

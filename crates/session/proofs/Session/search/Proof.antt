@@ -60,8 +60,9 @@ counts-at-requires c κs = few-roles-held (ran (c .before) .holds)
 
 returns-2 : tie.Need-returns-2
 returns-2 c =
-    let counts = c .before .counts-at in
-    let after = c .before .before .before in
+    let at-counts = c .before .before in
+    let counts = at-counts .counts-at in
+    let after = at-counts .before .before in
     let on = ran after in (
       searches-held on (reduced (reduced-at after)) (counts-held (on .holds) (counts .result) (counts .ensures))
           (search-said (c .found .result)) (c .found .ensures),
