@@ -41,7 +41,7 @@ done
 paste -d '>' crates/play/stdin target/log/play.stdout | sed 's/^/play: /; s/>/ -> /'
 
 # rt ci leaves the programs
-for program in rolebook rolecheck play; do
+for program in rolebook rolesearch rolecheck play; do
     [ -x "target/bin/$program" ] || rt check "$program"
 done
 
@@ -69,6 +69,29 @@ front 1 11 book crates/play/data/wide.csv
 front 1 12 check examples/roosts.csv examples/roosts.csv
 front 2 '' book "$log/no such sheet"
 front 2 '' book examples/roosts.csv many
+front 0 "$(cat crates/rolesearch/stdout)" search crates/play/data/four.csv
+front 0 "$(cat crates/rolecheck/data/roosts.book)" search examples/roosts.csv 1
+front 1 7 search "$log/broken sheet" 3
+front 2 '' search "$log/no such sheet"
+front 2 '' search examples/roosts.csv 0
+front 2 '' search examples/roosts.csv 4294967296
+front 2 '' search examples/roosts.csv many
+front 2 '' search examples/roosts.csv 1 2
+# the line after each search: of four users one, with the depth gained; none for a refused sheet
+progress() { # LINES SHEET ROUNDS
+    local lines
+    lines=$(./porvuund search "$2" "$3" 2>&1 >/dev/null | sed -n 's/, [0-9]* steps a second$//p')
+    if [ "$lines" = "$1" ]; then
+        echo "porvuund search $2 $3, standard error: as expected"
+        tally 0 1 0
+    else
+        printf 'porvuund search %s %s, standard error: expected %s, got %s\n' "$2" "$3" "$1" "$lines"
+        tally 0 0 1
+    fi
+}
+progress '125 steps so far, depth gained 0, 4 roles, bound 4, searched' crates/play/data/four.csv 5
+progress '0 steps so far, depth gained 0, 5 roles, bound 5, witnessed' examples/roosts.csv 2
+progress '' "$log/broken sheet" 2
 front 0 'a reduction, a search or a book was asked for with no accepted sheet' explain 10
 front 0 'a search or a book was asked for on a sheet that is not yet reduced' explain 16
 front 2 '' explain 0

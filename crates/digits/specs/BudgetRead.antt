@@ -1,19 +1,20 @@
 -- A budget read up to one past the greatest: digits that say a budget are read as that number, and any other word as
--- no number, whatever its length is. Assumes nothing.
+-- no number, whatever its length is. The number of searches of the long search is read through it. Assumes nothing.
 use Prim.Native.Nat.{ℕ, suc, _≤_, _<_}
 use native.Mathlib.Omega.{arith}
 use mathlib.Core.Path.{_≡_, refl, ap}
 use mathlib.Core.Logic.{⊎-elim}
-use mathlib.Core.Bool.{Bool, true, false, _&&_, cond}
+use mathlib.Core.Bool.{Bool, true, false, _&&_, not, cond}
 use mathlib.Core.List.{[], _∷_}
-use borrow.Author.Tests.{le-leb, lt-leb, lt-ltb, le-ltb}
-use lib.Dec.{leb, ltb}
+use borrow.Author.Tests.{le-leb, lt-leb, lt-ltb, le-ltb, eq-eqb, ne-eqb}
+use lib.Dec.{eqb, leb, ltb}
 use lib.ListN.{length}
 use Rattle.spec.specs.Vocabulary.{all}
-use Rattle.spec.specs.Limits.{budget-limit}
+use Rattle.spec.specs.Limits.{budget-limit, usual-rounds}
 use Rattle.spec.specs.Text.{Bytes}
 use Rattle.spec.specs.Decimal.{is-digit, number-of}
 use Rattle.spec.specs.Program.{is-budget, budget-of}
+use Rattle.spec.specs.LongSearch.{is-rounds, rounds-of}
 use Rattle.bits.specs.Laws.Below.{below-or-from}
 use Rattle.digits.specs.Capped.{up-to, digits-read}
 use Rattle.digits.specs.declared.digits.CountRead.{CountRead}
@@ -72,3 +73,24 @@ budget-is-said word = choose (is-budget word)
     choose : (t : Bool) → budget-said (cond t (Number (number-of word)) NoNumber) ≡ cond t (number-of word) 0
     choose true = refl
     choose false = refl
+
+-- ---- the number of searches
+
+-- a word that gives no budget, or 0, gives the usual number
+pub usual-where-none : (word : Bytes) → budget-of (word ∷ []) ≡ 0 → usual-rounds ≡ rounds-of (word ∷ [])
+unfolding budget-of rounds-of is-rounds
+usual-where-none word = choose (is-budget word) (number-of word)
+  where
+    choose : (t : Bool) (n : ℕ) → cond t n 0 ≡ 0 → usual-rounds ≡ cond (t && not (eqb n 0)) n usual-rounds
+    choose true n z = rw (eq-eqb n 0 z)
+    choose false n z = refl
+
+-- and any other its budget
+pub rounds-are-the-budget : (word : Bytes) → (budget-of (word ∷ []) ≡ 0 → ⊥) → budget-of (word ∷ []) ≡ rounds-of
+    (word ∷ [])
+unfolding budget-of rounds-of is-rounds
+rounds-are-the-budget word = choose (is-budget word) (number-of word)
+  where
+    choose : (t : Bool) (n : ℕ) → (cond t n 0 ≡ 0 → ⊥) → cond t n 0 ≡ cond (t && not (eqb n 0)) n usual-rounds
+    choose true n some = rw (ne-eqb n 0 some)
+    choose false n some = absurd (some refl)

@@ -1,9 +1,10 @@
-// The budget of a search, given as a word.
+// The budget of a search, and the number of searches of the long search, each given as a word.
 use crate::digits::CountRead;
 use crate::digits::digits_of;
 ghost use mathlib.Core.Path.{_≡_};
 ghost use mathlib.Core.List.{[], _∷_};
 ghost use Rattle.spec.specs.Program.{budget-of};
+ghost use Rattle.spec.specs.LongSearch.{rounds-of};
 ghost use Rattle.digits.specs.BudgetRead.{budget-read};
 
 // One more than the greatest budget.
@@ -40,4 +41,15 @@ pub fn budget_of(word: &[u8]) -> u32
         BudgetRead::Number(n) => n,
         BudgetRead::NoNumber => 0,
     }
+}
+
+// The searches that the long search makes where no number of them is given.
+const USUAL_ROUNDS: u32 = 3_600;
+
+// The number of searches that a word gives: the usual one where it is 0 or no number of that range.
+pub fn rounds_of(word: &[u8]) -> u32
+    ensures { λ r. ⌜ r ≡ rounds-of (now (word .entry) ∷ []) ⌝ }
+{
+    let n = budget_of(word);
+    if n == 0 { USUAL_ROUNDS } else { n }
 }

@@ -1,3 +1,4 @@
 -- The laws behind what contracts cite.
 pub mod Output
 pub mod Printed
+pub mod LongPrinted

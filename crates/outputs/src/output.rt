@@ -1,12 +1,17 @@
-// What the book program and the check program print.
+// What the book program and the check program print, and the long search of its session.
 use crate::lines::put_number_line;
 use crate::lines::put_pair_line;
 use digits::budget_of;
+use numbers::BOOK_LIMIT;
 use porvuund::porvuund_book;
 use porvuund::porvuund_check;
+use session::Session;
 ghost use mathlib.Core.List.{[], _∷_};
-ghost use Rattle.spec.specs.Program.{program-output};
+ghost use lib.ListN.{replicate};
+ghost use Rattle.spec.specs.Limits.{book-limit};
+ghost use Rattle.spec.specs.Program.{printed, program-output};
 ghost use Rattle.text.specs.Written.{Written};
+ghost use Rattle.session.specs.CodeSession.{view, Sound};
 ghost use Rattle.outputs.specs.CheckOutput.{check-output};
 
 // The bytes of the book program's buffer. A session's book can be longer, and then the program prints 11.
@@ -24,6 +29,20 @@ pub fn book_output<'a>(sheet: &'a [u8], word: &'a [u8], out: &mut [u8; PROGRAM_B
         return answer.count;
     }
     put_number_line(out, answer.number)
+}
+
+// Puts what the long search prints of its session at the front of a buffer that takes every book: the book, or the number
+// of the refusal and a line feed.
+pub fn session_output(session: Session, out: &mut [u8; BOOK_LIMIT]) -> usize
+    requires { ⌜ Sound session ⌝ }
+    ensures { λ r. ⌜ Written (printed (view session) (replicate book-limit 0)) (now (out .entry)) (now (out .exit))
+        r ⌝ }
+{
+    let written = session.write(out);
+    if written.number == 0 {
+        return written.count;
+    }
+    put_number_line(out, written.number)
 }
 
 // The bytes of a line of two numbers, at most.

@@ -1,5 +1,6 @@
--- What the book program prints, by what the call for a book answers: the book that the call left at the front of the
--- buffer, or the number. The program's own buffer is one of zeros; only its length matters. Assumes nothing.
+-- What a program prints of a session, by what a writing answers: the book that was left at the front of the buffer, or
+-- the number; and so what the book program prints, by what the call for a book answers. In the definitions a program's own
+-- buffer is one of zeros; only its length matters. Assumes nothing.
 use Prim.Native.Nat.{ℕ}
 use mathlib.Core.Path.{_≡_, refl, sym, ap, _∙_}
 use mathlib.Core.Bool.{Bool, true, false, cond}
@@ -55,7 +56,7 @@ untouched session buffer refuses =
 
 -- ---- what is printed of a writing
 
-printed-book : (session : Session) (buffer : Bytes) → write-answer session buffer .number ≡ 0 → printed session buffer
+pub printed-book : (session : Session) (buffer : Bytes) → write-answer session buffer .number ≡ 0 → printed session buffer
     ≡ session-book session
 unfolding printed
 printed-book session buffer z =
@@ -70,6 +71,38 @@ printed-number : (session : Session) (buffer : Bytes) → write-answer session b
 unfolding printed
 printed-number session buffer refuses = rw (ne-eqb (write-answer session buffer .number) 0 refuses)
 
+-- ---- what is printed from a buffer of zeros is what a lent buffer of that length has
+
+module _ (session : Session) (size : ℕ) (buffer : Bytes) (room : length buffer ≡ size) {answer : WriteAnswer}
+    {lent : Bytes} (answers : answer ≡ write-answer session buffer) (fills : lent ≡ buffer-after session buffer) where
+  abbrev zeros-of : Bytes
+  zeros-of = replicate size 0
+
+  -- a buffer of zeros is answered alike
+  own-answer : write-answer session zeros-of ≡ write-answer session buffer
+  own-answer = same-answer session zeros-of buffer (length-replicate size 0 ∙ sym room)
+
+  number-is : answer .number ≡ write-answer session buffer .number
+  number-is = ap (λ (a : WriteAnswer). a .number) answers
+
+  -- the book is at the front of the buffer
+  pub session-written : answer .number ≡ 0 → Written (printed session zeros-of) buffer lent (answer .count)
+  session-written z =
+      let here : write-answer session buffer .number ≡ 0 = sym number-is ∙ z in
+      let own : printed session zeros-of ≡ session-book session =
+      printed-book session zeros-of (ap (λ (a : WriteAnswer). a .number) own-answer ∙ here) in
+      rw (answers, fills, own) (whole-book session buffer here)
+
+  -- the number is printed, and the buffer is as it was
+  pub session-refused : answer .number ≢ 0
+      → (printed session zeros-of ≡ number-line (answer .number)) × (lent ≡ buffer)
+  session-refused refuses =
+      let own : write-answer session zeros-of .number ≡ answer .number =
+      ap (λ (a : WriteAnswer). a .number) own-answer ∙ sym number-is in (
+        printed-number session zeros-of (λ z. refuses (sym own ∙ z)) ∙ ap number-line own,
+        fills ∙ untouched session buffer (λ z. refuses (number-is ∙ z)),
+      )
+
 -- ---- what the program prints
 
 module _ (text word buffer : Bytes) (room : length buffer ≡ program-buffer) where
@@ -82,10 +115,6 @@ module _ (text word buffer : Bytes) (room : length buffer ≡ program-buffer) wh
   abbrev zeros : Bytes
   zeros = replicate program-buffer 0
 
-  -- the program's own buffer is answered alike
-  own-answer : write-answer session zeros ≡ write-answer session buffer
-  own-answer = same-answer session zeros buffer (length-replicate program-buffer 0 ∙ sym room)
-
   -- the book is at the front of the buffer
   pub output-written : {answer : WriteAnswer} {lent : Bytes} → Books text (budget-of (word ∷ [])) buffer answer lent
       → answer .number ≡ 0
@@ -97,11 +126,7 @@ module _ (text word buffer : Bytes) (room : length buffer ≡ program-buffer) wh
           (write-refused (refusal text))
           → lent ≡ cond t (buffer-after session buffer) buffer
           → Written (cond t (printed session zeros) (number-line (refusal text))) buffer lent (answer .count)
-      choose true e p q =
-          let z' : write-answer session buffer .number ≡ 0 = sym (ap (λ (a : WriteAnswer). a .number) p) ∙ z in
-          let own : printed session zeros ≡ session-book session = printed-book session zeros
-          (ap (λ (a : WriteAnswer). a .number) own-answer ∙ z') in
-          rw (p, q, own) (whole-book session buffer z')
+      choose true e p q = session-written session program-buffer buffer room p q z
       choose false e p q = absurd (not-both (eq-eqb (refusal text) 0 (sym (ap (λ (a : WriteAnswer). a .number) p)
           ∙ z)) e)
 
@@ -116,11 +141,5 @@ module _ (text word buffer : Bytes) (room : length buffer ≡ program-buffer) wh
           → lent ≡ cond t (buffer-after session buffer) buffer
           → (cond t (printed session zeros) (number-line (refusal text)) ≡ number-line (answer .number))
           × (lent ≡ buffer)
-      choose true p q =
-          let number : answer .number ≡ write-answer session buffer .number = ap (λ (a : WriteAnswer). a .number) p in
-          let own : write-answer session zeros .number ≡ answer .number = ap (λ (a : WriteAnswer). a .number)
-          own-answer ∙ sym number in (
-            printed-number session zeros (λ z. refuses (sym own ∙ z)) ∙ ap number-line own,
-            q ∙ untouched session buffer (λ z. refuses (number ∙ z)),
-          )
+      choose true p q = session-refused session program-buffer buffer room p q refuses
       choose false p q = (ap number-line (sym (ap (λ (a : WriteAnswer). a .number) p)), q)

@@ -1,0 +1,2 @@
+-- The laws behind what contracts cite.
+pub mod Line

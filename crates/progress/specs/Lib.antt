@@ -1,0 +1,3 @@
+-- The line that the long search writes after each search.
+pub mod Parts
+pub mod Laws

@@ -1,0 +1,3 @@
+-- The laws behind what contracts cite.
+pub mod GoingOn
+pub mod LongOutput

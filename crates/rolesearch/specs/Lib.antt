@@ -1,0 +1,3 @@
+-- The searches of the long search.
+pub mod Rounds
+pub mod Laws
