@@ -2,6 +2,7 @@
 //! bit says whether a grant can join; what that was before a grant joined is kept until it is taken back.
 
 use second::limits::{PERMISSIONS, SEARCHED_KERNEL, USERS};
+use second::machine::Steps;
 
 use crate::cover::Placement;
 use crate::kernel::Kernel;
@@ -98,14 +99,15 @@ impl Machine {
         }
     }
 
-    /// Makes at most so many steps, and gives their number.
-    pub fn run(&mut self, size: usize, best: &mut Placement, budget: u32) -> u32 {
+    /// Makes at most so many steps, and counts what they were.
+    pub fn run(&mut self, size: usize, best: &mut Placement, budget: u32) -> Steps {
         if size > SEARCHED_KERNEL || self.finished {
-            return 0;
+            return Steps::default();
         }
         let mut cursor = self.cursor;
         let mut count = best.count;
         let mut steps = 0;
+        let mut closed = 0;
         while steps < budget {
             steps += 1;
             if let Some(class) = self.class_for(cursor, size, count) {
@@ -120,14 +122,16 @@ impl Machine {
                 }
             } else if cursor.depth == 0 {
                 self.finished = true;
+                closed = 1;
                 break;
             } else {
                 cursor = self.take_back(cursor);
             }
         }
+        let counted = counted(steps, closed, self.cursor.depth, cursor.depth);
         self.cursor = cursor;
         best.count = count;
-        steps
+        counted
     }
 
     /// The lowest class left to try that the next grant can join and that stays below the best.
@@ -166,6 +170,14 @@ impl Machine {
         self.barred[class] = self.former[depth];
         Cursor { depth, next_try: class + 1, used: cursor.used - usize::from(self.opened[depth]) }
     }
+}
+
+/// What so many steps were, found from the depths before and after them, so that no step has to count: those that
+/// placed a grant and those that took one back are all but the closing one, and they differ by the depth gained.
+fn counted(made: u32, closed: u32, depth_before: usize, depth_after: usize) -> Steps {
+    let moves = u64::from(made - closed);
+    let placed = ((moves + depth_after as u64 - depth_before as u64) / 2) as u32;
+    Steps { made, placed, taken_back: made - closed - placed, closed }
 }
 
 #[inline(always)]

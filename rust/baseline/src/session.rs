@@ -2,6 +2,7 @@
 
 use second::checker::CheckAnswer;
 use second::implementation::Implementation;
+use second::machine::Steps;
 use second::refusal::Refusal;
 use second::roles::State;
 use second::session::{LoadAnswer, ReduceAnswer, SearchAnswer};
@@ -78,9 +79,10 @@ impl Implementation for Session {
 
     fn search(&mut self, budget: u32) -> Result<SearchAnswer, Refusal> {
         let room = self.reduced()?;
-        let steps = room.machine.run(room.kernel.count, &mut room.best, budget);
+        let Steps { made, placed, taken_back, closed } =
+            room.machine.run(room.kernel.count, &mut room.best, budget);
         let Counts { roles, bound, state } = room.counts();
-        Ok(SearchAnswer { steps, roles, bound, state })
+        Ok(SearchAnswer { steps: made, placed, taken_back, closed, roles, bound, state })
     }
 
     fn write(&mut self, buffer: &mut [u8]) -> Result<usize, Refusal> {

@@ -1,8 +1,9 @@
 //! The baseline held to the second implementation: it would measure nothing if it did something else.
 
 use baseline::session::Session;
-use trials::agreement::{self, reducing};
-use trials::families::{any, any_wide};
+use trials::agreement::{self, reducing, steps};
+use trials::families::{any, any_wide, behind};
+use trials::searches::unfinished;
 
 #[test]
 fn books_of_small_sheets() {
@@ -102,6 +103,31 @@ fn corrected_sheets() {
 #[test]
 fn budgets_before_the_reduction() {
     reducing::budgets_before_the_reduction_agree::<Session>();
+}
+
+#[test]
+fn single_steps() {
+    steps::single_steps_agree::<Session>(500, unfinished);
+}
+
+#[test]
+fn searches_in_parts() {
+    steps::parts_agree::<Session>(1_000, unfinished);
+}
+
+#[test]
+fn searches_in_parts_of_wide_sheets() {
+    steps::parts_agree::<Session>(300, |random| behind(60, &unfinished(random)));
+}
+
+#[test]
+fn last_steps() {
+    steps::last_steps_agree::<Session>(500, unfinished);
+}
+
+#[test]
+fn worked_out_searches() {
+    steps::worked_out_searches_agree::<Session>();
 }
 
 #[test]

@@ -52,6 +52,9 @@ struct Reduced {
 struct SearchNumbers {
     number: usize,
     steps: u32,
+    placed: u32,
+    taken_back: u32,
+    closed: u32,
     /// 1 witnessed, 2 searched, 3 open; 0 with a refusal.
     state: u32,
     roles: usize,
@@ -107,8 +110,9 @@ unsafe extern "C" {
     ) -> WriteNumbers;
 }
 
-/// What a call hands back: a session, alone or with an answer behind it.
-#[repr(C)]
+/// What a call hands back: a session, alone or with an answer behind it. It stands on a boundary of 128 bytes: how fast
+/// one place is copied to another would else depend on the few bytes by which an answer is longer or shorter.
+#[repr(C, align(128))]
 #[derive(Clone, Copy)]
 union Handed {
     session: Session,
@@ -173,14 +177,18 @@ impl Implementation for Library {
             swap(&mut self.at, &mut self.other);
             self.at.assume_init_ref().searched.answer
         };
-        let SearchNumbers { number, steps, state, roles, bound } = answer;
-        let found = |state| SearchAnswer { steps, roles, bound, state };
+        let SearchNumbers { number, steps, placed, taken_back, closed, state, roles, bound } = answer;
+        let found = |state| SearchAnswer { steps, placed, taken_back, closed, roles, bound, state };
         match state.checked_sub(1).map(|index| State::ALL[index as usize]) {
             Some(state) => {
                 assert_eq!(number, 0, "a refused search names a state");
                 Ok(found(state))
             }
-            None => result(number, &[steps as usize, roles, bound], found(State::Open)),
+            None => {
+                assert_ne!(number, 0, "an accepted search names no state");
+                let steps = [steps, placed, taken_back, closed].map(|count| count as usize);
+                result(number, &[&steps[..], &[roles, bound]].concat(), found(State::Open))
+            }
         }
     }
 

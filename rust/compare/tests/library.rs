@@ -4,12 +4,13 @@ use compare::library::{Library, book, with_room, wrong_size};
 use second::refusal::Refusal;
 use second::script::lent_buffer;
 use second::session;
-use trials::agreement::{self, reducing};
+use trials::agreement::{self, reducing, steps};
 use trials::cases::cases;
 use trials::damage;
 use trials::extremes;
-use trials::families::{any, any_wide};
+use trials::families::{any, any_wide, behind};
 use trials::paper;
+use trials::searches::unfinished;
 use trials::spelling;
 use trials::tally::Tally;
 
@@ -116,6 +117,31 @@ fn corrected_sheets() {
 #[test]
 fn budgets_before_the_reduction() {
     with_room(reducing::budgets_before_the_reduction_agree::<Library>);
+}
+
+#[test]
+fn single_steps() {
+    with_room(|| steps::single_steps_agree::<Library>(200, unfinished));
+}
+
+#[test]
+fn searches_in_parts() {
+    with_room(|| steps::parts_agree::<Library>(500, unfinished));
+}
+
+#[test]
+fn searches_in_parts_of_wide_sheets() {
+    with_room(|| steps::parts_agree::<Library>(200, |random| behind(60, &unfinished(random))));
+}
+
+#[test]
+fn last_steps() {
+    with_room(|| steps::last_steps_agree::<Library>(300, unfinished));
+}
+
+#[test]
+fn worked_out_searches() {
+    with_room(steps::worked_out_searches_agree::<Library>);
 }
 
 #[test]

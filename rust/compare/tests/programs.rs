@@ -2,18 +2,24 @@
 
 use std::path::{Path, PathBuf};
 
-use compare::programs::printed;
-use programs::{book_output, check_output};
+use baseline::session::Session as FastSession;
+use compare::programs::{both, printed};
+use programs::{book_output, check_output, search_output};
+use second::implementation::Implementation;
+use second::roles::State;
 use second::script::{Call, answer_line};
-use second::session::Session;
+use second::session::{SearchAnswer, Session};
 use trials::calls::{script, sequence};
 use trials::cases::cases;
 use trials::damage;
 use trials::draft::Draft;
 use trials::extremes;
 use trials::families;
+use trials::kernels::with_kernel;
 use trials::paper;
 use trials::random::Random;
+use trials::rounds::lines_without_rates;
+use trials::searches;
 use trials::sessions::first_book;
 use trials::spelling;
 
@@ -321,4 +327,142 @@ fn play_program_passes_over_lines_that_are_no_call() {
         }
         assert_eq!(printed("play", &[], mixed.as_bytes()), expected, "{mixed}");
     });
+}
+
+/// What the search program says of its rounds, without their rates, and what it prints.
+fn searched(arguments: &[&str], sheet: &[u8]) -> (Vec<String>, String) {
+    let (said, printed) = both("rolesearch", arguments, sheet);
+    (lines_without_rates(&said), printed)
+}
+
+/// What the second search program says and prints, with the sessions of this implementation.
+fn expected_search<Kind: Implementation>(sheet: &[u8], rounds: u32) -> (Vec<String>, String) {
+    let mut said = String::new();
+    let output = search_output::<Kind>(sheet, rounds, |line| said += &(line + "\n"));
+    (lines_without_rates(&said), String::from_utf8(output).expect("a book is plain text"))
+}
+
+/// The search program says and prints what the second one does, and says so many lines.
+fn assert_searched(sheet: &[u8], rounds: u32, lines: usize) {
+    let found = searched(&[&rounds.to_string()], sheet);
+    assert_eq!(found, expected_search::<Session>(sheet, rounds));
+    assert_eq!(found.0.len(), lines, "{}", String::from_utf8_lossy(sheet));
+}
+
+/// The search of every sheet here is known, and ends in the first round.
+#[test]
+fn search_program_searches_known_sheets_to_the_end() {
+    let mut drafts = vec![Draft::plain(1, 1, |_, _| false), extremes::full(2, 3), families::staircase(4)];
+    let closed = |(draft, answer): (Draft, SearchAnswer)| (answer.state != State::Open).then_some(draft);
+    drafts.extend(searches::worked_out().into_iter().filter_map(closed));
+    for sheet in drafts.iter().map(Draft::bytes) {
+        let expected = expected_search::<Session>(&sheet, 1);
+        for arguments in [&[][..], &["1"], &["2"], &["4294967295"], &["x"]] {
+            assert_eq!(searched(arguments, &sheet), expected, "{arguments:?}");
+        }
+    }
+    let (lines, _) = searched(&[], &families::crown(4).bytes());
+    assert_eq!(lines, ["125 steps so far, depth gained 0, 4 roles, bound 4, searched"]);
+    let (lines, _) = searched(&[], &searches::improved().bytes());
+    assert_eq!(lines, ["45 steps so far, depth gained 0, 5 roles, bound 5, searched"]);
+}
+
+/// Small sheets, of which the search ends in the first round, with names of any kind, and damaged ones.
+#[test]
+fn search_program_says_and_prints_the_same() {
+    cases(40, |random| {
+        for draft in [searches::unfinished(random), families::any(random, 6), families::any_wide(random, 6)] {
+            let sheet = draft.renamed(random).bytes();
+            assert_searched(&sheet, 2, 1);
+            let damaged = damage::bytes(random, &sheet);
+            assert_eq!(searched(&["2"], &damaged), expected_search::<Session>(&damaged, 2));
+        }
+    });
+}
+
+#[test]
+fn search_program_prints_the_same_refusals_and_says_nothing() {
+    let mut random = Random::from_seed(7);
+    for sheet in [
+        Vec::new(),
+        b"user,p\nu,2\n".to_vec(),
+        b"user,p,P\nu,1,0\n".to_vec(),
+        extremes::full(1, paper::PERMISSIONS + 1).bytes(),
+        extremes::full(paper::USERS + 1, 1).bytes(),
+        extremes::with_grants(&mut random, paper::USERS, 64, paper::GRANTS + 1).bytes(),
+        extremes::filled(&mut random, 251, 128, paper::SHEET_BYTES + 1).bytes(),
+        extremes::of_bytes(paper::SHEET_BYTES),
+        extremes::of_bytes(paper::SHEET_BYTES + 1),
+        extremes::of_bytes(10 * paper::SHEET_BYTES),
+    ] {
+        assert_searched(&sheet, 3, 0);
+        assert_eq!(searched(&[], &sheet), expected_search::<Session>(&sheet, 1));
+    }
+}
+
+/// No search makes a step there, so every round is made and says so.
+#[test]
+fn search_program_makes_every_round_with_a_kernel_above_128() {
+    let mut random = Random::from_seed(1);
+    let open = |draft: Draft| searches::is_open(&draft).then_some(draft);
+    let draft = random.until_found(|random| open(with_kernel(random, 129)));
+    for draft in [&draft, &families::behind(55, &draft), &families::crown(12), &families::crown(45)] {
+        assert_searched(&draft.bytes(), 3, 3);
+    }
+}
+
+/// 3,600 rounds where the argument is no number of the range. The kernel has 132 grants, so every round is made.
+#[test]
+fn search_program_reads_its_rounds() {
+    let sheet = families::crown(12).bytes();
+    for (rounds, arguments) in
+        [(1, &["1", "01"][..]), (3, &["3", "003", "000000000000000000003"]), (3_601, &["3601"])]
+    {
+        let expected = expected_search::<Session>(&sheet, rounds);
+        for argument in arguments {
+            assert!(searched(&[argument], &sheet) == expected, "{argument}");
+        }
+    }
+    let expected = expected_search::<Session>(&sheet, 3_600);
+    assert_eq!(expected.0.len(), 3_600);
+    assert!(searched(&[], &sheet) == expected);
+    for argument in ["", "0", "000", "x", "+3", "-3", " 3", "3 ", "3.0", "0x3", "4294967296"] {
+        assert!(searched(&[argument], &sheet) == expected, "{argument}");
+    }
+    assert!(searched(&["99999999999999999999"], &sheet) == expected);
+}
+
+/// Its buffer has room for books that are longer than the book program's.
+#[test]
+fn search_program_prints_long_books() {
+    for (draft, bytes) in [
+        (extremes::with_book_bytes(paper::PROGRAM_BUFFER_BYTES), 65_536),
+        (extremes::with_book_bytes(paper::PROGRAM_BUFFER_BYTES + 1), 65_537),
+        (extremes::with_longest_book(), 103_780),
+    ] {
+        let found = searched(&["2"], &draft.bytes());
+        assert_eq!((found.0.len(), found.1.len()), (1, bytes));
+        assert!(found == expected_search::<Session>(&draft.bytes(), 2));
+    }
+    let sheet = extremes::with_long_book(&mut Random::from_seed(1)).bytes();
+    assert!(searched(&["2"], &sheet) == expected_search::<Session>(&sheet, 2));
+}
+
+/// Two rounds of a search in which the baseline is fast enough, the second of which falls below its start.
+fn assert_two_rounds(draft: &Draft, rounds: u32, second: &str) {
+    let found = searched(&[&rounds.to_string()], &draft.bytes());
+    assert_eq!(found, expected_search::<FastSession>(&draft.bytes(), rounds));
+    assert_eq!((found.0.len(), found.0[1].as_str()), (2, second));
+}
+
+#[test]
+fn search_program_goes_on_where_the_round_before_ended() {
+    let second = "200000000 steps so far, depth gained -8, 6 roles, bound 3, open";
+    assert_two_rounds(&families::crown(8), 2, second);
+}
+
+#[test]
+fn search_program_stops_with_the_round_that_closes() {
+    let second = "102899783 steps so far, depth gained -22, 5 roles, bound 5, searched";
+    assert_two_rounds(&searches::long(), 3_600, second);
 }

@@ -1,11 +1,14 @@
-//! What the small programs share: numbers in arguments and scripts, and the bytes that the book program and
-//! the check program print.
+//! What the small programs share: numbers in arguments and scripts, and what the book program, the check program and
+//! the search program print.
 
 use std::str::FromStr;
+use std::time::{Duration, Instant};
 
 use second::checker::check;
+use second::implementation::Implementation;
 use second::limits::PROGRAM_BUFFER_BYTES;
 use second::refusal::Refusal;
+use second::rounds::{DEFAULT_ROUNDS, Rounds};
 use second::session::book;
 
 /// The number that decimal digits say, if it is in range.
@@ -17,6 +20,11 @@ pub fn number<Number: FromStr>(text: &str) -> Option<Number> {
 /// The budget that an argument says, 0 if it says none.
 pub fn budget(argument: Option<&str>) -> u32 {
     argument.and_then(number).unwrap_or(0)
+}
+
+/// The rounds that an argument says, 3,600 if it says none or says 0.
+pub fn rounds(argument: Option<&str>) -> u32 {
+    argument.and_then(number).filter(|rounds| *rounds > 0).unwrap_or(DEFAULT_ROUNDS)
 }
 
 /// The book of the sheet after one search, written into the program's buffer, or the number of the refusal and a
@@ -38,6 +46,32 @@ pub fn check_output(sheet: &[u8], book: &[u8]) -> Vec<u8> {
         Ok(answer) => format!("{},{}\n", answer.roles, answer.witness_lines).into_bytes(),
         Err(refusal) => number_line(refusal),
     }
+}
+
+/// The book of the sheet after so many rounds, or the number of the refusal and a line feed. Each round's line is said
+/// when it is made.
+pub fn search_output<Kind: Implementation>(sheet: &[u8], rounds: u32, say: impl FnMut(String)) -> Vec<u8> {
+    book_after_rounds::<Kind>(sheet, rounds, say).unwrap_or_else(number_line)
+}
+
+fn book_after_rounds<Kind: Implementation>(
+    sheet: &[u8],
+    rounds: u32,
+    mut say: impl FnMut(String),
+) -> Result<Vec<u8>, Refusal> {
+    let mut rounds = Rounds::<Kind>::start(sheet, rounds)?;
+    let mut start = Instant::now();
+    for round in rounds.by_ref() {
+        say(round.line(rate(round.answer.steps, start.elapsed())));
+        start = Instant::now();
+    }
+    rounds.book()
+}
+
+/// Whole steps a second.
+fn rate(steps: u32, time: Duration) -> u64 {
+    let nanoseconds = time.as_nanos().max(1);
+    (u128::from(steps) * Duration::from_secs(1).as_nanos() / nanoseconds) as u64
 }
 
 fn number_line(refusal: Refusal) -> Vec<u8> {

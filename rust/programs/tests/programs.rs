@@ -1,8 +1,7 @@
-//! The three programs as they are called.
+//! The book program, the check program and the play program as they are called.
 
-use std::io::Write;
-use std::path::PathBuf;
-use std::process::{Command, Output, Stdio};
+use std::path::{Path, PathBuf};
+use std::process::Output;
 
 use second::script::answer_line;
 use second::session::Session;
@@ -10,6 +9,7 @@ use trials::calls::{script, sequence};
 use trials::cases::cases;
 use trials::draft::Draft;
 use trials::extremes;
+use trials::process;
 use trials::random::Random;
 
 const EXAMPLE: &str = "user,rec,id,map\nann,1,1,0\nbo,0,1,1\ncy,1,1,1\n";
@@ -21,17 +21,7 @@ const EXAMPLE_BOOK: &str = "roles,bound,state\n2,2,witnessed\n\nrole,rec,id,map\
 const FOUR_USERS: &str = "user,a,b,c,d\ns,0,1,1,1\nt,1,0,1,1\nu,1,1,0,1\nv,1,1,1,0\n";
 
 fn run(program: &str, arguments: &[&str], input: &[u8]) -> Output {
-    let mut child = Command::new(program)
-        .args(arguments)
-        .stdin(Stdio::piped())
-        .stdout(Stdio::piped())
-        .stderr(Stdio::piped())
-        .spawn()
-        .expect("the program starts");
-    let mut stdin = child.stdin.take().expect("standard input is piped");
-    stdin.write_all(input).expect("the program reads its input");
-    drop(stdin);
-    child.wait_with_output().expect("the program ends")
+    process::run(Path::new(program), arguments, input)
 }
 
 fn printed(output: Output) -> String {
@@ -164,11 +154,11 @@ fn play_program_answers_each_call_with_a_line() {
          search 100\nload {book}\nreduce\nsearch 4294967295\nload {example}\nwrite 0\nwrite 133\nreduce\nreduce\n\
          search 0\nwrite 0\nwrite 132\nwrite 133\nwrite 200\ncheck {example} {book}\ncheck {four} {book}\n"
     );
-    let expected = "reduce 10 0 0\nsearch 10 0 0 0 -\nwrite 10 0 02da015a\nload 3 0 0 0\nreduce 10 0 0\nload 0 4 4 12\n\
-        search 16 0 0 0 -\nwrite 16 0 02da015a\nload 3 0 0 0\nreduce 0 12 3\n\
-        search 0 100 4 3 open\nload 3 0 0 0\nreduce 0 12 3\nsearch 0 25 4 4 searched\nload 0 3 3 7\n\
+    let expected = "reduce 10 0 0\nsearch 10 0 0 0 0 0 0 -\nwrite 10 0 02da015a\nload 3 0 0 0\nreduce 10 0 0\n\
+        load 0 4 4 12\nsearch 16 0 0 0 0 0 0 -\nwrite 16 0 02da015a\nload 3 0 0 0\nreduce 0 12 3\n\
+        search 0 100 53 47 0 4 3 open\nload 3 0 0 0\nreduce 0 12 3\nsearch 0 25 9 15 1 4 4 searched\nload 0 3 3 7\n\
         write 16 0 00000001\nwrite 16 0 5c19429a\nreduce 0 0 2\nreduce 0 0 2\n\
-        search 0 0 2 2 witnessed\nwrite 11 0 00000001\nwrite 11 0 197f4297\nwrite 0 133 aade27d3\n\
+        search 0 0 0 0 0 2 2 witnessed\nwrite 11 0 00000001\nwrite 11 0 197f4297\nwrite 0 133 aade27d3\n\
         write 0 133 77404876\ncheck 0 2 2\ncheck 12 0 0\n";
     assert_eq!(printed(run(env!("CARGO_BIN_EXE_second-play"), &[], script.as_bytes())), expected);
 }

@@ -27,5 +27,8 @@ pub const BOOK_BYTES: usize = 131_072;
 /// Bytes of the buffer that the book program lends; a longer book is refused.
 pub const PROGRAM_BUFFER_BYTES: usize = 65_536;
 
+/// Bytes of the buffer that the search program lends; no book of a session is longer.
+pub const SEARCH_BUFFER_BYTES: usize = 131_072;
+
 /// Bytes of a buffer that a script of calls may lend.
 pub const SCRIPT_BUFFER_BYTES: usize = 262_144;

@@ -21,6 +21,37 @@ impl Task<'_> {
     }
 }
 
+/// What a step was.
+#[derive(Clone, Copy, Debug, PartialEq, Eq, PartialOrd, Ord, Hash)]
+pub enum StepKind {
+    /// It placed a grant. That is also said of the last grant, even where its placement finishes the machine.
+    Placed,
+    /// It took the last placed grant back.
+    TookBack,
+    /// It closed the search, with no grant left to take back.
+    Closed,
+}
+
+/// How many steps were made, and how many of each kind.
+#[derive(Clone, Copy, Debug, Default, PartialEq, Eq)]
+pub struct Steps {
+    pub made: u32,
+    pub placed: u32,
+    pub taken_back: u32,
+    pub closed: u32,
+}
+
+impl Steps {
+    fn count(&mut self, kind: StepKind) {
+        self.made += 1;
+        match kind {
+            StepKind::Placed => self.placed += 1,
+            StepKind::TookBack => self.taken_back += 1,
+            StepKind::Closed => self.closed += 1,
+        }
+    }
+}
+
 /// The state of the machine. Its depth is the number of grants placed.
 #[derive(Clone, Debug, PartialEq, Eq)]
 pub struct Machine {
@@ -60,21 +91,21 @@ impl Machine {
     }
 
     /// Makes as many steps as the budget allows or as are left, and none on a kernel too large to search.
-    /// Gives their number.
-    pub fn run(&mut self, task: &Task<'_>, budget: u32) -> u32 {
+    /// Counts what they were.
+    pub fn run(&mut self, task: &Task<'_>, budget: u32) -> Steps {
+        let mut steps = Steps::default();
         if task.kernel.len() > limits::SEARCHED_KERNEL {
-            return 0;
+            return steps;
         }
-        let mut steps = 0;
-        while steps < budget && !self.finished {
-            self.step(task);
-            steps += 1;
+        while steps.made < budget && !self.finished {
+            steps.count(self.step(task));
         }
         steps
     }
 
-    /// One step of an unfinished machine.
-    fn step(&mut self, task: &Task<'_>) {
+    /// One step of a machine that is not finished. Says what it was.
+    pub fn step(&mut self, task: &Task<'_>) -> StepKind {
+        debug_assert!(!self.finished, "a finished machine makes no step");
         match self.class_to_place(task) {
             Some(class) => self.place(task, class),
             None => self.take_back(),
@@ -101,7 +132,7 @@ impl Machine {
         self.members.get(class).is_none_or(|members| members.iter().all(|member| fits(sheet, *member, grant)))
     }
 
-    fn place(&mut self, task: &Task<'_>, class: usize) {
+    fn place(&mut self, task: &Task<'_>, class: usize) -> StepKind {
         if class == self.used() {
             self.members.push(Vec::new());
         }
@@ -112,18 +143,20 @@ impl Machine {
             self.best = Placement { classes: self.placed.clone(), count: self.used() };
             self.finished = task.is_met_by(self.best.count);
         }
+        StepKind::Placed
     }
 
     /// Takes the last placed grant back, or closes the search if there is none.
-    fn take_back(&mut self) {
+    fn take_back(&mut self) -> StepKind {
         let Some(class) = self.placed.pop() else {
             self.finished = true;
-            return;
+            return StepKind::Closed;
         };
         self.members[class].pop();
         if self.members[class].is_empty() {
             self.members.pop();
         }
         self.next_try = class + 1;
+        StepKind::TookBack
     }
 }

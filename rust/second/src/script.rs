@@ -68,10 +68,10 @@ fn reduce_line(answer: Result<ReduceAnswer, Refusal>) -> String {
 fn search_line(answer: Result<SearchAnswer, Refusal>) -> String {
     match answer {
         Ok(found) => {
-            let word = found.state.word();
-            format!("search 0 {} {} {} {word}", found.steps, found.roles, found.bound)
+            let SearchAnswer { steps, placed, taken_back, closed, roles, bound, state } = found;
+            format!("search 0 {steps} {placed} {taken_back} {closed} {roles} {bound} {}", state.word())
         }
-        Err(refusal) => format!("search {} 0 0 0 -", refusal.number()),
+        Err(refusal) => format!("search {} 0 0 0 0 0 0 -", refusal.number()),
     }
 }
 

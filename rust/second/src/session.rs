@@ -5,7 +5,7 @@ use std::mem;
 use crate::book::Book;
 use crate::cover;
 use crate::grants::{self, Grant};
-use crate::machine::{Machine, Task};
+use crate::machine::{Machine, Steps, Task};
 use crate::reduction::Reduction;
 use crate::refusal::Refusal;
 use crate::roles::{self, State};
@@ -27,13 +27,24 @@ pub struct ReduceAnswer {
     pub witness: usize,
 }
 
-/// What an accepted search answers.
+/// What an accepted search answers: its steps, how many of them placed a grant, took one back or closed the search, and
+/// what there is after them.
 #[derive(Clone, Copy, Debug, PartialEq, Eq)]
 pub struct SearchAnswer {
     pub steps: u32,
+    pub placed: u32,
+    pub taken_back: u32,
+    pub closed: u32,
     pub roles: usize,
     pub bound: usize,
     pub state: State,
+}
+
+impl SearchAnswer {
+    /// How much deeper the search is than before; below its start that is negative.
+    pub fn depth_gained(&self) -> i64 {
+        i64::from(self.placed) - i64::from(self.taken_back)
+    }
 }
 
 /// A session; the default one is fresh.
@@ -85,7 +96,8 @@ impl Session {
 
     /// Moves the search forward by at most this many steps. Where there is none, no step is made.
     pub fn search(&mut self, budget: u32) -> Result<SearchAnswer, Refusal> {
-        let steps = if let Session::Reduced(reduced) = self { reduced.search(budget) } else { 0 };
+        let steps =
+            if let Session::Reduced(reduced) = self { reduced.search(budget) } else { Steps::default() };
         Ok(self.reduced()?.search_answer(steps))
     }
 
@@ -166,7 +178,7 @@ impl Reduced {
         }
     }
 
-    fn search(&mut self, budget: u32) -> u32 {
+    fn search(&mut self, budget: u32) -> Steps {
         let task = task(&self.sheet, &self.reduction, &self.witness);
         self.machine.run(&task, budget)
     }
@@ -180,10 +192,18 @@ impl Reduced {
     }
 
     /// Each class of the kernel and each single is a role.
-    fn search_answer(&self, steps: u32) -> SearchAnswer {
+    fn search_answer(&self, steps: Steps) -> SearchAnswer {
         let roles = self.machine.best().count + self.reduction.singles().count();
         let state = self.state(roles);
-        SearchAnswer { steps, roles, bound: state.bound(roles, self.witness.len()), state }
+        SearchAnswer {
+            steps: steps.made,
+            placed: steps.placed,
+            taken_back: steps.taken_back,
+            closed: steps.closed,
+            roles,
+            bound: state.bound(roles, self.witness.len()),
+            state,
+        }
     }
 }
 

@@ -20,10 +20,13 @@ use crate::kernels::with_kernel;
 use crate::paper;
 use crate::random::Random;
 use crate::restated::spelling::settled;
+use crate::restated::whole::Prepared;
 use crate::spelling;
+use crate::steps::{NO_STEPS, counts, judged_search};
 use crate::tally::Tally;
 
 pub mod reducing;
+pub mod steps;
 
 /// Steps within which nearly all small sheets are finished.
 const SMALL_BUDGET: u32 = 100_000;
@@ -68,8 +71,9 @@ impl<Other: Implementation> Pair<Other> {
         expected
     }
 
+    /// A search whose counts are also judged by where the machine stands before it and after it.
     pub fn search(&mut self, budget: u32) -> Result<SearchAnswer, Refusal> {
-        let expected = self.second.search(budget);
+        let expected = judged_search(&mut self.second, budget);
         assert_eq!(self.other.search(budget), expected, "{:?}", self.second);
         expected
     }
@@ -536,11 +540,14 @@ pub fn kernels_agree<Other: Implementation>(count: u64) {
 fn kernel_agrees<Other: Implementation>(draft: &Draft, size: usize) {
     let mut pair = Pair::<Other>::loaded(draft);
     pair.assert_refused(Refusal::NotReduced, &[0, paper::BOOK_BYTES]);
-    let steps = [10_000, 20_000].map(|budget| {
+    let searched = [10_000, 20_000].map(|budget| {
         assert_eq!(pair.reduce().map(|counts| counts.kernel), Ok(size));
-        pair.search(budget).expect("the sheet is reduced").steps
+        counts(&pair.search(budget).expect("the sheet is reduced"))
     });
-    assert_eq!(steps[0] > 0, size <= paper::SEARCHED_KERNEL);
+    let prepared = Prepared::of(draft);
+    let whole = prepared.search(30_000);
+    assert_eq!(searched, [whole.counts(0..10_000), whole.counts(10_000..30_000)], "{draft:?}");
+    assert_eq!(searched[0] != NO_STEPS, size <= paper::SEARCHED_KERNEL);
     let book = pair.book();
     checked::<Other>(&draft.bytes(), &book).expect("a written book is accepted");
 }

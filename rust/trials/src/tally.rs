@@ -4,8 +4,14 @@ use std::collections::BTreeMap;
 use std::fmt::Debug;
 
 /// How often each outcome of a trial came up.
-#[derive(Debug, Default)]
+#[derive(Debug)]
 pub struct Tally<Outcome>(BTreeMap<Outcome, usize>);
+
+impl<Outcome> Default for Tally<Outcome> {
+    fn default() -> Self {
+        Tally(BTreeMap::new())
+    }
+}
 
 impl<Outcome: Ord + Debug> Tally<Outcome> {
     pub fn note(&mut self, outcome: Outcome) {

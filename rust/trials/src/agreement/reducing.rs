@@ -13,6 +13,7 @@ use crate::families;
 use crate::random::Random;
 use crate::restated::causes::lowest_cause;
 use crate::sessions::first_book;
+use crate::steps::{NO_STEPS, search_answer};
 use crate::tally::Tally;
 
 /// Without a sheet every call is refused by 10, whatever the buffer, and a refused load changes nothing about that.
@@ -128,7 +129,7 @@ pub fn corrected_sheets_agree<Other: Implementation>(count: u64) {
 /// Budgets count from the first reduction on. Those given before it, here as much as it takes and more, end no search:
 /// four users each lacking their own permission are closed with step 125 after it.
 pub fn budgets_before_the_reduction_agree<Other: Implementation>() {
-    let found = |steps, bound, state| Ok(SearchAnswer { steps, roles: 4, bound, state });
+    let found = |counts, bound, state| Ok(search_answer(counts, 4, bound, state));
     let counts = Ok(ReduceAnswer { kernel: 12, witness: 3 });
     let mut pair = Pair::<Other>::fresh();
     for _ in 0..2 {
@@ -137,12 +138,12 @@ pub fn budgets_before_the_reduction_agree<Other: Implementation>() {
             assert_eq!(pair.search(budget), Err(Refusal::NotReduced));
         }
         assert_eq!(pair.reduce(), counts);
-        assert_eq!(pair.search(0), found(0, 3, State::Open));
-        assert_eq!(pair.search(124), found(124, 3, State::Open));
+        assert_eq!(pair.search(0), found(NO_STEPS, 3, State::Open));
+        assert_eq!(pair.search(124), found([124, 62, 62, 0], 3, State::Open));
         assert_eq!(pair.reduce(), counts);
-        assert_eq!(pair.search(u32::MAX), found(1, 4, State::Searched));
+        assert_eq!(pair.search(u32::MAX), found([1, 0, 0, 1], 4, State::Searched));
         assert_eq!(pair.reduce(), counts);
-        assert_eq!(pair.search(u32::MAX), found(0, 4, State::Searched));
+        assert_eq!(pair.search(u32::MAX), found(NO_STEPS, 4, State::Searched));
     }
 }
 

@@ -1,5 +1,7 @@
 //! What a session has, found from the calls made on it and never from the session.
 
+use std::ops::Range;
+
 use second::script::Call;
 
 use crate::restated::causes::lowest_cause;
@@ -21,6 +23,14 @@ pub fn known(calls: &[Call]) -> Option<Known<'_>> {
     let reduction = since.iter().position(|call| *call == Call::Reduce);
     let budgets = reduction.map(|first| since[first..].iter().map(budget).sum());
     Some(Known { sheet, budgets })
+}
+
+/// The numbers of the steps that the last of these calls, if it is an accepted search, may make. The steps since the
+/// first reduction are numbered from 0, and the budgets before are spent on those before; fewer steps are made where
+/// the search ends first.
+pub fn last_steps(calls: &[Call]) -> Option<Range<u64>> {
+    let end = known(calls)?.budgets?;
+    Some(end - budget(calls.last()?)..end)
 }
 
 /// The number of the refusal of this call, made after those, unless it is that of too short a buffer or one of a check:

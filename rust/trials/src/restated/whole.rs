@@ -4,6 +4,7 @@ use std::collections::BTreeSet;
 
 use crate::book_draft::BookDraft;
 use crate::draft::Draft;
+use crate::paper;
 use crate::restated::recursion::Search;
 use crate::restated::tables::{self, Removal, Table, class_count};
 
@@ -31,10 +32,11 @@ impl Prepared<'_> {
         }
     }
 
-    /// The search of a kernel that can be searched, after at most this many steps.
+    /// The search after at most this many steps; of a kernel that is too large, after none.
     pub fn search(&self, steps: u64) -> Search<'_> {
         let singles = self.removals.iter().filter(|(_, tie)| tie.is_none()).count();
         let target = self.witness.len() - singles;
+        let steps = if self.kernel.len() > paper::SEARCHED_KERNEL { 0 } else { steps };
         Search::run(&self.table, &self.kernel, self.first_best.clone(), target, steps)
     }
 

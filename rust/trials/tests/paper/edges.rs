@@ -4,10 +4,10 @@ use second::roles::State;
 use second::session::Session;
 use trials::extremes;
 use trials::families::crown;
+use trials::steps::{NO_STEPS, search_answer};
 
 use crate::support::{
-    EXAMPLE, EXAMPLE_BOOK, book, check_number, load_answer, load_number, reduce_answer, reduced,
-    search_answer, session_with,
+    EXAMPLE, EXAMPLE_BOOK, book, check_number, load_answer, load_number, reduce_answer, reduced, session_with,
 };
 
 #[test]
@@ -20,7 +20,7 @@ fn worked_example_has_seven_grants_and_no_kernel() {
 #[test]
 fn worked_example_gives_its_book_byte_for_byte() {
     let mut session = session_with(EXAMPLE.as_bytes());
-    assert_eq!(session.search(0), Ok(search_answer(0, 2, 2, State::Witnessed)));
+    assert_eq!(session.search(0), Ok(search_answer(NO_STEPS, 2, 2, State::Witnessed)));
     let mut buffer = vec![b'#'; 200];
     assert_eq!(session.write(&mut buffer), Ok(EXAMPLE_BOOK.len()));
     let (front, rest) = buffer.split_at(EXAMPLE_BOOK.len());
@@ -38,7 +38,7 @@ fn one_user_without_the_one_permission_needs_no_role() {
     let mut session = Session::fresh();
     assert_eq!(session.load(b"user,p\nu,0\n"), Ok(load_answer(1, 1, 0)));
     assert_eq!(session.reduce(), Ok(reduce_answer(0, 0)));
-    assert_eq!(session.search(7), Ok(search_answer(0, 0, 0, State::Witnessed)));
+    assert_eq!(session.search(7), Ok(search_answer(NO_STEPS, 0, 0, State::Witnessed)));
     assert_eq!(book(&session), "roles,bound,state\n0,0,witnessed\n\nrole,p\n\nuser\nu\n\nuser,permission\n");
 }
 
@@ -47,7 +47,7 @@ fn one_user_with_two_ones_has_one_role_and_the_second_grant_as_witness() {
     let mut session = Session::fresh();
     assert_eq!(session.load(b"user,p,q\nu,1,1\n"), Ok(load_answer(1, 2, 2)));
     assert_eq!(session.reduce(), Ok(reduce_answer(0, 1)));
-    assert_eq!(session.search(0), Ok(search_answer(0, 1, 1, State::Witnessed)));
+    assert_eq!(session.search(0), Ok(search_answer(NO_STEPS, 1, 1, State::Witnessed)));
     assert_eq!(
         book(&session),
         "roles,bound,state\n1,1,witnessed\n\nrole,p,q\nR1,1,1\n\nuser,R1\nu,1\n\nuser,permission\nu,q\n"
@@ -59,7 +59,7 @@ fn three_users_each_lacking_their_own_permission_are_witnessed_at_once() {
     let mut session = Session::fresh();
     assert_eq!(session.load(&crown(3).bytes()), Ok(load_answer(3, 3, 6)));
     assert_eq!(session.reduce(), Ok(reduce_answer(6, 3)));
-    assert_eq!(session.search(1_000), Ok(search_answer(0, 3, 3, State::Witnessed)));
+    assert_eq!(session.search(1_000), Ok(search_answer(NO_STEPS, 3, 3, State::Witnessed)));
 }
 
 #[test]
@@ -68,14 +68,14 @@ fn four_such_users_are_open_at_budget_zero() {
     assert_eq!(session.load(&crown(4).bytes()), Ok(load_answer(4, 4, 12)));
     assert_eq!(session.reduce(), Ok(reduce_answer(12, 3)));
     assert_eq!(reduced(&session).machine().best().count, 4);
-    assert_eq!(session.search(0), Ok(search_answer(0, 4, 3, State::Open)));
+    assert_eq!(session.search(0), Ok(search_answer(NO_STEPS, 4, 3, State::Open)));
     assert!(book(&session).starts_with("roles,bound,state\n4,3,open\n\n"));
 }
 
 #[test]
 fn four_such_users_with_budget_one_have_one_grant_placed() {
     let mut session = session_with(&crown(4).bytes());
-    assert_eq!(session.search(1), Ok(search_answer(1, 4, 3, State::Open)));
+    assert_eq!(session.search(1), Ok(search_answer([1, 1, 0, 0], 4, 3, State::Open)));
     assert_eq!(reduced(&session).machine().placed(), [0]);
     assert_eq!(reduced(&session).machine().next_try(), 0);
 }

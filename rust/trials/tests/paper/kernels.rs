@@ -8,8 +8,9 @@ use trials::draft::Draft;
 use trials::kernels::with_kernel;
 use trials::random::Random;
 use trials::restated::whole::Prepared;
+use trials::steps::{NO_STEPS, counts, judged_search, search_answer};
 
-use crate::support::{check_answer, reduced, search_answer, session_with};
+use crate::support::{check_answer, reduced, session_with};
 
 /// A sheet with a kernel of this size that is not finished by its first cover.
 fn unfinished(random: &mut Random, size: usize) -> (Draft, Session) {
@@ -28,10 +29,11 @@ fn kernels_of_127_and_128_are_searched_as_the_recursion_does() {
             assert_eq!(reduced(&session).reduction().kernel.len(), size);
             let prepared = Prepared::of(&draft);
             let expected = prepared.search(30_000);
-            let steps =
-                [10_000, 20_000].map(|budget| session.search(budget).expect("the sheet is reduced").steps);
+            let parts = [10_000, 20_000]
+                .map(|budget| counts(&judged_search(&mut session, budget).expect("the sheet is reduced")));
             let machine = reduced(&session).machine();
-            assert_eq!(u64::from(steps[0] + steps[1]), expected.steps);
+            assert_eq!(u64::from(parts[0][0] + parts[1][0]), expected.steps);
+            assert_eq!(parts, [expected.counts(0..10_000), expected.counts(10_000..30_000)]);
             assert_eq!(machine.placed(), expected.placed);
             assert_eq!(machine.best().classes, expected.best);
             assert_eq!(reduced(&session).book_bytes(), prepared.book(&expected).as_bytes());
@@ -49,7 +51,7 @@ fn kernel_of_129_makes_no_step_and_its_book_stands() {
         let roles =
             reduced(&session).machine().best().count + reduced(&session).reduction().singles().count();
         for budget in [0, 1, 1_000, u32::MAX] {
-            assert_eq!(session.search(budget), Ok(search_answer(0, roles, witness, State::Open)));
+            assert_eq!(session.search(budget), Ok(search_answer(NO_STEPS, roles, witness, State::Open)));
             assert_eq!(session, before);
         }
         let checked = check(&draft.bytes(), &reduced(&session).book_bytes());

@@ -7,45 +7,41 @@ use trials::draft::Draft;
 use trials::families::crown;
 use trials::restated::tables::class_count;
 use trials::restated::whole::Prepared;
+use trials::steps::{NO_STEPS, counts, judged_search, search_answer, sum};
 
-use crate::support::{WATCHED_STEPS, reduced, search_answer, session_with, unfinished};
+use crate::support::{WATCHED_STEPS, reduced, session_with, unfinished};
 
 #[test]
 fn four_user_case_closes_with_step_125_in_one_search() {
     let mut session = session_with(&crown(4).bytes());
-    assert_eq!(session.clone().search(124), Ok(search_answer(124, 4, 3, State::Open)));
-    assert_eq!(session.clone().search(125), Ok(search_answer(125, 4, 4, State::Searched)));
-    assert_eq!(session.search(u32::MAX), Ok(search_answer(125, 4, 4, State::Searched)));
-    assert_eq!(session.search(u32::MAX), Ok(search_answer(0, 4, 4, State::Searched)));
+    assert_eq!(session.clone().search(124), Ok(search_answer([124, 62, 62, 0], 4, 3, State::Open)));
+    assert_eq!(session.clone().search(125), Ok(search_answer([125, 62, 62, 1], 4, 4, State::Searched)));
+    assert_eq!(session.search(u32::MAX), Ok(search_answer([125, 62, 62, 1], 4, 4, State::Searched)));
+    assert_eq!(session.search(u32::MAX), Ok(search_answer(NO_STEPS, 4, 4, State::Searched)));
 }
 
 #[test]
 fn four_user_case_closes_with_step_125_in_many_searches() {
+    let draft = crown(4);
+    let prepared = Prepared::of(&draft);
+    let whole = prepared.search(125);
     for portion in [1, 2, 3, 7, 50, 124] {
-        let mut session = session_with(&crown(4).bytes());
-        let mut sum = 0;
-        while sum + portion < 125 {
-            assert_eq!(session.search(portion), Ok(search_answer(portion, 4, 3, State::Open)));
-            sum += portion;
+        let mut session = session_with(&draft.bytes());
+        for start in (0..125).step_by(portion as usize) {
+            let end = start + u64::from(portion);
+            let (bound, state) = if end < 125 { (3, State::Open) } else { (4, State::Searched) };
+            let expected = search_answer(whole.counts(start..end), 4, bound, state);
+            assert_eq!(u64::from(expected.steps), end.min(125) - start);
+            assert_eq!(session.search(portion), Ok(expected));
         }
-        assert_eq!(session.search(portion), Ok(search_answer(125 - sum, 4, 4, State::Searched)));
     }
 }
 
 #[test]
 fn four_user_case_places_62_takes_62_back_and_closes_once() {
     let mut session = session_with(&crown(4).bytes());
-    let (mut placed, mut taken_back, mut closing) = (0, 0, 0);
-    for _ in 0..125 {
-        let before = reduced(&session).machine().placed().len();
-        session.search(1).expect("the sheet is reduced");
-        match reduced(&session).machine().placed().len() {
-            after if after > before => placed += 1,
-            after if after < before => taken_back += 1,
-            _ => closing += 1,
-        }
-    }
-    assert_eq!((placed, taken_back, closing), (62, 62, 1));
+    let searches = (0..125).map(|_| judged_search(&mut session, 1).expect("the sheet is reduced"));
+    assert_eq!(sum(searches.map(|answer| counts(&answer))), [125, 62, 62, 1]);
     assert!(reduced(&session).machine().is_finished());
 }
 
@@ -55,7 +51,7 @@ fn empty_kernel_is_finished_at_the_reduction() {
     let mut session = session_with(&Draft::plain(3, 3, |_, _| true).bytes());
     assert!(reduced(&session).reduction().kernel.is_empty());
     assert!(reduced(&session).machine().is_finished());
-    assert_eq!(session.search(9), Ok(search_answer(0, 1, 1, State::Witnessed)));
+    assert_eq!(session.search(9), Ok(search_answer(NO_STEPS, 1, 1, State::Witnessed)));
 }
 
 /// One step: it changes the depth by one or closes, and only a whole placement that is better changes the
@@ -115,6 +111,7 @@ fn machine_agrees_with_the_recursion_after_any_number_of_steps() {
         let answer = session.search(budget).expect("the sheet is reduced");
         let machine = reduced(&session).machine();
         assert_eq!(u64::from(answer.steps), expected.steps, "{draft:?}");
+        assert_eq!(counts(&answer), expected.counts(0..u64::from(budget)), "{draft:?}");
         assert_eq!(machine.placed(), expected.placed, "{draft:?}");
         assert_eq!(machine.best().classes, expected.best, "{draft:?}");
         assert_eq!(machine.is_finished(), expected.finished, "{draft:?}");
@@ -131,11 +128,11 @@ fn portions_add_up() {
         let (_, fresh) = unfinished(random);
         let (mut in_portions, mut in_one) = (fresh.clone(), fresh);
         let portions: Vec<u32> = (0..random.between(1, 12)).map(|_| random.below(400) as u32).collect();
-        let made =
-            portions.iter().map(|portion| in_portions.search(*portion).expect("the sheet is reduced").steps);
-        let made: u32 = made.sum();
+        let parts =
+            portions.iter().map(|portion| in_portions.search(*portion).expect("the sheet is reduced"));
+        let together = sum(parts.map(|part| counts(&part)));
         let answer = in_one.search(portions.iter().sum()).expect("the sheet is reduced");
-        assert_eq!(answer.steps, made);
+        assert_eq!(counts(&answer), together);
         assert_eq!(in_portions, in_one);
     });
 }
@@ -150,7 +147,7 @@ fn meeting_the_witness_adds_no_step() {
         if answer.state == State::Witnessed {
             let machine = reduced(&session).machine();
             assert_eq!(machine.placed(), machine.best().classes);
-            assert_eq!(session.search(1).map(|answer| answer.steps), Ok(0));
+            assert_eq!((answer.closed, session.search(1).map(|answer| counts(&answer))), (0, Ok(NO_STEPS)));
             met += 1;
         }
     });

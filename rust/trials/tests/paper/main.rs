@@ -19,4 +19,5 @@ mod sequences;
 mod slips;
 mod smallest;
 mod spelling;
+mod steps;
 mod support;

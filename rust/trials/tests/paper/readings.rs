@@ -13,9 +13,10 @@ use trials::families::crown;
 use trials::paper;
 use trials::random::Random;
 use trials::sessions::first_book;
+use trials::steps::{NO_STEPS, search_answer};
 
 use crate::support::{
-    EXAMPLE, book, load_answer, load_number, numbers, reduce_answer, reduced, search_answer, session_with,
+    EXAMPLE, book, load_answer, load_number, numbers, reduce_answer, reduced, session_with,
 };
 
 #[test]
@@ -133,7 +134,7 @@ fn kernel_of_2048_grants_is_covered_and_written_but_not_searched() {
         assert_eq!(answer.kernel, 2_048);
         let before = session.clone();
         let roles = users.min(permissions);
-        assert_eq!(session.search(u32::MAX), Ok(search_answer(0, roles, answer.witness, State::Open)));
+        assert_eq!(session.search(u32::MAX), Ok(search_answer(NO_STEPS, roles, answer.witness, State::Open)));
         assert_eq!(session, before);
         let checked = second::checker::check(&draft.bytes(), &reduced(&session).book_bytes());
         assert_eq!(checked.map(|counts| counts.roles), Ok(roles));
@@ -147,7 +148,7 @@ fn refused_load_keeps_the_sheet_and_the_position() {
     let before = session.clone();
     assert_eq!(session.load(b"user,p\nu,2\n").map_err(|refusal| refusal.number()), Err(7));
     assert_eq!(session, before);
-    assert_eq!(session.search(100), Ok(search_answer(65, 4, 4, State::Searched)));
+    assert_eq!(session.search(100), Ok(search_answer([65, 27, 37, 1], 4, 4, State::Searched)));
 }
 
 #[test]
@@ -156,7 +157,7 @@ fn accepted_load_of_the_same_bytes_starts_anew() {
     session.search(60).expect("the sheet is reduced");
     assert_eq!(session.load(&crown(4).bytes()), Ok(load_answer(4, 4, 12)));
     assert_eq!(session.reduce(), Ok(reduce_answer(12, 3)));
-    assert_eq!(session.search(200), Ok(search_answer(125, 4, 4, State::Searched)));
+    assert_eq!(session.search(200), Ok(search_answer([125, 62, 62, 1], 4, 4, State::Searched)));
 }
 
 #[test]

@@ -9,10 +9,9 @@ use trials::cases::cases;
 use trials::families::{self, crown};
 use trials::restated::whole::Prepared;
 use trials::sessions::first_book;
+use trials::steps::{NO_STEPS, search_answer};
 
-use crate::support::{
-    EXAMPLE, EXAMPLE_BOOK, load_answer, loaded, reduce_answer, reduced, search_answer, session_with,
-};
+use crate::support::{EXAMPLE, EXAMPLE_BOOK, load_answer, loaded, reduce_answer, reduced, session_with};
 
 /// A sheet that no load accepts.
 const REFUSED: &[u8] = b"user,p\nu,2\n";
@@ -78,21 +77,21 @@ fn accepted_load_leaves_its_sheet_not_reduced() {
         assert_eq!(session, loaded(&sheet));
         assert_eq!(search_number(&mut session, 0), 16);
         assert_eq!(session.reduce(), Ok(reduce_answer(12, 3)));
-        assert_eq!(session.search(60), Ok(search_answer(60, 4, 3, State::Open)));
+        assert_eq!(session.search(60), Ok(search_answer([60, 35, 25, 0], 4, 3, State::Open)));
     }
 }
 
 #[test]
 fn refused_load_leaves_a_sheet_as_far_as_it_was() {
     let mut session = loaded(&crown(4).bytes());
-    for budget in [0, 60, 60] {
+    for counts in [NO_STEPS, [60, 35, 25, 0], [60, 26, 34, 0]] {
         let before = session.clone();
         assert_eq!(session.load(REFUSED), Err(Refusal::FieldValue));
         assert_eq!(session, before);
         assert_eq!(session.reduce(), Ok(reduce_answer(12, 3)));
-        assert_eq!(session.search(budget), Ok(search_answer(budget, 4, 3, State::Open)));
+        assert_eq!(session.search(counts[0]), Ok(search_answer(counts, 4, 3, State::Open)));
     }
-    assert_eq!(session.search(60), Ok(search_answer(5, 4, 4, State::Searched)));
+    assert_eq!(session.search(60), Ok(search_answer([5, 1, 3, 1], 4, 4, State::Searched)));
 }
 
 #[test]
@@ -114,10 +113,10 @@ fn budgets_count_from_the_first_reduction_on() {
     assert_eq!(search_number(&mut session, u32::MAX), 16);
     assert_eq!(session, loaded(&crown(4).bytes()));
     session.reduce().expect("a sheet is loaded");
-    assert_eq!(session.search(0), Ok(search_answer(0, 4, 3, State::Open)));
-    assert_eq!(session.search(100), Ok(search_answer(100, 4, 3, State::Open)));
+    assert_eq!(session.search(0), Ok(search_answer(NO_STEPS, 4, 3, State::Open)));
+    assert_eq!(session.search(100), Ok(search_answer([100, 53, 47, 0], 4, 3, State::Open)));
     session.reduce().expect("a sheet is loaded");
-    assert_eq!(session.search(25), Ok(search_answer(25, 4, 4, State::Searched)));
+    assert_eq!(session.search(25), Ok(search_answer([25, 9, 15, 1], 4, 4, State::Searched)));
 }
 
 #[test]

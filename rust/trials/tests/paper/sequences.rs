@@ -11,7 +11,9 @@ use trials::brute;
 use trials::calls::sequence;
 use trials::cases::cases;
 use trials::draft::Draft;
-use trials::restated::history::{Known, known, number};
+use trials::restated::history::{Known, known, last_steps, number};
+use trials::restated::whole::Prepared;
+use trials::steps::{Counts, NO_STEPS, counts, judged_search, sum};
 use trials::tally::Tally;
 
 use crate::support::{loaded, reduced, session_with};
@@ -33,10 +35,12 @@ const OUTCOMES: &[(&str, &[u32])] = &[
 struct Trial {
     session: Session,
     calls: Vec<Call>,
-    /// The sum of the steps answered since the last accepted load.
-    steps: u64,
-    /// The smallest number of roles for the last accepted sheet, where it can be found.
-    smallest: Option<usize>,
+    /// The counts answered since the last accepted load, together.
+    made: Counts,
+    /// The answer of the last call, if it was an accepted search.
+    searched: Option<SearchAnswer>,
+    /// The last accepted sheet and its smallest number of roles, where that can be found.
+    small: Option<(Draft, usize)>,
 }
 
 impl Trial {
@@ -82,8 +86,8 @@ impl Trial {
     fn load(&mut self, sheet: &[u8]) -> Option<Refusal> {
         let refusal = self.session.load(sheet).err();
         if refusal.is_none() {
-            self.steps = 0;
-            self.smallest = smallest(sheet);
+            self.made = NO_STEPS;
+            self.small = small(sheet);
             assert_eq!(self.session, loaded(sheet));
         }
         refusal
@@ -99,14 +103,15 @@ impl Trial {
     }
 
     fn search(&mut self, budget: u32) -> Option<Refusal> {
-        let answer = self.session.search(budget);
+        let answer = judged_search(&mut self.session, budget);
+        self.searched = answer.ok();
         if let Ok(answer) = answer {
-            assert!(answer.steps <= budget);
-            self.steps += u64::from(answer.steps);
+            self.made = sum([self.made, counts(&answer)]);
+            self.judge_steps(&answer);
             let known = known(&self.calls).expect("a sheet was accepted");
             let whole = self.judge_session(&known);
             assert_eq!((whole.roles, whole.bound, whole.state), (answer.roles, answer.bound, answer.state));
-            let unfinished = known.budgets == Some(self.steps);
+            let unfinished = known.budgets == Some(u64::from(self.made[0]));
             assert!(unfinished || answer.state != State::Open);
             self.judge_counts(answer.roles, answer.bound, answer.state.word());
         }
@@ -127,21 +132,30 @@ impl Trial {
         written.err()
     }
 
+    /// The counts are those of the restated search over the steps that are this search's by the calls alone.
+    fn judge_steps(&self, answer: &SearchAnswer) {
+        if let Some((draft, _)) = &self.small {
+            let numbers = last_steps(&self.calls).expect("the search is accepted");
+            let expected = Prepared::of(draft).search(numbers.end).counts(numbers);
+            assert_eq!(counts(answer), expected, "{draft:?}");
+        }
+    }
+
     /// One search from the first reduction after the load with the sum of the budgets leaves the same session, and the
-    /// steps add up to its steps.
+    /// counts add up to its counts.
     fn judge_session(&self, known: &Known<'_>) -> SearchAnswer {
         let mut in_one = session_with(known.sheet);
         let budgets = known.budgets.expect("the sheet is reduced");
         let whole = in_one.search(u32::try_from(budgets).unwrap_or(u32::MAX)).expect("the sheet is reduced");
         assert_eq!(in_one, self.session);
-        assert_eq!(u64::from(whole.steps), self.steps);
+        assert_eq!(counts(&whole), self.made);
         whole
     }
 
     /// Against every role set: the bound is never above the smallest, and the roles are the smallest unless the state
     /// is open.
     fn judge_counts(&self, roles: usize, bound: usize, state: &str) {
-        if let Some(smallest) = self.smallest {
+        if let Some((_, smallest)) = self.small {
             assert!(bound <= smallest && smallest <= roles, "{bound} {smallest} {roles}");
             assert!(state == "open" || (bound, roles) == (smallest, smallest), "{bound} {smallest} {roles}");
         }
@@ -165,23 +179,30 @@ fn is_reduced(calls: &[Call]) -> bool {
     known(calls).is_some_and(|known| known.budgets.is_some())
 }
 
-/// The smallest number of roles for an acceptable sheet, where it can be found from the matrices.
-fn smallest(sheet: &[u8]) -> Option<usize> {
+/// An acceptable sheet under plain names, and the smallest number of roles for it, where that can be found from the
+/// matrices.
+fn small(sheet: &[u8]) -> Option<(Draft, usize)> {
     let sheet = Sheet::read(sheet).expect("the sheet is acceptable");
     let row = |user| sheet.permissions().map(|permission| sheet.holds(user, permission)).collect();
     let held: Vec<Vec<bool>> = sheet.users().map(row).collect();
-    (held.len() <= 6 && held[0].len() <= 6).then(|| brute::smallest(&held))
+    let draft = Draft::plain(held.len(), held[0].len(), |user, permission| held[user][permission]);
+    (held.len() <= 6 && held[0].len() <= 6).then(|| (draft, brute::smallest(&held)))
 }
 
 #[test]
 fn the_claim_about_sequences_stands() {
     let mut seen = Seen::default();
+    let mut gained = Tally::default();
     cases(1_500, |random| {
         let mut trial = Trial::default();
         for call in sequence(random, 30, 6) {
             trial.make(&call, &mut seen);
+            if let Some(answer) = trial.searched.take() {
+                gained.note((answer.closed, answer.depth_gained().signum()));
+            }
         }
     });
+    gained.expect([(0, -1), (0, 0), (0, 1), (1, -1), (1, 0)], 5);
     for (call, numbers) in OUTCOMES {
         seen.expect(numbers.iter().map(|number| (*call, *number)), 5);
     }
@@ -244,17 +265,19 @@ fn answer_lines_are_as_agreed() {
     let sheet = Draft::plain(4, 4, |user, permission| user != permission).bytes();
     let mut line = |call| answer_line(&mut session, &call);
     let untouched = format!("{:08x}", digest(&lent_buffer(10)));
-    assert_eq!(line(Call::Search(3)), "search 10 0 0 0 -");
+    assert_eq!(line(Call::Search(3)), "search 10 0 0 0 0 0 0 -");
     assert_eq!(line(Call::Write(10)), format!("write 10 0 {untouched}"));
     assert_eq!(line(Call::Load(b"user\n".to_vec())), "load 3 0 0 0");
     assert_eq!(line(Call::Reduce), "reduce 10 0 0");
     assert_eq!(line(Call::Load(sheet.clone())), "load 0 4 4 12");
-    assert_eq!(line(Call::Search(3)), "search 16 0 0 0 -");
+    assert_eq!(line(Call::Search(3)), "search 16 0 0 0 0 0 0 -");
     assert_eq!(line(Call::Write(10)), format!("write 16 0 {untouched}"));
     assert_eq!(line(Call::Reduce), "reduce 0 12 3");
-    assert_eq!(line(Call::Search(124)), "search 0 124 4 3 open");
+    assert_eq!(line(Call::Search(60)), "search 0 60 35 25 0 4 3 open");
     assert_eq!(line(Call::Reduce), "reduce 0 12 3");
-    assert_eq!(line(Call::Search(9)), "search 0 1 4 4 searched");
+    assert_eq!(line(Call::Search(60)), "search 0 60 26 34 0 4 3 open");
+    assert_eq!(line(Call::Search(60)), "search 0 5 1 3 1 4 4 searched");
+    assert_eq!(line(Call::Search(60)), "search 0 0 0 0 0 4 4 searched");
     assert_eq!(line(Call::Write(10)), format!("write 11 0 {untouched}"));
     let book = b"roles,bound,state\n".to_vec();
     assert_eq!(line(Call::Check { sheet, book }), "check 12 0 0");

@@ -4,8 +4,9 @@ use second::reduction::Reason;
 use second::roles::State;
 use second::session::Session;
 use trials::draft::Draft;
+use trials::steps::{NO_STEPS, search_answer};
 
-use crate::support::{book, load_answer, numbers, reduce_answer, reduced, search_answer, session_with};
+use crate::support::{book, load_answer, numbers, reduce_answer, reduced, session_with};
 
 /// Two users who hold the same two permissions. The first grant goes; if fit were tested on what remains, the
 /// second and the third would then no longer fit and two roles would come out.
@@ -14,7 +15,7 @@ fn fit_is_tested_in_the_whole_sheet() {
     let mut session = Session::fresh();
     assert_eq!(session.load(b"user,p,q\nu,1,1\nv,1,1\n"), Ok(load_answer(2, 2, 4)));
     assert_eq!(session.reduce(), Ok(reduce_answer(0, 1)));
-    assert_eq!(session.search(0), Ok(search_answer(0, 1, 1, State::Witnessed)));
+    assert_eq!(session.search(0), Ok(search_answer(NO_STEPS, 1, 1, State::Witnessed)));
 }
 
 /// The two grants of one user have the same partners. The first goes, and then nothing is left for the second
@@ -46,9 +47,9 @@ fn no_grant_is_placed_while_as_many_classes_are_in_use_as_the_best_has() {
         b"user,p0,p1,p2,p3,p4,p5\nu0,0,1,1,0,1,1\nu1,1,1,1,0,1,1\nu2,0,1,1,1,1,1\n\
           u3,1,0,0,1,0,0\nu4,1,1,0,1,1,1\nu5,1,0,1,1,1,1\n",
     );
-    assert_eq!(session.search(0), Ok(search_answer(0, 5, 3, State::Open)));
-    assert_eq!(session.search(34), Ok(search_answer(34, 4, 3, State::Open)));
-    assert_eq!(session.search(9), Ok(search_answer(1, 4, 4, State::Searched)));
+    assert_eq!(session.search(0), Ok(search_answer(NO_STEPS, 5, 3, State::Open)));
+    assert_eq!(session.search(34), Ok(search_answer([34, 17, 17, 0], 4, 3, State::Open)));
+    assert_eq!(session.search(9), Ok(search_answer([1, 0, 0, 1], 4, 4, State::Searched)));
     assert_eq!(reduced(&session).machine().best().classes, [0, 0, 1, 2, 3, 3, 1, 2]);
 }
 
@@ -59,7 +60,7 @@ fn no_class_is_opened_that_the_new_best_does_not_allow() {
     let mut session = session_with(
         b"user,p0,p1,p2,p3,p4\nu0,0,1,1,1,1\nu1,0,1,1,0,1\nu2,1,1,0,1,1\nu3,1,0,1,1,0\nu4,1,0,1,1,1\n",
     );
-    assert_eq!(session.search(0), Ok(search_answer(0, 5, 3, State::Open)));
-    assert_eq!(session.search(24), Ok(search_answer(24, 4, 3, State::Open)));
-    assert_eq!(session.search(9), Ok(search_answer(1, 4, 4, State::Searched)));
+    assert_eq!(session.search(0), Ok(search_answer(NO_STEPS, 5, 3, State::Open)));
+    assert_eq!(session.search(24), Ok(search_answer([24, 12, 12, 0], 4, 3, State::Open)));
+    assert_eq!(session.search(9), Ok(search_answer([1, 0, 0, 1], 4, 4, State::Searched)));
 }

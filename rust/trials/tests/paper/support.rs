@@ -2,11 +2,10 @@
 
 use second::checker::{CheckAnswer, check};
 use second::grants::Grant;
-use second::roles::State;
-use second::session::{LoadAnswer, ReduceAnswer, Reduced, SearchAnswer, Session};
+use second::session::{LoadAnswer, ReduceAnswer, Reduced, Session};
 use trials::draft::Draft;
-use trials::families;
 use trials::random::Random;
+use trials::searches;
 use trials::sessions;
 
 /// The sheet of the worked example.
@@ -63,10 +62,6 @@ pub fn reduce_answer(kernel: usize, witness: usize) -> ReduceAnswer {
     ReduceAnswer { kernel, witness }
 }
 
-pub fn search_answer(steps: u32, roles: usize, bound: usize, state: State) -> SearchAnswer {
-    SearchAnswer { steps, roles, bound, state }
-}
-
 pub fn check_answer(roles: usize, witness_lines: usize) -> CheckAnswer {
     CheckAnswer { roles, witness_lines }
 }
@@ -102,11 +97,7 @@ pub fn example_book(counts: &str, more_roles: usize, witness: &str) -> String {
 
 /// A sheet on which there is something to search.
 pub fn unfinished(random: &mut Random) -> (Draft, Session) {
-    random.until_found(|random| {
-        let density = random.between(40, 80);
-        let (users, permissions) = (random.between(4, 7), random.between(4, 7));
-        let draft = families::random(random, users, permissions, density);
-        let session = session_with(&draft.bytes());
-        (!reduced(&session).machine().is_finished()).then_some((draft, session))
-    })
+    let draft = searches::unfinished(random);
+    let session = session_with(&draft.bytes());
+    (draft, session)
 }
