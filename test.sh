@@ -77,21 +77,34 @@ front 2 '' search examples/roosts.csv 0
 front 2 '' search examples/roosts.csv 4294967296
 front 2 '' search examples/roosts.csv many
 front 2 '' search examples/roosts.csv 1 2
-# the line after each search: of four users one, with the depth gained; none for a refused sheet
-progress() { # LINES SHEET ROUNDS
-    local lines
-    lines=$(./porvuund search "$2" "$3" 2>&1 >/dev/null | sed -n 's/, [0-9]* steps a second$//p')
-    if [ "$lines" = "$1" ]; then
-        echo "porvuund search $2 $3, standard error: as expected"
+# what the long search writes on standard error, without the steps a second: a line after each search, with the depth
+# gained; of a kernel that is not searched as many as are asked for, or 3,600; no such line for a refused sheet
+progress() { # LINES SHEET [ROUNDS]
+    local lines=$1 got
+    shift
+    got=$(./porvuund search "$@" 2>&1 >/dev/null | sed 's/, [0-9][0-9]* steps a second$//')
+    if [ "$got" = "$lines" ]; then
+        echo "porvuund search $*, standard error: as expected"
         tally 0 1 0
     else
-        printf 'porvuund search %s %s, standard error: expected %s, got %s\n' "$2" "$3" "$1" "$lines"
+        printf 'porvuund search %s, standard error: expected %.400s, got %.400s\n' "$*" "$lines" "$got"
         tally 0 0 1
     fi
 }
+idle='0 steps so far, depth gained 0, 13 roles, bound 3, open'
 progress '125 steps so far, depth gained 0, 4 roles, bound 4, searched' crates/play/data/four.csv 5
-progress '0 steps so far, depth gained 0, 5 roles, bound 5, witnessed' examples/roosts.csv 2
-progress '' "$log/broken sheet" 2
+progress '0 steps so far, depth gained 0, 5 roles, bound 5, witnessed' examples/roosts.csv
+progress "$idle"$'\n'"$idle" crates/play/data/thirteen.csv 2
+progress "$(for _ in $(seq 3600); do echo "$idle"; done)" crates/play/data/thirteen.csv
+progress 'porvuund: refused: a field after a user name is not 0 or 1' "$log/broken sheet" 2
+# the book that the book program finds too long
+if [ "$(./porvuund search crates/play/data/wide.csv 1 2>>"$log/front" | wc -c)" -gt 65536 ]; then
+    echo "porvuund search crates/play/data/wide.csv 1: a book of more than 65,536 bytes, as expected"
+    tally 0 1 0
+else
+    echo "porvuund search crates/play/data/wide.csv 1: expected a book of more than 65,536 bytes"
+    tally 0 0 1
+fi
 front 0 'a reduction, a search or a book was asked for with no accepted sheet' explain 10
 front 0 'a search or a book was asked for on a sheet that is not yet reduced' explain 16
 front 2 '' explain 0

@@ -2,15 +2,13 @@
 -- nothing.
 use Prim.Native.Nat.{ℕ}
 use Prim.Native.Char.{code}
-use mathlib.Core.Option.{Option, none, some}
 use mathlib.Core.List.{List, [], _∷_, _++_, map}
 use lib.ListN.{length, getD}
 use Rattle.spec.specs.Vocabulary.{joined}
 use Rattle.spec.specs.Text.{Bytes, ascii, line-feed}
-use Rattle.spec.specs.Roles.{Standing}
 use Rattle.spec.specs.Decimal.{decimal}
-use Rattle.spec.specs.Book.{standing-word}
 use Rattle.spec.specs.Calls.{LoadAnswer, ReduceAnswer, SearchAnswer, WriteAnswer, CheckAnswer}
+use Rattle.spec.specs.LongSearch.{named-word}
 use Rattle.io.specs.Digits.{digits}
 use Rattle.lists.specs.Listed.{listed}
 use Rattle.adler.specs.Adler.{adler-32}
@@ -63,11 +61,6 @@ load-line a =
 abbrev pub reduce-line : ReduceAnswer → Bytes
 reduce-line a = answer-line (ascii "reduce" ∷ map decimal (a .number ∷ a .kernel ∷ a .witness ∷ []))
 
--- the state that a search names, `-` where it names none
-abbrev pub state-word : Option Standing → Bytes
-state-word none = ascii "-"
-state-word (some standing) = standing-word standing
-
 -- `search NUMBER STEPS PLACED BACK CLOSED ROLES BOUND STATE`
 abbrev pub search-line : SearchAnswer → Bytes
 search-line a =
@@ -75,7 +68,7 @@ search-line a =
     (ascii "search"
     ∷ map decimal
     (a .number ∷ a .steps ∷ a .placed ∷ a .taken-back ∷ a .closed ∷ a .roles ∷ a .bound ∷ [])
-    ++ state-word (a .standing) ∷ [])
+    ++ named-word (a .standing) ∷ [])
 
 -- `write NUMBER COUNT DIGEST`, from the number that the digest spells
 abbrev pub digest-line : WriteAnswer → ℕ → Bytes

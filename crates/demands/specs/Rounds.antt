@@ -1,6 +1,6 @@
 -- The searches of the long search are together one. Searches of m and n steps are one of m + n, and where a search does
--- not answer `open` the machine is finished, so that no further one would move it: `witnessed` is answered only where the
--- best placement reaches w, and a machine that reaches w is finished.
+-- not answer `open` the machine is finished, so that no further one would move it: `witnessed` is answered only where
+-- the best placement reaches w, and a machine that reaches w is finished.
 use Prim.Native.Nat.{ℕ, zero, suc, _+_, _*_}
 use native.Mathlib.Nat.{suc-mul}
 use native.Mathlib.Omega.{arith}

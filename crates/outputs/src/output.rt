@@ -31,8 +31,8 @@ pub fn book_output<'a>(sheet: &'a [u8], word: &'a [u8], out: &mut [u8; PROGRAM_B
     put_number_line(out, answer.number)
 }
 
-// Puts what the long search prints of its session at the front of a buffer that takes every book: the book, or the number
-// of the refusal and a line feed.
+// Puts what the long search prints of its session at the front of a buffer that takes every book: the book, or the
+// number of the refusal and a line feed.
 pub fn session_output(session: Session, out: &mut [u8; BOOK_LIMIT]) -> usize
     requires { ⌜ Sound session ⌝ }
     ensures { λ r. ⌜ Written (printed (view session) (replicate book-limit 0)) (now (out .entry)) (now (out .exit))

@@ -1,8 +1,10 @@
--- What the searches of the long search made: where they led, how many they were, and the steps of all of them. Assumes
--- nothing.
-use Prim.Native.Nat.{ℕ}
+-- What the searches of the long search made: where they led, how many they were, and the steps of all of them; and how
+-- many steps a second some are. Assumes nothing.
+use Prim.Native.Nat.{ℕ, _-_, _*_, _/_}
 use mathlib.Core.Path.{_≡_}
+use mathlib.Core.Bool.{cond}
 use mathlib.Core.List.{List}
+use lib.Dec.{leb}
 use lib.ListN.{length}
 use Rattle.spec.specs.Session.{Session}
 use Rattle.spec.specs.Calls.{SearchAnswer}
@@ -18,3 +20,7 @@ pub record RoundsMade (budget rounds : ℕ) (from to : Session) (made steps : �
   pub session : to ≡ after-rounds budget rounds from
   pub counted : made ≡ length (round-answers budget rounds from)
   pub summed : steps ≡ steps-of (round-answers budget rounds from)
+
+-- steps a second, of steps that were made between two times in millionths of a second: 0 where no time went by
+abbrev pub steps-a-second : ℕ → ℕ → ℕ → ℕ
+steps-a-second steps began ended = cond (leb ended began) 0 (steps * 1_000_000 / (ended - began))

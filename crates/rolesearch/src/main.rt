@@ -1,9 +1,9 @@
-// The long search: searches the grant sheet on standard input again and again, 100,000,000 steps at a time, as many times
-// as the first argument says (1 to 4,294,967,295; 3,600 where there is none or it is no number of that range) or until a
-// search does not answer `open`. After each search it writes a line to standard error: steps so far, depth gained, roles,
-// bound, state, steps a second. Then it prints the session's book, or the number of the refusal and a line feed. What it
-// prints is `long-search-output` (spec, LongSearch), which `long_search` puts into a buffer; what is here only reads and
-// writes.
+// The long search: searches the grant sheet on standard input again and again, 100,000,000 steps at a time, as many
+// times as the first argument says (1 to 4,294,967,295; 3,600 where there is none or it is no number of that range) or
+// until a search does not answer `open`. After each search it writes a line to standard error: steps so far, depth
+// gained, roles, bound, state, steps a second. Then it prints the session's book, or the number of the refusal and a
+// line feed. What it prints is `long-search-output` (spec, LongSearch), which `long_search` puts into a buffer; what is
+// here only reads and writes.
 mod rounds;
 
 use libc::STDIN_FILENO;

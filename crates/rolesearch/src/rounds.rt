@@ -17,7 +17,7 @@ ghost use Rattle.spec.specs.LongSearch.{says-open, long-search-output};
 ghost use Rattle.text.specs.Written.{Written};
 ghost use Rattle.answers.specs.Said.{state-said};
 ghost use Rattle.session.specs.CodeSession.{view, Sound};
-ghost use Rattle.rolesearch.specs.Rounds.{RoundsMade};
+ghost use Rattle.rolesearch.specs.Rounds.{RoundsMade, steps-a-second};
 
 // The budget of each search.
 const ROUND_BUDGET: u32 = 100_000_000;
@@ -55,7 +55,9 @@ fn ticks(time: i64) -> u64 {
 }
 
 // Steps a second, of steps that were made between two times of the processor's clock: 0 where it did not move.
-fn speed(steps: u32, began: u64, ended: u64) -> usize {
+fn speed(steps: u32, began: u64, ended: u64) -> usize
+    ensures { λ r. ⌜ r ≡ steps-a-second steps began ended ⌝ }
+{
     if ended <= began {
         return 0;
     }

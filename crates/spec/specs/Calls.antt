@@ -64,8 +64,8 @@ after-reduce no-sheet = no-sheet
 after-reduce (read text) = reduced text (start-of (sheet-of text))
 after-reduce (reduced text st) = reduced text st
 
--- a search answers its steps, how many of them placed, took back and closed, roles, bound and state; a refused one names
--- no state
+-- a search answers its steps, how many of them placed, took back and closed, roles, bound and state; a refused one
+-- names no state
 pub record SearchAnswer : Type 0 where
   pub number : ℕ
   pub steps : ℕ

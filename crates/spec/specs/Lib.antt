@@ -1,10 +1,10 @@
 -- What must be believed: document 01 as definitions, in its order, and the three demands. Where a request of document
 -- 02 changes something, it stands here as changed: the numbers of request [1], the product role after role of [2],
--- names that are equal with `A-Z` read as `a-z` of [3], loads that only read of [4], what the steps were of [5]. Documents
--- 01 and 02 are the papers that the files speak of, with source document 001 for the product. There is no law here, and
--- nothing about how the code holds its data. Who reads these files and the papers side by side, and trusts the toolchain,
--- needs beside them only what docs/THEOREMS.md names: that the demands are proved, and that the contracts of the public
--- calls are the promises of `Calls`.
+-- names that are equal with `A-Z` read as `a-z` of [3], loads that only read of [4], what the steps were of [5].
+-- Documents 01 and 02 are the papers that the files speak of, with source document 001 for the product. There is no law
+-- here, and nothing about how the code holds its data. Who reads these files and the papers side by side, and trusts
+-- the toolchain, needs beside them only what docs/THEOREMS.md names: that the demands are proved, and that the
+-- contracts of the public calls are the promises of `Calls`.
 
 -- what sentences are said with
 pub mod Vocabulary

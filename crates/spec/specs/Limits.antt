@@ -1,8 +1,8 @@
--- The limits of document 01, as request [1] of document 02 sets them, and the two numbers of the long search, a program of
--- this project's own. Each stands here once, for all tests and for the machine. The rules of a sheet, what makes a book
--- right, and the demands say their numbers themselves and do not share these names: a test with another limit no longer
--- meets them. The cases compare each with the papers' number too; of the greatest budget, of a kernel above 128, of the
--- book program's buffer and of the long search, they alone speak.
+-- The limits of document 01, as request [1] of document 02 sets them, and the two numbers of the long search, a program
+-- of this project's own. Each stands here once, for all tests and for the machine. The rules of a sheet, what makes a
+-- book right, and the demands say their numbers themselves and do not share these names: a test with another limit no
+-- longer meets them. The cases compare each with the papers' number too; of the greatest budget, of a kernel above 128,
+-- of the book program's buffer and of the long search, they alone speak.
 use Rattle.spec.specs.Vocabulary.{ℕ}
 
 -- the bytes of a sheet

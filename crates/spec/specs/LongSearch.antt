@@ -1,7 +1,7 @@
 -- The long search, a program of this project's own for the person at the desk: a sheet on standard input, the number of
 -- searches as the argument. It loads, reduces and searches again and again on one session; after each search a line on
--- standard error says what request [5] of document 02 is for, whether it climbs or falls back. Then it prints the session's
--- book, or a refusal number, on standard output.
+-- standard error says what request [5] of document 02 is for, whether it climbs or falls back. Then it prints the
+-- session's book, or a refusal number, on standard output.
 use Rattle.spec.specs.Vocabulary.{ℕ, zero, suc, _+_, _-_, Bool, true, false, _&&_, not, cond, Option, none, some}
 use Rattle.spec.specs.Vocabulary.{List, [], _∷_, _++_, eqb, ltb, replicate}
 use Rattle.spec.specs.Limits.{round-budget, usual-rounds, book-limit}
@@ -31,8 +31,8 @@ says-open (some witnessed) = false
 says-open (some searched) = false
 says-open (some unsettled) = true
 
--- searches of one budget on a session, one after the other: as many as the rounds, or up to the first that does not answer
--- `open` if fewer. Their answers, the first search first
+-- searches of one budget on a session, one after the other: as many as the rounds, or up to the first that does not
+-- answer `open` if fewer. Their answers, the first search first
 unfoldable pub round-answers : ℕ → ℕ → Session → List SearchAnswer
 round-answers budget zero session = []
 round-answers budget (suc rounds) session =
@@ -58,8 +58,8 @@ abbrev pub named-word : Option Standing → Bytes
 named-word none = ascii "-"
 named-word (some standing) = standing-word standing
 
--- the line after a search: steps so far, depth gained, roles, bound, state, steps a second. The steps so far are those of
--- all searches, the depth gained is this search's, and how many steps it made a second is measured
+-- the line after a search: steps so far, depth gained, roles, bound, state, steps a second. The steps so far are those
+-- of all searches, the depth gained is this search's, and how many steps it made a second is measured
 abbrev pub progress-line : ℕ → SearchAnswer → ℕ → Bytes
 progress-line so-far answer speed =
     decimal so-far

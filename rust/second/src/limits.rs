@@ -1,4 +1,5 @@
-//! Every limit, once: those of document 01 as the requests of document 02 have moved them.
+//! Every limit, once: those of document 01 as the requests of document 02 have moved them, and the buffers of the
+//! programs that are this project's own.
 
 /// Bytes of a sheet.
 pub const SHEET_BYTES: usize = 65_536;

@@ -1,5 +1,5 @@
--- What is owed of what the long search prints: the book of an accepted sheet, whatever its length, after one search of as
--- many steps as all its searches have together, and that book is believed; else the number of the refusal.
+-- What is owed of what the long search prints: the book of an accepted sheet, whatever its length, after one search of
+-- as many steps as all its searches have together, and that book is believed; else the number of the refusal.
 use Prim.Native.Nat.{ℕ, _*_, _≤_}
 use native.Mathlib.Omega.{arith}
 use mathlib.Core.Path.{_≡_, ap, _∙_}
@@ -82,7 +82,8 @@ pub record SearchPrinted (text word before after : Bytes) (count : ℕ) : Type 0
   pub believed : So (accepted text) → Believed text (take count after)
   pub refused : accepted text ≡ false → take count after ≡ number-line (refusal text)
 
-pub search-printed : (text word : Bytes) {before after : Bytes} {count : ℕ} → Written (long-search-output text (word ∷ []))
+pub search-printed : (text word : Bytes) {before after : Bytes} {count : ℕ}
+    → Written (long-search-output text (word ∷ []))
     before after count
     → SearchPrinted text word before after count
 search-printed text word w =

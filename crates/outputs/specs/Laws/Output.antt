@@ -1,6 +1,6 @@
 -- What a program prints of a session, by what a writing answers: the book that was left at the front of the buffer, or
--- the number; and so what the book program prints, by what the call for a book answers. In the definitions a program's own
--- buffer is one of zeros; only its length matters. Assumes nothing.
+-- the number; and so what the book program prints, by what the call for a book answers. In the definitions a program's
+-- own buffer is one of zeros; only its length matters. Assumes nothing.
 use Prim.Native.Nat.{ℕ}
 use mathlib.Core.Path.{_≡_, refl, sym, ap, _∙_}
 use mathlib.Core.Bool.{Bool, true, false, cond}
@@ -56,7 +56,8 @@ untouched session buffer refuses =
 
 -- ---- what is printed of a writing
 
-pub printed-book : (session : Session) (buffer : Bytes) → write-answer session buffer .number ≡ 0 → printed session buffer
+pub printed-book : (session : Session) (buffer : Bytes) → write-answer session buffer .number ≡ 0
+    → printed session buffer
     ≡ session-book session
 unfolding printed
 printed-book session buffer z =

@@ -30,7 +30,8 @@ use Rattle.porvuund.specs.Laws.TaskOwed.{TaskOwed, task-owed}
 use Rattle.outputs.specs.CheckOutput.{check-line, check-output}
 
 -- what is written at the front of a buffer is what its first bytes then are
-pub front-written : {bytes before after : Bytes} {count : ℕ} → Written bytes before after count → take count after ≡ bytes
+pub front-written : {bytes before after : Bytes} {count : ℕ} → Written bytes before after count
+    → take count after ≡ bytes
 front-written {bytes} {before} {after} {count} w =
     ap (take count) (w .buffer) ∙ take-at bytes (drop (length bytes) before) count (sym (w .counted))
 

@@ -1,6 +1,6 @@
 -- Where the long search stands after some of its searches: with those that are still to come they are all. It begins so
--- with none made, one search more keeps it, and where none is left, or the last was not `open`, none is to come. Assumes
--- nothing.
+-- with none made, one search more keeps it, and where none is left, or the last was not `open`, none is to come.
+-- Assumes nothing.
 use Prim.Native.Nat.{ℕ, suc, _+_, _-_, _≤_, _<_}
 use native.Mathlib.Nat.{sub-zero}
 use native.Mathlib.Omega.{arith}

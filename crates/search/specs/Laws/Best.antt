@@ -22,7 +22,8 @@ pub step-keeps-or-improves : (kernel : Kernel) (st : State)
     → (step kernel st .state .best ≡ st .best) ⊎ Improves kernel st (step kernel st .state)
 step-keeps-or-improves kernel st = by-cases (step-cases kernel st)
   where
-    by-cases : {after : Step} → Stepped kernel st after → (after .state .best ≡ st .best) ⊎ Improves kernel st (after .state)
+    by-cases : {after : Step} → Stepped kernel st after
+        → (after .state .best ≡ st .best) ⊎ Improves kernel st (after .state)
     by-cases (placing c w not-whole) = inl refl
     by-cases (improving c w whole) = inr
         (record { whole = whole; copied = refl; better = omega (arith, w .below-best) })

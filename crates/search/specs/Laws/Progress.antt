@@ -36,7 +36,8 @@ step-closes-or-lowers kernel st s = by-cases (step-cases kernel st)
         (placing-lowers (kernel .size - suc (depth st)) (st .placed) (st .next) c (w .not-tried)
         (le-trans (w .used-or-next) (grown-used-le (st .placed) (s .grown))))
 
-    by-cases : {after : Step} → Stepped kernel st after → So (after .state .finished) ⊎ (potential kernel (after .state) < potential
+    by-cases : {after : Step} → Stepped kernel st after
+        → So (after .state .finished) ⊎ (potential kernel (after .state) < potential
         kernel st)
     by-cases (placing c w not-whole) = inr (by-placing c w)
     by-cases (improving c w whole) = inr (by-placing c w)
@@ -62,7 +63,8 @@ potential-ends kernel (suc budget) st s l =
   where
     after-step :
         So (step kernel st .state .finished) ⊎ (potential kernel (step kernel st .state) < potential kernel st)
-        → (potential kernel (step kernel st .state) ≤ budget → So (run kernel budget (step kernel st .state) .state .finished))
+        → (potential kernel (step kernel st .state) ≤ budget
+        → So (run kernel budget (step kernel st .state) .state .finished))
         → So (run kernel budget (step kernel st .state) .state .finished)
     after-step (inl e) ends = rw (run-finished kernel budget (step kernel st .state) e) e
     after-step (inr lower) ends = ends (omega arith)

@@ -1,5 +1,6 @@
--- A machine whose best placement reaches w is finished: it is so at the start, and a step that copies a placement as the
--- best one finishes exactly where that reaches w. So a machine that is not finished has not reached w. Assumes nothing.
+-- A machine whose best placement reaches w is finished: it is so at the start, and a step that copies a placement as
+-- the best one finishes exactly where that reaches w. So a machine that is not finished has not reached w. Assumes
+-- nothing.
 use Prim.Native.Nat.{ℕ}
 use mathlib.Core.Path.{_≡_, refl}
 use mathlib.Core.Logic.{⊎-elim}

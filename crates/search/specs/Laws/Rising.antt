@@ -36,7 +36,8 @@ pub step-closes-or-rises : (kernel : Kernel) (st : State)
     → So (step kernel st .state .finished) ⊎ Before (position st) (position (step kernel st .state))
 step-closes-or-rises kernel st = by-cases (step-cases kernel st)
   where
-    by-cases : {after : Step} → Stepped kernel st after → So (after .state .finished) ⊎ Before (position st) (position (after .state))
+    by-cases : {after : Step} → Stepped kernel st after
+        → So (after .state .finished) ⊎ Before (position st) (position (after .state))
     by-cases (placing c w not-whole) = inr (placing-rises (st .placed) (st .next) c (w .not-tried))
     by-cases (improving c w whole) = inr (placing-rises (st .placed) (st .next) c (w .not-tried))
     by-cases (taking-back a earlier e h) = inr (rw e (taking-back-rises earlier a (st .next)))
@@ -57,7 +58,8 @@ run-rises kernel (suc count) st later u b =
   where
     after-step :
         So (step kernel st .state .finished) ⊎ Before (position st) (position (step kernel st .state))
-        → run kernel count (step kernel st .state) .state .finished ≡ false → Before (position (step kernel st .state)) later
+        → run kernel count (step kernel st .state) .state .finished ≡ false
+        → Before (position (step kernel st .state)) later
         → Before (position st) later
     after-step (inl e) v b = absurd (not-both e (rw (run-finished kernel count (step kernel st .state) e) at v))
     after-step (inr r) v b = before-trans (position st) (position (step kernel st .state)) later r b
@@ -79,10 +81,12 @@ record Raised (before after : State) : Type 0 where
   rises : Before (position before) (position after)
   anew : after .next ≡ 0
 
-placing-raises : (kernel : Kernel) (st : State) → depth (step kernel st .state) ≡ suc (depth st) → Raised st (step kernel st .state)
+placing-raises : (kernel : Kernel) (st : State) → depth (step kernel st .state) ≡ suc (depth st)
+    → Raised st (step kernel st .state)
 placing-raises kernel st = by-cases (step-cases kernel st)
   where
-    by-cases : {after : Step} → Stepped kernel st after → depth (after .state) ≡ suc (depth st) → Raised st (after .state)
+    by-cases : {after : Step} → Stepped kernel st after → depth (after .state) ≡ suc (depth st)
+        → Raised st (after .state)
     by-cases (placing c w not-whole) g = record {
       rises = placing-rises (st .placed) (st .next) c (w .not-tried);
       anew = refl;

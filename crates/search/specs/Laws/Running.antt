@@ -31,7 +31,13 @@ module _ (kernel : Kernel) (budget : ℕ) where
   pub running-none : (parts : Parts) → PartsStand (kernel .size) parts → Running kernel budget
       (parts-view parts (kernel .size)) parts 0 no-kinds
   running-none parts s =
-      record { within = omega arith; add-up = refl; stands = s; rest = rw sub-zero (sym (none-first (parts-view parts (kernel .size)) (run kernel budget (parts-view parts (kernel .size))))) }
+      let from : State = parts-view parts (kernel .size) in
+      record {
+        within = omega arith;
+        add-up = refl;
+        stands = s;
+        rest = rw sub-zero (sym (none-first from (run kernel budget from)));
+      }
 
   module _ (from : State) {parts : Parts} {steps : ℕ} {kinds : Kinds}
       (running : Running kernel budget from parts steps kinds) where

@@ -39,7 +39,8 @@ sound-start kernel first w = record {
 pub sound-step : (kernel : Kernel) (st : State) → SoundState kernel st → SoundState kernel (step kernel st .state)
 sound-step kernel st s = by-cases (step-cases kernel st) (step-admissible kernel st (s .admissible))
   where
-    by-cases : {after : Step} → Stepped kernel st after → Admissible kernel (after .state) → SoundState kernel (after .state)
+    by-cases : {after : Step} → Stepped kernel st after → Admissible kernel (after .state)
+        → SoundState kernel (after .state)
     by-cases (placing c w unfilled) m =
         record {
           admissible = m;

@@ -1,8 +1,8 @@
--- What the steps of every run and every search were, from every state. The three counts add up to the steps; placed less
--- taken back is the depth gained; at most one step closed, and one did exactly where the run closed the machine. Each
--- step does its part: a placing adds one grant, a taking back takes one off, and a closing finishes the machine with no
--- grant placed, after which no step is made. A run that finishes the machine otherwise ends with all grants placed. Assumes
--- nothing.
+-- What the steps of every run and every search were, from every state. The three counts add up to the steps; placed
+-- less taken back is the depth gained; at most one step closed, and one did exactly where the run closed the machine.
+-- Each step does its part: a placing adds one grant, a taking back takes one off, and a closing finishes the machine
+-- with no grant placed, after which no step is made. A run that finishes the machine otherwise ends with all grants
+-- placed. Assumes nothing.
 use Prim.Native.Nat.{ℕ, zero, suc, _+_, _≤_}
 use mathlib.Core.Path.{_≡_, refl, ap, _∙_}
 use mathlib.Core.Logic.{_↔_, ⊎-elim}

@@ -150,8 +150,8 @@ abbrev pub NothingKeptOf : Calling → Type 1
 NothingKeptOf calling =
     (events : List Event) (s : CodeSession) → Ran calling events s → So (not-reduced (view s)) → NothingFound s
 
--- demand 2: a load is answered by 0 exactly where its bytes keep the rules; each book that a writing brings out is right
--- for the sheet of the last accepted load, its names spelled as that sheet spells them
+-- demand 2: a load is answered by 0 exactly where its bytes keep the rules; each book that a writing brings out is
+-- right for the sheet of the last accepted load, its names spelled as that sheet spells them
 pub record Demand2Of (calling : Calling) : Type 1 where
   pub accepts-sheets : (earlier : List Event) (before after : CodeSession) (text : Bytes) (answer : LoadAnswer)
       → Ran calling earlier before

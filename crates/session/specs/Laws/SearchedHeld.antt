@@ -1,6 +1,6 @@
 -- A search of a session whose sheet is reduced does what the definition of a search says: its answer has the steps
--- made, what they were, and the counts where the search then stands, and the session after it has the state that the machine came to.
--- Without a sheet, and on one not yet reduced, it is refused, and the session stays.
+-- made, what they were, and the counts where the search then stands, and the session after it has the state that the
+-- machine came to. Without a sheet, and on one not yet reduced, it is refused, and the session stays.
 use Prim.Native.Nat.{ℕ}
 use mathlib.Core.Path.{_≡_, refl, ap, _∙_}
 use mathlib.Core.Bool.{So, false}

@@ -179,7 +179,8 @@ edges : map finding trials ≡
     ∷ found (counts 5 5 16) (sizes 7 4) reaches-witness (figures 21 (kinds 14 7 0) 4 4 witnessed) 7
     ∷ found (counts 4 4 10) (sizes 0 4) (at 0 0 ∷ at 1 2 ∷ at 2 1 ∷ at 3 3 ∷ []) (unmoved 4 4 witnessed) 0
     ∷ []
-unfolding finding trials counts sizes kinds figures unmoved found at crown-witness improves-witness reaches-witness lowest-below
+unfolding finding trials counts sizes kinds figures unmoved found at crown-witness improves-witness reaches-witness
+    lowest-below
 edges = refl
 
 -- the worked example's whole book from the sheet's bytes

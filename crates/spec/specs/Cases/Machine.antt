@@ -1,8 +1,7 @@
 -- Kernels on which a slip of the machine would give another answer, computed from the definitions. The first has ten
--- grants. Step
--- 14 finds a placement of five classes. In step 17 the eight grants placed use five classes, so that none is left,
--- though the next grant fits class 2 and 2 + 1 is below the new count: a machine that holds only c + 1 below it, and
--- not the classes in use, places there.
+-- grants. Step 14 finds a placement of five classes. In step 17 the eight grants placed use five classes, so that none
+-- is left, though the next grant fits class 2 and 2 + 1 is below the new count: a machine that holds only c + 1 below
+-- it, and not the classes in use, places there.
 use Rattle.spec.specs.Vocabulary.{ℕ, suc, _/_, _%_, Bool, true, false, _&&_, not, cond, List, [], _∷_, map, eqb}
 use Rattle.spec.specs.Vocabulary.{ltb, getD, lowest-below, any}
 use mathlib.Core.Path.{_≡_, refl}
@@ -73,12 +72,13 @@ cases : map stand (0 ∷ 1 ∷ 13 ∷ 14 ∷ 17 ∷ 44 ∷ 100 ∷ [])
 unfolding stand kinds first better lowest-below
 cases = refl
 
--- from step 14 on: three steps that all take back, so that the depth gained is below the start; and one that closes, the
--- last of 31. A finished machine answers zeros
+-- from step 14 on: three steps that all take back, so that the depth gained is below the start; and one that closes,
+-- the last of 31. A finished machine answers zeros
 kinds-of : Ran → Kinds
 kinds-of ran = ran .kinds
 
-later-kinds : map (λ budget. kinds-of (run kernel budget (run kernel 14 (start kernel first) .state))) (3 ∷ 30 ∷ 31 ∷ [])
+later-kinds : map (λ budget. kinds-of (run kernel budget (run kernel 14 (start kernel first) .state)))
+    (3 ∷ 30 ∷ 31 ∷ [])
     ≡ kinds 0 3 0 ∷ kinds 10 20 0 ∷ kinds 10 20 1 ∷ []
 unfolding run kernel first kinds kinds-of lowest-below
 later-kinds = refl
@@ -87,9 +87,9 @@ finished-kinds : kinds-of (run kernel 5 (run kernel 45 (start kernel first) .sta
 unfolding run kernel first kinds kinds-of lowest-below
 finished-kinds = refl
 
--- the search of four users each lacking only their own permission, from a class for each user: it closes in step 125, with
--- 62 placed and 62 taken back; cut into searches of 50 steps, the counts of the parts add up to those, and a fourth of the
--- finished machine has zeros
+-- the search of four users each lacking only their own permission, from a class for each user: it closes in step 125,
+-- with 62 placed and 62 taken back; cut into searches of 50 steps, the counts of the parts add up to those, and a
+-- fourth of the finished machine has zeros
 crown-user : ℕ → ℕ
 crown-user g = g / 3
 
@@ -119,7 +119,8 @@ kinds-in-turn (budget ∷ later) st =
     let ran : Ran = search crown budget st in
     ran .kinds ∷ kinds-in-turn later (ran .state)
 
-crown-kinds : map (λ budgets. kinds-in-turn budgets (start crown by-user)) ((124 ∷ []) ∷ (125 ∷ []) ∷ (50 ∷ 50 ∷ 50 ∷ 50 ∷ []) ∷ [])
+crown-kinds : map (λ budgets. kinds-in-turn budgets (start crown by-user))
+    ((124 ∷ []) ∷ (125 ∷ []) ∷ (50 ∷ 50 ∷ 50 ∷ 50 ∷ []) ∷ [])
     ≡ (kinds 62 62 0 ∷ [])
     ∷ (kinds 62 62 1 ∷ [])
     ∷ (kinds 26 24 0 ∷ kinds 27 23 0 ∷ kinds 9 15 1 ∷ kinds 0 0 0 ∷ [])

@@ -31,8 +31,8 @@ writing : Event
 writing = record { call = write []; outcome = record { answer = write-refused 0; lent = [] } }
 
 -- figures of a search that left five roles
-counted : ℕ → ℕ → ℕ → ℕ → Standing → SearchAnswer
-counted steps placed taken-back closed standing =
+counted : ℕ → ℕ → ℕ → ℕ → ℕ → Standing → SearchAnswer
+counted steps placed taken-back closed bound standing =
     record {
       number = 0;
       steps = steps;
@@ -40,21 +40,21 @@ counted steps placed taken-back closed standing =
       taken-back = taken-back;
       closed = closed;
       roles = 5;
-      bound = 5;
+      bound = bound;
       standing = some standing;
     }
 
 happened : List Event
 unfolding event-of-search event-of-load reduction writing counted improves
 happened =
-    event-of-search 100 (counted 28 10 17 1 searched)
+    event-of-search 100 (counted 28 10 17 1 5 searched)
     ∷ event-of-load []
     ∷ writing
-    ∷ event-of-search 17 (counted 17 12 5 0 unsettled)
+    ∷ event-of-search 17 (counted 17 12 5 0 4 unsettled)
     ∷ reduction
     ∷ event-of-search 3 (search-refused 16)
     ∷ event-of-load improves
-    ∷ event-of-search 45 (counted 45 22 22 1 searched)
+    ∷ event-of-search 45 (counted 45 22 22 1 5 searched)
     ∷ reduction
     ∷ event-of-load improves
     ∷ []

@@ -4,12 +4,13 @@ use mathlib.Core.List.{[], _∷_, _++_, map}
 use mathlib.Core.Path.{ap, sym, _∙_}
 use Rattle.spec.specs.Text.{Bytes, ascii}
 use Rattle.spec.specs.Decimal.{decimal}
+use Rattle.spec.specs.LongSearch.{named-word}
 use Rattle.answers.specs.Said.{state-said}
 use Rattle.answers.specs.declared.answer.Named.{Named}
 use Rattle.answers.specs.declared.answer.Named.the-variants as named
 use Rattle.standing.specs.declared.standing.Standing.{Standing as StandingValue}
 use Rattle.text.specs.Written.{written-as}
-use Rattle.answer_lines.specs.Answers.{answer-line, state-word}
+use Rattle.answer_lines.specs.Answers.{answer-line}
 use Rattle.answer_lines.proofs.answer.put_searched.Statement.{statement}
 use Rattle.answer_lines.proofs.answer.put_searched.Tie as tie
 
@@ -20,7 +21,7 @@ line s n =
     answer-line (ascii "search"
     ∷ map decimal
     (a .number ∷ a .steps ∷ a .placed ∷ a .«taken_back» ∷ a .closed ∷ a .roles ∷ a .bound ∷ [])
-    ++ state-word (state-said n) ∷ [])
+    ++ named-word (state-said n) ∷ [])
 
 returns : tie.Need-returns
 returns c =

@@ -1,4 +1,5 @@
--- `output::session_output`: the writing leaves the book at the front of the buffer, or leaves the buffer for the number.
+-- `output::session_output`: the writing leaves the book at the front of the buffer, or leaves the buffer for the
+-- number.
 use borrow.Author.Needs.{needs}
 use native.Mathlib.Omega.{arith}
 use mathlib.Core.Path.{_≡_, sym}

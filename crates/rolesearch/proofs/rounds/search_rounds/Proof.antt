@@ -1,7 +1,7 @@
--- `rounds::search_rounds`: at each turn the searches made and those that are still to come are all (`GoingOn`), which one
--- search more keeps. The measure is the number of searches left. The loop ends when there are none, or when the last one
--- was not `open`. The steps of all searches have room in a word: there are fewer searches, and fewer steps in each, than
--- half a word has numbers.
+-- `rounds::search_rounds`: at each turn the searches made and those that are still to come are all (`GoingOn`), which
+-- one search more keeps. The measure is the number of searches left. The loop ends when there are none, or when the
+-- last one was not `open`. The steps of all searches have room in a word: there are fewer searches, and fewer steps in
+-- each, than half a word has numbers.
 use borrow.Author.Needs.{needs}
 use Prim.Native.Nat.{_*_, _-_, _≤_}
 use native.Mathlib.Omega.{arith}
