@@ -19,6 +19,7 @@ use Rattle.spec.specs.Refusal.{check-causes, accepted}
 use Rattle.spec.specs.Calls.{LoadAnswer, load-answer, load-refused, ReduceAnswer, reduce-refused, reduce-counts}
 use Rattle.spec.specs.Calls.{SearchAnswer, search-refused, WriteAnswer, write-refused, CheckAnswer, check}
 use Rattle.spec.specs.Calls.{check-refused, check-counts, Loads, Reduces, Searches, Writes, Checks}
+use Rattle.spec.specs.Newcomer.{Joining, newcomer-causes, Joins}
 use Rattle.spec.specs.Sequence.{Call, load, reduce, search, write, WriteOutcome, Outcome, Happens, Event, Led}
 use Rattle.spec.specs.Sequence.{calls, last-accepted, last-reduced, budgets-given, searched-in-all, reached}
 use Rattle.spec.specs.Sequence.{search-answers, total, enough, brought-out}
@@ -43,6 +44,8 @@ pub record Demand1 : Type 0 where
   pub answered : (call : Call) (before : Session) → (outcome : Outcome call) × (after : Session)
       × Happens call outcome before after
   pub checked : (sheet-bytes book-bytes : Bytes) → (answer : CheckAnswer) × Checks sheet-bytes book-bytes answer
+  pub joined : (lent : Joining) (buffer : Bytes) → (answer : WriteAnswer) × (after : Bytes)
+      × Joins lent buffer answer after
   -- and it is judged by its causes
   pub loads : (before after : Session) (text : Bytes) (answer : LoadAnswer) → Loads before text answer after
       → Judged (sheet-causes text) (answer .number) ((answer ≡ load-refused (answer .number)) × (after ≡ before))
@@ -56,6 +59,9 @@ pub record Demand1 : Type 0 where
       ((answer ≡ write-refused (answer .number)) × (lent ≡ buffer) × (after ≡ before))
   pub checks : (sheet-bytes book-bytes : Bytes) (answer : CheckAnswer) → Checks sheet-bytes book-bytes answer
       → Judged (check-causes sheet-bytes book-bytes) (answer .number) (answer ≡ check-refused (answer .number))
+  pub joins : (lent : Joining) (before after : Bytes) (answer : WriteAnswer) → Joins lent before answer after
+      → Judged (newcomer-causes lent before) (answer .number)
+      ((answer ≡ write-refused (answer .number)) × (after ≡ before))
 
 -- number is the lowest of the causes that apply, and 0 exactly where none applies
 pub record LowestThatApplies (causes : List Cause) (number : ℕ) : Type 0 where

@@ -1,6 +1,7 @@
 -- What must be believed: document 01 as definitions, in its order, and the three demands. Where a request of document
 -- 02 changes something, it stands here as changed: the numbers of request [1], the product role after role of [2],
--- names that are equal with `A-Z` read as `a-z` of [3], loads that only read of [4], what the steps were of [5].
+-- names that are equal with `A-Z` read as `a-z` of [3], loads that only read of [4], what the steps were of [5], a
+-- newcomer in an existing book of [6].
 -- Documents 01 and 02 are the papers that the files speak of, with source document 001 for the product. There is no law
 -- here, and nothing about how the code holds its data. Who reads these files and the papers side by side, and trusts
 -- the toolchain, needs beside them only what docs/THEOREMS.md names: that the demands are proved, and that the
@@ -39,8 +40,11 @@ pub mod Refusal
 pub mod Calls
 pub mod Program
 pub mod LongSearch
+-- document 02, [6]: a newcomer in an existing book
+pub mod Newcomer
 -- "The sequence of demand 3", and the demands
 pub mod Sequence
 pub mod Demands
+pub mod Joined
 -- "Around the edges": the paper's cases, computed
 pub mod Cases
