@@ -10,3 +10,4 @@ pub mod Edges
 pub mod Calls
 pub mod Searches
 pub mod LongSearch
+pub mod Newcomer

@@ -1,7 +1,7 @@
 -- The customer's three demands as statements. The limits that they speak of stand here and in `Rules` and `Right` as
 -- the paper has them, and not by the names that the tests and the machine use; so do 10, 16 and 11, which demand 3 owes
--- by the calls before. The numbers of sheets and books stand once, in `Refusal`, 2·(1!+2!+..+k!)+1 in `Sequence`, and
--- what equal names are in `Text`.
+-- by the calls before. The numbers of sheets and books stand once, in `Refusal`, those of a newcomer in `Newcomer`,
+-- 2·(1!+2!+..+k!)+1 in `Sequence`, and what equal names are in `Text`.
 use Rattle.spec.specs.Vocabulary.{ℕ, _+_, _≤_, _≡_, _≢_, _⊎_, _↔_, So, false, none, some, List, [], _∷_}
 use Rattle.spec.specs.Vocabulary.{_++_, List·Memᴰ, length}
 use Rattle.spec.specs.Text.{Bytes}
@@ -19,7 +19,7 @@ use Rattle.spec.specs.Refusal.{check-causes, accepted}
 use Rattle.spec.specs.Calls.{LoadAnswer, load-answer, load-refused, ReduceAnswer, reduce-refused, reduce-counts}
 use Rattle.spec.specs.Calls.{SearchAnswer, search-refused, WriteAnswer, write-refused, CheckAnswer, check}
 use Rattle.spec.specs.Calls.{check-refused, check-counts, Loads, Reduces, Searches, Writes, Checks}
-use Rattle.spec.specs.Newcomer.{Joining, newcomer-causes, Joins}
+use Rattle.spec.specs.Newcomer.{Admission, newcomer-causes, Admits}
 use Rattle.spec.specs.Sequence.{Call, load, reduce, search, write, WriteOutcome, Outcome, Happens, Event, Led}
 use Rattle.spec.specs.Sequence.{calls, last-accepted, last-reduced, budgets-given, searched-in-all, reached}
 use Rattle.spec.specs.Sequence.{search-answers, total, enough, brought-out}
@@ -36,16 +36,16 @@ pub record Judged (causes : List Cause) (number : ℕ) (Refused : Type 0) : Type
   pub first : FirstThatApplies causes number
   pub refused : number ≢ 0 → Refused
 
--- demand 1: every sheet, budget, book and lent buffer, however wrong, gets a result or the first refusal number that
--- applies in the order of checks, and a refusal returns that number and counts 0 and leaves the session and every lent
--- byte untouched
+-- demand 1: every sheet, budget, book, user line and lent buffer, however wrong, gets a result or the first refusal
+-- number that applies in the order of checks, and a refusal returns that number and counts 0 and leaves the session and
+-- every lent byte untouched
 pub record Demand1 : Type 0 where
   -- every call gets an answer, on every session
   pub answered : (call : Call) (before : Session) → (outcome : Outcome call) × (after : Session)
       × Happens call outcome before after
   pub checked : (sheet-bytes book-bytes : Bytes) → (answer : CheckAnswer) × Checks sheet-bytes book-bytes answer
-  pub joined : (lent : Joining) (buffer : Bytes) → (answer : WriteAnswer) × (after : Bytes)
-      × Joins lent buffer answer after
+  pub admission : (lent : Admission) (buffer : Bytes) → (answer : WriteAnswer) × (after : Bytes)
+      × Admits lent buffer answer after
   -- and it is judged by its causes
   pub loads : (before after : Session) (text : Bytes) (answer : LoadAnswer) → Loads before text answer after
       → Judged (sheet-causes text) (answer .number) ((answer ≡ load-refused (answer .number)) × (after ≡ before))
@@ -59,7 +59,7 @@ pub record Demand1 : Type 0 where
       ((answer ≡ write-refused (answer .number)) × (lent ≡ buffer) × (after ≡ before))
   pub checks : (sheet-bytes book-bytes : Bytes) (answer : CheckAnswer) → Checks sheet-bytes book-bytes answer
       → Judged (check-causes sheet-bytes book-bytes) (answer .number) (answer ≡ check-refused (answer .number))
-  pub joins : (lent : Joining) (before after : Bytes) (answer : WriteAnswer) → Joins lent before answer after
+  pub admits : (lent : Admission) (before after : Bytes) (answer : WriteAnswer) → Admits lent before answer after
       → Judged (newcomer-causes lent before) (answer .number)
       ((answer ≡ write-refused (answer .number)) × (after ≡ before))
 

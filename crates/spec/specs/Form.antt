@@ -110,7 +110,7 @@ form sheet text =
     && witness-form sheet (block-at blocks 3)
 
 -- the lowest number of a name in a list of names that is equal to this one. The 0 that stands for an unknown name never
--- decides a number: cause 12 applies then, and is lower
+-- decides a number: cause 12 applies then, and is judged before all that look at it
 abbrev pub number-among : List Bytes → Bytes → ℕ
 number-among names name = Option·getD (lowest-below (length names) (λ i. same-name name (getD names i []))) 0
 
@@ -123,7 +123,7 @@ grant-of-line sheet line =
     }
 
 -- the state that a word says. What stands for a word that is none of the three never decides a number: cause 12
--- applies then, and is lower
+-- applies then, and is judged before all that look at it
 abbrev pub standing-said : Bytes → Standing
 standing-said word =
     cond (same-bytes word (standing-word witnessed)) witnessed

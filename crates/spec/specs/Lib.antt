@@ -5,7 +5,7 @@
 -- Documents 01 and 02 are the papers that the files speak of, with source document 001 for the product. There is no law
 -- here, and nothing about how the code holds its data. Who reads these files and the papers side by side, and trusts
 -- the toolchain, needs beside them only what docs/THEOREMS.md names: that the demands are proved, and that the
--- contracts of the public calls are the promises of `Calls`.
+-- contracts of the public calls are the promises of `Calls` and `Newcomer`.
 
 -- what sentences are said with
 pub mod Vocabulary
@@ -45,6 +45,7 @@ pub mod Newcomer
 -- "The sequence of demand 3", and the demands
 pub mod Sequence
 pub mod Demands
-pub mod Joined
+-- document 02, [6]: what is owed of a newcomer's book
+pub mod Admitted
 -- "Around the edges": the paper's cases, computed
 pub mod Cases

@@ -1,5 +1,5 @@
--- What request [6] of document 02 promises of every accepted call that puts a newcomer in an existing book. No test is
--- involved: what the longer sheet is, is said by `Rules`, and what the books say by `Right`.
+-- What request [6] of document 02 promises of a newcomer in an existing book. No test is involved but the checker
+-- itself, in `confirmed-by-check`: what the two sheets are is said by `Rules`, and what the two books say by `Right`.
 use Rattle.spec.specs.Vocabulary.{ℕ, suc, _≤_, _<_, _≡_, _≢_, _⊎_, _↔_, Bool, So, false, List, [], _∷_, _++_}
 use Rattle.spec.specs.Vocabulary.{map, length, take}
 use Rattle.spec.specs.Text.{Bytes, line-text}
@@ -10,7 +10,7 @@ use Rattle.spec.specs.Roles.{witnessed, searched, unsettled}
 use Rattle.spec.specs.Book.{Said, book-text}
 use Rattle.spec.specs.Right.{Right}
 use Rattle.spec.specs.Calls.{WriteAnswer, check, check-counts}
-use Rattle.spec.specs.Newcomer.{Joining, longer, given-sheet, longer-sheet, newcomer, Joins}
+use Rattle.spec.specs.Newcomer.{Admission, longer, given-sheet, longer-sheet, newcomer, Admits}
 
 -- a sheet with one user more, who is the last
 abbrev pub with-user : Sheet → Bytes → List Bool → Sheet
@@ -54,14 +54,16 @@ pub record OneNewRole (sheet : Sheet) (u : ℕ) (before after : Said) : Type 0 w
   pub count : after .roles .count ≡ suc (before .roles .count)
   pub exactly : (p : ℕ) → p < permission-count sheet
       → So (after .roles .gives (before .roles .count) p) ↔ LeftOver sheet u (before .roles) p
-  pub theirs : So (after .roles .has u (before .roles .count))
+  pub has-new : So (after .roles .has u (before .roles .count))
   pub only-theirs : (v : ℕ) → v < u → after .roles .has v (before .roles .count) ≡ false
   pub standing : after .standing ≡ unsettled
   pub bound : after .bound ≡ length (before .witness)
 
 -- what is owed of the new book
-pub record Joined (lent : Joining) (result : Bytes) : Type 0 where
-  -- the line is a name and cells, and the longer sheet is the given one with that user last; it keeps all rules
+pub record Admitted (lent : Admission) (result : Bytes) : Type 0 where
+  -- the given sheet keeps all rules; the line is a name and cells; the longer sheet is the given one with that user
+  -- last, and keeps all rules too
+  pub given-kept : Keeps (lent .sheet) (given-sheet lent)
   pub name : Bytes
   pub row : List Bool
   pub line-written : lent .line ≡ line-text (name ∷ map cell-text row)
@@ -90,14 +92,21 @@ pub record Joined (lent : Joining) (result : Bytes) : Type 0 where
       ⊎ OneNewRole (longer-sheet lent) (newcomer lent) before after
   -- if every role set of the sheet has at least n roles then every one of the longer sheet has
   pub at-least : (n : ℕ) → AtLeast n (given-sheet lent) → AtLeast n (longer-sheet lent)
-  -- so bound and state word are as true as they were
-  pub bound-true : AtLeast (before .bound) (given-sheet lent) → AtLeast (after .bound) (longer-sheet lent)
-  pub word-true : WordTrue before (given-sheet lent) → WordTrue after (longer-sheet lent)
+  -- so bound and state word are as true as they were, whatever the given book is taken to say
+  pub bound-true : (says : Said) → Right (given-sheet lent) (lent .book) says
+      → AtLeast (says .bound) (given-sheet lent) → AtLeast (after .bound) (longer-sheet lent)
+  pub word-true : (says : Said) → Right (given-sheet lent) (lent .book) says
+      → WordTrue says (given-sheet lent) → WordTrue after (longer-sheet lent)
+  -- and every role set has at least as many roles as there are witness lines, whoever wrote the given book
+  pub witness-true : AtLeast (length (after .witness)) (longer-sheet lent)
 
--- what is owed of every accepted call, through the bytes that it brought out; and no buffer of 131,072 bytes is too
--- short
+-- what is owed of the call. An accepted one brings out such a book; where there is such a book and room for it, the
+-- call is accepted and brings out that one, byte for byte; and no buffer of 131,072 bytes is too short
 pub record NewcomerOwed : Type 0 where
-  pub joined : (lent : Joining) (before after : Bytes) (answer : WriteAnswer) → Joins lent before answer after
-      → answer .number ≡ 0 → Joined lent (take (answer .count) after)
-  pub room : (lent : Joining) (before after : Bytes) (answer : WriteAnswer) → Joins lent before answer after
+  pub admitted : (lent : Admission) (before after : Bytes) (answer : WriteAnswer) → Admits lent before answer after
+      → answer .number ≡ 0 → Admitted lent (take (answer .count) after)
+  pub exactly : (lent : Admission) (before after : Bytes) (answer : WriteAnswer) → Admits lent before answer after
+      → (result : Bytes) → Admitted lent result → length result ≤ length before
+      → (answer .number ≡ 0) × (take (answer .count) after ≡ result)
+  pub room : (lent : Admission) (before after : Bytes) (answer : WriteAnswer) → Admits lent before answer after
       → 131_072 ≤ length before → answer .number ≢ 11
