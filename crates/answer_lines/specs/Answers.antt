@@ -70,13 +70,17 @@ search-line a =
     (a .number ∷ a .steps ∷ a .placed ∷ a .taken-back ∷ a .closed ∷ a .roles ∷ a .bound ∷ [])
     ++ named-word (a .standing) ∷ [])
 
--- `write NUMBER COUNT DIGEST`, from the number that the digest spells
-abbrev pub digest-line : WriteAnswer → ℕ → Bytes
-digest-line a sum = answer-line (ascii "write" ∷ map decimal (a .number ∷ a .count ∷ []) ++ digest-word sum ∷ [])
+-- `WORD NUMBER COUNT DIGEST`, of a call that writes into lent bytes, from the number that the digest spells
+abbrev pub digest-line : Bytes → WriteAnswer → ℕ → Bytes
+digest-line word a sum = answer-line (word ∷ map decimal (a .number ∷ a .count ∷ []) ++ digest-word sum ∷ [])
 
--- and from the bytes that were lent as they are after the call: their Adler-32
+-- `write NUMBER COUNT DIGEST` and `newcomer NUMBER COUNT DIGEST`, from the bytes that were lent as they are after the
+-- call: their Adler-32
 abbrev pub write-line : WriteAnswer → Bytes → Bytes
-write-line a lent = digest-line a (adler-32 lent)
+write-line a lent = digest-line (ascii "write") a (adler-32 lent)
+
+abbrev pub newcomer-line : WriteAnswer → Bytes → Bytes
+newcomer-line a lent = digest-line (ascii "newcomer") a (adler-32 lent)
 
 -- `check NUMBER ROLES WITNESSLINES`
 abbrev pub check-line : CheckAnswer → Bytes

@@ -14,13 +14,14 @@ ghost use Prim.Native.Nat.{_≤_};
 ghost use lib.ListN.{length};
 ghost use Rattle.answers.specs.Said.{search-said, write-said};
 ghost use Rattle.text.specs.Written.{Written};
-ghost use Rattle.answer_lines.specs.Answers.{search-line, write-line};
+ghost use Rattle.answer_lines.specs.Answers.{search-line, digest-line, write-line, newcomer-line};
 ghost use Rattle.answer_lines.specs.LineOf.{answer-most, line-of};
 
 // The bytes of an answer, at most.
 pub const ANSWER_BUFFER: usize = 192;
 
-// The answer of a call, or that a line is no call. A writing's has the Adler-32 of the bytes that it was lent.
+// The answer of a call, or that a line is no call. A writing's and a newcomer's have the Adler-32 of the bytes that were
+// lent.
 pub enum Answer {
     NoCall,
     Loaded(LoadAnswer),
@@ -28,6 +29,7 @@ pub enum Answer {
     Searched(SearchAnswer),
     Written(WriteAnswer, u32),
     Checked(Checked),
+    Admitted(WriteAnswer, u32),
 }
 
 // The answer of a writing, with the bytes that it was lent as they are after it.
@@ -35,6 +37,23 @@ pub fn written(answer: WriteAnswer, lent: &[u8]) -> Answer
     ensures { λ r. ⌜ line-of r ≡ write-line (write-said answer) (now (lent .entry)) ⌝ }
 {
     Answer::Written(answer, adler_32(lent))
+}
+
+// The answer of a newcomer, with the bytes that were lent as they are after it.
+pub fn admitted(answer: WriteAnswer, lent: &[u8]) -> Answer
+    ensures { λ r. ⌜ line-of r ≡ newcomer-line (write-said answer) (now (lent .entry)) ⌝ }
+{
+    Answer::Admitted(answer, adler_32(lent))
+}
+
+// The line of a call that writes into lent bytes: its number, its byte count and the digest of the bytes.
+fn put_lent(out: &mut [u8], word: &[u8], answer: WriteAnswer, sum: u32) -> usize
+    requires { ⌜ (length (now word) ≤ 8) × (answer-most ≤ length (now out)) ⌝ }
+    ensures { λ r. ⌜ Written (digest-line (now (word .entry)) (write-said answer) sum) (now (out .entry))
+        (now (out .exit)) r ⌝ }
+{
+    let numbers = [answer.number, answer.count];
+    put_digest_line(out, word, &numbers, sum)
 }
 
 // The line of a search: its state is the last word.
@@ -78,13 +97,11 @@ pub fn put_answer(out: &mut [u8], answer: Answer) -> usize
             put_line(out, b"reduce", &numbers, b"")
         }
         Answer::Searched(a) => put_searched(out, a),
-        Answer::Written(a, sum) => {
-            let numbers = [a.number, a.count];
-            put_digest_line(out, b"write", &numbers, sum)
-        }
+        Answer::Written(a, sum) => put_lent(out, b"write", a, sum),
         Answer::Checked(a) => {
             let numbers = [a.number, a.roles, a.witness_lines];
             put_line(out, b"check", &numbers, b"")
         }
+        Answer::Admitted(a, sum) => put_lent(out, b"newcomer", a, sum),
     }
 }

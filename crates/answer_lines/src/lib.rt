@@ -5,5 +5,6 @@ mod lines;
 
 pub use answer::ANSWER_BUFFER;
 pub use answer::Answer;
+pub use answer::admitted;
 pub use answer::put_answer;
 pub use answer::written;

@@ -1,4 +1,5 @@
-// Files, read whole into a lent buffer.
+// Files, read whole into a lent buffer: by their names, or as the arguments of a program name them.
+use libc::PATH_MAX;
 ghost use mathlib.Core.Path.{_≡_};
 ghost use mathlib.Core.Bool.{false};
 ghost use Rattle.io.specs.Counts.{Counts};
@@ -40,4 +41,13 @@ pub fn read_file(path: &[u8], buf: &mut [u8]) -> FileRead
         readable: true,
         count: first + rest,
     }
+}
+
+// Reads the file that an argument names.
+pub fn read_argument(i: usize, buf: &mut [u8]) -> FileRead
+    ensures { λ r. ⌜ Counts (r .count) (now (buf .exit)) ⌝ }
+{
+    let mut path = [0u8; PATH_MAX];
+    let length = os::arg(i, &mut path);
+    read_file(&path[..length], buf)
 }

@@ -1,4 +1,5 @@
 -- What the programs print.
 pub mod Lines
 pub mod CheckOutput
+pub mod NewcomerOutput
 pub mod Laws

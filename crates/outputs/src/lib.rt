@@ -1,5 +1,5 @@
-// What the book program and the check program print, for a sheet and its argument or a sheet and a book, in a lent
-// buffer with every byte said; and what the long search prints of a session.
+// What the book program, the check program and the newcomer program print, for a sheet and its argument, a book or a
+// book and a line, in a lent buffer with every byte said; and what the long search prints of a session.
 mod lines;
 mod output;
 
@@ -8,4 +8,5 @@ pub use output::CHECK_BUFFER;
 pub use output::PROGRAM_BUFFER;
 pub use output::book_output;
 pub use output::check_output;
+pub use output::newcomer_output;
 pub use output::session_output;

@@ -1,2 +1,3 @@
--- The bytes that a writing is lent.
+-- The bytes that a writing or a newcomer is lent.
 pub mod Space
+pub mod Lengths

@@ -1,4 +1,4 @@
--- The bytes that a writing is lent. Assumes nothing.
+-- The bytes that a writing or a newcomer is lent. Assumes nothing.
 use Prim.Native.Nat.{ℕ, _+_, _*_, _%_, _≤_, _<_}
 use native.Mathlib.Nat.{ne-of-lt}
 use native.Mathlib.Omega.{arith}

@@ -1,9 +1,11 @@
 // The calls of a script. Each hands back the session after it, of a writing the one before it, which came from the
 // calls if the one before did.
 use crate::say::say;
-use crate::space::SPACE_LIMIT;
+use crate::space::Length;
+use crate::space::length_of;
 use crate::space::patterned;
 use answer_lines::Answer;
+use answer_lines::admitted;
 use answer_lines::written;
 use digits::BudgetRead;
 use numbers::BOOK_LIMIT;
@@ -15,6 +17,9 @@ ghost use Rattle.session.specs.CodeSession.{Sound};
 const SHEET_BUFFER: usize = SHEET_LIMIT + 1;
 
 const BOOK_BUFFER: usize = BOOK_LIMIT + 1;
+
+// The bytes that are read of a newcomer's line, at most: more than a sheet has room for.
+const LINE_BUFFER: usize = 1_048_576;
 
 pub fn load(session: Session, path: &[u8]) -> Session
     requires { ⌜ Sound session ⌝ }
@@ -69,15 +74,10 @@ pub fn write(session: Session, word: &[u8]) -> Session
     requires { ⌜ Sound session ⌝ }
     ensures { λ r. ⌜ Sound r ⌝ }
 {
-    let BudgetRead::Number(n) = digits::read_budget(word) else {
+    let Length::Bytes(length) = length_of(word) else {
         say(Answer::NoCall);
         return session;
     };
-    let length = n as usize;
-    if SPACE_LIMIT < length {
-        say(Answer::NoCall);
-        return session;
-    }
     let mut space = patterned();
     write_into(session, &mut space[..length]);
     session
@@ -95,4 +95,37 @@ pub fn check<'a>(sheet_path: &'a [u8], book_path: &'a [u8]) {
     let sheet_length = first.count;
     let book_length = second.count;
     say(Answer::Checked(checker::check(&sheet[..sheet_length], &book[..book_length])));
+}
+
+// Puts a newcomer in a book, with the new book in the lent bytes.
+fn admit_into<'a>(sheet: &'a [u8], book: &'a [u8], line: &'a [u8], lent: &mut [u8]) {
+    let answer = newcomer::newcomer(sheet, book, line, lent);
+    say(admitted(answer, lent));
+}
+
+pub fn admit<'a>(sheet_path: &'a [u8], book_path: &'a [u8], line_path: &'a [u8], word: &'a [u8]) {
+    let Length::Bytes(length) = length_of(word) else {
+        say(Answer::NoCall);
+        return;
+    };
+    let mut sheet = [0u8; SHEET_BUFFER];
+    let first = files::read_file(sheet_path, &mut sheet);
+    let mut book = [0u8; BOOK_BUFFER];
+    let second = files::read_file(book_path, &mut book);
+    let mut line = [0u8; LINE_BUFFER];
+    let third = files::read_file(line_path, &mut line);
+    if !first.readable || !second.readable || !third.readable {
+        say(Answer::NoCall);
+        return;
+    }
+    let sheet_length = first.count;
+    let book_length = second.count;
+    let line_length = third.count;
+    let mut space = patterned();
+    admit_into(
+        &sheet[..sheet_length],
+        &book[..book_length],
+        &line[..line_length],
+        &mut space[..length],
+    );
 }

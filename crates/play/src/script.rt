@@ -26,6 +26,7 @@ enum Asked {
     Search,
     Write,
     Check,
+    Newcomer,
     Nothing,
 }
 
@@ -42,6 +43,9 @@ fn asked_by(word: &[u8]) -> Asked {
     if check::same(word, b"check") {
         return Asked::Check;
     }
+    if check::same(word, b"newcomer") {
+        return Asked::Newcomer;
+    }
     Asked::Nothing
 }
 
@@ -54,6 +58,29 @@ fn check_files(names: &[u8]) {
     }
     let from = end + 1;
     calls::check(&names[..end], &names[from..]);
+}
+
+// Puts a newcomer in a book: a sheet, a book, a line and a length are named.
+fn admit_line(words: &[u8]) {
+    let sheet = first_blank(words);
+    if sheet == words.len() {
+        say(Answer::NoCall);
+        return;
+    }
+    let second = sheet + 1;
+    let book = second + first_blank(&words[second..]);
+    if book == words.len() {
+        say(Answer::NoCall);
+        return;
+    }
+    let third = book + 1;
+    let line = third + first_blank(&words[third..]);
+    if line == words.len() {
+        say(Answer::NoCall);
+        return;
+    }
+    let last = line + 1;
+    calls::admit(&words[..sheet], &words[second..book], &words[third..line], &words[last..]);
 }
 
 // Makes the call that a line asks for, and answers it. A reduction is asked for by its word alone.
@@ -76,6 +103,10 @@ pub fn answer(session: Session, line: &[u8]) -> Session
         Asked::Write => calls::write(session, &line[from..]),
         Asked::Check => {
             check_files(&line[from..]);
+            session
+        }
+        Asked::Newcomer => {
+            admit_line(&line[from..]);
             session
         }
         Asked::Nothing => {

@@ -5,6 +5,7 @@ mod sessions;
 
 pub use calls::porvuund_book;
 pub use calls::porvuund_check;
+pub use calls::porvuund_newcomer;
 pub use sessions::SearchNumbers;
 pub use sessions::SearchedNumbers;
 pub use sessions::porvuund_fresh;

@@ -1,28 +1,17 @@
 // The checker as a program: `rolecheck SHEETFILE BOOKFILE` prints the book's roles and witness lines with a comma
 // between, or the number of the refusal, and a line feed. What it prints is `check-output` (outputs, CheckOutput);
 // what is here only reads and writes. Where a file cannot be read it prints nothing, and standard error says why.
-use files::FileRead;
-use libc::PATH_MAX;
+use files::read_argument;
 use libc::STDERR_FILENO;
 use libc::STDOUT_FILENO;
 use numbers::BOOK_LIMIT;
 use numbers::SHEET_LIMIT;
 use outputs::CHECK_BUFFER;
-ghost use Rattle.io.specs.Counts.{Counts};
 
 // One byte more than a sheet and a book have, by which longer ones are known.
 const SHEET_BUFFER: usize = SHEET_LIMIT + 1;
 
 const BOOK_BUFFER: usize = BOOK_LIMIT + 1;
-
-// Reads the file that an argument names.
-fn read_argument(i: usize, buf: &mut [u8]) -> FileRead
-    ensures { λ r. ⌜ Counts (r .count) (now (buf .exit)) ⌝ }
-{
-    let mut path = [0u8; PATH_MAX];
-    let length = os::arg(i, &mut path);
-    files::read_file(&path[..length], buf)
-}
 
 // Prints the answer for the two files.
 fn print_answer() {

@@ -11,9 +11,9 @@ use Rattle.spec.specs.Refusal.{accepted}
 use Rattle.spec.specs.Calls.{LoadAnswer, ReduceAnswer, SearchAnswer, WriteAnswer, searched-on, Loads, Reduces}
 use Rattle.spec.specs.Calls.{Searches, Writes}
 
--- a load brings its own sheet, a search its budget, a writing its own buffer, a reduction nothing; a check and a newcomer
--- have no session and change nothing between any two. Any number is a budget here, also those above the range of
--- document 01
+-- a load brings its own sheet, a search its budget, a writing its own buffer, a reduction nothing; a check and a
+-- newcomer have no session and change nothing between any two. Any number is a budget here, also those above the range
+-- of document 01
 pub data Call : Type 0 where
   load : Bytes → Call
   reduce : Call

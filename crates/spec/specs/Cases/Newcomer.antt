@@ -18,8 +18,8 @@ use Rattle.spec.specs.Newcomer.{newcomer-answer, buffer-admitting}
 -- a book: its counts, its roles, its users and its witness
 book-of : String → String → String → String → Bytes
 book-of counts roles users witness =
-    ascii "roles,bound,state\n" ++ ascii counts ++ ascii "\n\n" ++ ascii roles ++ ascii "\n" ++ ascii users ++ ascii "\n"
-    ++ ascii "user,permission\n" ++ ascii witness
+    ascii "roles,bound,state\n" ++ ascii counts ++ ascii "\n\n" ++ ascii roles ++ ascii "\n" ++ ascii users
+    ++ ascii "\nuser,permission\n" ++ ascii witness
 
 -- the worked example's sheet and its book
 worked : Bytes
@@ -43,8 +43,8 @@ worked-book : Bytes
 unfolding book-of roles users two
 worked-book = book-of "2,2,witnessed" roles users two
 
--- none of the roles, one, and all; the newcomer's name as in the line. No permission is left over, so the state word and
--- the bound are kept
+-- none of the roles, one, and all; the newcomer's name as in the line. No permission is left over, so the state word
+-- and the bound are kept
 kept : map (admitted-to worked-book) ("di,0,0,0\n" ∷ "di,1,1,0\n" ∷ "DI,1,1,1\n" ∷ [])
     ≡ book-of "2,2,witnessed" roles "user,R1,R2\nann,1,0\nbo,0,1\ncy,1,1\ndi,0,0\n" two
     ∷ book-of "2,2,witnessed" roles "user,R1,R2\nann,1,0\nbo,0,1\ncy,1,1\ndi,1,0\n" two
@@ -145,7 +145,8 @@ buffers = refl
 -- the number, with a buffer that takes every such book
 number-of : Bytes → Bytes → Bytes → ℕ
 unfolding newcomer-answer newcomer-causes new-book
-number-of sheet book line = newcomer-answer (record { sheet = sheet; book = book; line = line }) (replicate 200 7) .number
+number-of sheet book line =
+    newcomer-answer (record { sheet = sheet; book = book; line = line }) (replicate 200 7) .number
 
 -- of the worked example, its book and a line
 of-line : String → ℕ
@@ -175,8 +176,8 @@ order : map (λ cause. cause .number) (newcomer-causes (record { sheet = []; boo
 unfolding newcomer-causes
 order = refl
 
--- the given sheet is judged by itself: one that only the line would end, and one with no user but the newcomer. The book
--- is judged for the given sheet: the new book is none for it
+-- the given sheet is judged by itself: one that only the line would end, and one with no user but the newcomer. The
+-- book is judged for the given sheet: the new book is none for it
 given-first : number-of (ascii "user,p\nann,") [] (ascii "1\n") ∷ number-of (ascii "user,p\n") [] (ascii "ann,1\n")
     ∷ number-of worked di-admitted (ascii "di,1,1,0\n") ∷ []
     ≡ 2 ∷ 4 ∷ 12 ∷ []
@@ -202,7 +203,8 @@ neighbours = refl
 crowd : ℕ → Bool
 unfolding users-at-limit user-limit
 crowd count =
-    users-at-limit (record { sheet = ascii "user,a\n" ++ concat (replicate count (ascii "x,0\n")); book = []; line = [] })
+    let sheet : Bytes = ascii "user,a\n" ++ concat (replicate count (ascii "x,0\n")) in
+    users-at-limit (record { sheet = sheet; book = []; line = [] })
 
 crowds : map crowd (255 ∷ 256 ∷ []) ≡ false ∷ true ∷ []
 unfolding crowd

@@ -32,7 +32,7 @@ returns-5 : tie.Need-returns-5
 returns-5 c =
     let put = c .before .before in
     let lent = put .before .before in
-    written-as (sym (ap line-of (lent .before .before .before .answer4 .given .1))) (put .put-digest-line .ensures)
+    written-as (sym (ap line-of (lent .before .before .answer4 .given .1))) (put .put-lent .ensures)
 
 returns-6 : tie.Need-returns-6
 returns-6 c =

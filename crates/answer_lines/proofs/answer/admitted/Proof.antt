@@ -1,0 +1,16 @@
+-- `answer::admitted`: the number kept is the Adler-32 of the bytes.
+use borrow.Author.Needs.{needs}
+use Prim.Native.Nat.{ℕ}
+use mathlib.Core.Path.{ap}
+use Rattle.spec.specs.Text.{ascii}
+use Rattle.answers.specs.Said.{write-said}
+use Rattle.answer_lines.specs.Answers.{digest-line}
+use Rattle.answer_lines.proofs.answer.admitted.Statement.{statement}
+use Rattle.answer_lines.proofs.answer.admitted.Tie as tie
+
+returns : tie.Need-returns
+returns c = ap (λ (sum : ℕ). digest-line (ascii "newcomer") (write-said (c .before .before .args .answer)) sum) (c .adler-32 .ensures)
+
+pub admitted-spec : {M : Type 1} → statement M
+admitted-spec =
+    tie.close (tie.spec (λ c κs. search needs) returns)
