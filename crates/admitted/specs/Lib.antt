@@ -4,3 +4,6 @@ pub mod SameSaid
 pub mod LeftOver
 pub mod RolesAdmitting
 pub mod SameAdmitting
+pub mod Pinned
+pub mod AdmittedBook
+pub mod LineWritten
