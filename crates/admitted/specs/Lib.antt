@@ -7,3 +7,5 @@ pub mod SameAdmitting
 pub mod Pinned
 pub mod AdmittedBook
 pub mod LineWritten
+pub mod NoneRefuses
+pub mod Exactly
