@@ -58,7 +58,7 @@ none-applies-right : (a b : List Cause) → NoneApplies (a ++ b) → NoneApplies
 none-applies-right [] b n = n
 none-applies-right (cause ∷ a) b n = none-applies-right a b (n .1)
 
-none-applies-both : (a b : List Cause) → NoneApplies a → NoneApplies b → NoneApplies (a ++ b)
+pub none-applies-both : (a b : List Cause) → NoneApplies a → NoneApplies b → NoneApplies (a ++ b)
 none-applies-both [] b n m = m
 none-applies-both (cause ∷ a) b n m = (n .0, none-applies-both a b (n .1) m)
 
