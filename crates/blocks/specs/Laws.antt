@@ -1,4 +1,3 @@
 -- The laws behind what contracts cite.
 pub mod Laid
-pub mod SkippedParts
 pub mod Shown

@@ -1,73 +1,44 @@
-// Block 4: the witness, in grant order.
+// Block 4: the witness, its lines in the order of a list of cells.
 use book_lines::put_pair_line;
-use cell_text::next_set;
+use cells::permission_of;
+use cells::user_of;
 use names::permission_name_in;
 use names::user_name_in;
-use numbers::PermissionNo;
-use numbers::UserNo;
+use numbers::CellNo;
 use text::put_bytes;
-ghost use Prim.Native.Nat.{_*_, _≤_, _<_};
+ghost use Prim.Native.Nat.{_≤_};
 ghost use mathlib.Core.List.{map};
 ghost use lib.ListN.{length};
 ghost use Rattle.spec.specs.Text.{text-of};
-ghost use Rattle.spec.specs.Sheet.{sheet-of, user-count};
+ghost use Rattle.spec.specs.Sheet.{sheet-of};
 ghost use Rattle.spec.specs.Book.{witness-line, witness-block};
-ghost use Rattle.lists.specs.Listed.{listed};
-ghost use Rattle.cell_rows.specs.Rows.{row-words};
+ghost use Rattle.cell_rows.specs.CellPlaces.{grant-of};
 ghost use Rattle.names.specs.LaidOut.{UsersAt, PermissionsAt};
-ghost use Rattle.cells.specs.CellSets.{cell-grants};
-ghost use Rattle.book_lines.specs.RowsSaid.{GrantCells};
-ghost use Rattle.blocks.specs.WitnessText.{witness-row};
+ghost use Rattle.book_lines.specs.RowsSaid.{CellsWithin};
+ghost use Rattle.blocks.specs.WitnessText.{cell-lines};
 ghost use Rattle.text.specs.Written.{Written};
 
-// Writes the lines of a user.
-fn put_witness_row<'a, 'b>(
+// Writes the line of each cell.
+fn put_cell_lines<'a, 'b>(
     out: &mut [u8],
     s: &'a [u8],
     users: &'b [u64],
     permissions: &'b [u64],
-    witness: &'a [u64],
-    user: UserNo,
+    cells: &'a [u16],
 ) -> usize
     requires { ⌜ UsersAt (now s) (now users) × PermissionsAt (now s) (now permissions)
-        × (user .0 < user-count (sheet-of (now s))) × (user-count (sheet-of (now s)) * row-words ≤ length
-        (now witness)) ⌝ }
-    requires { ⌜ length (witness-row (sheet-of (now s)) (now witness) (user .0)) ≤ length (now out) ⌝ }
-    ensures { λ r. ⌜ Written (witness-row (sheet-of (now (s .entry))) (now (witness .entry)) (user .0))
-        (now (out .entry)) (now (out .exit)) r ⌝ }
-{
-    let name = user_name_in(s, users, user);
-    let count = permissions.len();
-    let mut at = 0;
-    let mut i = next_set(witness, user.0, 0, count);
-    while i < count {
-        let held = permission_name_in(s, permissions, PermissionNo(i));
-        at += put_pair_line(&mut out[at..], name, held);
-        i = next_set(witness, user.0, i + 1, count);
-    }
-    at
-}
-
-// Writes the lines of all users.
-fn put_witness_rows<'a, 'b>(
-    out: &mut [u8],
-    s: &'a [u8],
-    users: &'b [u64],
-    permissions: &'b [u64],
-    witness: &'a [u64],
-) -> usize
-    requires { ⌜ UsersAt (now s) (now users) × PermissionsAt (now s) (now permissions)
-        × (user-count (sheet-of (now s)) * row-words ≤ length (now witness)) ⌝ }
-    requires { ⌜ length (listed (user-count (sheet-of (now s))) (witness-row (sheet-of (now s)) (now witness)))
-        ≤ length (now out) ⌝ }
-    ensures { λ r. ⌜ Written (listed (user-count (sheet-of (now (s .entry))))
-        (witness-row (sheet-of (now (s .entry))) (now (witness .entry))))
-        (now (out .entry)) (now (out .exit)) r ⌝ }
+        × CellsWithin (now cells) (sheet-of (now s)) ⌝ }
+    requires { ⌜ length (cell-lines (sheet-of (now s)) (now cells)) ≤ length (now out) ⌝ }
+    ensures { λ r. ⌜ Written (cell-lines (sheet-of (now (s .entry))) (now (cells .entry))) (now (out .entry))
+        (now (out .exit)) r ⌝ }
 {
     let mut at = 0;
     let mut i = 0;
-    while i < users.len() {
-        at += put_witness_row(&mut out[at..], s, users, permissions, witness, UserNo(i));
+    while i < cells.len() {
+        let cell = cells[i] as usize;
+        let name = user_name_in(s, users, user_of(CellNo(cell)));
+        let held = permission_name_in(s, permissions, permission_of(CellNo(cell)));
+        at += put_pair_line(&mut out[at..], name, held);
         i += 1;
     }
     at
@@ -79,18 +50,16 @@ pub fn put_witness<'a, 'b>(
     s: &'a [u8],
     users: &'b [u64],
     permissions: &'b [u64],
-    witness: &'a [u64],
+    cells: &'a [u16],
 ) -> usize
     requires { ⌜ UsersAt (now s) (now users) × PermissionsAt (now s) (now permissions)
-        × (user-count (sheet-of (now s)) * row-words ≤ length (now witness)) × GrantCells (now witness)
-        (sheet-of (now s)) ⌝ }
-    requires { ⌜ length (text-of (witness-block (map (witness-line (sheet-of (now s)))
-        (cell-grants (sheet-of (now s)) (now witness))))) ≤
-        length (now out) ⌝ }
+        × CellsWithin (now cells) (sheet-of (now s)) ⌝ }
+    requires { ⌜ length (text-of (witness-block (map (witness-line (sheet-of (now s))) (map grant-of (now cells)))))
+        ≤ length (now out) ⌝ }
     ensures { λ r. ⌜ Written (text-of (witness-block (map (witness-line (sheet-of (now (s .entry))))
-        (cell-grants (sheet-of (now (s .entry))) (now (witness .entry))))))
+        (map grant-of (now (cells .entry))))))
         (now (out .entry)) (now (out .exit)) r ⌝ }
 {
     let lines = put_bytes(out, b"user,permission\n");
-    lines + put_witness_rows(&mut out[lines..], s, users, permissions, witness)
+    lines + put_cell_lines(&mut out[lines..], s, users, permissions, cells)
 }

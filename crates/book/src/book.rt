@@ -14,7 +14,7 @@ ghost use lib.ListN.{length};
 ghost use Rattle.spec.specs.Limits.{role-limit};
 ghost use Rattle.spec.specs.Sheet.{sheet-of};
 ghost use Rattle.names.specs.LaidOut.{LaidOut};
-ghost use Rattle.book_lines.specs.RowsSaid.{GrantCells};
+ghost use Rattle.book_lines.specs.RowsSaid.{CellsWithin};
 ghost use Rattle.book_length.specs.BookRows.{rows-book};
 ghost use Rattle.text.specs.Written.{Written};
 
@@ -25,10 +25,11 @@ pub fn write_book<'a>(
     layout: Layout,
     has: &'a [u64; CELL_WORDS],
     gives: &'a [u64; ROLE_WORDS],
-    witness: &'a [u64; CELL_WORDS],
+    witness: &'a [u16],
     counts: Counts,
 ) -> usize
-    requires { ⌜ LaidOut (now s) layout × (counts .roles ≤ role-limit) × GrantCells (now witness) (sheet-of (now s)) ⌝ }
+    requires { ⌜ LaidOut (now s) layout × (counts .roles ≤ role-limit)
+        × CellsWithin (now witness) (sheet-of (now s)) ⌝ }
     requires { ⌜ length (rows-book (now s) (now has) (now gives) (now witness) counts) ≤ length (now out) ⌝ }
     ensures { λ r. ⌜ Written (rows-book (now (s .entry)) (now (has .entry)) (now (gives .entry))
         (now (witness .entry)) counts)

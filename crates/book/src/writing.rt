@@ -10,7 +10,7 @@ ghost use Prim.Native.Nat.{_≤_};
 ghost use Rattle.spec.specs.Limits.{role-limit};
 ghost use Rattle.spec.specs.Sheet.{sheet-of};
 ghost use Rattle.names.specs.LaidOut.{LaidOut};
-ghost use Rattle.book_lines.specs.RowsSaid.{GrantCells};
+ghost use Rattle.book_lines.specs.RowsSaid.{CellsWithin};
 ghost use Rattle.book_length.specs.BookRows.{rows-book};
 ghost use Rattle.book_lines.specs.Writing.{writing-said, Writes};
 
@@ -21,10 +21,11 @@ pub fn write_if_room<'a>(
     layout: Layout,
     has: &'a [u64; CELL_WORDS],
     gives: &'a [u64; ROLE_WORDS],
-    witness: &'a [u64; CELL_WORDS],
+    witness: &'a [u16],
     counts: Counts,
 ) -> Writing
-    requires { ⌜ LaidOut (now s) layout × (counts .roles ≤ role-limit) × GrantCells (now witness) (sheet-of (now s)) ⌝ }
+    requires { ⌜ LaidOut (now s) layout × (counts .roles ≤ role-limit)
+        × CellsWithin (now witness) (sheet-of (now s)) ⌝ }
     ensures { λ r. ⌜ Writes (rows-book (now (s .entry)) (now (has .entry)) (now (gives .entry)) (now (witness .entry))
         counts)
         (now (out .entry)) (writing-said r) (now (out .exit)) ⌝ }

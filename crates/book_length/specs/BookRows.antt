@@ -1,6 +1,6 @@
--- The book that rows of words and counts say: block after block in the order in which it is written; and the book of
--- a role set that the rows hold, since only cells of the sheet's users, the roles and the sheet's permissions are
--- spelled. Assumes nothing.
+-- The book that rows of words, the cells of a witness and counts say: block after block in the order in which it is
+-- written; and the book of a role set that the rows hold, since only cells of the sheet's users, the roles and the
+-- sheet's permissions are spelled. Assumes nothing.
 use Prim.Native.Nat.{ℕ, _≤_}
 use native.Mathlib.Nat.{lt-of-lt-of-le}
 use mathlib.Core.Path.{_≡_, ap, _∙_}
@@ -16,7 +16,7 @@ use Rattle.spec.specs.Book.{role-name, Block, text-of-blocks, counts-block, rol
 use Rattle.spec.specs.Book.{witness-line, blocks-saying, book-text, said-in, book}
 use Rattle.lists.specs.ListOfLaws.{list-of-same}
 use Rattle.cell_rows.specs.Rows.{row-bits}
-use Rattle.cells.specs.CellSets.{cell-grants}
+use Rattle.cell_rows.specs.CellPlaces.{grant-of}
 use Rattle.roles.specs.RoleRows.{RoleRows}
 use Rattle.roles.specs.RolesShown.{RolesAt}
 use Rattle.standing.specs.StandingCases.{standing-case}
@@ -28,23 +28,23 @@ use Rattle.book_lines.specs.declared.counts.Counts.{Counts}
 
 -- the book of a sheet's bytes
 abbrev pub rows-book : Bytes → List ℕ → List ℕ → List ℕ → Counts → Bytes
-rows-book text has gives witness counts =
+rows-book text has gives cells counts =
     book-text (sheet-of text)
-    (said-by (sheet-of text) has gives witness (counts .roles) (counts .bound) (standing-case (counts .standing)))
+    (said-by has gives cells (counts .roles) (counts .bound) (standing-case (counts .standing)))
 
 -- its blocks one after the other, one empty line between each two
-pub book-parts : (text : Bytes) (has gives witness : List ℕ) (counts : Counts)
-    → rows-book text has gives witness counts
+pub book-parts : (text : Bytes) (has gives cells : List ℕ) (counts : Counts)
+    → rows-book text has gives cells counts
     ≡ (((((counts-text counts ++ line-end) ++ text-of (shown-roles (sheet-of text) gives (counts .roles))) ++ line-end)
     ++ text-of (shown-users (sheet-of text) has (counts .roles))) ++ line-end)
-    ++ text-of (witness-block (map (witness-line (sheet-of text)) (cell-grants (sheet-of text) witness)))
+    ++ text-of (witness-block (map (witness-line (sheet-of text)) (map grant-of cells)))
 unfolding book-text blocks-saying
-book-parts text has gives witness counts =
+book-parts text has gives cells counts =
     four-blocks
     (counts-block (counts .roles) (counts .bound) (standing-case (counts .standing)))
     (shown-roles (sheet-of text) gives (counts .roles))
     (shown-users (sheet-of text) has (counts .roles))
-    (witness-block (map (witness-line (sheet-of text)) (cell-grants (sheet-of text) witness)))
+    (witness-block (map (witness-line (sheet-of text)) (map grant-of cells)))
 
 -- ---- the book of a role set
 
@@ -67,12 +67,12 @@ users-shown sheet {roles} rows =
     ap (λ (cells : Line). user-name sheet u ∷ cells)
     (list-of-same (roles .count) _ _ (λ r k. ap cell-text (rows .has-shown u r h k)))))
 
--- so the book is that of the role set, and of the grants that are the witness
-pub rows-book-says : (text : Bytes) {has gives : List ℕ} (words : List ℕ) (counts : Counts) {roles : RoleSet}
+-- so the book is that of the role set, and of the grants at the cells, which are the witness
+pub rows-book-says : (text : Bytes) {has gives : List ℕ} (cells : List ℕ) (counts : Counts) {roles : RoleSet}
     {grants : List Grant}
     → RolesAt has gives (counts .roles) (user-count (sheet-of text)) roles → permission-count (sheet-of text) ≤ row-bits
-    → cell-grants (sheet-of text) words ≡ grants
-    → rows-book text has gives words counts
+    → map grant-of cells ≡ grants
+    → rows-book text has gives cells counts
     ≡ book-text (sheet-of text)
     (record {
       count = roles .count;
@@ -82,12 +82,12 @@ pub rows-book-says : (text : Bytes) {has gives : List ℕ} (words : List ℕ) (c
       witness = grants;
     })
 unfolding book-text blocks-saying
-rows-book-says text {has} {gives} words counts {roles} {grants} at fit e =
+rows-book-says text {has} {gives} cells counts {roles} {grants} at fit e =
     let sheet : Sheet = sheet-of text in
     let first : Block = counts-block (roles .count) (counts .bound) (standing-case (counts .standing)) in
     let last : Block = witness-block (map (witness-line sheet) grants) in
-    ap (λ (n : ℕ). book-text sheet (said-by sheet has gives words n (counts .bound)
-    (standing-case (counts .standing)))) (at .total)
+    ap (λ (n : ℕ). book-text sheet (said-by has gives cells n (counts .bound) (standing-case (counts .standing))))
+    (at .total)
     ∙ ap (λ (l : List Grant).
     text-of-blocks (first ∷ shown-roles sheet gives (roles .count) ∷ shown-users sheet has (roles .count) ∷
     witness-block (map (witness-line sheet) l) ∷ [])) e
@@ -98,17 +98,17 @@ rows-book-says text {has} {gives} words counts {roles} {grants} at fit e =
 
 -- and it is the book of the sheet in a state of its search, where the counts, the roles and the witness are those of
 -- that state
-pub rows-book-in : (text : Bytes) {has gives : List ℕ} (words : List ℕ) (counts : Counts) (st : State)
+pub rows-book-in : (text : Bytes) {has gives : List ℕ} (cells : List ℕ) (counts : Counts) (st : State)
     → RolesAt has gives (counts .roles) (user-count (sheet-of text)) (roles-of (sheet-of text) (st .best))
     → permission-count (sheet-of text) ≤ row-bits → counts .bound ≡ bound (sheet-of text) st
-    → standing-case (counts .standing) ≡ standing (sheet-of text) st → cell-grants (sheet-of text) words ≡ witness
-    (sheet-of text)
-    → rows-book text has gives words counts ≡ book (sheet-of text) st
+    → standing-case (counts .standing) ≡ standing (sheet-of text) st
+    → map grant-of cells ≡ witness (sheet-of text)
+    → rows-book text has gives cells counts ≡ book (sheet-of text) st
 unfolding book said-in role-count
-rows-book-in text words counts st at fit same-bound same-standing same-witness =
+rows-book-in text cells counts st at fit same-bound same-standing same-witness =
     let sheet : Sheet = sheet-of text in
     let roles : RoleSet = roles-of sheet (st .best) in
-    rows-book-says text words counts at fit same-witness
+    rows-book-says text cells counts at fit same-witness
     ∙ ap (λ (n : ℕ). book-text sheet (record {
       count = roles .count;
       bound = n;

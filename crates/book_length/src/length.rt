@@ -1,31 +1,29 @@
 // How long a book is, before anything of it is written: one sum of the bytes of its counts, its names, its cells and
 // its headings, whatever the cells are, and of its witness.
 use book_lines::Counts;
-use cell_text::next_set;
+use cells::permission_of;
+use cells::user_of;
 use decimal::decimal_length;
 use names::Layout;
 use names::permission_name_in;
 use names::user_name_in;
-use numbers::CELL_WORDS;
-use numbers::PermissionNo;
-use numbers::UserNo;
+use numbers::CellNo;
 use places::first_places;
 use places::from_of;
 use places::to_of;
 use standing::Standing;
 ghost use mathlib.Core.Path.{_≡_};
 ghost use mathlib.Core.List.{List};
-ghost use Prim.Native.Nat.{ℕ, _*_, _≤_, _<_};
+ghost use Prim.Native.Nat.{ℕ, _≤_};
 ghost use lib.ListN.{length};
-ghost use Rattle.spec.specs.Sheet.{sheet-of, user-count};
-ghost use Rattle.lists.specs.Listed.{listed};
-ghost use Rattle.cell_rows.specs.Rows.{row-words, row-bits};
+ghost use Rattle.spec.specs.Sheet.{sheet-of};
+ghost use Rattle.cell_rows.specs.Rows.{row-bits};
 ghost use Rattle.names.specs.LaidOut.{LaidOut, UsersAt, PermissionsAt};
 ghost use Rattle.standing.specs.StandingCases.{standing-case};
 ghost use Rattle.decimal.specs.Measured.{Measured, piece-most, line-most, block-most};
 ghost use Rattle.book_lines.specs.CountsText.{standing-text, counts-text};
-ghost use Rattle.book_lines.specs.RowsSaid.{GrantCells};
-ghost use Rattle.blocks.specs.WitnessText.{witness-row};
+ghost use Rattle.book_lines.specs.RowsSaid.{CellsWithin};
+ghost use Rattle.blocks.specs.WitnessText.{cell-lines};
 ghost use Rattle.book_length.specs.BookRows.{rows-book};
 ghost use Rattle.book_length.specs.NameBytes.{PlacesShort, bytes-at, role-name-bytes};
 
@@ -82,60 +80,32 @@ fn role_names_length(roles: usize) -> usize
     4 * roles - 108
 }
 
-// How long the witness lines of a user are.
-fn witness_row_length<'a, 'b>(
-    s: &'a [u8],
-    users: &'b [u64],
-    permissions: &'b [u64],
-    witness: &'a [u64],
-    user: UserNo,
-) -> usize
-    requires { ⌜ UsersAt (now s) (now users) × PermissionsAt (now s) (now permissions)
-        × (user .0 < user-count (sheet-of (now s)))
-        × (user-count (sheet-of (now s)) * row-words ≤ length (now witness)) ⌝ }
-    ensures { λ r. ⌜ Measured (witness-row (sheet-of (now (s .entry))) (now (witness .entry)) (user .0)) line-most r ⌝ }
-{
-    let name = user_name_in(s, users, user);
-    let count = permissions.len();
-    let mut total = 0;
-    let mut i = next_set(witness, user.0, 0, count);
-    while i < count {
-        let held = permission_name_in(s, permissions, PermissionNo(i));
-        total += name.len() + held.len() + 2;
-        i = next_set(witness, user.0, i + 1, count);
-    }
-    total
-}
-
-// How long the witness lines of all users are.
+// How long the witness lines of some cells are.
 fn witness_length<'a, 'b>(
     s: &'a [u8],
     users: &'b [u64],
     permissions: &'b [u64],
-    witness: &'a [u64],
+    cells: &'a [u16],
 ) -> usize
     requires { ⌜ UsersAt (now s) (now users) × PermissionsAt (now s) (now permissions)
-        × (user-count (sheet-of (now s)) * row-words ≤ length (now witness)) ⌝ }
-    ensures { λ r. ⌜ Measured (listed (user-count (sheet-of (now (s .entry))))
-        (witness-row (sheet-of (now (s .entry))) (now (witness .entry)))) block-most r ⌝ }
+        × CellsWithin (now cells) (sheet-of (now s)) ⌝ }
+    ensures { λ r. ⌜ Measured (cell-lines (sheet-of (now (s .entry))) (now (cells .entry))) block-most r ⌝ }
 {
     let mut total = 0;
     let mut i = 0;
-    while i < users.len() {
-        total += witness_row_length(s, users, permissions, witness, UserNo(i));
+    while i < cells.len() {
+        let cell = cells[i] as usize;
+        let name = user_name_in(s, users, user_of(CellNo(cell)));
+        let held = permission_name_in(s, permissions, permission_of(CellNo(cell)));
+        total += name.len() + held.len() + 2;
         i += 1;
     }
     total
 }
 
 // How long the book is. A cell takes two bytes and ends with its line; a name of a heading stands behind a comma.
-pub fn book_length<'a>(
-    s: &'a [u8],
-    layout: Layout,
-    witness: &'a [u64; CELL_WORDS],
-    counts: Counts,
-) -> usize
-    requires { ⌜ LaidOut (now s) layout × (counts .roles ≤ row-bits) × GrantCells (now witness) (sheet-of (now s)) ⌝ }
+pub fn book_length<'a>(s: &'a [u8], layout: Layout, witness: &'a [u16], counts: Counts) -> usize
+    requires { ⌜ LaidOut (now s) layout × (counts .roles ≤ row-bits) × CellsWithin (now witness) (sheet-of (now s)) ⌝ }
     ensures { λ r. ⌜ ((has gives : List ℕ) → r ≡ length (rows-book (now (s .entry)) has gives (now (witness .entry))
         counts)) ⌝ }
 {

@@ -1,5 +1,5 @@
 -- The lines of a role book: a name and cells, two names, the names of roles, the permissions, the counts; and what
--- rows of words say.
+-- rows of words and a list of cells say.
 pub mod CountsText
 pub mod Lines
 pub mod RowsSaid

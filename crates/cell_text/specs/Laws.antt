@@ -1,5 +1,4 @@
 -- The laws behind what contracts cite.
 pub mod Parts
 pub mod CellWords
-pub mod NextSet
 pub mod CellsWritten

@@ -39,6 +39,8 @@ impl Session {
             self.prepared.witness.count,
             self.position.cursor.finished,
         );
+        let witness = cells::listed(&self.prepared.witness.cells, self.layout.users);
+        let lines: &[u16] = &witness.cells;
         let layout = self.layout;
         let text: &[u8] = &self.text;
         let writing = book::write_if_room(
@@ -47,7 +49,7 @@ impl Session {
             layout,
             &matrices.has,
             &matrices.gives,
-            &self.prepared.witness.cells,
+            &lines[..witness.size],
             counts,
         );
         WriteAnswer::of(writing)

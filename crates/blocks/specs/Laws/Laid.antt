@@ -6,10 +6,10 @@ use mathlib.Core.List.{List}
 use lib.ListN.{length}
 use Rattle.spec.specs.Limits.{user-limit}
 use Rattle.spec.specs.Text.{Bytes}
-use Rattle.spec.specs.Sheet.{sheet-of, user-count, permission-count}
+use Rattle.spec.specs.Sheet.{sheet-of, user-count}
 use Rattle.cell_rows.specs.Rows.{row-bits}
 use Rattle.cell_rows.specs.Laws.Width.{permissions-fit}
-use Rattle.rules.specs.AcceptedFacts.{Lawful, accepted-lawful}
+use Rattle.rules.specs.AcceptedFacts.{accepted-lawful}
 use Rattle.names.specs.LaidOut.{LaidOut, UsersAt, PermissionsAt}
 use Rattle.names.specs.declared.layout.Layout.{Layout}
 
@@ -27,9 +27,6 @@ module _ {text : Bytes} {layout : Layout} (laid : LaidOut text layout) where
       )
 
 module _ {text : Bytes} {places : List ℕ} (at : UsersAt text places) where
-  pub users-lawful : Lawful (sheet-of text)
-  users-lawful = accepted-lawful text (at .accepts)
-
   -- a place is that of a user, and each user has one
   pub user-counted : {u : ℕ} → u < length places → u < user-count (sheet-of text)
   user-counted h = omega (arith, at .names .total)
@@ -38,12 +35,6 @@ module _ {text : Bytes} {places : List ℕ} (at : UsersAt text places) where
   users-all h = omega (arith, at .names .total)
 
 module _ {text : Bytes} {places : List ℕ} (at : PermissionsAt text places) where
-  pub permission-counted : {p : ℕ} → p < length places → p < permission-count (sheet-of text)
-  permission-counted h = omega (arith, at .names .total)
-
-  pub permissions-all : {p : ℕ} → length places ≤ p → permission-count (sheet-of text) ≤ p
-  permissions-all h = omega (arith, at .names .total)
-
   pub permissions-in-row : length places ≤ row-bits
   permissions-in-row =
       omega (

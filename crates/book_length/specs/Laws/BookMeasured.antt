@@ -11,9 +11,8 @@ use Rattle.spec.specs.Sheet.{Sheet, sheet-of, user-count, permission-count, use
 use Rattle.spec.specs.Book.{role-name, witness-line, witness-block}
 use Rattle.bits.specs.Counting.{sum-below}
 use Rattle.lists.specs.Listed.{listed, listed-even}
-use Rattle.rules.specs.AcceptedFacts.{Lawful}
 use Rattle.cell_rows.specs.Rows.{cell}
-use Rattle.cells.specs.CellSets.{cell-grants}
+use Rattle.cell_rows.specs.CellPlaces.{grant-of}
 use Rattle.decimal.specs.Measured.{Measured, line-most, block-most}
 use Rattle.cell_text.specs.CellsText.{cell-field, cells-text}
 use Rattle.cell_text.specs.Laws.CellsWritten.{cell-field-length}
@@ -21,10 +20,10 @@ use Rattle.text.specs.Line.{behind-comma, line-end}
 use Rattle.text.specs.Laws.Line.{line-parts-of}
 use Rattle.book_lines.specs.CountsText.{counts-text}
 use Rattle.book_lines.specs.Lines.{named-line}
-use Rattle.book_lines.specs.RowsSaid.{GrantCells, role-heading, role-line, user-line, shown-roles, shown-users}
+use Rattle.book_lines.specs.RowsSaid.{role-heading, role-line, user-line, shown-roles, shown-users}
 use Rattle.blocks.specs.Laws.Shown.{role-fields, role-lines, user-lines, roles-parts, users-parts}
 use Rattle.blocks.specs.Laws.Shown.{role-line-parts, user-line-parts}
-use Rattle.blocks.specs.WitnessText.{witness-row, witness-parts}
+use Rattle.blocks.specs.WitnessText.{cell-lines, witness-parts}
 use Rattle.book_lines.specs.declared.counts.Counts.{Counts}
 use Rattle.book_length.specs.BookRows.{rows-book, book-parts}
 use Rattle.book_length.specs.NameBytes.{role-name-bytes}
@@ -92,45 +91,42 @@ module _ (sheet : Sheet) (count : ℕ) where
 gap-length : (a b : Bytes) → length ((a ++ line-end) ++ b) ≡ length a + 1 + length b
 gap-length a b = omega (arith, length-append (a ++ line-end) b, length-append a line-end)
 
-book-measured : (text : Bytes) (has gives witness : List ℕ) (counts : Counts)
-    → Lawful (sheet-of text) → GrantCells witness (sheet-of text)
-    → length (rows-book text has gives witness counts)
+book-measured : (text : Bytes) (has gives cells : List ℕ) (counts : Counts)
+    → length (rows-book text has gives cells counts)
     ≡ length (counts-text counts) + (29 + permission-count (sheet-of text) + counts .roles)
     + (user-bytes (sheet-of text) + permission-bytes (sheet-of text)
     + 2 * role-name-bytes (counts .roles))
     + (counts .roles * (2 * permission-count (sheet-of text) + 1) + user-count (sheet-of text) *
     (2 * counts .roles + 1))
-    + length (listed (user-count (sheet-of text)) (witness-row (sheet-of text) witness))
-book-measured text has gives witness counts lawful within =
+    + length (cell-lines (sheet-of text) cells)
+book-measured text has gives cells counts =
     let sheet : Sheet = sheet-of text in
     let one : Bytes = counts-text counts in
     let two : Bytes = text-of (shown-roles sheet gives (counts .roles)) in
     let three : Bytes = text-of (shown-users sheet has (counts .roles)) in
-    let four : Bytes = text-of (witness-block (map (witness-line sheet) (cell-grants sheet witness))) in
+    let four : Bytes = text-of (witness-block (map (witness-line sheet) (map grant-of cells))) in
     omega (
       arith,
       roles-length sheet (counts .roles) gives,
       users-length sheet (counts .roles) has,
-      ap length (witness-parts sheet witness lawful within),
-      ap length (book-parts text has gives witness counts),
+      ap length (witness-parts sheet cells),
+      ap length (book-parts text has gives cells counts),
       gap-length ((((one ++ line-end) ++ two) ++ line-end) ++ three) four,
       gap-length ((one ++ line-end) ++ two) three,
       gap-length one two,
     )
 
 -- the sum of what is counted
-pub book-sum : (text : Bytes) (has gives witness : List ℕ) (counts : Counts) {users permissions : ℕ}
+pub book-sum : (text : Bytes) (has gives cells : List ℕ) (counts : Counts) {users permissions : ℕ}
     → users ≡ user-count (sheet-of text) → permissions ≡ permission-count (sheet-of text)
-    → Lawful (sheet-of text) → GrantCells witness (sheet-of text)
     → {first users-in permissions-in roles-in shown : ℕ}
     → Measured (counts-text counts) line-most first
     → users-in ≡ user-bytes (sheet-of text)
     → permissions-in ≡ permission-bytes (sheet-of text)
     → roles-in ≡ role-name-bytes (counts .roles)
-    → Measured (listed (user-count (sheet-of text)) (witness-row (sheet-of text) witness)) block-most shown
+    → Measured (cell-lines (sheet-of text) cells) block-most shown
     → first + (29 + permissions + counts .roles) + (users-in + permissions-in + 2 * roles-in)
     + (counts .roles * (2 * permissions + 1) + users * (2 * counts .roles + 1)) + shown
-    ≡ length (rows-book text has gives witness counts)
-book-sum text has gives witness counts e f lawful within a u p r d =
-    rw (e, f)
-    (omega (arith, a .counted, u, p, r, d .counted, book-measured text has gives witness counts lawful within))
+    ≡ length (rows-book text has gives cells counts)
+book-sum text has gives cells counts e f a u p r d =
+    rw (e, f) (omega (arith, a .counted, u, p, r, d .counted, book-measured text has gives cells counts))

@@ -12,7 +12,7 @@ use Rattle.spec.specs.Sheet.{sheet-of}
 use Rattle.spec.specs.Book.{witness-line, witness-block}
 use Rattle.cell_rows.specs.Rows.{row-bits, row-words}
 use Rattle.cell_rows.specs.Laws.Width.{roles-fit}
-use Rattle.cells.specs.CellSets.{cell-grants}
+use Rattle.cell_rows.specs.CellPlaces.{grant-of}
 use Rattle.book_length.specs.BookRows.{book-parts, rows-book}
 use Rattle.book_lines.specs.CountsText.{counts-text}
 use Rattle.names.specs.LaidOut.{UsersAt, PermissionsAt}
@@ -39,8 +39,7 @@ third s = text-of (shown-users (sheet-of (s .args .s .now)) (s .args .has .now) 
 
 abbrev fourth : tie.Start → Bytes
 fourth s =
-    text-of (witness-block (map (witness-line (sheet-of (s .args .s .now))) (cell-grants (sheet-of (s .args .s .now))
-    (s .args .witness .now))))
+    text-of (witness-block (map (witness-line (sheet-of (s .args .s .now))) (map grant-of (s .args .witness .now))))
 
 abbrev up-to-second : tie.Start → Bytes
 up-to-second s = (first s ++ line-end) ++ second s
@@ -71,7 +70,9 @@ first-room s = front-fits (first s ++ line-end) (second s) (front-fits (up-to-se
 -- ---- the buffer behind each block, and where it ends there
 
 abbrev begun : tie.After-first-places → tie.Start
-begun c = c .before .before .before .before .before .before
+begun c =
+    let earlier = c .before .before .before .before .before .before .before in
+    earlier
 
 abbrev placed : tie.After-put-counts → tie.After-first-places2
 placed c = c .before .before
@@ -146,7 +147,7 @@ at-fourth c = let s = start (counted (roled c)) in empty-line (behind-third c) (
 -- ---- what the code asks
 
 first-places-requires : tie.Need-first-places-requires
-first-places-requires c κs = users-placed (c .before .before .before .before .before .pre .0 .0)
+first-places-requires c κs = users-placed (c .before .before .before .before .before .before .pre .0 .0)
 
 first-places-requires-2 : tie.Need-first-places-requires-2
 first-places-requires-2 c κs = permissions-placed (begun (c .before .before) .pre .0 .0)
@@ -187,17 +188,13 @@ put-users-requires c κs =
     )
 
 put-witness-requires : tie.Need-put-witness-requires
-unfolding row-words user-limit
 put-witness-requires c κs =
-    let b = c .before .before .before .before in
+    let b = c .before .before .before in
     let a = counted (roled b) in
-    let pre = start a .pre .0 in (
-      (users-at a, permissions-at a, omega (arith, few-users (pre .0), pre .0 .user-total), pre .2),
-      room-behind (at-fourth b),
-    )
+    ((users-at a, permissions-at a, start a .pre .0 .2), room-behind (at-fourth b))
 
 abbrev before-witness : tie.After-put-witness → tie.After-put-users
-before-witness c = c .before .before .before .before .before
+before-witness c = c .before .before .before .before
 
 add-result : tie.Need-add-result
 add-result c =

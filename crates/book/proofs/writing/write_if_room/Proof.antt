@@ -14,18 +14,18 @@ text c = rows-book (c .args .s .now) (c .args .has .now) (c .args .gives .now) (
 
 returns : tie.Need-returns
 returns c =
-    let s = (c .before .before .before .before) in
+    let s = c .before .before .before .before .before in
     refused-short (text s) (s .args .out .now)
     (omega (arith, c .if1 .taken, c .before .book-length .ensures (s .args .has .now) (s .args .gives .now)))
 
 book-length-requires : tie.Need-book-length-requires
 book-length-requires c κs =
-    let s = c .before .before in
+    let s = c .before .before .before in
     (s .pre .0, le-trans (s .pre .1) roles-fit, s .pre .2)
 
 write-book-requires : tie.Need-write-book-requires
 write-book-requires c κs =
-    let earlier = c .before .before .before .before .before in
+    let earlier = c .before .before .before .before .before .before in
     let s = earlier in (
       s .pre,
       omega (
@@ -38,7 +38,7 @@ write-book-requires c κs =
 
 returns-2 : tie.Need-returns-2
 returns-2 c =
-    let earlier = c .before .before .before .before .before .before .before .before in
+    let earlier = c .before .before .before .before .before .before .before .before .before in
     let s = earlier in
     written-whole (text s)
     (omega (

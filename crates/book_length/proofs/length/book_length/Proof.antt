@@ -6,13 +6,13 @@ use native.Mathlib.Omega.{arith}
 use mathlib.Core.Path.{_∙_}
 use Rattle.spec.specs.Limits.{user-limit}
 use Rattle.cell_rows.specs.Rows.{row-words, row-bits}
-use Rattle.rules.specs.AcceptedFacts.{accepted-lawful}
 use Rattle.names.specs.LaidOut.{UsersAt, PermissionsAt}
 use Rattle.names.specs.declared.layout.Layout.{Layout}
 use Rattle.blocks.specs.Laws.Laid.{few-users, laid-permissions-fit}
 use Rattle.book_length.specs.Laws.NameBytes.{bytes-small, role-bytes-small, users-short, permissions-short}
 use Rattle.book_length.specs.Laws.NameBytes.{users-bytes, permissions-bytes}
-use Rattle.book_length.specs.Laws.Placed.{users-placed, permissions-placed, users-lent, permissions-lent, cells-small}
+use Rattle.book_length.specs.Laws.Placed.{users-placed, permissions-placed, users-lent, permissions-lent}
+use Rattle.book_length.specs.Laws.Placed.{cells-small}
 use Rattle.book_length.specs.Laws.BookMeasured.{book-sum}
 use Rattle.book_length.proofs.length.book_length.Statement.{statement}
 use Rattle.book_length.proofs.length.book_length.Tie as tie
@@ -22,7 +22,7 @@ abbrev layout : tie.Start → Layout
 layout s = s .args .t2
 
 abbrev begun : tie.After-first-places → tie.Start
-begun c = c .before .before .before .before .before
+begun c = c .before .before .before .before .before .before
 
 -- where the names of the sheet are counted, and those of the roles
 abbrev counted : tie.After-bytes-at2 → tie.Start
@@ -34,7 +34,7 @@ abbrev named : tie.After-role-names-length → tie.Start
 named c = counted (c .before)
 
 first-places-requires : tie.Need-first-places-requires
-first-places-requires c κs = users-placed (c .before .before .before .before .pre .0)
+first-places-requires c κs = users-placed (c .before .before .before .before .before .pre .0)
 
 first-places-requires-2 : tie.Need-first-places-requires-2
 first-places-requires-2 c κs = permissions-placed (begun (c .before .before) .pre .0)
@@ -83,17 +83,12 @@ lines-small s =
     (s .pre .1, fit, omega arith, omega (arith, s .pre .1))
 
 witness-length-requires : tie.Need-witness-length-requires
-unfolding row-words user-limit
 witness-length-requires c κs =
-    let placed = c .before .before .before .before in
-    let s = begun (placed .before .before .before) in (
-      users-at placed,
-      permissions-at placed,
-      omega (arith, accepted-lawful (s .args .s .now) (s .pre .0 .accepts) .few-users),
-    )
+    let placed = c .before .before .before in
+    (users-at placed, permissions-at placed, begun (placed .before .before .before) .pre .2)
 
 abbrev role-names : tie.After-counts-length → tie.After-role-names-length
-role-names c = c .before .before .before
+role-names c = c .before .before
 
 -- the whole sum within its bound
 abbrev lines : tie.Start → ℕ
@@ -131,7 +126,7 @@ returns c =
     let text = s .args .s .now in
     let laid = s .pre .0 in
     λ has gives. book-sum text has gives (s .args .witness .now) (s .args .counts) (laid .user-total)
-    (laid .permission-total) (accepted-lawful text (laid .accepts)) (s .pre .2) (c .counts-length .ensures)
+    (laid .permission-total) (c .counts-length .ensures)
     (r .before .before .bytes-at .ensures ∙ users-bytes (users-at placed))
     (r .before .bytes-at2 .ensures ∙ permissions-bytes (permissions-at placed))
     (r .role-names-length .ensures) (c .before .witness-length .ensures)
