@@ -1,0 +1,87 @@
+// The call.
+use added_line::judge_line;
+use answers::WriteAnswer;
+use book::write_if_room;
+use cell_rows::no_rows;
+use checker::BookRead;
+use checker::read_book;
+use crate::longer_text::put_longer;
+use crate::name_taken::name_taken;
+use crate::new_counts::counts_with;
+use crate::witness_cells::witness_cells;
+use joining::RolesJoined;
+use joining::join;
+use numbers::CELL_WORDS;
+use numbers::ROLE_WORDS;
+use numbers::SHEET_LIMIT;
+use numbers::USER_LIMIT;
+use numbers::UserNo;
+ghost use mathlib.Core.Bool.{So};
+ghost use Rattle.spec.specs.Text.{Bytes};
+ghost use Rattle.spec.specs.Refusal.{accepted};
+ghost use Rattle.spec.specs.Newcomer.{Admission, longer, Admits};
+ghost use Rattle.answers.specs.Said.{write-said};
+ghost use Rattle.newcomer.specs.Ready.{Ready, SomeReady};
+
+// Puts the newcomer among the roles of a book that was read, and writes the new book of the longer sheet, or refuses it
+// by 19 or 11. The newcomer is the longer sheet's last user.
+fn write_new<'a>(
+    text: &'a [u8],
+    users: usize,
+    read: BookRead,
+    has: &mut [u64; CELL_WORDS],
+    gives: &mut [u64; ROLE_WORDS],
+    out: &mut [u8],
+) -> WriteAnswer
+    requires { ⌜ SomeReady (now text) users read (now has) (now gives) ⌝ }
+    ensures { λ r. ⌜ ((lent : Admission) → Ready lent (now (text .entry)) users read (now (has .entry))
+        (now (gives .entry))
+        → Admits lent (now (out .entry)) (write-said r) (now (out .exit))) ⌝ }
+{
+    let longer = sheet::read(text);
+    let rows = longer.rows;
+    let before = read.checked.roles;
+    let RolesJoined::Roles(roles) = join(&rows, UserNo(users), has, gives, before) else {
+        return WriteAnswer::refused(19);
+    };
+    let witness = read.witness;
+    let lines = witness.lines;
+    let counts = counts_with(read.counts, roles, lines);
+    let cells = witness_cells(witness);
+    let layout = longer.layout;
+    WriteAnswer::of(write_if_room(out, text, layout, has, gives, &cells[..lines], counts))
+}
+
+// The book of a sheet with a user line added, from a book that is right for the sheet, at the front of the buffer; or
+// the first number that applies, and every byte of the buffer as it was.
+pub fn newcomer<'a>(sheet: &'a [u8], book: &'a [u8], line: &'a [u8], out: &mut [u8]) -> WriteAnswer
+    ensures { λ r. ⌜ Admits (record { sheet = now (sheet .entry); book = now (book .entry);
+        line = now (line .entry) }) (now (out .entry)) (write-said r) (now (out .exit)) ⌝ }
+{
+    let given = sheet::read(sheet);
+    if given.number != 0 {
+        return WriteAnswer::refused(given.number);
+    }
+    let layout = given.layout;
+    let number = judge_line(sheet, layout, line);
+    if number != 0 {
+        return WriteAnswer::refused(number);
+    }
+    let rows = given.rows;
+    let mut has = no_rows();
+    let mut gives = [0u64; ROLE_WORDS];
+    let read = read_book(sheet, layout, &rows, book, &mut has, &mut gives);
+    if read.checked.number != 0 {
+        return WriteAnswer::refused(read.checked.number);
+    }
+    if name_taken(sheet, layout, line) {
+        return WriteAnswer::refused(17);
+    }
+    let users = layout.users;
+    if users == USER_LIMIT {
+        return WriteAnswer::refused(18);
+    }
+    let mut text = [0u8; SHEET_LIMIT];
+    let length = put_longer(&mut text, sheet, line);
+    write_new(&text[..length], users, read, &mut has, &mut gives, out)
+}
