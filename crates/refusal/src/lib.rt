@@ -5,4 +5,7 @@ mod line;
 mod name_places;
 mod refusal;
 
+pub use body::Body;
+pub use body::read_body;
+pub use refusal::has_bad_bytes;
 pub use refusal::judge;

@@ -76,7 +76,7 @@ within-after-first low high n = ap₂ _&&_ (least low n) (least n high)
         (λ p. le-leb (suc a) (suc b) (omega (arith, leb-true a b p)))
 
 -- lines with some field have as many fields as asked where they have one less after the first
-even-after-first : (width : ℕ) (parts : List Bytes)
+pub even-after-first : (width : ℕ) (parts : List Bytes)
     → all (λ line. eqb (length line) (suc width)) (map fields parts) ≡ all (λ line. eqb (length (tail line)) width)
     (map fields parts)
 even-after-first width [] = refl

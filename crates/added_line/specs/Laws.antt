@@ -1,0 +1,2 @@
+-- The laws behind the contracts.
+pub mod LineNumber

@@ -1,0 +1,2 @@
+-- A line that is added to an accepted sheet, judged cause by cause: the lowest number that applies to the longer sheet.
+pub mod Laws
