@@ -13,6 +13,7 @@ pub mod LeastLaws
 pub mod DropLaws
 pub mod Span
 pub mod CutLaws
+pub mod CutAppend
 pub mod JoinLaws
 pub mod ListOfLaws
 pub mod Listed

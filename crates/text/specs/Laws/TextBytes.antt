@@ -15,7 +15,7 @@ some-before : (front : Bytes) (b : ℕ) (back : Bytes) → empty (front ++ b ∷
 some-before [] b back = refl
 some-before (c ∷ front) b back = refl
 
-some-after : (front back : Bytes) → empty front ≡ false → empty (front ++ back) ≡ false
+pub some-after : (front back : Bytes) → empty front ≡ false → empty (front ++ back) ≡ false
 some-after [] back e = absurd (true≢false e)
 some-after (b ∷ front) back e = refl
 
@@ -23,7 +23,7 @@ some-after (b ∷ front) back e = refl
 pub text-some : (line : Line) (later : List Line) → empty (text-of (line ∷ later)) ≡ false
 text-some line later = some-after (line-text line) (text-of later) (some-before (joined comma line) line-feed [])
 
-last-after : (front : Bytes) (back : Bytes) → empty back ≡ false → last-byte (front ++ back) ≡ last-byte back
+pub last-after : (front : Bytes) (back : Bytes) → empty back ≡ false → last-byte (front ++ back) ≡ last-byte back
 last-after [] back e = refl
 last-after (b ∷ []) [] e = absurd (true≢false e)
 last-after (b ∷ []) (c ∷ back) e = refl

@@ -1,0 +1,7 @@
+-- Theorems only: an accepted sheet with one line added is the sheet with one user more.
+pub mod OneLine
+pub mod AddedUser
+pub mod AddedLine
+pub mod AddedCauses
+pub mod Admitted
+pub mod LongerSheet

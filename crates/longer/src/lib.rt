@@ -1,0 +1,1 @@
+// Theorems only: an accepted sheet with one line added is the sheet with one user more.
