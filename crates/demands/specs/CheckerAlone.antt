@@ -18,10 +18,10 @@ use Rattle.spec.specs.Refusal.{accepted}
 use Rattle.spec.specs.Calls.{check, check-counts}
 use Rattle.spec.specs.Joined.{AtLeast}
 use Rattle.cells.specs.Laws.Grant.{held-grant}
-use Rattle.rules.specs.Accepted.{accepted-keeps}
 use Rattle.right.specs.Exact.{sheet-accepted, reads-books}
 use Rattle.right.specs.Verdict.{check-confirms}
 use Rattle.minimality.specs.RoleSets.{independent-bounds-role-sets}
+use Rattle.demands.specs.Believed.{accepted-even}
 
 -- what a reader may rely on who has the sheet, the book and the checker's answer, through what the book says
 pub record Guaranteed (sheet : Bytes) (book : Bytes) : Type 0 where
@@ -47,8 +47,7 @@ witnessed-lines unsettled bound roles lines b w = cc
 pub lines-bound : (text book : Bytes) (says : Said) → So (accepted text) → Right (sheet-of text) book says
     → AtLeast (length (says .witness)) (sheet-of text)
 lines-bound text book says takes right roles multiplies =
-    let kept = accepted-keeps text takes in
-    independent-bounds-role-sets (record { a-row-each = kept .a-row-each; even-rows = kept .even-rows }) (says .witness)
+    independent-bounds-role-sets (accepted-even text takes) (says .witness)
     (record { apart = right .witness .none-fit })
     (λ g m. held-grant (sheet-of text) g (right .witness .all-held g m)) multiplies
 

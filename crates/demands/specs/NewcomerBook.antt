@@ -5,7 +5,7 @@
 use Prim.Native.Nat.{ℕ}
 use native.Mathlib.Omega.{arith}
 use mathlib.Core.Path.{_≡_, refl, sym, ap, _∙_}
-use mathlib.Core.Logic.{_≢_, _⊎_, ⊎-elim}
+use mathlib.Core.Logic.{_⊎_, ⊎-elim}
 use lib.ListN.{length, take}
 use Rattle.spec.specs.Text.{Bytes}
 use Rattle.spec.specs.Roles.{Standing, witnessed, searched, unsettled}
@@ -16,13 +16,15 @@ use Rattle.spec.specs.Newcomer.{Joining, longer, given-sheet, longer-sheet, new
 use Rattle.spec.specs.Newcomer.{joined-book, newcomer-causes, newcomer-answer, buffer-joined, Joins}
 use Rattle.spec.specs.Joined.{AtLeast, WordTrue, NoNewRole, OneNewRole, Joined, NewcomerOwed}
 use Rattle.rules.specs.Accepted.{accepted-keeps}
+use Rattle.longer.specs.OneLine.{added-name, added-row}
+use Rattle.longer.specs.LongerSheet.{longer-sheet-told}
 use Rattle.right.specs.Exact.{answers-counts}
 use Rattle.joined.specs.OneMoreUser.{at-least-as-before}
 use Rattle.joined.specs.LeftOver.{gets-exactly}
 use Rattle.joined.specs.RolesJoined.{has-as-before, has-theirs, gives-as-before}
 use Rattle.joined.specs.NewRole.{new-role-if-left-over}
-use Rattle.joined.specs.NewcomerCauses.{Admitted, zero-admits, eleven-too-short}
-use Rattle.joined.specs.JoinedBook.{LongerFacts, one-more, given-is-right, joined-is-right}
+use Rattle.joined.specs.NewcomerCauses.{Joinable, zero-joinable, eleven-too-short}
+use Rattle.joined.specs.JoinedBook.{said-after, one-more, given-is-right, joined-is-right}
 use Rattle.demands.specs.TextWritten.{front-is-the-text}
 use Rattle.demands.specs.CheckerAlone.{lines-bound}
 use Rattle.demands.specs.Demand1.{newcomer-number}
@@ -32,18 +34,17 @@ open-promises-nothing : {s : Standing} → s ≡ unsettled → (s ≡ witnessed)
 open-promises-nothing opens =
     ⊎-elim (λ w. let z : _≡_ {A = ℕ} 0 1 = cc in omega arith) (λ w. let z : _≡_ {A = ℕ} 0 1 = cc in omega arith)
 
-module _ (lent : Joining) (admitted : Admitted lent) (facts : LongerFacts lent) where
-  -- what the given book says, and what the new one says
+module _ (lent : Joining) (joinable : Joinable lent) where
   abbrev before : Said
   before = said-given lent
 
   abbrev after : Said
-  after = said-joined (longer-sheet lent) (newcomer lent) (said-given lent)
+  after = said-after lent
 
   -- ---- bound and state word
 
   no-fewer : (n : ℕ) → AtLeast n (given-sheet lent) → AtLeast n (longer-sheet lent)
-  no-fewer = at-least-as-before (one-more lent admitted facts)
+  no-fewer = at-least-as-before (one-more lent joinable)
 
   new-role : NoNewRole (longer-sheet lent) (newcomer lent) before after
       ⊎ OneNewRole (longer-sheet lent) (newcomer lent) before after
@@ -52,7 +53,8 @@ module _ (lent : Joining) (admitted : Admitted lent) (facts : LongerFacts lent) 
   lines-still-bound : AtLeast (length (before .witness)) (longer-sheet lent)
   unfolding said-joined
   lines-still-bound =
-      lines-bound (longer lent) (joined-book lent) after (facts .longer-accepted) (joined-is-right lent admitted facts)
+      lines-bound (longer lent) (joined-book lent) after (longer-sheet-told lent (joinable .admitted) .accepts)
+      (joined-is-right lent joinable)
 
   bound-stays-true : AtLeast (before .bound) (given-sheet lent) → AtLeast (after .bound) (longer-sheet lent)
   bound-stays-true least =
@@ -66,25 +68,26 @@ module _ (lent : Joining) (admitted : Admitted lent) (facts : LongerFacts lent) 
     where
       same-count : NoNewRole (longer-sheet lent) (newcomer lent) before after → after .count ≡ before .count
       same-count kept =
-          joined-is-right lent admitted facts .counts .roles ∙ kept .count
-          ∙ sym (given-is-right lent admitted facts .counts .roles)
+          joined-is-right lent joinable .counts .roles ∙ kept .count
+          ∙ sym (given-is-right lent joinable .counts .roles)
 
   -- ---- all that is owed of the new book
 
   pub joined-owed : Joined lent (joined-book lent)
   unfolding joined-book said-joined
   joined-owed =
-      let kept = accepted-keeps (longer lent) (facts .longer-accepted) in
-      let right = joined-is-right lent admitted facts in
+      let told = longer-sheet-told lent (joinable .admitted) in
+      let kept = accepted-keeps (longer lent) (told .accepts) in
+      let right = joined-is-right lent joinable in
       record {
-        name = facts .name;
-        row = facts .row;
-        line-written = facts .line-written;
-        longer-is = facts .longer-is;
+        name = added-name (lent .line);
+        row = added-row (lent .line);
+        line-written = told .line-written;
+        longer-is = told .longer-is;
         longer-kept = kept;
         before = before;
         after = after;
-        given-right = given-is-right lent admitted facts;
+        given-right = given-is-right lent joinable;
         right = right;
         written = refl;
         confirmed-by-check = answers-counts (longer lent) (joined-book lent) (longer-sheet lent) after kept right;
@@ -116,15 +119,14 @@ module _ (lent : Joining) (before after : Bytes) (answer : WriteAnswer) (joins :
       (front-is-the-text (first-number (newcomer-causes lent before)) (joined-book lent) before
       (sym answered-number ∙ accepts))
 
-pub newcomer-owed : ((lent : Joining) → Admitted lent → LongerFacts lent) → NewcomerOwed
-newcomer-owed known =
+pub newcomer-owed : NewcomerOwed
+newcomer-owed =
     record {
       joined = λ lent before after answer joins accepts.
-          let admitted = zero-admits lent before (sym (answered-number lent before after answer joins) ∙ accepts) in
           rw (brings-the-new-book lent before after answer joins accepts)
-          (joined-owed lent admitted (known lent admitted));
+          (joined-owed lent
+          (zero-joinable lent before (sym (answered-number lent before after answer joins) ∙ accepts)));
       room = λ lent before after answer joins long eleven.
           let short = eleven-too-short lent before (sym (answered-number lent before after answer joins) ∙ eleven) in
-          let right = joined-is-right lent (short .admitted) (known lent (short .admitted)) in
-          omega (arith, short .short, right .of-form .short);
+          omega (arith, short .short, joined-is-right lent (short .joinable) .of-form .short);
     }

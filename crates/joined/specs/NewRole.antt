@@ -1,6 +1,6 @@
 -- The new role. Where no permission is left over there is none, and the state word and the bound are kept; where some
 -- are, one new role holds exactly those, only the newcomer has it, and the book says `open` with its witness count.
-use Prim.Native.Nat.{ℕ, _<_}
+use Prim.Native.Nat.{ℕ}
 use native.Mathlib.Nat.{le-refl}
 use native.Mathlib.Omega.{arith}
 use mathlib.Core.Path.{_≡_, refl, sym, _∙_}

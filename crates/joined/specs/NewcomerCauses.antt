@@ -12,18 +12,19 @@ use lib.Dec.{eqb, ltb}
 use lib.ListN.{length}
 use Rattle.spec.specs.Vocabulary.{all}
 use Rattle.spec.specs.Text.{Bytes}
-use Rattle.spec.specs.Refusal.{Cause, first-number, sheet-causes, refusal, accepted, book-causes}
+use Rattle.spec.specs.Refusal.{Cause, first-number, sheet-causes, refusal, book-causes}
 use Rattle.spec.specs.Calls.{check}
 use Rattle.spec.specs.Newcomer.{Joining, longer-causes, given-sheet, name-taken, users-at-limit, too-many-roles}
 use Rattle.spec.specs.Newcomer.{joined-book, newcomer-causes}
 use Rattle.bits.specs.Truth.{passes-or-fails, not-both, and-left, and-right, not-fails}
 use Rattle.rules.specs.CauseLaws.{positive, NoneApplies, zero-none-applies, none-applies-zero}
+use Rattle.longer.specs.Admitted.{Admitted}
 use Rattle.right.specs.Verdict.{none-applies-passes, none-applies-left, none-applies-right, unrefused-zero}
 
 -- ---- the last cause
 
 -- no cause of the list has this number
-abbrev pub none-has : ℕ → List Cause → Bool
+abbrev none-has : ℕ → List Cause → Bool
 none-has number causes = all (λ cause. not (eqb (cause .number) number)) causes
 
 -- a number that only the last cause has says that it applies, and none before it
@@ -37,7 +38,8 @@ only-the-last (cause ∷ earlier) last apart above e =
     absurd (not-both (eq-eqb (cause .number) (last .number) (rw p at e))
     (not-fails (eqb (cause .number) (last .number)) (and-left other (none-has (last .number) earlier) apart))))
     (λ f.
-    let later = only-the-last earlier last (and-right other (none-has (last .number) earlier) apart) above (rw f at e) in
+    let later =
+    only-the-last earlier last (and-right other (none-has (last .number) earlier) apart) above (rw f at e) in
     ((f, later .0), later .1))
     (passes-or-fails (cause .applies))
   where
@@ -80,18 +82,16 @@ eleven-comes-last lent = refl
 
 -- ---- what the number says
 
--- what is so where none of them applies but the buffer's
-pub record Admitted (lent : Joining) : Type 0 where
-  pub sheet-accepted : So (accepted (lent .sheet))
-  pub line-added : first-number (longer-causes (lent .sheet) (lent .line)) ≡ 0
+-- what is so where none of them applies but the buffer's: the line is admitted, the checker accepts the book, and there
+-- is room for a new role
+pub record Joinable (lent : Joining) : Type 0 where
+  pub admitted : Admitted lent
   pub book-accepted : check (lent .sheet) (lent .book) .number ≡ 0
-  pub name-free : name-taken lent ≡ false
-  pub room-for-a-user : users-at-limit lent ≡ false
   pub room-for-a-role : too-many-roles lent ≡ false
 
-none-applies-admitted : (lent : Joining) → NoneApplies (before-the-buffer lent) → Admitted lent
+none-applies-joinable : (lent : Joining) → NoneApplies (before-the-buffer lent) → Joinable lent
 unfolding before-the-buffer refusal
-none-applies-admitted lent none =
+none-applies-joinable lent none =
     let sheet = sheet-causes (lent .sheet) in
     let line = longer-causes (lent .sheet) (lent .line) in
     let book = book-causes (given-sheet lent) (lent .book) in
@@ -101,8 +101,12 @@ none-applies-admitted lent none =
     let of-room = none-applies-right (sheet ++ line ++ book) room none in
     let sheet-stands = none-applies-zero sheet (none-applies-left sheet line of-sheets) in
     record {
-      sheet-accepted = eq-eqb (refusal (lent .sheet)) 0 sheet-stands;
-      line-added = none-applies-zero line (none-applies-right sheet line of-sheets);
+      admitted = record {
+        given = eq-eqb (refusal (lent .sheet)) 0 sheet-stands;
+        unrefused = none-applies-zero line (none-applies-right sheet line of-sheets);
+        new-name = of-room .0;
+        room = of-room .1 .0;
+      };
       book-accepted =
           unrefused-zero (lent .sheet) (lent .book)
           (record {
@@ -110,22 +114,20 @@ none-applies-admitted lent none =
             book-passes = none-applies-passes (given-sheet lent) (lent .book) (none-applies-right (sheet ++ line) book
                 of-texts);
           });
-      name-free = of-room .0;
-      room-for-a-user = of-room .1 .0;
       room-for-a-role = of-room .1 .1 .0;
     }
 
 module _ (lent : Joining) (buffer : Bytes) where
-  pub zero-admits : first-number (newcomer-causes lent buffer) ≡ 0 → Admitted lent
-  zero-admits e =
-      none-applies-admitted lent
+  pub zero-joinable : first-number (newcomer-causes lent buffer) ≡ 0 → Joinable lent
+  zero-joinable e =
+      none-applies-joinable lent
       (none-applies-left (before-the-buffer lent) (short-buffer lent buffer ∷ [])
       (rw (buffer-last lent buffer) at
       (zero-none-applies (newcomer-causes lent buffer) (newcomer-causes-positive lent buffer) e)))
 
   -- 11 is answered only where the new book is longer than the buffer
   pub record TooShort : Type 0 where
-    pub admitted : Admitted lent
+    pub joinable : Joinable lent
     pub short : length buffer < length (joined-book lent)
 
   pub eleven-too-short : first-number (newcomer-causes lent buffer) ≡ 11 → TooShort
@@ -134,6 +136,6 @@ module _ (lent : Joining) (buffer : Bytes) where
       only-the-last (before-the-buffer lent) (short-buffer lent buffer) (eleven-comes-last lent) (λ z. omega arith)
       (rw (buffer-last lent buffer) at e) in
       record {
-        admitted = none-applies-admitted lent (last .0);
+        joinable = none-applies-joinable lent (last .0);
         short = ltb-true (length buffer) (length (joined-book lent)) (last .1);
       }

@@ -4,10 +4,10 @@
 use Prim.Native.Nat.{ℕ, suc, _<_}
 use native.Mathlib.Nat.{lt-trans}
 use native.Mathlib.Omega.{arith}
-use mathlib.Core.Path.{_≡_, refl, ap, _∙_}
-use mathlib.Core.Bool.{Bool, false}
-use mathlib.Core.List.{List, [], _∷_, List·Memᴰ}
-use lib.ListN.{length, getD, length-append, List·getD-append}
+use mathlib.Core.Path.{_≡_, refl, _∙_}
+use mathlib.Core.Bool.{Bool}
+use mathlib.Core.List.{List, List·Memᴰ}
+use lib.ListN.{length}
 use Rattle.spec.specs.Text.{Bytes}
 use Rattle.spec.specs.Sheet.{Sheet, Grant, user-count, permission-count, holds}
 use Rattle.spec.specs.Fit.{fits}
@@ -15,6 +15,7 @@ use Rattle.spec.specs.Cover.{grant-at}
 use Rattle.spec.specs.RoleSet.{RoleSet, Multiplies}
 use Rattle.spec.specs.Right.{WitnessStands}
 use Rattle.spec.specs.Joined.{with-user, AtLeast}
+use Rattle.longer.specs.AddedUser.{user-count-with, earlier-holds}
 use Rattle.cells.specs.Laws.Number.{grant-at-member}
 
 -- one user more, the same permissions, and the cells of the earlier users as they were
@@ -27,11 +28,9 @@ pub with-user-is-one-more : (sheet : Sheet) (name : Bytes) (row : List Bool)
     → length (sheet .rows) ≡ user-count sheet → OneMore sheet (with-user sheet name row)
 with-user-is-one-more sheet name row a-row-each =
     record {
-      users = omega (arith, length-append (sheet .users) (name ∷ []));
+      users = user-count-with sheet name row;
       permissions = refl;
-      cells = λ u p l.
-          ap (λ (cells : List Bool). getD cells p false)
-          (List·getD-append (sheet .rows) (row ∷ []) [] u (omega arith));
+      cells = earlier-holds sheet name row a-row-each;
     }
 
 module _ {given longer : Sheet} (more : OneMore given longer) where

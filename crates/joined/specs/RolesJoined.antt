@@ -12,7 +12,7 @@ use lib.Dec.{eqb}
 use Rattle.spec.specs.Sheet.{Sheet, user-count, permission-count, holds}
 use Rattle.spec.specs.RoleSet.{RoleSet, product, Multiplies}
 use Rattle.spec.specs.Newcomer.{gets, left-over, some-left-over, roles-joined}
-use Rattle.bits.specs.Truth.{passes-or-fails, not-both, same-truth}
+use Rattle.bits.specs.Truth.{passes-or-fails, same-truth}
 use Rattle.bits.specs.Laws.Below.{below-or-from, last-or-below}
 use Rattle.product.specs.Laws.OrOverRoles.{opened-intro, opened-elim}
 use Rattle.joined.specs.OneMoreUser.{OneMore}

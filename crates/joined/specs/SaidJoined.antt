@@ -17,7 +17,7 @@ use Rattle.spec.specs.Right.{BoundAgrees, Right}
 use Rattle.spec.specs.Newcomer.{some-left-over, roles-joined, said-joined}
 use Rattle.right.specs.Confirmed.{bound-le-roles, SoundBook}
 use Rattle.joined.specs.OneMoreUser.{OneMore, witness-still-stands}
-use Rattle.joined.specs.RolesJoined.{count-joined, joined-multiplies}
+use Rattle.joined.specs.RolesJoined.{joined-multiplies}
 
 -- there are no more roles than a book can have
 few-joined : (new : Bool) (roles : ℕ) → roles ≤ role-limit → (new && leb role-limit roles) ≡ false
@@ -26,7 +26,8 @@ few-joined true roles few none = leb-false role-limit roles none
 few-joined false roles few none = few
 
 -- the bound agrees with the state word
-bound-agrees-joined : (new : Bool) (standing : Standing) (bound roles lines : ℕ) → BoundAgrees standing bound roles lines
+bound-agrees-joined : (new : Bool) (standing : Standing) (bound roles lines : ℕ)
+    → BoundAgrees standing bound roles lines
     → BoundAgrees (cond new unsettled standing) (cond new lines bound) (cond new (suc roles) roles) lines
 bound-agrees-joined true standing bound roles lines agrees =
     (refl, omega (arith, bound-le-roles standing bound roles lines agrees .1))
