@@ -3,13 +3,10 @@
 -- reduced, does the buffer take the book.
 use Prim.Native.Nat.{ℕ, _≤_, _<_}
 use mathlib.Core.Path.{_≡_, refl, sym, ap, _∙_}
-use mathlib.Core.Bool.{Bool, true, false, So, cond}
-use mathlib.Core.List.{_++_}
+use mathlib.Core.Bool.{false, So}
 use mathlib.Core.Logic.{_↔_, ⊎-elim}
 use borrow.Author.Tests.{eq-eqb, lt-ltb, le-ltb}
-use lib.Dec.{eqb}
-use lib.ListN.{length, take, drop}
-use lib.Seq.{take-append-seam}
+use lib.ListN.{length}
 use Rattle.spec.specs.Text.{Bytes}
 use Rattle.spec.specs.Sheet.{sheet-of}
 use Rattle.spec.specs.Machine.{State}
@@ -20,7 +17,8 @@ use Rattle.spec.specs.Calls.{LoadAnswer, load-answer, reduce-answer, reduce-ref
 use Rattle.spec.specs.Calls.{search-refused, WriteAnswer, write-refused, write-answer, buffer-after, Loads, Writes}
 use Rattle.spec.specs.Sequence.{WriteOutcome, brought-out}
 use Rattle.spec.specs.Demands.{LoadOwed}
-use Rattle.bits.specs.Truth.{not-both, passes-or-fails}
+use Rattle.bits.specs.Truth.{passes-or-fails}
+use Rattle.demands.specs.TextWritten.{answers-the-number, front-is-the-text}
 
 -- a load answers 0 exactly where its sheet is accepted
 pub load-number : (text : Bytes) → (load-answer text .number ≡ 0) ↔ So (accepted text)
@@ -89,20 +87,6 @@ pub reduced-write-short : (text : Bytes) (st : State) (buffer : Bytes)
 unfolding write-answer write-causes session-book
 reduced-write-short text st buffer short = rw (lt-ltb (length buffer) (length (book (sheet-of text) st)) short)
 
--- what a writing answers and leaves in the buffer, by whether no cause applies
-abbrev answer-if : Bool → ℕ → Bytes → WriteAnswer
-answer-if fits number text = cond fits (record { number = 0; count = length text }) (write-refused number)
-
-abbrev lent-if : Bool → Bytes → Bytes → Bytes
-lent-if fits text buffer = cond fits (text ++ drop (length text) buffer) buffer
-
--- the front of the buffer, as many bytes as were answered, is the book
-front-is-the-book : (fits : Bool) (number : ℕ) (text buffer : Bytes) → fits ≡ eqb number 0 → answer-if fits number
-    text .number ≡ 0
-    → take (answer-if fits number text .count) (lent-if fits text buffer) ≡ text
-front-is-the-book true number text buffer e z = take-append-seam text (drop (length text) buffer)
-front-is-the-book false number text buffer e z = absurd (not-both (eq-eqb number 0 z) (sym e))
-
 -- an accepted writing brings out the session's book, whole
 pub brings-the-book : (before : Session) (buffer : Bytes) (written : WriteOutcome) (after : Session)
     → Writes before buffer (written .answer) (written .lent) after → written .answer .number ≡ 0
@@ -111,5 +95,6 @@ unfolding write-answer buffer-after
 brings-the-book before buffer written after h accepts =
     let number : ℕ = first-number (write-causes before buffer) in
     rw (h .answers, h .fills)
-    (front-is-the-book (eqb number 0) number (session-book before) buffer refl
-    (sym (ap (λ (a : WriteAnswer). a .number) (h .answers)) ∙ accepts))
+    (front-is-the-text number (session-book before) buffer
+    (sym (answers-the-number number (session-book before))
+    ∙ (sym (ap (λ (a : WriteAnswer). a .number) (h .answers)) ∙ accepts)))

@@ -5,6 +5,7 @@
 use Prim.Native.Nat.{ℕ, _≤_}
 use native.Mathlib.Omega.{arith}
 use mathlib.Core.Path.{_≡_, sym}
+use mathlib.Core.Bool.{So}
 use lib.ListN.{length}
 use Rattle.spec.specs.Text.{Bytes}
 use Rattle.spec.specs.Sheet.{sheet-of}
@@ -13,13 +14,14 @@ use Rattle.spec.specs.Roles.{Standing, witnessed, searched, unsettled}
 use Rattle.spec.specs.Book.{Said}
 use Rattle.spec.specs.Form.{said}
 use Rattle.spec.specs.Right.{BoundAgrees, Right}
+use Rattle.spec.specs.Refusal.{accepted}
 use Rattle.spec.specs.Calls.{check, check-counts}
+use Rattle.spec.specs.Joined.{AtLeast}
 use Rattle.cells.specs.Laws.Grant.{held-grant}
-use Rattle.rules.specs.Accepted.{accepted-keeps}
 use Rattle.right.specs.Exact.{sheet-accepted, reads-books}
 use Rattle.right.specs.Verdict.{check-confirms}
-use Rattle.minimality.specs.GrantClassing.{Even}
 use Rattle.minimality.specs.RoleSets.{independent-bounds-role-sets}
+use Rattle.demands.specs.Believed.{accepted-even}
 
 -- what a reader may rely on who has the sheet, the book and the checker's answer, through what the book says
 pub record Guaranteed (sheet : Bytes) (book : Bytes) : Type 0 where
@@ -41,33 +43,28 @@ witnessed-lines witnessed bound roles lines b w = sym (b .1)
 witnessed-lines searched bound roles lines b w = cc
 witnessed-lines unsettled bound roles lines b w = cc
 
-module _ (sheet book : Bytes) (accepts : check sheet book .number ≡ 0) where
-  accepted-even : Even (sheet-of sheet)
-  accepted-even =
-      let kept = accepted-keeps sheet (sheet-accepted sheet book accepts) in
-      record { a-row-each = kept .a-row-each; even-rows = kept .even-rows }
+-- every role set has at least as many roles as a right book has witness lines
+pub lines-bound : (text book : Bytes) (says : Said) → So (accepted text) → Right (sheet-of text) book says
+    → AtLeast (length (says .witness)) (sheet-of text)
+lines-bound text book says takes right roles multiplies =
+    independent-bounds-role-sets (accepted-even text takes) (says .witness)
+    (record { apart = right .witness .none-fit })
+    (λ g m. held-grant (sheet-of text) g (right .witness .all-held g m)) multiplies
 
-  lines-bound : (roles : RoleSet) → Multiplies roles (sheet-of sheet) → length (said (sheet-of sheet) book .witness) ≤
-      roles .count
-  lines-bound roles multiplies =
-      let right = reads-books sheet book accepts in
-      independent-bounds-role-sets accepted-even (said (sheet-of sheet) book .witness)
-      (record { apart = right .witness .none-fit })
-      (λ g m. held-grant (sheet-of sheet) g (right .witness .all-held g m)) multiplies
-
-  pub checker-guarantees : Guaranteed sheet book
-  checker-guarantees =
-      let right = reads-books sheet book accepts in
-      record {
-        says = said (sheet-of sheet) book;
-        right = right;
-        counted = check-confirms sheet book accepts;
-        bounded = lines-bound;
-        smallest = λ witnesses roles multiplies.
-            omega (
-              arith,
-              right .counts .roles,
-              witnessed-lines _ _ _ _ (right .counts .bound) witnesses,
-              lines-bound roles multiplies,
-            );
-      }
+pub checker-guarantees : (sheet book : Bytes) → check sheet book .number ≡ 0 → Guaranteed sheet book
+checker-guarantees sheet book accepts =
+    let right = reads-books sheet book accepts in
+    let bounded = lines-bound sheet book (said (sheet-of sheet) book) (sheet-accepted sheet book accepts) right in
+    record {
+      says = said (sheet-of sheet) book;
+      right = right;
+      counted = check-confirms sheet book accepts;
+      bounded = bounded;
+      smallest = λ witnesses roles multiplies.
+          omega (
+            arith,
+            right .counts .roles,
+            witnessed-lines _ _ _ _ (right .counts .bound) witnesses,
+            bounded roles multiplies,
+          );
+    }

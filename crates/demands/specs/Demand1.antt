@@ -2,22 +2,24 @@
 -- is not 0, the call's definition takes the branch that returns the number alone and changes nothing.
 use Prim.Native.Nat.{ℕ}
 use mathlib.Core.Path.{_≡_, refl, sym, ap, _∙_}
-use mathlib.Core.Bool.{Bool, true, false, So}
+use mathlib.Core.Bool.{false, So}
 use mathlib.Core.Logic.{_≢_, ⊎-elim}
 use borrow.Author.Tests.{eqb-true, ne-eqb}
-use lib.Dec.{eqb}
 use Rattle.spec.specs.Text.{Bytes}
-use Rattle.spec.specs.Session.{Session, no-sheet, read, reduced}
+use Rattle.spec.specs.Session.{Session, no-sheet, read, reduced, session-book}
 use Rattle.spec.specs.Refusal.{first-number, sheet-causes, refusal, accepted, reduce-causes, search-causes}
 use Rattle.spec.specs.Refusal.{write-causes}
 use Rattle.spec.specs.Calls.{LoadAnswer, load-answer, load-refused, after-load, ReduceAnswer, reduce-answer}
 use Rattle.spec.specs.Calls.{reduce-refused, after-reduce, SearchAnswer, search-answer, search-refused, after-search}
 use Rattle.spec.specs.Calls.{WriteAnswer, write-answer, write-refused, buffer-after, check, Loads, Reduces, Searches}
 use Rattle.spec.specs.Calls.{Writes}
+use Rattle.spec.specs.Newcomer.{Joining, joined-book, newcomer-causes, newcomer-answer, buffer-joined, Joins}
 use Rattle.spec.specs.Demands.{Judged, Demand1}
 use Rattle.bits.specs.Truth.{passes-or-fails}
 use Rattle.rules.specs.CauseLaws.{positive, sheet-causes-positive}
 use Rattle.right.specs.CheckOwed.{judged, checks-judged}
+use Rattle.joined.specs.NewcomerCauses.{newcomer-causes-positive}
+use Rattle.demands.specs.TextWritten.{answers-the-number, refused-alone}
 use Rattle.demands.specs.EverySequence.{outcome-on, session-next, happens-on}
 
 -- a load's number is its refusal's
@@ -111,20 +113,14 @@ write-causes-positive before buffer = refl
 pub write-number : (before : Session) (buffer : Bytes) → write-answer before buffer .number ≡ first-number
     (write-causes before buffer)
 unfolding write-answer
-write-number before buffer = choose (eqb (first-number (write-causes before buffer)) 0) refl
-  where
-    choose : (b : Bool) → eqb (first-number (write-causes before buffer)) 0 ≡ b
-        → write-answer before buffer .number ≡ first-number (write-causes before buffer)
-    choose true e = rw e (sym (eqb-true (first-number (write-causes before buffer)) 0 e))
-    choose false e = rw e
+write-number before buffer = answers-the-number (first-number (write-causes before buffer)) (session-book before)
 
 refused-write : (before : Session) (buffer : Bytes) → first-number (write-causes before buffer) ≢ 0
     → (write-answer before buffer ≡ write-refused (first-number (write-causes before buffer)))
     × (buffer-after before buffer ≡ buffer)
 unfolding write-answer buffer-after
 refused-write before buffer n =
-    let e = ne-eqb (first-number (write-causes before buffer)) 0 n in
-    (rw e, rw e)
+    refused-alone (first-number (write-causes before buffer)) (session-book before) buffer n
 
 writes-judged : (before after : Session) (buffer lent : Bytes) (answer : WriteAnswer) → Writes before buffer answer
     lent after
@@ -139,14 +135,42 @@ writes-judged before after buffer lent answer h =
     let r = refused-write before buffer n in
     (h .answers ∙ (r .0 ∙ ap write-refused (sym number)), h .fills ∙ r .1, h .leaves))
 
+-- the number of a call that puts a newcomer in a book, likewise
+pub newcomer-number : (lent : Joining) (buffer : Bytes) → newcomer-answer lent buffer .number ≡ first-number
+    (newcomer-causes lent buffer)
+unfolding newcomer-answer
+newcomer-number lent buffer = answers-the-number (first-number (newcomer-causes lent buffer)) (joined-book lent)
+
+refused-newcomer : (lent : Joining) (buffer : Bytes) → first-number (newcomer-causes lent buffer) ≢ 0
+    → (newcomer-answer lent buffer ≡ write-refused (first-number (newcomer-causes lent buffer)))
+    × (buffer-joined lent buffer ≡ buffer)
+unfolding newcomer-answer buffer-joined
+refused-newcomer lent buffer n =
+    refused-alone (first-number (newcomer-causes lent buffer)) (joined-book lent) buffer n
+
+joins-judged : (lent : Joining) (before after : Bytes) (answer : WriteAnswer) → Joins lent before answer after
+    → Judged (newcomer-causes lent before) (answer .number)
+    ((answer ≡ write-refused (answer .number)) × (after ≡ before))
+joins-judged lent before after answer h =
+    let number : answer .number ≡ first-number (newcomer-causes lent before) =
+    ap (λ (a : WriteAnswer). a .number) (h .answers) ∙ newcomer-number lent before in
+    judged (newcomer-causes lent before) (answer .number) ((answer ≡ write-refused (answer .number))
+    × (after ≡ before))
+    (newcomer-causes-positive lent before) number (λ n.
+    let r = refused-newcomer lent before n in
+    (h .answers ∙ (r .0 ∙ ap write-refused (sym number)), h .fills ∙ r .1))
+
 pub demand-1 : Demand1
 demand-1 =
     record {
       answered = λ call before. (outcome-on before call, session-next before call, happens-on before call);
       checked = λ sheet-bytes book-bytes. (check sheet-bytes book-bytes, record { answers = refl });
+      joined = λ lent buffer.
+          (newcomer-answer lent buffer, buffer-joined lent buffer, record { answers = refl; fills = refl });
       loads = loads-judged;
       reduces = reduces-judged;
       searches = searches-judged;
       writes = writes-judged;
       checks = checks-judged;
+      joins = joins-judged;
     }

@@ -27,7 +27,7 @@ pub record SoundBook (sheet : Sheet) (book : Said) : Type 0 where
 
 -- ---- what is sound is right
 
-bound-le-roles : (s : Standing) (bound roles lines : ℕ) → BoundAgrees s bound roles lines → (bound ≤ roles)
+pub bound-le-roles : (s : Standing) (bound roles lines : ℕ) → BoundAgrees s bound roles lines → (bound ≤ roles)
     × (lines ≤ roles)
 bound-le-roles witnessed bound roles lines b = (omega arith, omega arith)
 bound-le-roles searched bound roles lines b = (omega arith, omega arith)

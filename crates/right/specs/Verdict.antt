@@ -50,11 +50,11 @@ none-applies-passes sheet text n =
 
 -- ---- two lists of causes
 
-none-applies-left : (a b : List Cause) → NoneApplies (a ++ b) → NoneApplies a
+pub none-applies-left : (a b : List Cause) → NoneApplies (a ++ b) → NoneApplies a
 none-applies-left [] b n = tt
 none-applies-left (cause ∷ a) b n = (n .0, none-applies-left a b (n .1))
 
-none-applies-right : (a b : List Cause) → NoneApplies (a ++ b) → NoneApplies b
+pub none-applies-right : (a b : List Cause) → NoneApplies (a ++ b) → NoneApplies b
 none-applies-right [] b n = n
 none-applies-right (cause ∷ a) b n = none-applies-right a b (n .1)
 

@@ -1,0 +1,1 @@
+// Theorems only: a newcomer in an existing book: the longer sheet, the roles, the new book.
