@@ -2,9 +2,9 @@
 -- permissions; a permission is left over exactly where they hold it and no role that they get does; and some are left
 -- over exactly where one is.
 use Prim.Native.Nat.{ℕ, _<_}
-use mathlib.Core.Path.{sym, _∙_}
+use mathlib.Core.Path.{_≡_, sym, _∙_}
 use mathlib.Core.Logic.{_↔_}
-use mathlib.Core.Bool.{Bool, So, _&&_, not}
+use mathlib.Core.Bool.{Bool, false, So, _&&_, not}
 use borrow.Author.Tests.{not-false}
 use Rattle.spec.specs.Vocabulary.{implies, any, every-below}
 use Rattle.spec.specs.Sheet.{Sheet, permission-count, holds}
@@ -12,10 +12,10 @@ use Rattle.spec.specs.RoleSet.{RoleSet, roles-1-to}
 use Rattle.spec.specs.Newcomer.{gets, left-over, some-left-over}
 use Rattle.spec.specs.Admitted.{HoldsAll, LeftOver}
 use Rattle.bits.specs.Counting.{some-below}
-use Rattle.bits.specs.Truth.{not-both, fails-unless, and-intro, and-left, and-right, implies-intro}
-use Rattle.bits.specs.Truth.{implies-elim, not-passes, not-fails}
-use Rattle.bits.specs.Laws.Below.{every-below-intro, every-below-elim, every-below-not}
-use Rattle.bits.specs.Laws.Below.{missed-below-intro, some-below-elim}
+use Rattle.bits.specs.Truth.{not-both, fails-unless, and-intro, and-left, and-right, implies-intro, implies-elim}
+use Rattle.bits.specs.Truth.{not-passes, not-fails}
+use Rattle.bits.specs.Laws.Below.{every-below-intro, every-below-elim, every-below-not, missed-below-intro}
+use Rattle.bits.specs.Laws.Below.{some-below-elim}
 use Rattle.lists.specs.TestLaws.{any-intro, any-elim}
 use Rattle.lists.specs.ListOfLaws.{list-of-member, list-of-element}
 
@@ -61,12 +61,20 @@ module _ (sheet : Sheet) (u : ℕ) (roles : RoleSet) where
         gives = and-right (gets sheet u roles (at .place)) (roles .gives (at .place) p) passes;
       }
 
+  -- what is left over is held
+  pub left-over-held : (p : ℕ) → So (left-over sheet u roles p) → So (holds sheet u p)
+  left-over-held p e = and-left (holds sheet u p) (not (some-got p)) e
+
+  -- what is held and not left over is in a role that they get
+  pub got-or-left-over : (p : ℕ) → So (holds sheet u p) → left-over sheet u roles p ≡ false → RoleGot p
+  got-or-left-over p held none = some-got-elim p (not-false (some-got p) (rw held at none))
+
   pub left-over-exactly : (p : ℕ) → p < permission-count sheet
       → So (left-over sheet u roles p) ↔ LeftOver sheet u roles p
   left-over-exactly p l = (
     λ e. record {
       within = l;
-      held = and-left (holds sheet u p) (not (some-got p)) e;
+      held = left-over-held p e;
       in-none = λ r k all.
           fails-unless (roles .gives r p) (λ gives.
           not-both (some-got-intro p (record { role = r; within = k; theirs = gets-exactly r .1 all; gives = gives }))
@@ -85,11 +93,8 @@ module _ (sheet : Sheet) (u : ℕ) (roles : RoleSet) where
     pub permission : ℕ
     pub left : LeftOver sheet u roles permission
 
-  none-here : ℕ → Bool
-  none-here p = not (left-over sheet u roles p)
-
   pub some-left-over-elim : So (some-left-over sheet u roles) → SomeLeft
-  unfolding some-left-over none-here
+  unfolding some-left-over
   some-left-over-elim e =
       let missed = not-fails (every-below (permission-count sheet) none-here) e in
       let found = some-below-elim (permission-count sheet) (λ p. not (none-here p))
@@ -100,10 +105,16 @@ module _ (sheet : Sheet) (u : ℕ) (roles : RoleSet) where
         left = left-over-exactly (found .place) (found .within) .0
             (not-false (left-over sheet u roles (found .place)) (not-fails (none-here (found .place)) (found .holds)));
       }
+    where
+      none-here : ℕ → Bool
+      none-here p = not (left-over sheet u roles p)
 
   pub some-left-over-intro : (p : ℕ) → LeftOver sheet u roles p → So (some-left-over sheet u roles)
-  unfolding some-left-over none-here
+  unfolding some-left-over
   some-left-over-intro p left =
       not-passes (every-below (permission-count sheet) none-here)
       (missed-below-intro (permission-count sheet) none-here (left .within)
       (rw (left-over-exactly p (left .within) .1 left)))
+    where
+      none-here : ℕ → Bool
+      none-here p = not (left-over sheet u roles p)

@@ -1,8 +1,15 @@
--- Theorems only: a call with a newcomer is accepted, and brings out the one book that is owed, wherever there is one.
-pub mod SameText
-pub mod SameSaid
+-- Theorems only: a newcomer in an existing book. What the new book says is right for the longer sheet; and where there
+-- is a book as it is owed and room for it, the call brings out that one.
+pub mod OneMoreUser
 pub mod LeftOver
 pub mod RolesAdmitting
+pub mod ProductAdmitting
+pub mod SaidAdmitting
+pub mod NewRole
+pub mod NewcomerCauses
+pub mod NewBook
+pub mod SameText
+pub mod SameSaid
 pub mod SameAdmitting
 pub mod Pinned
 pub mod AdmittedBook

@@ -2,8 +2,9 @@
 -- which they hold all permissions; only the newcomer has the new one. Earlier roles have their permissions, and the new
 -- one those left over. Each is one way through the tests of the definition.
 use Prim.Native.Nat.{ℕ, suc, _≤_, _<_}
+use native.Mathlib.Omega.{arith}
 use mathlib.Core.Path.{_≡_, refl}
-use mathlib.Core.Bool.{cond}
+use mathlib.Core.Bool.{Bool, true, false, cond}
 use borrow.Author.Tests.{eq-eqb, ne-eqb, lt-ltb, le-ltb}
 use lib.Dec.{eqb}
 use Rattle.spec.specs.Sheet.{Sheet}
@@ -15,6 +16,13 @@ module _ (sheet : Sheet) (u : ℕ) (roles : RoleSet) where
       ≡ cond (some-left-over sheet u roles) (suc (roles .count)) (roles .count)
   unfolding roles-admitting
   count-admitting = refl
+
+  pub no-fewer-roles : roles .count ≤ roles-admitting sheet u roles .count
+  no-fewer-roles = rw count-admitting (choose (some-left-over sheet u roles))
+    where
+      choose : (new : Bool) → roles .count ≤ cond new (suc (roles .count)) (roles .count)
+      choose true = omega arith
+      choose false = omega arith
 
   pub has-as-before : (v r : ℕ) → (v ≡ u → ⊥) → r < roles .count
       → roles-admitting sheet u roles .has v r ≡ roles .has v r

@@ -1,1 +1,2 @@
-// Theorems only: a call with a newcomer is accepted, and brings out the one book that is owed, wherever there is one.
+// Theorems only: a newcomer in an existing book: what the new book says is right for the longer sheet, and no other book
+// is owed.

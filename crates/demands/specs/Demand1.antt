@@ -13,12 +13,12 @@ use Rattle.spec.specs.Calls.{LoadAnswer, load-answer, load-refused, after-load,
 use Rattle.spec.specs.Calls.{reduce-refused, after-reduce, SearchAnswer, search-answer, search-refused, after-search}
 use Rattle.spec.specs.Calls.{WriteAnswer, write-answer, write-refused, buffer-after, check, Loads, Reduces, Searches}
 use Rattle.spec.specs.Calls.{Writes}
-use Rattle.spec.specs.Newcomer.{Joining, joined-book, newcomer-causes, newcomer-answer, buffer-joined, Joins}
+use Rattle.spec.specs.Newcomer.{Admission, new-book, newcomer-causes, newcomer-answer, buffer-admitting, Admits}
 use Rattle.spec.specs.Demands.{Judged, Demand1}
 use Rattle.bits.specs.Truth.{passes-or-fails}
 use Rattle.rules.specs.CauseLaws.{positive, sheet-causes-positive}
 use Rattle.right.specs.CheckOwed.{judged, checks-judged}
-use Rattle.joined.specs.NewcomerCauses.{newcomer-causes-positive}
+use Rattle.admitted.specs.NewcomerCauses.{newcomer-causes-positive}
 use Rattle.demands.specs.TextWritten.{answers-the-number, refused-alone}
 use Rattle.demands.specs.EverySequence.{outcome-on, session-next, happens-on}
 
@@ -136,22 +136,22 @@ writes-judged before after buffer lent answer h =
     (h .answers ∙ (r .0 ∙ ap write-refused (sym number)), h .fills ∙ r .1, h .leaves))
 
 -- the number of a call that puts a newcomer in a book, likewise
-pub newcomer-number : (lent : Joining) (buffer : Bytes) → newcomer-answer lent buffer .number ≡ first-number
+pub newcomer-number : (lent : Admission) (buffer : Bytes) → newcomer-answer lent buffer .number ≡ first-number
     (newcomer-causes lent buffer)
 unfolding newcomer-answer
-newcomer-number lent buffer = answers-the-number (first-number (newcomer-causes lent buffer)) (joined-book lent)
+newcomer-number lent buffer = answers-the-number (first-number (newcomer-causes lent buffer)) (new-book lent)
 
-refused-newcomer : (lent : Joining) (buffer : Bytes) → first-number (newcomer-causes lent buffer) ≢ 0
+refused-newcomer : (lent : Admission) (buffer : Bytes) → first-number (newcomer-causes lent buffer) ≢ 0
     → (newcomer-answer lent buffer ≡ write-refused (first-number (newcomer-causes lent buffer)))
-    × (buffer-joined lent buffer ≡ buffer)
-unfolding newcomer-answer buffer-joined
+    × (buffer-admitting lent buffer ≡ buffer)
+unfolding newcomer-answer buffer-admitting
 refused-newcomer lent buffer n =
-    refused-alone (first-number (newcomer-causes lent buffer)) (joined-book lent) buffer n
+    refused-alone (first-number (newcomer-causes lent buffer)) (new-book lent) buffer n
 
-joins-judged : (lent : Joining) (before after : Bytes) (answer : WriteAnswer) → Joins lent before answer after
+admits-judged : (lent : Admission) (before after : Bytes) (answer : WriteAnswer) → Admits lent before answer after
     → Judged (newcomer-causes lent before) (answer .number)
     ((answer ≡ write-refused (answer .number)) × (after ≡ before))
-joins-judged lent before after answer h =
+admits-judged lent before after answer h =
     let number : answer .number ≡ first-number (newcomer-causes lent before) =
     ap (λ (a : WriteAnswer). a .number) (h .answers) ∙ newcomer-number lent before in
     judged (newcomer-causes lent before) (answer .number) ((answer ≡ write-refused (answer .number))
@@ -166,11 +166,11 @@ demand-1 =
       answered = λ call before. (outcome-on before call, session-next before call, happens-on before call);
       checked = λ sheet-bytes book-bytes. (check sheet-bytes book-bytes, record { answers = refl });
       joined = λ lent buffer.
-          (newcomer-answer lent buffer, buffer-joined lent buffer, record { answers = refl; fills = refl });
+          (newcomer-answer lent buffer, buffer-admitting lent buffer, record { answers = refl; fills = refl });
       loads = loads-judged;
       reduces = reduces-judged;
       searches = searches-judged;
       writes = writes-judged;
       checks = checks-judged;
-      joins = joins-judged;
+      admits = admits-judged;
     }

@@ -18,7 +18,7 @@ use Rattle.spec.specs.Sheet.{grants-of-row, grants}
 use Rattle.spec.specs.Refusal.{too-long, bad-bytes, has-name-length, bad-name, uneven-line, bad-cell, too-many-grants}
 use Rattle.spec.specs.Refusal.{accepted}
 use Rattle.spec.specs.Newcomer.{feed-before-end}
-use Rattle.spec.specs.Joined.{with-user}
+use Rattle.spec.specs.Admitted.{with-user}
 use Rattle.bits.specs.Truth.{and-left, and-right}
 use Rattle.lists.specs.AppendLaws.{all-append}
 use Rattle.lists.specs.TestLaws.{all-intro}

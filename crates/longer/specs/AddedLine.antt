@@ -12,7 +12,7 @@ use Rattle.spec.specs.Text.{Bytes, Line, line-feed, fields, lines, lines-of}
 use Rattle.spec.specs.Sheet.{first-field, first-line, sheet-of-lines, sheet-of, user-count, user-name, holds}
 use Rattle.spec.specs.Sheet.{grants-of-row, grants}
 use Rattle.spec.specs.Refusal.{accepted}
-use Rattle.spec.specs.Joined.{with-user}
+use Rattle.spec.specs.Admitted.{with-user}
 use Rattle.lists.specs.AppendLaws.{map-append}
 use Rattle.lists.specs.CutAppend.{ended-append}
 use Rattle.text.specs.Laws.Text.{ends-in-feed}

@@ -10,7 +10,7 @@ use lib.ListN.{length, getD, length-append, List·getD-append}
 use lib.Seq.{getD-append-seam}
 use Rattle.spec.specs.Text.{Bytes}
 use Rattle.spec.specs.Sheet.{Sheet, user-count, user-name, holds, grants-of-row, grants-of-rows, grants}
-use Rattle.spec.specs.Joined.{with-user}
+use Rattle.spec.specs.Admitted.{with-user}
 
 rows-grants : (u : ℕ) (rows : List (List Bool)) (row : List Bool)
     → grants-of-rows u (rows ++ row ∷ []) ≡ grants-of-rows u rows ++ grants-of-row (u + length rows) 0 row

@@ -3,5 +3,5 @@ pub mod OneLine
 pub mod AddedUser
 pub mod AddedLine
 pub mod AddedCauses
-pub mod Admitted
+pub mod Addable
 pub mod LongerSheet

@@ -13,27 +13,27 @@ use Rattle.spec.specs.Vocabulary.{all}
 use Rattle.spec.specs.Text.{Bytes, Line, line-text, lines-of}
 use Rattle.spec.specs.Sheet.{cell-text, is-one, is-bit, permission-count}
 use Rattle.spec.specs.Refusal.{uneven-line, accepted}
-use Rattle.spec.specs.Newcomer.{Joining, longer, given-sheet, longer-sheet, longer-causes}
-use Rattle.spec.specs.Joined.{with-user}
+use Rattle.spec.specs.Newcomer.{Admission, longer, given-sheet, longer-sheet, longer-causes}
+use Rattle.spec.specs.Admitted.{with-user}
 use Rattle.lists.specs.TestLaws.{all-elim}
 use Rattle.lists.specs.TailLaws.{length-tail}
 use Rattle.rules.specs.SheetLines.{UserLine, user-line-spelled}
 use Rattle.longer.specs.OneLine.{added-fields, added-name, added-row, one-line-written}
 use Rattle.longer.specs.AddedLine.{sheet-with}
-use Rattle.longer.specs.Admitted.{Admitted, none-applies, line-bytes, line-count, admitted-one-line}
-use Rattle.longer.specs.Admitted.{longer-accepted}
+use Rattle.longer.specs.Addable.{Addable, none-applies, line-bytes, line-count, admitted-one-line}
+use Rattle.longer.specs.Addable.{longer-accepted}
 use Rattle.longer.specs.AddedCauses.{uneven-line-told, bad-cell-told}
 
 -- the longer sheet: accepted, written as the given sheet and a line of the newcomer's name and cells, and read as the
 -- given one with the newcomer as last user
-pub record LongerSheet (lent : Joining) : Type 0 where
+pub record LongerSheet (lent : Admission) : Type 0 where
   pub accepts : So (accepted (longer lent))
   pub one-line : lines-of (lent .line) ≡ added-fields (lent .line) ∷ []
   pub line-written : lent .line ≡ line-text (added-name (lent .line) ∷ map cell-text (added-row (lent .line)))
   pub longer-is : longer-sheet lent ≡ with-user (given-sheet lent) (added-name (lent .line)) (added-row (lent .line))
   pub a-cell-each : length (added-row (lent .line)) ≡ permission-count (given-sheet lent)
 
-module _ (lent : Joining) (a : Admitted lent) where
+module _ (lent : Admission) (a : Addable lent) where
   abbrev text : Bytes
   text = lent .sheet
 

@@ -9,16 +9,16 @@ use mathlib.Core.Bool.{false, So}
 use borrow.Author.Tests.{eq-eqb, ne-eqb}
 use Rattle.spec.specs.Sheet.{Sheet}
 use Rattle.spec.specs.Book.{Said}
-use Rattle.spec.specs.Newcomer.{some-left-over, roles-joined, said-joined}
-use Rattle.spec.specs.Joined.{NoNewRole, OneNewRole}
+use Rattle.spec.specs.Newcomer.{some-left-over, roles-admitting, said-admitting}
+use Rattle.spec.specs.Admitted.{NoNewRole, OneNewRole}
 use Rattle.bits.specs.Truth.{passes-or-fails, not-both}
-use Rattle.joined.specs.LeftOver.{left-over-exactly, some-left-over-elim, some-left-over-intro}
-use Rattle.joined.specs.RolesJoined.{has-new, gives-new}
+use Rattle.admitted.specs.LeftOver.{left-over-exactly, some-left-over-elim, some-left-over-intro}
+use Rattle.admitted.specs.ProductAdmitting.{has-new, gives-new}
 
 module _ (sheet : Sheet) (u : ℕ) (before : Said) where
   no-new-role : some-left-over sheet u (before .roles) ≡ false
-      → NoNewRole sheet u before (said-joined sheet u before)
-  unfolding said-joined roles-joined
+      → NoNewRole sheet u before (said-admitting sheet u before)
+  unfolding said-admitting roles-admitting
   no-new-role none =
       record {
         none-left = λ p left. not-both (some-left-over-intro sheet u (before .roles) p left) none;
@@ -27,8 +27,8 @@ module _ (sheet : Sheet) (u : ℕ) (before : Said) where
         bound = rw none;
       }
 
-  one-new-role : So (some-left-over sheet u (before .roles)) → OneNewRole sheet u before (said-joined sheet u before)
-  unfolding said-joined roles-joined
+  one-new-role : So (some-left-over sheet u (before .roles)) → OneNewRole sheet u before (said-admitting sheet u before)
+  unfolding said-admitting roles-admitting
   one-new-role some =
       let found = some-left-over-elim sheet u (before .roles) some in
       let last = before .roles .count in
@@ -46,8 +46,8 @@ module _ (sheet : Sheet) (u : ℕ) (before : Said) where
         bound = rw some;
       }
 
-  pub new-role-if-left-over : NoNewRole sheet u before (said-joined sheet u before)
-      ⊎ OneNewRole sheet u before (said-joined sheet u before)
+  pub new-role-if-left-over : NoNewRole sheet u before (said-admitting sheet u before)
+      ⊎ OneNewRole sheet u before (said-admitting sheet u before)
   new-role-if-left-over =
       ⊎-elim (λ some. inr (one-new-role some)) (λ none. inl (no-new-role none))
       (passes-or-fails (some-left-over sheet u (before .roles)))

@@ -14,7 +14,7 @@ use Rattle.spec.specs.Fit.{fits}
 use Rattle.spec.specs.Cover.{grant-at}
 use Rattle.spec.specs.RoleSet.{RoleSet, Multiplies}
 use Rattle.spec.specs.Right.{WitnessStands}
-use Rattle.spec.specs.Joined.{with-user, AtLeast}
+use Rattle.spec.specs.Admitted.{with-user, AtLeast}
 use Rattle.longer.specs.AddedUser.{user-count-with, earlier-holds}
 use Rattle.cells.specs.Laws.Number.{grant-at-member}
 

@@ -11,61 +11,25 @@ use borrow.Author.Tests.{eqb-true, eq-eqb, ne-eqb, lt-ltb, le-ltb}
 use lib.Dec.{eqb}
 use Rattle.spec.specs.Sheet.{Sheet, user-count, permission-count, holds}
 use Rattle.spec.specs.RoleSet.{RoleSet, product, Multiplies}
-use Rattle.spec.specs.Newcomer.{gets, left-over, some-left-over, roles-joined}
+use Rattle.spec.specs.Newcomer.{gets, left-over, some-left-over, roles-admitting}
 use Rattle.bits.specs.Truth.{passes-or-fails, same-truth}
 use Rattle.bits.specs.Laws.Below.{below-or-from, last-or-below}
 use Rattle.product.specs.Laws.OrOverRoles.{opened-intro, opened-elim}
-use Rattle.joined.specs.OneMoreUser.{OneMore}
-use Rattle.joined.specs.LeftOver.{gets-exactly, left-over-held, got-or-left-over, left-over-exactly}
-use Rattle.joined.specs.LeftOver.{some-left-over-intro}
-
--- ---- the matrices, role by role
+use Rattle.admitted.specs.OneMoreUser.{OneMore}
+use Rattle.admitted.specs.LeftOver.{gets-exactly, left-over-held, got-or-left-over, left-over-exactly}
+use Rattle.admitted.specs.LeftOver.{some-left-over-intro}
+use Rattle.admitted.specs.RolesAdmitting.{count-admitting, has-as-before, has-theirs, has-new, gives-as-before}
+use Rattle.admitted.specs.RolesAdmitting.{gives-new}
 
 module _ (sheet : Sheet) (u : ℕ) (roles : RoleSet) where
-  pub count-joined : roles-joined sheet u roles .count
-      ≡ cond (some-left-over sheet u roles) (suc (roles .count)) (roles .count)
-  unfolding roles-joined
-  count-joined = refl
-
-  pub no-fewer-roles : roles .count ≤ roles-joined sheet u roles .count
-  no-fewer-roles = rw count-joined (choose (some-left-over sheet u roles))
-    where
-      choose : (new : Bool) → roles .count ≤ cond new (suc (roles .count)) (roles .count)
-      choose true = omega arith
-      choose false = omega arith
-
-  -- earlier users have the roles that they had, and the newcomer those of which they hold all permissions
-  pub has-as-before : (v r : ℕ) → (v ≡ u → ⊥) → r < roles .count
-      → roles-joined sheet u roles .has v r ≡ roles .has v r
-  unfolding roles-joined
-  has-as-before v r other l = rw (lt-ltb r (roles .count) l, ne-eqb v u other)
-
-  pub has-theirs : (r : ℕ) → r < roles .count → roles-joined sheet u roles .has u r ≡ gets sheet u roles r
-  unfolding roles-joined
-  has-theirs r l = rw (lt-ltb r (roles .count) l, eq-eqb u u refl)
-
-  -- only the newcomer has the new one
-  pub has-new : (v r : ℕ) → roles .count ≤ r → roles-joined sheet u roles .has v r ≡ eqb v u
-  unfolding roles-joined
-  has-new v r l = rw (le-ltb r (roles .count) l)
-
-  -- earlier roles have their permissions, and the new one those left over
-  pub gives-as-before : (r p : ℕ) → r < roles .count → roles-joined sheet u roles .gives r p ≡ roles .gives r p
-  unfolding roles-joined
-  gives-as-before r p l = rw (lt-ltb r (roles .count) l)
-
-  pub gives-new : (r p : ℕ) → roles .count ≤ r → roles-joined sheet u roles .gives r p ≡ left-over sheet u roles p
-  unfolding roles-joined
-  gives-new r p l = rw (le-ltb r (roles .count) l)
-
   -- ---- a cell of an earlier user
 
-  pub earlier-cell : (v p : ℕ) → (v ≡ u → ⊥) → product (roles-joined sheet u roles) v p ≡ product roles v p
+  pub earlier-cell : (v p : ℕ) → (v ≡ u → ⊥) → product (roles-admitting sheet u roles) v p ≡ product roles v p
   unfolding product
   earlier-cell v p other = same-truth (product joined v p) (product roles v p) back on
     where
       joined : RoleSet
-      joined = roles-joined sheet u roles
+      joined = roles-admitting sheet u roles
 
       back : So (product joined v p) → So (product roles v p)
       back e =
@@ -88,12 +52,12 @@ module _ (sheet : Sheet) (u : ℕ) (roles : RoleSet) where
   -- ---- a cell of the newcomer
 
   pub newcomer-cell : (p : ℕ) → p < permission-count sheet
-      → product (roles-joined sheet u roles) u p ≡ holds sheet u p
+      → product (roles-admitting sheet u roles) u p ≡ holds sheet u p
   unfolding product
   newcomer-cell p k = same-truth (product joined u p) (holds sheet u p) within covered
     where
       joined : RoleSet
-      joined = roles-joined sheet u roles
+      joined = roles-admitting sheet u roles
 
       within : So (product joined u p) → So (holds sheet u p)
       within e =
@@ -109,7 +73,7 @@ module _ (sheet : Sheet) (u : ℕ) (roles : RoleSet) where
       in-the-new-role : So (left-over sheet u roles p) → So (product joined u p)
       in-the-new-role left =
           let new = some-left-over-intro sheet u roles p (left-over-exactly sheet u roles p k .0 left) in
-          opened-intro joined u p (joined .count) {h = roles .count} (rw (count-joined, new) (omega arith))
+          opened-intro joined u p (joined .count) {h = roles .count} (rw (count-admitting, new) (omega arith))
           (has-new u (roles .count) (omega arith) ∙ eq-eqb u u refl)
           (gives-new (roles .count) p (omega arith) ∙ left)
 
@@ -125,9 +89,9 @@ module _ (sheet : Sheet) (u : ℕ) (roles : RoleSet) where
 
 -- ---- the product
 
-pub joined-multiplies : {given longer : Sheet} → OneMore given longer → (roles : RoleSet) → Multiplies roles given
-    → Multiplies (roles-joined longer (user-count given) roles) longer
-joined-multiplies {given} {longer} more roles multiplies =
+pub admitting-multiplies : {given longer : Sheet} → OneMore given longer → (roles : RoleSet) → Multiplies roles given
+    → Multiplies (roles-admitting longer (user-count given) roles) longer
+admitting-multiplies {given} {longer} more roles multiplies =
     record {
       cell = λ v p l k.
           ⊎-elim (λ (last : v ≡ user-count given). rw last (newcomer-cell longer (user-count given) roles p k))

@@ -14,39 +14,39 @@ use Rattle.spec.specs.Sheet.{Sheet, user-count}
 use Rattle.spec.specs.Roles.{Standing, unsettled}
 use Rattle.spec.specs.Book.{Said}
 use Rattle.spec.specs.Right.{BoundAgrees, Right}
-use Rattle.spec.specs.Newcomer.{some-left-over, roles-joined, said-joined}
+use Rattle.spec.specs.Newcomer.{some-left-over, roles-admitting, said-admitting}
 use Rattle.right.specs.Confirmed.{bound-le-roles, SoundBook}
-use Rattle.joined.specs.OneMoreUser.{OneMore, witness-still-stands}
-use Rattle.joined.specs.RolesJoined.{joined-multiplies}
+use Rattle.admitted.specs.OneMoreUser.{OneMore, witness-still-stands}
+use Rattle.admitted.specs.ProductAdmitting.{admitting-multiplies}
 
 -- there are no more roles than a book can have
-few-joined : (new : Bool) (roles : ℕ) → roles ≤ role-limit → (new && leb role-limit roles) ≡ false
+few-with-new : (new : Bool) (roles : ℕ) → roles ≤ role-limit → (new && leb role-limit roles) ≡ false
     → cond new (suc roles) roles ≤ role-limit
-few-joined true roles few none = leb-false role-limit roles none
-few-joined false roles few none = few
+few-with-new true roles few none = leb-false role-limit roles none
+few-with-new false roles few none = few
 
 -- the bound agrees with the state word
-bound-agrees-joined : (new : Bool) (standing : Standing) (bound roles lines : ℕ)
+bound-agrees-with-new : (new : Bool) (standing : Standing) (bound roles lines : ℕ)
     → BoundAgrees standing bound roles lines
     → BoundAgrees (cond new unsettled standing) (cond new lines bound) (cond new (suc roles) roles) lines
-bound-agrees-joined true standing bound roles lines agrees =
+bound-agrees-with-new true standing bound roles lines agrees =
     (refl, omega (arith, bound-le-roles standing bound roles lines agrees .1))
-bound-agrees-joined false standing bound roles lines agrees = agrees
+bound-agrees-with-new false standing bound roles lines agrees = agrees
 
-pub joined-is-sound : {given longer : Sheet} → OneMore given longer → (book : Bytes) (before : Said)
+pub new-book-sound : {given longer : Sheet} → OneMore given longer → (book : Bytes) (before : Said)
     → Right given book before
     → (some-left-over longer (user-count given) (before .roles) && leb role-limit (before .roles .count)) ≡ false
-    → SoundBook longer (said-joined longer (user-count given) before)
-unfolding role-limit said-joined roles-joined
-joined-is-sound {given} {longer} more book before right few =
+    → SoundBook longer (said-admitting longer (user-count given) before)
+unfolding role-limit said-admitting roles-admitting
+new-book-sound {given} {longer} more book before right few =
     let new = some-left-over longer (user-count given) (before .roles) in
     record {
-      few-roles = few-joined new (before .roles .count) (right .of-form .few-roles) few;
+      few-roles = few-with-new new (before .roles .count) (right .of-form .few-roles) few;
       counts = record {
         roles = refl;
-        bound = bound-agrees-joined new (before .standing) (before .bound) (before .roles .count)
+        bound = bound-agrees-with-new new (before .standing) (before .bound) (before .roles .count)
             (length (before .witness)) (right .counts .bound);
       };
-      product = joined-multiplies more (before .roles) (right .product);
+      product = admitting-multiplies more (before .roles) (right .product);
       witness = witness-still-stands more (before .witness) (right .of-form .known-users) (right .witness);
     }

@@ -14,11 +14,11 @@ use Rattle.spec.specs.Vocabulary.{all}
 use Rattle.spec.specs.Text.{Bytes}
 use Rattle.spec.specs.Refusal.{Cause, first-number, sheet-causes, refusal, book-causes}
 use Rattle.spec.specs.Calls.{check}
-use Rattle.spec.specs.Newcomer.{Joining, longer-causes, given-sheet, name-taken, users-at-limit, too-many-roles}
-use Rattle.spec.specs.Newcomer.{joined-book, newcomer-causes}
+use Rattle.spec.specs.Newcomer.{Admission, longer-causes, given-sheet, name-taken, users-at-limit, too-many-roles}
+use Rattle.spec.specs.Newcomer.{new-book, newcomer-causes}
 use Rattle.bits.specs.Truth.{passes-or-fails, not-both, and-left, and-right, not-fails}
 use Rattle.rules.specs.CauseLaws.{positive, NoneApplies, zero-none-applies, none-applies-zero}
-use Rattle.longer.specs.Admitted.{Admitted}
+use Rattle.longer.specs.Addable.{Addable}
 use Rattle.right.specs.Verdict.{none-applies-passes, none-applies-left, none-applies-right, unrefused-zero}
 
 -- ---- the last cause
@@ -49,7 +49,7 @@ only-the-last (cause ∷ earlier) last apart above e =
 -- ---- the causes of the call
 
 -- there is no room: the name is taken, or there are as many users or roles as there may be
-abbrev room-causes : Joining → List Cause
+abbrev room-causes : Admission → List Cause
 room-causes lent =
     record { number = 17; applies = name-taken lent }
     ∷ record { number = 18; applies = users-at-limit lent }
@@ -57,41 +57,41 @@ room-causes lent =
     ∷ []
 
 -- all that are judged before the buffer
-unfoldable before-the-buffer : Joining → List Cause
+unfoldable before-the-buffer : Admission → List Cause
 before-the-buffer lent =
     sheet-causes (lent .sheet)
     ++ longer-causes (lent .sheet) (lent .line)
     ++ book-causes (given-sheet lent) (lent .book)
     ++ room-causes lent
 
-abbrev short-buffer : Joining → Bytes → Cause
-short-buffer lent buffer = record { number = 11; applies = ltb (length buffer) (length (joined-book lent)) }
+abbrev short-buffer : Admission → Bytes → Cause
+short-buffer lent buffer = record { number = 11; applies = ltb (length buffer) (length (new-book lent)) }
 
-buffer-last : (lent : Joining) (buffer : Bytes)
+buffer-last : (lent : Admission) (buffer : Bytes)
     → newcomer-causes lent buffer ≡ before-the-buffer lent ++ short-buffer lent buffer ∷ []
 unfolding newcomer-causes before-the-buffer sheet-causes longer-causes book-causes
 buffer-last lent buffer = refl
 
-pub newcomer-causes-positive : (lent : Joining) (buffer : Bytes) → So (positive (newcomer-causes lent buffer))
+pub newcomer-causes-positive : (lent : Admission) (buffer : Bytes) → So (positive (newcomer-causes lent buffer))
 unfolding newcomer-causes sheet-causes longer-causes book-causes
 newcomer-causes-positive lent buffer = refl
 
-eleven-comes-last : (lent : Joining) → So (none-has 11 (before-the-buffer lent))
+eleven-comes-last : (lent : Admission) → So (none-has 11 (before-the-buffer lent))
 unfolding before-the-buffer sheet-causes longer-causes book-causes
 eleven-comes-last lent = refl
 
 -- ---- what the number says
 
--- what is so where none of them applies but the buffer's: the line is admitted, the checker accepts the book, and there
+-- what is so where none of them applies but the buffer's: the line can be added, the checker accepts the book, and there
 -- is room for a new role
-pub record Joinable (lent : Joining) : Type 0 where
-  pub admitted : Admitted lent
+pub record Admissible (lent : Admission) : Type 0 where
+  pub addable : Addable lent
   pub book-accepted : check (lent .sheet) (lent .book) .number ≡ 0
   pub room-for-a-role : too-many-roles lent ≡ false
 
-none-applies-joinable : (lent : Joining) → NoneApplies (before-the-buffer lent) → Joinable lent
+none-applies-admissible : (lent : Admission) → NoneApplies (before-the-buffer lent) → Admissible lent
 unfolding before-the-buffer refusal
-none-applies-joinable lent none =
+none-applies-admissible lent none =
     let sheet = sheet-causes (lent .sheet) in
     let line = longer-causes (lent .sheet) (lent .line) in
     let book = book-causes (given-sheet lent) (lent .book) in
@@ -101,7 +101,7 @@ none-applies-joinable lent none =
     let of-room = none-applies-right (sheet ++ line ++ book) room none in
     let sheet-stands = none-applies-zero sheet (none-applies-left sheet line of-sheets) in
     record {
-      admitted = record {
+      addable = record {
         given = eq-eqb (refusal (lent .sheet)) 0 sheet-stands;
         unrefused = none-applies-zero line (none-applies-right sheet line of-sheets);
         new-name = of-room .0;
@@ -117,18 +117,18 @@ none-applies-joinable lent none =
       room-for-a-role = of-room .1 .1 .0;
     }
 
-module _ (lent : Joining) (buffer : Bytes) where
-  pub zero-joinable : first-number (newcomer-causes lent buffer) ≡ 0 → Joinable lent
-  zero-joinable e =
-      none-applies-joinable lent
+module _ (lent : Admission) (buffer : Bytes) where
+  pub zero-admissible : first-number (newcomer-causes lent buffer) ≡ 0 → Admissible lent
+  zero-admissible e =
+      none-applies-admissible lent
       (none-applies-left (before-the-buffer lent) (short-buffer lent buffer ∷ [])
       (rw (buffer-last lent buffer) at
       (zero-none-applies (newcomer-causes lent buffer) (newcomer-causes-positive lent buffer) e)))
 
   -- 11 is answered only where the new book is longer than the buffer
   pub record TooShort : Type 0 where
-    pub joinable : Joinable lent
-    pub short : length buffer < length (joined-book lent)
+    pub admissible : Admissible lent
+    pub short : length buffer < length (new-book lent)
 
   pub eleven-too-short : first-number (newcomer-causes lent buffer) ≡ 11 → TooShort
   eleven-too-short e =
@@ -136,6 +136,6 @@ module _ (lent : Joining) (buffer : Bytes) where
       only-the-last (before-the-buffer lent) (short-buffer lent buffer) (eleven-comes-last lent) (λ z. omega arith)
       (rw (buffer-last lent buffer) at e) in
       record {
-        joinable = none-applies-joinable lent (last .0);
-        short = ltb-true (length buffer) (length (joined-book lent)) (last .1);
+        admissible = none-applies-admissible lent (last .0);
+        short = ltb-true (length buffer) (length (new-book lent)) (last .1);
       }

@@ -17,7 +17,7 @@ use Rattle.spec.specs.Text.{Bytes, Line, same-name, lines-of}
 use Rattle.spec.specs.Sheet.{first-field, sheet-of, user-count}
 use Rattle.spec.specs.Form.{known}
 use Rattle.spec.specs.Refusal.{first-number, bad-bytes, accepted}
-use Rattle.spec.specs.Newcomer.{Joining, longer, given-sheet, longer-sheet, feed-before-end, longer-causes, name-taken}
+use Rattle.spec.specs.Newcomer.{Admission, longer, given-sheet, longer-sheet, feed-before-end, longer-causes, name-taken}
 use Rattle.spec.specs.Newcomer.{users-at-limit}
 use Rattle.bits.specs.Truth.{not-both, or-fails-left, or-fails-right}
 use Rattle.bits.specs.Laws.Below.{last-or-below}
@@ -33,7 +33,7 @@ use Rattle.longer.specs.AddedLine.{first-line-same, sheet-with, permissi
 use Rattle.longer.specs.AddedCauses.{bad-bytes-told}
 
 -- a sheet that is accepted, and a line to which none of the longer sheet's causes applies, nor 17, nor 18
-pub record Admitted (lent : Joining) : Type 0 where
+pub record Addable (lent : Admission) : Type 0 where
   pub given : So (accepted (lent .sheet))
   pub unrefused : first-number (longer-causes (lent .sheet) (lent .line)) ≡ 0
   pub new-name : name-taken lent ≡ false
@@ -66,7 +66,7 @@ user-total : (text : Bytes) → user-count (sheet-of text) ≡ length (tail (lin
 unfolding sheet-of
 user-total text = length-map (tail (lines-of text)) first-field
 
-module _ (lent : Joining) (a : Admitted lent) where
+module _ (lent : Admission) (a : Addable lent) where
   abbrev text : Bytes
   text = lent .sheet
 

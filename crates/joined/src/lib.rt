@@ -1,1 +1,0 @@
-// Theorems only: a newcomer in an existing book: the longer sheet, the roles, the new book.
