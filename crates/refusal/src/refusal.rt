@@ -66,7 +66,7 @@ pub fn judge(s: &[u8]) -> usize
 }
 
 // Whether the sheet is empty, its last byte is no line feed, or a byte is not allowed.
-fn has_bad_bytes(s: &[u8]) -> bool
+pub fn has_bad_bytes(s: &[u8]) -> bool
     ensures { λ r. ⌜ r ≡ bad-bytes (now (s .entry)) ⌝ }
 {
     if s.len() == 0 {
