@@ -1,3 +1,4 @@
--- The checker: whether a book is right for a sheet, and its counts.
-pub mod BookRead
+-- The checker: whether a book is right for a sheet, its counts, and what was read of it.
+pub mod BlocksRead
+pub mod ReadAs
 pub mod Laws

@@ -51,7 +51,7 @@ pub struct WitnessesRead {
 
 impl Witness {
     // No line.
-    fn none() -> Self
+    pub fn none() -> Self
         ensures { λ r. ⌜ r ≡ no-witness ⌝ }
     {
         let line = WitnessLine {

@@ -1,4 +1,5 @@
-// The judgement of a sheet cause by cause: the lowest number that applies.
+// The judgement of a sheet cause by cause: the lowest number that applies; and two of its parts, by which further user
+// lines can be judged.
 mod body;
 mod fields;
 mod line;

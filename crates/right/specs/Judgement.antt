@@ -124,7 +124,8 @@ product-agrees-same sheet read written s =
     ap (λ (b : Bool). Bool·beq b (holds sheet u p)) (product-same sheet read written s u p h k)))
 
 module _ (sheet : Sheet) (good : GoodSheet sheet) (book : Bytes) (says : Said) (w : WrittenAs sheet book says) where
-  reads-same : SaysSame sheet (said sheet book) says
+  -- what the book is read as is what is said
+  pub reads-same : SaysSame sheet (said sheet book) says
   reads-same = rw (w .written) (read-back sheet good says (w .sayable) (w .spelling) (w .same-names))
 
   has-form : So (form sheet book)

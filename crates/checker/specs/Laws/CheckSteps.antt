@@ -1,6 +1,5 @@
--- The check, step by step: what each reading is handed, and the checker's answer wherever the code gives one. A sheet
--- is refused by its number, a book that is too long or lacks a block by 12, and any other book is judged by what was
--- read of it.
+-- The check, step by step: what each reading is handed, and the checker's answer where it refuses. A sheet is refused
+-- by its number, and a book that is too long or lacks a block by 12.
 use Prim.Native.Nat.{ℕ, _*_, _≤_, _<_}
 use native.Mathlib.Nat.{mul-le-mul-right}
 use native.Mathlib.Omega.{arith}
@@ -13,18 +12,15 @@ use Rattle.spec.specs.Limits.{user-limit, book-limit}
 use Rattle.spec.specs.Text.{Bytes}
 use Rattle.spec.specs.Sheet.{sheet-of}
 use Rattle.spec.specs.Refusal.{refusal, accepted}
-use Rattle.spec.specs.Calls.{CheckAnswer, check-refused, Checks}
+use Rattle.spec.specs.Calls.{CheckAnswer, check-refused, check, Checks}
 use Rattle.cell_rows.specs.Rows.{row-words}
 use Rattle.names.specs.LaidOut.{LaidOut}
 use Rattle.names.specs.declared.layout.Layout.{Layout}
 use Rattle.rules.specs.AcceptedFacts.{accepted-lawful}
-use Rattle.book_lines.specs.declared.counts.Counts.{Counts}
-use Rattle.read_fields.specs.declared.witness_block.Witness.{Witness}
-use Rattle.read_rows.specs.UserSteps.{UsersPart}
-use Rattle.read_fields.specs.WitnessSteps.{WitnessPart}
-use Rattle.right.specs.Judgement.{refused-by-sheet, too-long-book, Unwritten, unwritten-book, written-book}
-use Rattle.judging.specs.BookSays.{JudgedAs}
-use Rattle.checker.specs.BookRead.{FrontRead, said-read, read-is-written, read-is-said}
+use Rattle.right.specs.Judgement.{refused-by-sheet, too-long-book, Unwritten, unwritten-book}
+use Rattle.judging.specs.BookSays.{answer-of}
+use Rattle.checker.specs.declared.reading.BookRead.{BookRead}
+use Rattle.checker.specs.ReadAs.{BookReads}
 
 -- ---- rows to read into
 
@@ -42,32 +38,23 @@ users-within {text} {layout} laid size e =
 
 -- ---- the answer
 
-module _ {text book : Bytes} {answer : CheckAnswer} where
-  pub refused-for-sheet : {number : ℕ} → number ≡ refusal text → (number ≡ 0 → ⊥) → answer ≡ check-refused number
-      → Checks text book answer
-  refused-for-sheet {number} e h a =
-      record { answers = a ∙ ap check-refused e ∙ sym (refused-by-sheet text book (λ none. h (e ∙ none))) }
+pub refused-for-sheet : {text book : Bytes} {answer : CheckAnswer} {number : ℕ} → number ≡ refusal text
+    → (number ≡ 0 → ⊥)
+    → answer ≡ check-refused number
+    → Checks text book answer
+refused-for-sheet {text} {book} e h a =
+    record { answers = a ∙ ap check-refused e ∙ sym (refused-by-sheet text book (λ none. h (e ∙ none))) }
 
-  pub refused-too-long : refusal text ≡ 0 → book-limit < length book → answer ≡ check-refused 12
-      → Checks text book answer
-  refused-too-long e h a = record { answers = a ∙ sym (too-long-book text book e h) }
+module _ {text book : Bytes} (stands : So (accepted text)) {r : BookRead} {has gives : List ℕ}
+    (twelve : answer-of (r .checked) ≡ check-refused 12) where
+  refused-as : check text book ≡ check-refused 12 → BookReads text book r has gives
+  refused-as e = (
+    record { answers = twelve ∙ sym e },
+    λ z. absurd (omega (arith, ap (λ (a : CheckAnswer). a .number) twelve, z)),
+  )
 
-  module _ (stands : So (accepted text)) where
-    pub refused-for-form : Unwritten (sheet-of text) book → answer ≡ check-refused 12 → Checks text book answer
-    refused-for-form u a = record { answers = a ∙ sym (unwritten-book text book (eqb-true (refusal text) 0 stands) u) }
+  pub refused-too-long : book-limit < length book → BookReads text book r has gives
+  refused-too-long h = refused-as (too-long-book text book (eqb-true (refusal text) 0 stands) h)
 
-    pub judged-as-read : {counts : Counts} {gives : List ℕ} {roles third fourth : ℕ} {w : Witness} (has : List ℕ)
-        → length book ≤ book-limit
-        → (front : FrontRead (sheet-of text) book counts gives roles third)
-        → (users : UsersPart (sheet-of text) book third roles has fourth)
-        → (last : WitnessPart (sheet-of text) book fourth w)
-        → JudgedAs (sheet-of text) counts roles has gives w answer → Checks text book answer
-    judged-as-read has h front users last judged =
-        let sheet = sheet-of text in
-        record {
-          answers =
-              judged .judged (said-read sheet front has users last) (read-is-said sheet front has users last h)
-              ∙ sym
-              (written-book text book (said-read sheet front has users last) (eqb-true (refusal text) 0 stands)
-              (read-is-written sheet front has users last h));
-        }
+  pub refused-for-form : Unwritten (sheet-of text) book → BookReads text book r has gives
+  refused-for-form u = refused-as (unwritten-book text book (eqb-true (refusal text) 0 stands) u)
