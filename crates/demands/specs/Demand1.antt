@@ -165,7 +165,7 @@ demand-1 =
     record {
       answered = λ call before. (outcome-on before call, session-next before call, happens-on before call);
       checked = λ sheet-bytes book-bytes. (check sheet-bytes book-bytes, record { answers = refl });
-      joined = λ lent buffer.
+      admission = λ lent buffer.
           (newcomer-answer lent buffer, buffer-admitting lent buffer, record { answers = refl; fills = refl });
       loads = loads-judged;
       reduces = reduces-judged;
