@@ -13,7 +13,7 @@ use Rattle.spec.specs.Newcomer.{some-left-over, roles-admitting, said-admitting
 use Rattle.spec.specs.Admitted.{NoNewRole, OneNewRole}
 use Rattle.bits.specs.Truth.{passes-or-fails, not-both}
 use Rattle.admitted.specs.LeftOver.{left-over-exactly, some-left-over-elim, some-left-over-intro}
-use Rattle.admitted.specs.ProductAdmitting.{has-new, gives-new}
+use Rattle.admitted.specs.RolesAdmitting.{has-new, gives-new}
 
 module _ (sheet : Sheet) (u : ℕ) (before : Said) where
   no-new-role : some-left-over sheet u (before .roles) ≡ false
@@ -40,7 +40,7 @@ module _ (sheet : Sheet) (u : ℕ) (before : Said) where
             let exact = left-over-exactly sheet u (before .roles) p l in
             let gives = gives-new sheet u (before .roles) last p (le-refl last) in
             (λ e. exact .0 (sym gives ∙ e), λ left. gives ∙ exact .1 left);
-        theirs = has-new sheet u (before .roles) u last (le-refl last) ∙ eq-eqb u u refl;
+        has-new = has-new sheet u (before .roles) u last (le-refl last) ∙ eq-eqb u u refl;
         only-theirs = λ v l. has-new sheet u (before .roles) v last (le-refl last) ∙ ne-eqb v u (λ e. omega arith);
         standing = rw some;
         bound = rw some;
