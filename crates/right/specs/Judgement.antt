@@ -42,7 +42,7 @@ answered number says = cond (eqb number 0) (check-counts says) (check-refused nu
 
 -- ---- the sheet first
 
-first-of-both : (a b : List Cause) → (first-number a ≡ 0 → ⊥) → first-number (a ++ b) ≡ first-number a
+pub first-of-both : (a b : List Cause) → (first-number a ≡ 0 → ⊥) → first-number (a ++ b) ≡ first-number a
 first-of-both [] b h = absurd (h refl)
 first-of-both (cause ∷ a) b h = choose (first-of-both a b) (cause .applies) h
   where
@@ -52,7 +52,7 @@ first-of-both (cause ∷ a) b h = choose (first-of-both a b) (cause .applies) h
     choose later true h = refl
     choose later false h = later h
 
-second-of-both : (a b : List Cause) → NoneApplies a → first-number (a ++ b) ≡ first-number b
+pub second-of-both : (a b : List Cause) → NoneApplies a → first-number (a ++ b) ≡ first-number b
 second-of-both [] b n = refl
 second-of-both (cause ∷ a) b n = rw (n .0) (second-of-both a b (n .1))
 
