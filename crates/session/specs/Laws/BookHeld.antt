@@ -15,7 +15,7 @@ use Rattle.cells.specs.CellSets.{in-cells}
 use Rattle.cell_rows.specs.CellPlaces.{marked, Shown, Part}
 use Rattle.cells.specs.Laws.CellPlace.{cell-marked}
 use Rattle.cells.specs.Laws.CellList.{cell-of, grant-of-cell}
-use Rattle.roles.specs.RolesShown.{RolesAt}
+use Rattle.product.specs.RoleRows.{RolesAt}
 use Rattle.book_length.specs.BookRows.{rows-book, rows-book-in}
 use Rattle.blocks.specs.Laws.Laid.{laid-permissions-fit}
 use Rattle.book_lines.specs.RowsSaid.{GrantCells}
