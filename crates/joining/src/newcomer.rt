@@ -1,12 +1,13 @@
 // A newcomer among the roles of an existing book.
 use crate::got::roles_got;
 use crate::left::left_row;
+use crate::put::put_new_role;
 use crate::put::put_row;
 use cell_rows::holds_row;
-use cell_rows::mark;
 use numbers::CELL_WORDS;
 use numbers::ROLE_LIMIT;
 use numbers::ROLE_WORDS;
+use numbers::RoleNo;
 use numbers::UserNo;
 use product::row_after;
 ghost use Prim.Native.Nat.{_≤_, _<_};
@@ -21,9 +22,9 @@ pub enum RolesJoined {
     TooMany,
 }
 
-// The newcomer, a user of the sheet that the rows show, gets each role whose permissions they all hold. If permissions
-// are left over, one new role, the last, holds exactly those, and only the newcomer has it. Where there is no room for
-// it, nothing is changed.
+// The newcomer, a user of the sheet that the rows show, gets each role whose permissions they all hold: what these
+// roles hold is the only row of their product. If permissions are left over, one new role, the last, holds exactly
+// those, and only the newcomer has it.
 pub fn join<'a>(
     rows: &'a [u64; CELL_WORDS],
     user: UserNo,
@@ -38,7 +39,7 @@ pub fn join<'a>(
         (now (gives .exit)) r) ⌝ }
 {
     let u = user.0;
-    let mut got = roles_got(rows, gives, user, roles);
+    let got = roles_got(rows, gives, user, roles);
     let taken = row_after(&got, gives, UserNo(0), roles);
     if holds_row(&taken, rows, 0, u) {
         put_row(has, u, &got);
@@ -48,8 +49,6 @@ pub fn join<'a>(
         return RolesJoined::TooMany;
     }
     let left = left_row(rows, user, &taken);
-    mark(&mut got, roles);
-    put_row(has, u, &got);
-    put_row(gives, roles, &left);
+    put_new_role(has, gives, user, RoleNo(roles), got, &left);
     RolesJoined::Roles(roles + 1)
 }

@@ -1,5 +1,5 @@
--- What joining leaves is the role set that the newcomer has joined: their row has the roles got, and with a new role that
--- one too; the row of the new role is what is left over. All other rows stay, and no earlier user has the new role.
+-- What joining leaves is the role set that the newcomer has joined: their row has the roles got, and with a new role
+-- that one too; the row of the new role is what is left over. All other rows stay, and no earlier user has the new role.
 use Prim.Native.Nat.{ℕ, suc, _+_, _≤_, _<_}
 use native.Mathlib.Numerals.{add-one}
 use native.Mathlib.Omega.{arith}
@@ -16,14 +16,13 @@ use Rattle.bits.specs.Truth.{passes-or-fails, and-intro, not-fails}
 use Rattle.bits.specs.Laws.Below.{last-or-below}
 use Rattle.cell_rows.specs.Rows.{row-bits, cell}
 use Rattle.cell_rows.specs.CellPlaces.{marked}
-use Rattle.cell_rows.specs.CellAdded.{PositionSet}
 use Rattle.cell_rows.specs.RowHeld.{holds-row}
 use Rattle.cell_rows.specs.Laws.Width.{roles-fit}
 use Rattle.cells.specs.MadeCells.{MadeCells}
 use Rattle.product.specs.RowAfter.{roles-in, RowAfter}
 use Rattle.joining.specs.RolesGot.{RolesGot}
 use Rattle.joining.specs.LeftRow.{not-taken}
-use Rattle.joining.specs.RowPut.{RowPut}
+use Rattle.joining.specs.RowPut.{RowPut, NewRolePut}
 use Rattle.joining.specs.Joining.{JoinReady, no-room, JoinedAt}
 use Rattle.joining.specs.Laws.Gets.{got-by-row, left-by-row, none-left-by-row}
 
@@ -51,7 +50,8 @@ module _ {sheet : Sheet} {rows : List ℕ} {u : ℕ} {has gives : List ℕ} {rol
             few = omega (arith, roles-fit);
             has-shown = λ v r k l.
                 put .shows v r (omega (arith, roles-fit))
-                ∙ rw (lt-ltb r roles l) (ap (λ (b : Bool). cond (eqb v u) b (cell has v r)) (got-by-row ready of after r l));
+                ∙ rw (lt-ltb r roles l)
+                (ap (λ (b : Bool). cond (eqb v u) b (cell has v r)) (got-by-row ready of after r l));
             gives-shown = λ r p k l. rw (lt-ltb r roles k);
           };
           total = refl;
@@ -66,30 +66,32 @@ module _ {sheet : Sheet} {rows : List ℕ} {u : ℕ} {has gives : List ℕ} {rol
       (le-leb role-limit roles full)
 
   -- what is left over is the new role
-  module _ {wider left has-then gives-then : List ℕ} (room : roles < role-limit) (one-more : PositionSet got wider roles)
-      (put : RowPut has has-then u wider) (made : MadeCells (not-taken rows u taken) row-bits left)
-      (put-new : RowPut gives gives-then roles left) where
-    has-earlier : (v r : ℕ) → r < roles → cell has-then v r ≡ cond (eqb v u) (gets sheet u (roles-in has gives roles) r)
-        (cell has v r)
+  module _ {left has-then gives-then : List ℕ} (room : roles < role-limit)
+      (made : MadeCells (not-taken rows u taken) row-bits left)
+      (put : NewRolePut has has-then gives gives-then u roles got left) where
+    has-earlier : (v r : ℕ) → r < roles
+        → cell has-then v r ≡ cond (eqb v u) (gets sheet u (roles-in has gives roles) r) (cell has v r)
     has-earlier v r l =
-        put .shows v r (omega (arith, roles-fit))
+        put .user-row .shows v r (omega (arith, roles-fit))
         ∙ ap (λ (b : Bool). cond (eqb v u) b (cell has v r))
-        (one-more .shows r ∙ rw (ne-eqb r roles (omega arith)) (or-false (marked got r)) ∙ got-by-row ready of after r l)
+        (put .one-more .shows r ∙ rw (ne-eqb r roles (omega arith)) (or-false (marked got r))
+        ∙ got-by-row ready of after r l)
 
     has-new : (v : ℕ) → v < suc u → cell has-then v roles ≡ eqb v u
     has-new v l =
-        put .shows v roles (omega (arith, roles-fit))
-        ∙ ⊎-elim (λ e. rw (e, one-more .shows roles, eq-eqb roles roles refl) (or-true (marked got roles)))
-        (λ f. rw f (ready .no-role v roles (let d = eqb-false v u f in omega arith) (omega arith)
-        (omega (arith, roles-fit))))
-        (passes-or-fails (eqb v u))
+        let there : So (marked (put .wider) roles) =
+        put .one-more .shows roles ∙ rw (eq-eqb roles roles refl) (or-true (marked got roles)) in
+        put .user-row .shows v roles (omega (arith, roles-fit))
+        ∙ ap (λ (b : Bool). cond (eqb v u) b (cell has v roles)) there
+        ∙ ⊎-elim (λ e. rw e) (λ f. rw f (ready .no-role v roles (let other = eqb-false v u f in omega arith)
+        (omega arith) (omega (arith, roles-fit)))) (passes-or-fails (eqb v u))
 
     gives-earlier : (r p : ℕ) → r < roles → p < row-bits → cell gives-then r p ≡ cell gives r p
-    gives-earlier r p l k = put-new .shows r p k ∙ rw (ne-eqb r roles (omega arith))
+    gives-earlier r p l k = put .role-row .shows r p k ∙ rw (ne-eqb r roles (omega arith))
 
     gives-new : (p : ℕ) → p < row-bits → cell gives-then roles p ≡ left-over sheet u (roles-in has gives roles) p
     gives-new p k =
-        put-new .shows roles p k ∙ rw (eq-eqb roles roles refl) (made .inside p k ∙ left-by-row ready of after p k)
+        put .role-row .shows roles p k ∙ rw (eq-eqb roles roles refl) (made .inside p k ∙ left-by-row ready of after p k)
 
     pub joined-new-role : holds-row taken rows 0 u ≡ false
         → JoinedAt sheet u (roles-in has gives roles) has-then gives-then (roles + 1)

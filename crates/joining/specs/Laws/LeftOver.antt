@@ -1,5 +1,5 @@
--- What is left over of a newcomer's permissions, by a product: it is what the newcomer holds and the product of the roles
--- that they get has not.
+-- What is left over of a newcomer's permissions, by a product: it is what the newcomer holds and the product of the
+-- roles that they get has not.
 use Prim.Native.Nat.{ℕ}
 use mathlib.Core.Path.{_≡_, sym, ap}
 use mathlib.Core.Bool.{Bool, not, _&&_}

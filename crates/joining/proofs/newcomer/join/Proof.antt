@@ -1,91 +1,58 @@
+-- `newcomer::join`: the row of the roles got and the row of what they hold are there when it is asked whether anything
+-- is left over. So each way from there leaves the role set that the newcomer has joined.
+use native.Mathlib.Omega.{arith}
+use mathlib.Core.Path.{sym, _∙_}
 use borrow.Author.Needs.{needs}
+use Rattle.spec.specs.Limits.{user-limit, permission-limit, role-limit}
+use Rattle.cell_rows.specs.Rows.{row-words, row-bits}
+use Rattle.cell_rows.specs.Laws.Width.{roles-fit}
+use Rattle.joining.specs.Laws.Joined.{joined-no-role, no-room-left, joined-new-role}
 use Rattle.joining.proofs.newcomer.join.Statement.{statement}
 use Rattle.joining.proofs.newcomer.join.Tie as tie
-use Rattle.joining.proofs.newcomer.join.Reads as reads
-use Rattle.joining.proofs.newcomer.join.Lts as lts
-use Rattle.cell_rows.proofs.holds_row.Reads as holds-row-reads
-use Rattle.cell_rows.proofs.mark.Reads as mark-reads
-use Rattle.joining.proofs.got.roles_got.Reads as roles-got-reads
-use Rattle.joining.proofs.left.left_row.Reads as left-row-reads
-use Rattle.joining.proofs.put.put_row.Reads as put-row-reads
-use Rattle.product.proofs.row_after.Reads as row-after-reads
 
--- src/newcomer.rt:41:19
-roles-got-requires : tie.Need-roles-got-requires
-roles-got-requires c κs = search needs
+-- from where it is asked whether anything is left over: the call, the roles got, and what they hold
+abbrev call : tie.After-holds-row → tie.Start
+call c = c .before .before .before .before .before .before .before .before .before
 
--- src/newcomer.rt:42:27
-slice-aggregate-row-after : tie.Need-slice-aggregate-row-after
-slice-aggregate-row-after c = search needs
+abbrev at-got : tie.After-holds-row → tie.After-roles-got
+at-got c = c .before .before .before .before .before .before .before
 
--- src/newcomer.rt:42:17
+abbrev at-taken : tie.After-holds-row → tie.After-row-after
+at-taken c = c .before .before .before
+
 row-after-requires : tie.Need-row-after-requires
-row-after-requires c κs = ?
+unfolding user-limit permission-limit role-limit row-words
+row-after-requires c κs = (omega (arith, roles-fit), omega arith, omega arith)
 
--- src/newcomer.rt:43:18
-slice-aggregate-holds-row : tie.Need-slice-aggregate-holds-row
-slice-aggregate-holds-row c = search needs
-
--- src/newcomer.rt:43:8
-holds-row-requires : tie.Need-holds-row-requires
-holds-row-requires c κs = ?
-
--- src/newcomer.rt:44:9
-put-row-requires : tie.Need-put-row-requires
-put-row-requires c κs = ?
-
--- src/newcomer.rt:45:9
 returns : tie.Need-returns
-returns c = ?
+returns c =
+    let asked = c .before .before .before .before in
+    λ sheet ready.
+    joined-no-role ready (call asked .pre .1) (at-got asked .roles-got .ensures) (at-taken asked .row-after .ensures)
+    (sym (asked .holds-row .ensures) ∙ c .before .before .before .if1 .taken) (c .put-row .ensures)
 
--- src/newcomer.rt:48:9
 returns-2 : tie.Need-returns-2
-returns-2 c = ?
+unfolding permission-limit role-limit
+returns-2 c =
+    let asked = c .before .before in
+    λ sheet ready.
+    no-room-left ready (call asked .pre .1) (at-got asked .roles-got .ensures) (at-taken asked .row-after .ensures)
+    (sym (asked .holds-row .ensures) ∙ c .before .if1 .left) (omega (arith, c .if2 .taken))
 
--- src/newcomer.rt:50:16
-left-row-requires : tie.Need-left-row-requires
-left-row-requires c κs = search needs
-
--- src/newcomer.rt:51:10
-slice-aggregate-mark : tie.Need-slice-aggregate-mark
-slice-aggregate-mark c = search needs
-
--- src/newcomer.rt:51:5
-mark-requires : tie.Need-mark-requires
-mark-requires c κs = ?
-
--- src/newcomer.rt:52:5
-put-row-requires-2 : tie.Need-put-row-requires-2
-put-row-requires-2 c κs = ?
-
--- src/newcomer.rt:53:5
-put-row-requires-3 : tie.Need-put-row-requires-3
-put-row-requires-3 c κs = ?
-
--- src/newcomer.rt:54:24
-add-t37 : tie.Need-add-t37
-add-t37 c = ?
-
--- src/newcomer.rt:27:1
 returns-3 : tie.Need-returns-3
-returns-3 c = ?
+unfolding permission-limit role-limit
+returns-3 c =
+    let at-left = c .before .before .before .before in
+    let new = at-left .before .before in
+    let asked = new .before .before in
+    λ sheet ready.
+    joined-new-role ready (call asked .pre .1) (at-got asked .roles-got .ensures) (at-taken asked .row-after .ensures)
+    (omega (arith, call asked .pre .1, new .if2 .left)) (at-left .left-row .ensures) (c .put-new-role .ensures)
+    (sym (asked .holds-row .ensures) ∙ new .before .if1 .left)
 
 pub join-spec : {M : Type 1} → statement M
+unfolding user-limit permission-limit role-limit row-words
 join-spec =
-    tie.close
-    (tie.spec
-    roles-got-requires
-    slice-aggregate-row-after
-    row-after-requires
-    slice-aggregate-holds-row
-    holds-row-requires
-    put-row-requires
-    returns
-    returns-2
-    left-row-requires
-    slice-aggregate-mark
-    mark-requires
-    put-row-requires-2
-    put-row-requires-3
-    add-t37
-    returns-3)
+    tie.close (tie.spec (λ c κs. search needs) (λ c. search needs) row-after-requires (λ c. search needs)
+    (λ c κs. (omega arith, omega arith)) (λ c κs. omega arith) returns returns-2 (λ c κs. search needs)
+    (λ c κs. (omega arith, omega arith)) (λ c. omega arith) returns-3)
