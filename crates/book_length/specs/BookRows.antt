@@ -17,8 +17,7 @@ use Rattle.spec.specs.Book.{witness-line, blocks-saying, book-text, said-in, bo
 use Rattle.lists.specs.ListOfLaws.{list-of-same}
 use Rattle.cell_rows.specs.Rows.{row-bits}
 use Rattle.cell_rows.specs.CellPlaces.{grant-of}
-use Rattle.roles.specs.RoleRows.{RoleRows}
-use Rattle.roles.specs.RolesShown.{RolesAt}
+use Rattle.product.specs.RoleRows.{RoleRows, RolesAt}
 use Rattle.standing.specs.StandingCases.{standing-case}
 use Rattle.book_lines.specs.CountsText.{counts-text}
 use Rattle.book_lines.specs.RowsSaid.{said-by, shown-roles, shown-users}

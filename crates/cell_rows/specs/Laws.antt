@@ -1,4 +1,5 @@
 -- The laws behind what contracts cite.
 pub mod Width
 pub mod RowWithin
+pub mod EveryWord
 pub mod PositionSet

@@ -5,35 +5,30 @@ use native.Mathlib.Nat.{lt-of-lt-of-le, mod-lt}
 use native.Mathlib.Omega.{arith}
 use mathlib.Core.Path.{_≡_, sym, _∙_}
 use mathlib.Core.Logic.{⊎-elim}
-use mathlib.Core.Bool.{Bool, true, false, So, not, _&&_, _||_, and-false, and-comm, or-false, or-true}
+use mathlib.Core.Bool.{true, false, So, not, _&&_, _||_, and-false, and-comm, or-false, or-true}
 use mathlib.Core.List.{List}
 use borrow.Author.Tests.{eqb-true, lt-ltb, le-ltb}
 use lib.Dec.{eqb, ltb, lit<}
 use lib.ListN.{replicate, getD-replicate}
-use Rattle.spec.specs.Vocabulary.{every-below}
 use Rattle.bits.specs.Truth.{passes-or-fails, implies}
 use Rattle.bits.specs.Laws.Below.{every-below-intro, every-below-ext}
 use Rattle.bits.specs.Bit.{word-bits}
 use Rattle.bits.specs.Laws.Bit.{bit-of-zero, bit-full}
 use Rattle.cell_rows.specs.Rows.{row-words, row-bits, cell}
+use Rattle.cell_rows.specs.RowHeld.{held-at, holds-row}
 use Rattle.cell_rows.specs.CellAdded.{CellAdded, word-of}
 use Rattle.cells.specs.Laws.CellAdded.{word-below}
 use Rattle.cells.specs.Laws.NextBelow.{next-below}
 use Rattle.cover.specs.CoverMembers.{class-words, joinable}
-use Rattle.cover.specs.CoverWords.{held-at}
 use Rattle.cover.specs.CoverFree.{free}
 
--- user u holds all that the members of class c ask
-abbrev pub allowed-at : List ℕ → List ℕ → ℕ → ℕ → Bool
-allowed-at rows asked u c = every-below row-bits (held-at rows asked u c)
-
--- of the classes below most, the set has those that are allowed to user u
+-- of the classes below most, the set has those that are allowed to user u, who holds all that their members ask
 pub record AllowedTo (rows asked : List ℕ) (u most : ℕ) (allowed : List ℕ) : Type 0 where
-  pub says : (c : ℕ) → c < most → cell allowed 0 c ≡ allowed-at rows asked u c
+  pub says : (c : ℕ) → c < most → cell allowed 0 c ≡ holds-row rows asked u c
 
 -- the same in the making: it has those below n, and no other
 pub record AllowedSoFar (rows asked : List ℕ) (u n : ℕ) (allowed : List ℕ) : Type 0 where
-  pub shows : (c : ℕ) → c < row-bits → cell allowed 0 c ≡ (ltb c n && allowed-at rows asked u c)
+  pub shows : (c : ℕ) → c < row-bits → cell allowed 0 c ≡ (ltb c n && holds-row rows asked u c)
 
 pub allowed-all : {rows asked : List ℕ} {u n : ℕ} {allowed : List ℕ} → AllowedSoFar rows asked u n allowed
     → n ≤ row-bits
@@ -57,10 +52,10 @@ module _ (rows : List ℕ) (u : ℕ) where
 
   -- one class more
   pub one-allowed : (asked allowed after : List ℕ) (n : ℕ) → AllowedSoFar rows asked u n allowed
-      → CellAdded allowed after 0 n (allowed-at rows asked u n)
+      → CellAdded allowed after 0 n (holds-row rows asked u n)
       → AllowedSoFar rows asked u (n + 1) after
   one-allowed asked allowed after n so-far added =
-      record { shows = λ c l. added .shows 0 c l ∙ rw (so-far .shows c l) (next-below (allowed-at rows asked u) c n) }
+      record { shows = λ c l. added .shows 0 c l ∙ rw (so-far .shows c l) (next-below (holds-row rows asked u) c n) }
 
   -- at first nothing is asked, so all classes are allowed
   pub all-allowed : (n m most : ℕ) → n ≡ class-words → m ≡ row-words → most ≤ row-bits
@@ -118,4 +113,4 @@ pub free-is-joinable : {rows asked allowed : List ℕ} (lacked : List ℕ) (it m
     → AllowedTo rows asked (it / row-bits) most allowed
     → (c : ℕ) → c < most → free allowed lacked (it % row-bits) c ≡ joinable rows asked lacked it c
 free-is-joinable {rows} {asked} lacked it most allowing c l =
-    rw (allowing .says c l) (and-comm (allowed-at rows asked (it / row-bits) c) (not (cell lacked c (it % row-bits))))
+    rw (allowing .says c l) (and-comm (holds-row rows asked (it / row-bits) c) (not (cell lacked c (it % row-bits))))

@@ -1,44 +1,23 @@
--- The rows of the classes word by word: what a class asks is held where each of its words is within the user's, and
--- what a user lacks is added to a class by the complement of each word of the user's row.
+-- The rows of the classes word by word: what a user lacks is added to a class by the complement of each word of the
+-- user's row.
 use Prim.Native.Nat.{ℕ, _+_, _-_, _*_, _/_, _%_, _^_, _<_}
 use native.Mathlib.Nat.{mod-lt}
 use native.Mathlib.Omega.{arith}
 use mathlib.Core.Path.{_≡_, refl, ap, _∙_}
 use mathlib.Core.Logic.{⊎-elim, _≢_}
-use mathlib.Core.Bool.{Bool, So, not, _&&_, _||_, and-false, or-false}
+use mathlib.Core.Bool.{So, not, _&&_, _||_, and-false, or-false}
 use mathlib.Core.List.{List}
 use borrow.Author.Tests.{eqb-true, eqb-false, eq-eqb, ltb-true, lt-ltb, le-ltb}
-use lib.Arith.{digits-div, digits-mod}
 use lib.Bits.{bitOr}
 use lib.Dec.{eqb, ltb, lit<}
 use lib.ListN.{length, getD, set, length-set}
 use lib.Seq.{getD-set-same, getD-set-other}
-use Rattle.spec.specs.Vocabulary.{every-below}
-use Rattle.bits.specs.Truth.{passes-or-fails, same-truth, implies}
-use Rattle.bits.specs.Laws.Below.{every-below-ext}
+use Rattle.bits.specs.Truth.{passes-or-fails, same-truth}
 use Rattle.bits.specs.Bit.{bit, word-bits}
 use Rattle.bits.specs.Laws.Bit.{bit-or, bit-not}
 use Rattle.cell_rows.specs.Rows.{row-words, row-bits, cell}
 use Rattle.cell_rows.specs.CellAdded.{word-of}
 use Rattle.cells.specs.Laws.CellAdded.{one-user}
-use Rattle.verdict.specs.Laws.NearWord.{every-in-word}
-
--- ---- a word of what is asked
-
--- user u holds q where class c asks it
-abbrev pub held-at : List ℕ → List ℕ → ℕ → ℕ → ℕ → Bool
-held-at rows asked u c q = implies (cell asked c q) (cell rows u q)
-
-pub held-word : (rows asked : List ℕ) (u c j : ℕ)
-    → every-below word-bits (λ q. implies (bit (getD asked (c * row-words + j) 0) q)
-    (bit (getD rows (u * row-words + j) 0) q))
-    ≡ every-in-word (held-at rows asked u c) j
-held-word rows asked u c j =
-    every-below-ext word-bits (λ q. implies (bit (getD asked (c * row-words + j) 0) q)
-    (bit (getD rows (u * row-words + j) 0) q))
-    (λ q. held-at rows asked u c (j * word-bits + q)) (λ q l. rw (digits-div j l, digits-mod j l))
-
--- ---- a word of what is lacked
 
 -- what user u lacks of the permissions below n is added to class c
 pub record LacksAdded (rows words after : List ℕ) (c u n : ℕ) : Type 0 where

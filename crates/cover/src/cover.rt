@@ -16,7 +16,6 @@ ghost use mathlib.Core.Bool.{true};
 ghost use mathlib.Core.List.{List, map};
 ghost use Prim.Native.Nat.{ℕ, suc, _<_, _≤_, _^_, max};
 ghost use lib.ListN.{length, getD, take};
-ghost use Rattle.spec.specs.Vocabulary.{every-below};
 ghost use Rattle.spec.specs.Limits.{grant-limit};
 ghost use Rattle.spec.specs.Sheet.{Sheet};
 ghost use Rattle.spec.specs.Reduction.{kernel};
@@ -25,6 +24,7 @@ ghost use Rattle.bits.specs.Bit.{word-bits};
 ghost use Rattle.bits.specs.Counting.{NextFrom};
 ghost use Rattle.lists.specs.KeyLaws.{by-key};
 ghost use Rattle.cell_rows.specs.Rows.{row-words, row-bits, cell};
+ghost use Rattle.cell_rows.specs.RowHeld.{holds-row};
 ghost use Rattle.cell_rows.specs.CellAdded.{CellAdded};
 ghost use Rattle.cells.specs.Blank.{BlankFrom};
 ghost use Rattle.cell_rows.specs.CellPlaces.{grant-of, Shown};
@@ -32,7 +32,7 @@ ghost use Rattle.cells.specs.KernelArray.{KernelListed};
 ghost use Rattle.cover.specs.CoverRelation.{fit-at-cells, permission-at-cell, HeldCells, user-room};
 ghost use Rattle.cover.specs.CoverKeys.{class-from};
 ghost use Rattle.cover.specs.CoverMembers.{class-words};
-ghost use Rattle.cover.specs.CoverWords.{held-at, LacksAdded};
+ghost use Rattle.cover.specs.CoverWords.{LacksAdded};
 ghost use Rattle.cover.specs.CoverFree.{free, free-in-word};
 ghost use Rattle.cover.specs.CoverAllowed.{AllowedTo};
 ghost use Rattle.cover.specs.CoverPlaced.{Placed, PlacedOrMore};
@@ -108,7 +108,7 @@ fn word_at(rows: &[u64], i: usize) -> u64
 // Whether a user holds every permission that the members of class c ask.
 fn holds_asked<'a>(rows: &'a [u64], asked: &'a [u64; CLASS_WORDS], user: UserNo, c: usize) -> bool
     requires { ⌜ (user .0 < user-room) × (c < row-bits) ⌝ }
-    ensures { λ r. ⌜ r ≡ every-below row-bits (held-at (now (rows .entry)) (now (asked .entry)) (user .0) c) ⌝ }
+    ensures { λ r. ⌜ r ≡ holds-row (now (rows .entry)) (now (asked .entry)) (user .0) c ⌝ }
 {
     let u = user.0;
     let mut j = 0;

@@ -3,7 +3,6 @@ pub mod CellClasses
 pub mod RoleNumbers
 pub mod RoleMatrices
 pub mod RoleWalk
-pub mod RoleRows
 pub mod RolesShown
 pub mod RolesInput
 pub mod Laws

@@ -9,7 +9,6 @@ use mathlib.Core.Bool.{false}
 use mathlib.Core.List.{List}
 use lib.ListN.{length, getD}
 use Rattle.spec.specs.Cover.{used}
-use Rattle.spec.specs.RoleSet.{RoleSet}
 use Rattle.spec.specs.Roles.{Classed, roles-of-classes}
 use Rattle.bits.specs.Truth.{fails-unless}
 use Rattle.lists.specs.ListOfLaws.{length-list-of, getD-list-of}
@@ -19,17 +18,12 @@ use Rattle.lists.specs.KeyLaws.{by-key}
 use Rattle.cell_rows.specs.Rows.{row-bits, cell}
 use Rattle.cell_rows.specs.CellPlaces.{grant-of}
 use Rattle.cover.specs.CoverPlaced.{Placed}
-use Rattle.roles.specs.RoleRows.{RoleRows}
+use Rattle.product.specs.RoleRows.{RolesAt}
 use Rattle.roles.specs.CellClasses.{ClassAt, CellsBelow, UsersBelow, listed, paired-in}
 use Rattle.roles.specs.Laws.Role.{has-role-elim, gives-permission-elim}
 use Rattle.roles.specs.RoleNumbers.{class-key}
 use Rattle.roles.specs.Laws.RoleNumber.{role-numbers-by-class}
 use Rattle.roles.specs.RoleMatrices.{has-role, gives-permission, CellsShow}
-
--- a role set as words, with its count
-pub record RolesAt (has gives : List ℕ) (count users : ℕ) (roles : RoleSet) : Type 0 where
-  pub rows : RoleRows has gives users roles
-  pub total : count ≡ roles .count
 
 -- nothing else is set: no cell of a user past these, and none of a role past the count
 pub record RolesOnly (has gives : List ℕ) (count users : ℕ) : Type 0 where

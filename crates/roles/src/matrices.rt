@@ -8,7 +8,8 @@ ghost use mathlib.Core.List.{List};
 ghost use Prim.Native.Nat.{ℕ};
 ghost use Rattle.spec.specs.Sheet.{Sheet};
 ghost use Rattle.spec.specs.Roles.{roles-of};
-ghost use Rattle.roles.specs.RolesShown.{RolesAt, RolesOnly};
+ghost use Rattle.product.specs.RoleRows.{RolesAt};
+ghost use Rattle.roles.specs.RolesShown.{RolesOnly};
 ghost use Rattle.roles.specs.RolesInput.{Belongs, OfSheet};
 
 // The roles of the sheet that the rows show, from a placement of its kernel and the log of its reduction.

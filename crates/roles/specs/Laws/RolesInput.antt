@@ -31,11 +31,12 @@ use Rattle.verdict.specs.Log.{removal-at}
 use Rattle.verdict.specs.Laws.ReductionWork.{part-all}
 use Rattle.reduction.specs.Laws.ReductionSettle.{all-remain}
 use Rattle.reduction.specs.Laws.RemovedGranted.{RemovalOf, reduction-granted, kernel-granted, logged-removal}
+use Rattle.product.specs.RoleRows.{RolesAt}
 use Rattle.roles.specs.CellClasses.{ClassAt, ClassesAt, CellsBelow, UsersBelow, listed, reduction-in, classes-in}
 use Rattle.roles.specs.Laws.GoingBack.{class-below}
 use Rattle.roles.specs.RoleNumbers.{class-limit}
 use Rattle.roles.specs.RoleWalk.{all-cells, ClassedRows, RolesTo, RolesFound}
-use Rattle.roles.specs.RolesShown.{RolesAt, RolesOnly, matrices-show, matrices-only}
+use Rattle.roles.specs.RolesShown.{RolesOnly, matrices-show, matrices-only}
 use Rattle.roles.specs.Laws.RoleWalk.{roles-skip}
 use Rattle.roles.specs.Laws.RoleNumber.{role-numbers-by-class}
 use Rattle.roles.specs.RolesInput.{Belongs}

@@ -19,7 +19,7 @@ use Rattle.cell_rows.specs.CellPlaces.{grant-of, marked, Shown, Part}
 use Rattle.cells.specs.Laws.Grant.{yes-within}
 use Rattle.cells.specs.Laws.CellList.{marked-holds}
 use Rattle.cells.specs.KernelArray.{Roomy, Listed, shown-roomy, listed-grants}
-use Rattle.roles.specs.RolesShown.{RolesAt}
+use Rattle.product.specs.RoleRows.{RolesAt}
 use Rattle.book_length.specs.BookRows.{rows-book, rows-book-in}
 use Rattle.blocks.specs.Laws.Laid.{few-users, laid-permissions-fit}
 use Rattle.book_lines.specs.RowsSaid.{CellsWithin}

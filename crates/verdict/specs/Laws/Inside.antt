@@ -27,7 +27,8 @@ use Rattle.fit.specs.Columns.{column-words, Columns}
 use Rattle.fit.specs.Laws.ColumnUnion.{union-reaches}
 use Rattle.fit.specs.Laws.FitWord.{marked-in-word}
 use Rattle.verdict.specs.NearCells.{tie-at}
-use Rattle.verdict.specs.Laws.NearWord.{every-in-word, row-cell, unless-in-own-row, unless-held}
+use Rattle.cell_rows.specs.Laws.EveryWord.{every-in-word}
+use Rattle.verdict.specs.Laws.NearWord.{row-cell, unless-in-own-row, unless-held}
 use Rattle.verdict.specs.Laws.NearTie.{none-in-row}
 use Rattle.bits.specs.Laws.Walk.{Walk, walk-begun}
 use Rattle.verdict.specs.Laws.Misfit.{HoldersWord, no-holder}

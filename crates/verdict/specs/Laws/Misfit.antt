@@ -40,7 +40,8 @@ use Rattle.fit.specs.Columns.{column-words, held-in, Columns}
 use Rattle.fit.specs.Laws.ColumnPlaces.{whole-columns}
 use Rattle.fit.specs.Laws.Column.{column-position}
 use Rattle.verdict.specs.NearCells.{dominates-in}
-use Rattle.verdict.specs.Laws.NearWord.{every-in-word, covered-at, row-cell, one-word-user}
+use Rattle.cell_rows.specs.Laws.EveryWord.{every-in-word}
+use Rattle.verdict.specs.Laws.NearWord.{covered-at, row-cell, one-word-user}
 use Rattle.verdict.specs.Misfits.{row-word, fits-if-in-row, row-fits, misfit-at, is-holder, is-suspect}
 
 -- ---- the words of the holders

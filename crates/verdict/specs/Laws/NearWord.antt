@@ -1,6 +1,5 @@
--- Domination and ties word by word. A test of every cell is a test of every word, and a word's test fails it for all.
--- The cells of one user that are in left are all near each other: none of them is dominated unless all of them fit
--- the judged cell.
+-- Domination and ties word by word. The cells of one user that are in left are all near each other: none of them is
+-- dominated unless all of them fit the judged cell.
 use Prim.Native.Nat.{ℕ, _+_, _*_, _/_, _%_, _<_}
 use native.Mathlib.Omega.{arith}
 use mathlib.Core.Path.{_≡_, refl, sym, ap, _∙_}
@@ -8,11 +7,10 @@ use mathlib.Core.Bool.{Bool, false, So, not}
 use mathlib.Core.List.{List}
 use lib.Arith.{digits-lt, digits-div, digits-mod}
 use lib.Dec.{eqb}
-use Rattle.spec.specs.Vocabulary.{every-below}
 use Rattle.bits.specs.Bit.{word-bits}
 use Rattle.bits.specs.Truth.{implies, implies-intro, implies-elim, fails-unless, not-both, and-intro, and-left}
 use Rattle.bits.specs.Truth.{and-right}
-use Rattle.bits.specs.Laws.Below.{every-below-add, every-below-intro, every-below-elim}
+use Rattle.bits.specs.Laws.Below.{every-below-intro, every-below-elim}
 use Rattle.cell_rows.specs.Rows.{row-words, row-bits, cell}
 use Rattle.cells.specs.CellSets.{in-cells}
 use Rattle.cell_rows.specs.CellPlaces.{grant-of, marked, fit-in, near, Part, cells-of}
@@ -21,26 +19,6 @@ use Rattle.cells.specs.Laws.CellPlace.{cell-marked}
 use Rattle.fit.specs.Columns.{held-in}
 use Rattle.verdict.specs.NearCells.{dominates-in, tie-test, tie-at}
 use Rattle.verdict.specs.Insides.{held-if-left, in-row}
-
--- ---- every cell, word by word
-
--- the test of one word
-abbrev pub every-in-word : (ℕ → Bool) → ℕ → Bool
-every-in-word f i = every-below word-bits (λ q. f (i * word-bits + q))
-
-pub every-next-word : (f : ℕ → Bool) (i : ℕ) → So (every-below (i * word-bits) f) → So (every-in-word f i)
-    → So (every-below ((i + 1) * word-bits) f)
-every-next-word f i earlier here =
-    let more : (i + 1) * word-bits ≡ i * word-bits + word-bits = omega arith in
-    rw (more, every-below-add (i * word-bits) word-bits f) (and-intro (every-below (i * word-bits) f)
-    (every-in-word f i) earlier here)
-
-pub every-word-fails : (f : ℕ → Bool) (i n : ℕ) → i < n → every-in-word f i ≡ false → every-below (n * word-bits) f ≡
-    false
-every-word-fails f i n l e =
-    fails-unless (every-below (n * word-bits) f) (λ p. not-both
-    (every-below-intro word-bits (λ q. f (i * word-bits + q)) (λ q k. every-below-elim (n * word-bits) f p
-    (digits-lt l k))) e)
 
 -- ---- domination
 

@@ -8,8 +8,8 @@ use borrow.Author.Tests.{not-true, not-false}
 use Rattle.spec.specs.Vocabulary.{every-below}
 use Rattle.bits.specs.Bit.{word-bits}
 use Rattle.cell_rows.specs.Rows.{row-words, row-bits}
-use Rattle.verdict.specs.Laws.NearWord.{every-in-word, every-next-word, every-word-fails}
-use Rattle.cover.specs.CoverWords.{held-at, held-word}
+use Rattle.cell_rows.specs.RowHeld.{held-at}
+use Rattle.cell_rows.specs.Laws.EveryWord.{every-in-word, every-next-word, every-word-fails, held-word}
 use Rattle.cover.proofs.cover.holds_asked.Statement.{statement}
 use Rattle.cover.proofs.cover.holds_asked.Tie as tie
 

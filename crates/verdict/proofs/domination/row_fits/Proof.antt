@@ -11,7 +11,7 @@ use Rattle.bits.specs.Bit.{word-bits}
 use Rattle.cell_rows.specs.Rows.{row-words, row-bits}
 use Rattle.verdict.specs.Misfits.{fits-if-in-row}
 use Rattle.verdict.specs.Laws.Misfit.{row-fits-by-word}
-use Rattle.verdict.specs.Laws.NearWord.{every-in-word, every-next-word, every-word-fails}
+use Rattle.cell_rows.specs.Laws.EveryWord.{every-in-word, every-next-word, every-word-fails}
 use Rattle.verdict.proofs.domination.row_fits.Statement.{statement}
 use Rattle.verdict.proofs.domination.row_fits.Tie as tie
 

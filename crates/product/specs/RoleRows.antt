@@ -10,3 +10,8 @@ pub record RoleRows (has gives : List ℕ) (users : ℕ) (roles : RoleSet) : Typ
   pub few : roles .count ≤ row-bits
   pub has-shown : (u r : ℕ) → u < users → r < roles .count → cell has u r ≡ roles .has u r
   pub gives-shown : (r p : ℕ) → r < roles .count → p < row-bits → cell gives r p ≡ roles .gives r p
+
+-- a role set as words, with its count
+pub record RolesAt (has gives : List ℕ) (count users : ℕ) (roles : RoleSet) : Type 0 where
+  pub rows : RoleRows has gives users roles
+  pub total : count ≡ roles .count
