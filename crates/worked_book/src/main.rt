@@ -4,22 +4,23 @@ use book_lines::Writing;
 use libc::STDOUT_FILENO;
 use numbers::CELL_WORDS;
 use numbers::ROLE_WORDS;
+use numbers::ROW_BITS;
 use numbers::ROW_WORDS;
 use standing::Standing;
 ghost use Prim.Native.Nat.{_≤_};
 ghost use Rattle.spec.specs.Limits.{role-limit};
 ghost use Rattle.spec.specs.Sheet.{sheet-of};
-ghost use Rattle.book_lines.specs.RowsSaid.{GrantCells};
+ghost use Rattle.book_lines.specs.RowsSaid.{CellsWithin};
 
-// Prints the book of a sheet, from its two matrices, its witness and its counts.
+// Prints the book of a sheet, from its two matrices, the cells of its witness and its counts.
 fn print<'a>(
     s: &'a [u8],
     has: &'a [u64; CELL_WORDS],
     gives: &'a [u64; ROLE_WORDS],
-    witness: &'a [u64; CELL_WORDS],
+    witness: &'a [u16],
     counts: Counts,
 )
-    requires { ⌜ (counts .roles ≤ role-limit) × GrantCells (now witness) (sheet-of (now s)) ⌝ }
+    requires { ⌜ (counts .roles ≤ role-limit) × CellsWithin (now witness) (sheet-of (now s)) ⌝ }
 {
     let read = sheet::read(s);
     if read.number != 0 {
@@ -34,7 +35,8 @@ fn print<'a>(
     io::write_all(STDOUT_FILENO, &out[..n]);
 }
 
-// The paper's sheet: ann and cy share `rec` and `id`, bo and cy share `id` and `map`.
+// The paper's sheet: ann and cy share `rec` and `id`, bo and cy share `id` and `map`. Its witness is the cells of ann and
+// `rec` and of bo and `map`.
 fn worked() {
     let s = *b"user,rec,id,map\nann,1,1,0\nbo,0,1,1\ncy,1,1,1\n";
     let mut has = [0; CELL_WORDS];
@@ -44,9 +46,7 @@ fn worked() {
     let mut gives = [0; ROLE_WORDS];
     gives[0] = 0b011;
     gives[ROW_WORDS] = 0b110;
-    let mut witness = [0; CELL_WORDS];
-    witness[0] = 0b001;
-    witness[ROW_WORDS] = 0b100;
+    let witness = [0, ROW_BITS as u16 + 2];
     let counts = Counts {
         roles: 2,
         bound: 2,
@@ -60,7 +60,7 @@ fn without_grants() {
     let s = *b"user,rec,id\nann,0,0\nbo,0,0\n";
     let has = [0; CELL_WORDS];
     let gives = [0; ROLE_WORDS];
-    let witness = [0; CELL_WORDS];
+    let witness = [0; 0];
     let counts = Counts {
         roles: 0,
         bound: 0,

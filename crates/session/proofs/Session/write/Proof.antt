@@ -1,22 +1,22 @@
 -- `Session::write`: without a sheet it is refused with 10, on one not yet reduced with 16, and nothing is written.
 -- With one that is reduced, the arrays that the session keeps, with the best placement, are the sheet's
--- (`best-belongs`), so the roles found from them are the sheet's; what is written of counts, roles and witness is the
--- book of the sheet where the search stands (`book-held`), and the answer is that of the book's writing
--- (`writes-held`).
+-- (`best-belongs`), so the roles found from them are the sheet's; the cells of the witness, listed, are cells of the
+-- sheet (`witness-within`); what is written of counts, roles and witness is the book of the sheet where the search
+-- stands (`book-held`), and the answer is that of the book's writing (`writes-held`).
 use borrow.Author.Needs.{needs}
 use mathlib.Core.Path.{_≡_, sym, subst}
 use mathlib.Core.Bool.{So}
 use native.Mathlib.Omega.{arith}
 use lib.ListN.{length}
 use lib.Seq.{length-take-le}
-use Rattle.spec.specs.Limits.{search-limit}
+use Rattle.spec.specs.Limits.{search-limit, grant-limit}
 use Rattle.spec.specs.Sheet.{sheet-of}
 use Rattle.answers.specs.Said.{write-said}
 use Rattle.session.specs.CodeSession.{text-in, state-in, Holds}
 use Rattle.session.specs.Laws.Counted.{CountsIn}
 use Rattle.session.specs.Laws.CountsHeld.{few-roles-held, counts-held}
 use Rattle.session.specs.Laws.BestHeld.{PartsBelong, best-room, best-belongs}
-use Rattle.session.specs.Laws.BookHeld.{witness-cells-granted, room-for-roles, book-held}
+use Rattle.session.specs.Laws.BookHeld.{room-for-witness, witness-within, room-for-roles, book-held}
 use Rattle.session.specs.Laws.WritesHeld.{writes-held}
 use Rattle.session.specs.Laws.Unready.{writes-unready, ready}
 use Rattle.session.specs.declared.Session.{Session as CodeSession}
@@ -108,35 +108,56 @@ roles-of-requires c κs =
 counts-at-requires : tie.Need-counts-at-requires
 counts-at-requires c κs = few-roles-held (holds (reduced-from (best-at (c .before))))
 
+-- where the witness was listed, with the counts found before
+abbrev counts-before : tie.After-listed → tie.After-counts-at
+counts-before w = w .before .before .before
+
+abbrev listed-behind : tie.After-text2 → tie.After-listed
+listed-behind t =
+    let earlier = t .before .before .before .before .before .before .before in
+    earlier
+
+abbrev listed-before : tie.After-write-if-room-arg5 → tie.After-listed
+listed-before c = listed-behind (c .before .before .before .before .before .before)
+
+listed-sized : (w : tie.After-listed) → length (w .listed .result .cells) ≡ grant-limit
+unfolding grant-limit
+listed-sized w = search needs
+
+listed-requires : tie.Need-listed-requires
+listed-requires c κs = room-for-witness (holds (reduced-at (c .before .before)))
+
 text-part : tie.Need-slice-aggregate-write-if-room
 text-part c =
-    let e = reduced-at (c .before .before .before .before .before .before) in
+    let e = reduced-at (counts-before (listed-behind (c .before .before))) in
     sym (length-take-le (self e .length) (self e .text) (holds e .sheet .whole))
 
--- where the counts were found
-abbrev counts-before : tie.After-write-if-room-arg5 → tie.After-counts-at
-counts-before c =
-    let text = c .before .before .before .before .before .before in
-    text .before .before .before .before
+witness-part : tie.Need-slice-aggregate-write-if-room-2
+witness-part c =
+    let w = listed-before c in
+    let lines = w .listed .result in
+    sym (length-take-le (lines .size) (lines .cells) (rw (listed-sized w) (w .listed .ensures .few)))
 
 write-if-room-requires : tie.Need-write-if-room-requires
 write-if-room-requires c κs =
-    let n = counts-before c in
+    let w = listed-before c in
+    let n = counts-before w in
     let h = holds (reduced-at n) in
-    (h .sheet .laid, room-for-roles h (counted n), witness-cells-granted h)
+    (h .sheet .laid, room-for-roles h (counted n), witness-within h (w .listed .ensures))
 
 returns-2 : tie.Need-returns-2
 returns-2 c =
     let written = c .before .before .before in
-    let n = counts-before (written .before) in
+    let w = listed-before (written .before) in
+    let n = counts-before w in
     let e = reduced-at n in
+    let roles = n .before .roles-of .ensures .0 _ _ (parts-belong (n .before .before)) in
     writes-held (self e) (holds e) (reduced e)
-    (rw (book-held (holds e) (counted n) (n .before .roles-of .ensures .0 _ _ (parts-belong (n .before .before)))) at
-    (written .write-if-room .ensures))
+    (rw (book-held (holds e) (counted n) roles (w .listed .ensures)) at (written .write-if-room .ensures))
     (write-said (c .of .result)) (c .of .ensures)
 
 pub write-spec : {M : Type 1} → statement M
 write-spec =
     tie.close (tie.spec (λ c κs. search needs) (λ c κs. search needs) returns best-of-requires kernel-part removed-part
-    partner-part roles-of-requires counts-at-requires text-part write-if-room-requires (λ c κs. search needs)
-    (λ c. search needs) returns-2)
+    partner-part roles-of-requires counts-at-requires listed-requires text-part witness-part write-if-room-requires
+    (λ c κs. search needs) (λ c. search needs) returns-2)
