@@ -2,10 +2,10 @@
 -- for the given sheet, so where every one of the given sheet has n roles, every one of the longer sheet has: a kept
 -- word and a kept bound are as true as they were. With a new role the word is `open`, and the bound is the number of
 -- witness lines, each of which needs a role of its own. The new book is right, so a buffer of 131,072 bytes takes it.
-use Prim.Native.Nat.{ℕ}
+use Prim.Native.Nat.{ℕ, _≤_}
 use native.Mathlib.Omega.{arith}
 use mathlib.Core.Path.{_≡_, refl, sym, ap, _∙_}
-use mathlib.Core.Logic.{_⊎_, ⊎-elim}
+use mathlib.Core.Logic.{_≢_, _⊎_, ⊎-elim}
 use lib.ListN.{length, take}
 use Rattle.spec.specs.Text.{Bytes}
 use Rattle.spec.specs.Rules.{Keeps}
@@ -13,7 +13,8 @@ use Rattle.spec.specs.Roles.{Standing, witnessed, searched, unsettled}
 use Rattle.spec.specs.Book.{Said}
 use Rattle.spec.specs.Refusal.{first-number}
 use Rattle.spec.specs.Right.{Right}
-use Rattle.spec.specs.Calls.{WriteAnswer}
+use Rattle.spec.specs.Calls.{WriteAnswer, write-refused}
+use Rattle.spec.specs.Demands.{Judged}
 use Rattle.spec.specs.Newcomer.{Admission, longer, given-sheet, longer-sheet, newcomer, said-given, said-admitting}
 use Rattle.spec.specs.Newcomer.{new-book, newcomer-causes, newcomer-answer, buffer-admitting, Admits}
 use Rattle.spec.specs.Admitted.{AtLeast, WordTrue, NoNewRole, OneNewRole, Admitted, NewcomerOwed}
@@ -32,7 +33,7 @@ use Rattle.admitted.specs.SameSaid.{right-says-same}
 use Rattle.admitted.specs.Exactly.{owed-is-brought-out}
 use Rattle.demands.specs.TextWritten.{front-is-the-text}
 use Rattle.demands.specs.CheckerAlone.{lines-bound}
-use Rattle.demands.specs.Demand1.{newcomer-number}
+use Rattle.demands.specs.Demand1.{demand-1, newcomer-number}
 
 -- `open` is neither of the two words that promise something
 open-promises-nothing : {s : Standing} → s ≡ unsettled → (s ≡ witnessed) ⊎ (s ≡ searched) → ⊥
@@ -133,7 +134,7 @@ module _ (lent : Admission) (before after : Bytes) (answer : WriteAnswer) (admit
   answered-number = ap (λ (a : WriteAnswer). a .number) (admits .answers) ∙ newcomer-number lent before
 
   -- an accepted call brings out the new book, whole
-  brings-the-new-book : answer .number ≡ 0 → take (answer .count) after ≡ new-book lent
+  pub brings-the-new-book : answer .number ≡ 0 → take (answer .count) after ≡ new-book lent
   unfolding newcomer-answer buffer-admitting
   brings-the-new-book accepts =
       rw (admits .answers, admits .fills)
@@ -151,4 +152,23 @@ newcomer-owed =
       room = λ lent before after answer admits long eleven.
           let short = eleven-too-short lent before (sym (answered-number lent before after answer admits) ∙ eleven) in
           omega (arith, short .short, new-book-right lent (short .admissible) .of-form .short);
+    }
+
+-- all that is owed of one call: it is judged by its causes, and what it brought out is as it is owed
+pub record AdmissionOwed (lent : Admission) (before : Bytes) (answer : WriteAnswer) (after : Bytes) : Type 0 where
+  pub judged : Judged (newcomer-causes lent before) (answer .number)
+      ((answer ≡ write-refused (answer .number)) × (after ≡ before))
+  pub admitted : answer .number ≡ 0 → Admitted lent (take (answer .count) after)
+  pub exactly : (result : Bytes) → Admitted lent result → length result ≤ length before
+      → (answer .number ≡ 0) × (take (answer .count) after ≡ result)
+  pub room : 131_072 ≤ length before → answer .number ≢ 11
+
+pub admission-owed : (lent : Admission) (before after : Bytes) (answer : WriteAnswer) → Admits lent before answer after
+    → AdmissionOwed lent before answer after
+admission-owed lent before after answer admits =
+    record {
+      judged = demand-1 .admits lent before after answer admits;
+      admitted = newcomer-owed .admitted lent before after answer admits;
+      exactly = newcomer-owed .exactly lent before after answer admits;
+      room = newcomer-owed .room lent before after answer admits;
     }

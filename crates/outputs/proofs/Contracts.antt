@@ -2,10 +2,13 @@
 use denote.Ref.{now}
 use Rattle.checker.specs.Laws.CodeCall.{CodeCall, Kept}
 use Rattle.outputs.specs.Laws.Printed.{BookPrinted, book-printed, CheckPrinted, check-printed}
+use Rattle.outputs.specs.Laws.NewcomerPrinted.{NewcomerPrinted, newcomer-printed}
 use Rattle.outputs.proofs.output.book_output.Kinds as book-output-kinds
 use Rattle.outputs.proofs.output.book_output.Reads as book-output-reads
 use Rattle.outputs.proofs.output.check_output.Kinds as check-output-kinds
 use Rattle.outputs.proofs.output.check_output.Reads as check-output-reads
+use Rattle.outputs.proofs.output.newcomer_output.Kinds as newcomer-output-kinds
+use Rattle.outputs.proofs.output.newcomer_output.Reads as newcomer-output-reads
 
 -- the book that the book program prints is believed
 pub book-program-printed : (call : CodeCall 2 book-output-kinds.ps book-output-kinds.r)
@@ -20,3 +23,11 @@ pub check-program-printed : (call : CodeCall 2 check-output-kinds.ps check-outpu
     → CheckPrinted (now (call .args .0)) (now (call .args .1 .0)) (now (call .args .1 .1 .0))
     (now (call .left .1 .1 .0)) (call .result)
 check-program-printed call kept = check-printed (now (call .args .0)) (now (call .args .1 .0)) (kept tt)
+
+-- the book that the newcomer program prints is owed
+pub newcomer-program-printed : (call : CodeCall 2 newcomer-output-kinds.ps newcomer-output-kinds.r)
+    → Kept newcomer-output-reads.Pre newcomer-output-reads.Post call
+    → NewcomerPrinted
+    (record { sheet = now (call .args .0); book = now (call .args .1 .0); line = now (call .args .1 .1 .0) })
+    (now (call .args .1 .1 .1 .0)) (now (call .left .1 .1 .1 .0)) (call .result)
+newcomer-program-printed call kept = newcomer-printed _ (kept tt)

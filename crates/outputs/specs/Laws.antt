@@ -2,3 +2,4 @@
 pub mod Output
 pub mod Printed
 pub mod LongPrinted
+pub mod NewcomerPrinted

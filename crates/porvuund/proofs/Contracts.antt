@@ -6,6 +6,7 @@ use denote.Ref.{now}
 use Rattle.spec.specs.Calls.{search-answer}
 use Rattle.checker.specs.Laws.CodeCall.{CodeCall, Kept}
 use Rattle.right.specs.CheckOwed.{CheckOwed, check-owed}
+use Rattle.demands.specs.NewcomerBook.{AdmissionOwed, admission-owed}
 use Rattle.answers.specs.Said.{write-said}
 use Rattle.session.specs.CodeSession.{view, Sound}
 use Rattle.session.specs.Laws.CodeSequence.{Calling, Tied, DemandsOf, tied-demands}
@@ -23,6 +24,8 @@ use Rattle.porvuund.proofs.calls.porvuund_book.Kinds as book-kinds
 use Rattle.porvuund.proofs.calls.porvuund_book.Reads as book-reads
 use Rattle.porvuund.proofs.calls.porvuund_check.Kinds as check-kinds
 use Rattle.porvuund.proofs.calls.porvuund_check.Reads as check-reads
+use Rattle.porvuund.proofs.calls.porvuund_newcomer.Kinds as newcomer-kinds
+use Rattle.porvuund.proofs.calls.porvuund_newcomer.Reads as newcomer-reads
 
 -- ---- the session calls
 
@@ -71,3 +74,11 @@ pub check-of-the-library : (call : CodeCall 1 check-kinds.ps check-kinds.r) → 
     → CheckOwed (now (call .args .0)) (now (call .args .1 .0)) (answer-of (call .result))
 check-of-the-library call kept =
     check-owed (now (call .args .0)) (now (call .args .1 .0)) (answer-of (call .result)) (kept tt)
+
+-- `porvuund_newcomer` is judged by its causes, and what it brings out is owed
+pub newcomer-of-the-library : (call : CodeCall 2 newcomer-kinds.ps newcomer-kinds.r)
+    → Kept newcomer-reads.Pre newcomer-reads.Post call
+    → AdmissionOwed
+    (record { sheet = now (call .args .0); book = now (call .args .1 .0); line = now (call .args .1 .1 .0) })
+    (now (call .args .1 .1 .1 .0)) (write-said (call .result)) (now (call .left .1 .1 .1 .0))
+newcomer-of-the-library call kept = admission-owed _ _ _ _ (kept tt)
