@@ -139,6 +139,21 @@ pub fn any_book(random: &mut Random, draft: &Draft) -> Vec<u8> {
     if random.percent(50) { book } else { changed_book(random, draft, &book) }
 }
 
+/// A book in which each permission is a role of its own. It is open, and has no witness lines.
+pub fn plain_book(draft: &Draft) -> Vec<u8> {
+    let permissions = draft.permissions.len();
+    let ones = |row: &Vec<bool>| (0..permissions).filter(|permission| row[*permission]).collect();
+    let book = BookDraft {
+        role_count: permissions.to_string(),
+        bound: "0".to_string(),
+        state: "open".to_string(),
+        roles: (0..permissions).map(|permission| BTreeSet::from([permission])).collect(),
+        users: draft.held.iter().map(ones).collect(),
+        witness: Vec::new(),
+    };
+    book.text(draft).into_bytes()
+}
+
 /// The book of a session after any search.
 pub fn searched_book(random: &mut Random, draft: &Draft) -> Vec<u8> {
     let mut session: Session = sessions::reduced(&draft.bytes());

@@ -183,6 +183,11 @@ fn at_the_limits() -> Vec<(Joining, u32)> {
         book: first_book(&draft.bytes()),
         line: line.as_bytes().to_vec(),
     };
+    let in_plain_book = |draft: &Draft, line: &str| Joining {
+        sheet: draft.bytes(),
+        book: newcomers::plain_book(draft),
+        line: line.as_bytes().to_vec(),
+    };
     let mut outcomes = Vec::new();
     let two = Draft::plain(2, 2, |user, permission| user <= permission);
     for (line, number) in LINES {
@@ -198,10 +203,11 @@ fn at_the_limits() -> Vec<(Joining, u32)> {
     ] {
         let line = user_line("newcomer", &vec![false; permissions]);
         let draft = extremes::filled(&mut Random::from_seed(9), users, permissions, bytes - line.len());
-        outcomes.push((joining(&draft, &line), number));
+        outcomes.push((in_plain_book(&draft, &line), number));
     }
     let longest = extremes::longest(&mut Random::from_seed(9));
-    outcomes.extend([("", 2), ("\n", 1), ("n", 1)].map(|(line, number)| (joining(&longest, line), number)));
+    let lines = [("", 2), ("\n", 1), ("n", 1)];
+    outcomes.extend(lines.map(|(line, number)| (in_plain_book(&longest, line), number)));
     // Users.
     for (users, number) in [(254, 0), (255, 0), (256, 18)] {
         let draft = extremes::full(users, 4);

@@ -242,11 +242,6 @@ fn each_limit_passes_and_one_more_is_refused() {
     agreement::limits_agree::<Session>();
 }
 
-#[test]
-fn large_sheets() {
-    agreement::large_extremes_agree::<Session>();
-}
-
 /// The call and the restated one, with buffers of any length. Gives the number of the refusal, 0 if there is none.
 fn assert_restated(joining: &Joining, length: usize) -> u32 {
     let Joining { sheet, book, line } = joining;
@@ -281,6 +276,40 @@ fn rules_are_the_restated_ones() {
         }
     });
     numbers.expect([0, 2, 3, 5, 6, 7, 8, 11, 12, 13, 14, 15, 17, 19], 5);
+}
+
+/// The last user of a large sheet as the newcomer in a book of the others: with a role for each permission, with one less,
+/// which is right where nobody else holds the last permission, and with other changes.
+#[test]
+fn rules_are_the_restated_ones_on_large_sheets() {
+    let mut random = Random::from_seed(4);
+    let mut numbers = Tally::default();
+    for mut draft in [
+        extremes::longest(&mut random),
+        extremes::with_longest_names(&mut random),
+        extremes::with_names_in_mixed_case(&mut random),
+        extremes::filled(&mut random, 256, 125, paper::SHEET_BYTES),
+        extremes::with_longest_book(),
+        extremes::full(16, 128),
+        families::behind(64, &families::crown(45)),
+        families::blocks(&[(1, 1); 128]),
+    ] {
+        let (name, row) = (draft.users.pop(), draft.held.pop());
+        let line = user_line(&name.expect("there is a user"), &row.expect("there is a user")).into_bytes();
+        let plain = newcomers::plain_book(&draft);
+        let mut without_last = BookDraft::made_out(&draft, &String::from_utf8_lossy(&plain));
+        without_last.roles.pop();
+        without_last.role_count = without_last.roles.len().to_string();
+        let changed = newcomers::changed_book(&mut random, &draft, &plain);
+        for book in [plain, without_last.text(&draft).into_bytes(), changed] {
+            let joining = Joining { sheet: draft.bytes(), book, line: line.clone() };
+            numbers.note(assert_restated(&joining, paper::BOOK_BYTES));
+            if let Ok(result) = joining.result() {
+                assert_promised(&joining, &result);
+            }
+        }
+    }
+    numbers.expect([0], 10);
 }
 
 /// The checker accepts the book for the longer sheet with the right counts. Those who were there have the roles that
