@@ -213,6 +213,15 @@ fn buffer_is_judged_last_and_bytes_past_the_book_stay() {
     }
 }
 
+#[test]
+fn numbers_are_1_to_19() {
+    assert!(Refusal::ALL.map(Refusal::number).into_iter().eq(1..=19));
+    assert_eq!(Refusal::with_number(17), Some(Refusal::NameTaken));
+    assert_eq!(Refusal::with_number(18), Some(Refusal::UsersFull));
+    assert_eq!(Refusal::with_number(19), Some(Refusal::RolesFull));
+    assert_eq!((Refusal::with_number(0), Refusal::with_number(20)), (None, None));
+}
+
 /// The number is the first in the order of checks: of the sheet, then of the longer sheet, then of the book.
 #[test]
 fn number_is_the_first_in_the_order_of_checks() {
