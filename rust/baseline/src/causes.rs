@@ -15,6 +15,30 @@ pub fn lowest_cause(sheet: &[u8]) -> Option<Refusal> {
     }
 }
 
+/// The lowest cause to refuse an accepted sheet of so many grants with a line put behind it. Whether there are too many
+/// users then, or two of one name, is not judged.
+pub fn lowest_of_longer(sheet: &[u8], grants: usize, line: &[u8]) -> Option<Refusal> {
+    if sheet.len() + line.len() > limits::SHEET_BYTES {
+        return Some(Refusal::SheetLength);
+    }
+    let Some((b'\n', text)) = line.split_last() else { return Some(Refusal::SheetBytes) };
+    let mut cells = fields(text);
+    let name = cells.next().unwrap_or_default();
+    if !text.iter().all(|byte| is_allowed(*byte) && *byte != b'\n') {
+        Some(Refusal::SheetBytes)
+    } else if !is_name_length(name.len()) {
+        Some(Refusal::NameLength)
+    } else if cells.clone().count() != permission_names(sheet).count() {
+        Some(Refusal::FieldCount)
+    } else if cells.clone().any(|cell| cell != b"0" && cell != b"1") {
+        Some(Refusal::FieldValue)
+    } else if grants + cells.filter(|cell| *cell == b"1").count() > limits::GRANTS {
+        Some(Refusal::GrantCount)
+    } else {
+        None
+    }
+}
+
 /// Whether a byte may stand in a sheet.
 pub fn is_allowed(byte: u8) -> bool {
     is_name_byte(byte) || byte == b',' || byte == b'\n'

@@ -2,12 +2,13 @@
 
 use second::book::{COUNTS_HEADING, ROLE_HEADING, USER_HEADING, WITNESS_HEADING};
 use second::checker::CheckAnswer;
-use second::limits::{BOOK_BYTES, PERMISSIONS, ROLES, USERS};
+use second::limits::{BOOK_BYTES, PERMISSIONS, ROLES};
 use second::refusal::Refusal;
 use second::roles::State;
 
+use crate::book::Counts;
 use crate::names::Name;
-use crate::roles::{role_fields, role_name};
+use crate::roles::{Matrices, role_fields, role_name};
 use crate::sets::{Permissions, Roles, Users};
 use crate::sheet::{Cell, Reader, Sheet, cell, permission_of, user_of};
 
@@ -16,45 +17,59 @@ pub fn check(sheet_bytes: &[u8], book: &[u8]) -> Result<CheckAnswer, Refusal> {
     let mut sheet = Sheet::empty();
     sheet.read(sheet_bytes)?;
     let mut claim = Claim::none();
-    let mut reader = Reader { bytes: book, at: 0 };
-    if book.len() > BOOK_BYTES || claim.read(&sheet, sheet_bytes, &mut reader).is_none() {
-        Err(Refusal::BookForm)
-    } else if !claim.counts_agree() {
-        Err(Refusal::BookCounts)
-    } else if !claim.product_is(&sheet) {
-        Err(Refusal::BookProduct)
-    } else if !claim.witness_stands(&sheet) {
-        Err(Refusal::BookWitness)
-    } else {
-        Ok(CheckAnswer { roles: claim.role_lines, witness_lines: claim.witness_lines })
-    }
+    claim.judge(&sheet, sheet_bytes, book)?;
+    Ok(CheckAnswer { roles: claim.role_lines, witness_lines: claim.witness_lines })
 }
 
 /// What a book says.
-struct Claim {
+pub struct Claim {
     roles: u64,
     bound: u64,
     state: State,
     role_lines: usize,
-    gives: [Permissions; ROLES],
-    has: [Roles; USERS],
+    pub matrices: Matrices,
     witness_lines: usize,
     /// The first witness lines; with more than there can be roles the counts disagree.
     witness: [Cell; ROLES],
 }
 
 impl Claim {
-    fn none() -> Claim {
+    pub fn none() -> Claim {
         Claim {
             roles: 0,
             bound: 0,
             state: State::Open,
             role_lines: 0,
-            gives: [Permissions::NONE; ROLES],
-            has: [Roles::NONE; USERS],
+            matrices: Matrices::none(),
             witness_lines: 0,
             witness: [0; ROLES],
         }
+    }
+
+    /// Reads a book of the form and judges it, for the sheet that has these bytes.
+    pub fn judge(&mut self, sheet: &Sheet, sheet_bytes: &[u8], book: &[u8]) -> Result<(), Refusal> {
+        let mut reader = Reader { bytes: book, at: 0 };
+        if book.len() > BOOK_BYTES || self.read(sheet, sheet_bytes, &mut reader).is_none() {
+            Err(Refusal::BookForm)
+        } else if !self.counts_agree() {
+            Err(Refusal::BookCounts)
+        } else if !self.product_is(sheet) {
+            Err(Refusal::BookProduct)
+        } else if !self.witness_stands(sheet) {
+            Err(Refusal::BookWitness)
+        } else {
+            Ok(())
+        }
+    }
+
+    /// What the first block of an accepted book says.
+    pub fn counts(&self) -> Counts {
+        Counts { roles: self.role_lines, bound: self.bound as usize, state: self.state }
+    }
+
+    /// The witness of an accepted book, in the order of its lines.
+    pub fn witness(&self) -> &[Cell] {
+        &self.witness[..self.witness_lines]
     }
 
     /// Reads a book of the form.
@@ -86,7 +101,7 @@ impl Claim {
         reader.word(ROLE_HEADING.as_bytes())?;
         reader.word_in_any_case(&sheet_bytes[USER_HEADING.len()..USER_HEADING.len() + names_length])?;
         while *reader.bytes.get(reader.at)? != b'\n' {
-            let gives = self.gives.get_mut(self.role_lines)?;
+            let gives = self.matrices.gives.get_mut(self.role_lines)?;
             reader.word(role_name(self.role_lines))?;
             reader.word(b",")?;
             *gives = reader.cells(permissions)?;
@@ -108,7 +123,7 @@ impl Claim {
                 return None;
             }
             reader.at = end + 1;
-            self.has[user] = reader.cells(self.role_lines)?;
+            self.matrices.has[user] = reader.cells(self.role_lines)?;
         }
         Some(())
     }
@@ -138,9 +153,10 @@ impl Claim {
     }
 
     fn product_is(&self, sheet: &Sheet) -> bool {
-        let opened = |has: &Roles| has.iter().fold(Permissions::NONE, |row, role| row.or(self.gives[role]));
+        let Matrices { has, gives } = &self.matrices;
+        let opened = |has: &Roles| has.iter().fold(Permissions::NONE, |row, role| row.or(gives[role]));
         let users = sheet.users.count();
-        self.has[..users].iter().zip(&sheet.rows).all(|(has, row)| opened(has) == *row)
+        has[..users].iter().zip(&sheet.rows).all(|(has, row)| opened(has) == *row)
     }
 
     /// Counts agree, so that there are no more witness lines than role lines. A line fits an earlier one whose
@@ -148,7 +164,7 @@ impl Claim {
     fn witness_stands(&self, sheet: &Sheet) -> bool {
         let mut earlier = Permissions::NONE;
         let mut earlier_users = [Users::NONE; PERMISSIONS];
-        self.witness[..self.witness_lines].iter().all(|own| {
+        self.witness().iter().all(|own| {
             let (user, permission) = (user_of(*own), permission_of(*own));
             let column = sheet.columns[permission];
             let fits_earlier =

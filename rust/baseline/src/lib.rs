@@ -1,4 +1,5 @@
-//! Document 01 in plain Rust made to be fast: what the proved implementation is measured against.
+//! Document 01 in plain Rust, as the requests of document 02 have moved it, made to be fast: what the proved
+//! implementation is measured against.
 //!
 //! Everything is done in place over words of bits, and nothing is allocated after a session was made. A row is
 //! the set of the permissions that a user holds, a column that of the users who hold a permission. The
@@ -11,6 +12,7 @@ pub mod cover;
 pub mod kernel;
 pub mod machine;
 pub mod names;
+pub mod newcomer;
 pub mod reduction;
 pub mod roles;
 pub mod session;

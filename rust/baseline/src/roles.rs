@@ -17,9 +17,13 @@ pub struct Matrices {
 const NO_ROLE: u8 = u8::MAX;
 
 impl Matrices {
+    pub fn none() -> Matrices {
+        Matrices { has: [Roles::NONE; USERS], gives: [Permissions::NONE; ROLES] }
+    }
+
     /// Roles are numbered by their lowest grants.
     pub fn of(sheet: &Sheet, kernel: &Kernel, best: &Placement) -> Matrices {
-        let mut matrices = Matrices { has: [Roles::NONE; USERS], gives: [Permissions::NONE; ROLES] };
+        let mut matrices = Matrices::none();
         let mut role_of = [NO_ROLE; ROLES];
         let mut roles = 0;
         let mut number = 0;

@@ -12,6 +12,7 @@ use crate::checker;
 use crate::cover::Placement;
 use crate::kernel::Kernel;
 use crate::machine::Machine;
+use crate::newcomer;
 use crate::reduction::Reduction;
 use crate::roles::Matrices;
 use crate::sheet::Sheet;
@@ -97,6 +98,10 @@ impl Implementation for Session {
 
     fn check(sheet: &[u8], book: &[u8]) -> Result<CheckAnswer, Refusal> {
         checker::check(sheet, book)
+    }
+
+    fn newcomer(sheet: &[u8], book: &[u8], line: &[u8], buffer: &mut [u8]) -> Result<usize, Refusal> {
+        newcomer::newcomer(sheet, book, line, buffer)
     }
 }
 

@@ -3,7 +3,7 @@
 use second::limits::{GRANTS, NAME_BYTES, PERMISSIONS, SHEET_BYTES, USERS};
 use second::refusal::Refusal;
 
-use crate::causes::{is_name_byte, lowest_cause};
+use crate::causes::{is_name_byte, lowest_cause, lowest_of_longer};
 use crate::names::{Name, Names};
 use crate::sets::{Permissions, Set, Users, WORD_BITS};
 
@@ -39,6 +39,26 @@ impl Sheet {
             Some(()) => Ok(()),
             None => Err(lowest_cause(bytes).expect("what cannot be read has a cause to be refused")),
         }
+    }
+
+    /// Reads a line to be put behind this sheet, which has these bytes, or gives the lowest cause to refuse the longer
+    /// sheet but for the users' number and the name. Gives the name and what they hold.
+    pub fn read_line(&self, bytes: &[u8], line: &[u8]) -> Result<(Name, Permissions), Refusal> {
+        match self.read_acceptable_line(bytes, line) {
+            Some(read) => Ok(read),
+            None => {
+                let cause = lowest_of_longer(bytes, self.grants, line);
+                Err(cause.expect("what cannot be read has a cause to be refused"))
+            }
+        }
+    }
+
+    fn read_acceptable_line(&self, bytes: &[u8], line: &[u8]) -> Option<(Name, Permissions)> {
+        let mut reader = Reader { bytes: line, at: 0 };
+        let name = reader.name()?;
+        let row = reader.cells(self.permissions.count())?;
+        let is_within = bytes.len() + line.len() <= SHEET_BYTES && self.grants + row.count() <= GRANTS;
+        (is_within && reader.at == line.len()).then_some((name, row))
     }
 
     /// Reads a sheet that no cause applies to, and stops at the first place where one does.

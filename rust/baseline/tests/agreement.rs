@@ -1,9 +1,9 @@
 //! The baseline held to the second implementation: it would measure nothing if it did something else.
 
 use baseline::session::Session;
-use trials::agreement::{self, reducing, steps};
+use trials::agreement::{self, newcomers, reducing, steps};
 use trials::families::{any, any_wide, behind};
-use trials::searches::unfinished;
+use trials::searches::{any_wide_or_unfinished, unfinished};
 
 #[test]
 fn books_of_small_sheets() {
@@ -163,4 +163,54 @@ fn book_limits() {
 #[test]
 fn kernels() {
     agreement::kernels_agree::<Session>(4);
+}
+
+#[test]
+fn newcomers_in_books_of_sessions() {
+    newcomers::newcomers_agree::<Session>(1_000, |random| any(random, 8));
+}
+
+#[test]
+fn newcomers_in_books_of_unfinished_sheets() {
+    newcomers::newcomers_agree::<Session>(200, unfinished);
+}
+
+#[test]
+fn newcomers_in_books_of_wide_sheets() {
+    newcomers::newcomers_agree::<Session>(300, any_wide_or_unfinished);
+}
+
+#[test]
+fn newcomers_in_changed_books() {
+    newcomers::changed_books_agree::<Session>(2_000, |random| any(random, 8));
+}
+
+#[test]
+fn newcomers_in_changed_books_of_wide_sheets() {
+    newcomers::changed_books_agree::<Session>(500, |random| any_wide(random, 8));
+}
+
+#[test]
+fn newcomers_one_after_another() {
+    newcomers::chains_agree::<Session>(300, 8, |random| any(random, 6));
+}
+
+#[test]
+fn damaged_newcomers() {
+    newcomers::damaged_newcomers_agree::<Session>(5_000);
+}
+
+#[test]
+fn refused_newcomers() {
+    newcomers::refused_newcomers_agree::<Session>();
+}
+
+#[test]
+fn limits_of_newcomers() {
+    newcomers::limits_agree::<Session>();
+}
+
+#[test]
+fn newcomers_at_large_sheets() {
+    newcomers::large_extremes_agree::<Session>();
 }

@@ -14,10 +14,11 @@ use compare::library::{Library, SESSION_BYTES, with_room};
 use second::implementation::Implementation;
 use second::limits::BOOK_BYTES;
 use second::session::{LoadAnswer, ReduceAnswer};
+use trials::newcomers::Joining;
 use trials::sessions::reduced;
 
 use crate::clock::{Pair, measure};
-use crate::sheets::{Sheet, searched_sheets, sheets};
+use crate::sheets::{Sheet, has_own_role, searched_sheets, sheets};
 use crate::table::{print_heading, print_row};
 
 /// Rounds of each implementation unless an argument says otherwise.
@@ -44,6 +45,7 @@ fn main() {
             baseline: check::<Session>(sheet),
             library: check::<Library>(sheet),
         });
+        print_newcomers(rounds);
         print_refused_calls(rounds);
         print_searches(rounds);
     });
@@ -83,6 +85,16 @@ fn check<Kind: Implementation + 'static>(sheet: &Sheet) -> Call<'_> {
     buffer.truncate(length);
     Box::new(move || {
         black_box(Kind::check(black_box(&sheet.checked), black_box(&buffer)).expect("the book is right"));
+    })
+}
+
+/// The buffer is that of a writing.
+fn newcomer<Kind: Implementation + 'static>(joining: &Joining) -> Call<'_> {
+    let mut buffer = vec![0; BOOK_BYTES];
+    Box::new(move || {
+        let Joining { sheet, book, line } = black_box(joining);
+        let written = Kind::newcomer(sheet, book, line, black_box(&mut buffer));
+        black_box(written.expect("the newcomer is accepted"));
     })
 }
 
@@ -132,6 +144,18 @@ fn print_calls<'a>(title: &str, rounds: usize, calls: impl Fn(&Sheet) -> Pair<Ca
     for sheet in sheets() {
         let nanoseconds = measure(rounds, calls(&sheet));
         print_row(&sheet.name, nanoseconds.map(|time| time / 1_000.0));
+    }
+}
+
+/// Newcomers in the books of the sheets, each less as many users as it takes to make room.
+fn print_newcomers(rounds: usize) {
+    print_heading("Newcomer", MICROSECONDS);
+    for sheet in sheets() {
+        let joining = sheet.joining();
+        let calls = Pair { baseline: newcomer::<Session>(&joining), library: newcomer::<Library>(&joining) };
+        let nanoseconds = measure(rounds, calls);
+        let name = sheet.name + if has_own_role(&joining) { ", a role more" } else { "" };
+        print_row(&name, nanoseconds.map(|time| time / 1_000.0));
     }
 }
 

@@ -2,10 +2,12 @@
 
 use baseline::session::Session;
 use second::implementation::Implementation;
-use trials::draft::Draft;
+use second::refusal::Refusal;
+use trials::draft::{Draft, user_line};
 use trials::extremes;
 use trials::families;
-use trials::paper::GRANTS;
+use trials::newcomers::{Joining, row_with_rest};
+use trials::paper::{BOOK_BYTES, GRANTS};
 use trials::random::Random;
 use trials::sessions;
 use trials::spelling;
@@ -21,6 +23,48 @@ impl Sheet {
     fn new(name: &str, bytes: Vec<u8>) -> Sheet {
         Sheet { name: name.to_string(), checked: bytes.clone(), bytes }
     }
+
+    /// A newcomer who holds what two users hold and one permission more, where there is one. The sheet lacks as many of
+    /// its last users as it takes to make room for that; its book is spelled as the one that is checked.
+    pub fn joining(&self) -> Joining {
+        let [mut draft, mut spelled] = [&self.checked, &self.bytes].map(|bytes| Draft::made_out(bytes));
+        loop {
+            let line = user_line("newcomer", &row_with_rest(&draft)).into_bytes();
+            let joining = Joining { sheet: draft.bytes(), book: first_book(&spelled), line };
+            if result(&joining).is_ok() {
+                return joining;
+            }
+            for draft in [&mut draft, &mut spelled] {
+                draft.users.pop();
+                draft.held.pop();
+            }
+        }
+    }
+}
+
+/// The book of the sheet before any search.
+fn first_book(draft: &Draft) -> Vec<u8> {
+    written(|buffer| sessions::reduced::<Session>(&draft.bytes()).write(buffer)).expect("every book has room")
+}
+
+/// The newcomer's book.
+fn result(joining: &Joining) -> Result<Vec<u8>, Refusal> {
+    written(|buffer| Session::newcomer(&joining.sheet, &joining.book, &joining.line, buffer))
+}
+
+/// What a call writes into a buffer that is long enough.
+fn written(call: impl FnOnce(&mut [u8]) -> Result<usize, Refusal>) -> Result<Vec<u8>, Refusal> {
+    let mut buffer = vec![0; BOOK_BYTES];
+    let count = call(&mut buffer)?;
+    buffer.truncate(count);
+    Ok(buffer)
+}
+
+/// Whether the newcomer gets a role of their own.
+pub fn has_own_role(joining: &Joining) -> bool {
+    let roles = |sheet: &[u8], book: &[u8]| Session::check(sheet, book).expect("the book is right").roles;
+    let result = result(joining).expect("the newcomer is accepted");
+    roles(&joining.sheet, &joining.book) < roles(&joining.longer_sheet(), &result)
 }
 
 fn sheet(name: &str, draft: &Draft) -> Sheet {
@@ -116,6 +160,19 @@ mod tests {
                 sheet.name
             );
         }
+    }
+
+    /// A newcomer leaves most of the sheet as it is, and on half of the large sheets needs a role of their own.
+    #[test]
+    fn newcomers_join_large_sheets() {
+        let sheets = sheets();
+        let own_roles = sheets[1..].iter().filter(|sheet| {
+            let joining = sheet.joining();
+            let length = joining.longer_sheet().len();
+            assert!(length > sheet.bytes.len() * 8 / 10, "{}: {length}", sheet.name);
+            has_own_role(&joining)
+        });
+        assert_eq!(own_roles.count(), 6);
     }
 
     /// Only the sheet with names in mixed case is checked in another spelling.

@@ -108,6 +108,16 @@ unsafe extern "C" {
         out: *mut u8,
         out_length: usize,
     ) -> WriteNumbers;
+    fn porvuund_newcomer(
+        sheet: *const u8,
+        sheet_length: usize,
+        book: *const u8,
+        book_length: usize,
+        line: *const u8,
+        line_length: usize,
+        out: *mut u8,
+        out_length: usize,
+    ) -> WriteNumbers;
 }
 
 /// What a call hands back: a session, alone or with an answer behind it. It stands on a boundary of 128 bytes: how fast
@@ -205,6 +215,23 @@ impl Implementation for Library {
         let checked = unsafe { porvuund_check(sheet.as_ptr(), sheet.len(), book.as_ptr(), book.len()) };
         let CheckNumbers { number, roles, witness_lines } = checked;
         result(number, &[roles, witness_lines], CheckAnswer { roles, witness_lines })
+    }
+
+    fn newcomer(sheet: &[u8], book: &[u8], line: &[u8], buffer: &mut [u8]) -> Result<usize, Refusal> {
+        // SAFETY: the pointers are those of slices and of a lent slice of those lengths.
+        let written = unsafe {
+            porvuund_newcomer(
+                sheet.as_ptr(),
+                sheet.len(),
+                book.as_ptr(),
+                book.len(),
+                line.as_ptr(),
+                line.len(),
+                buffer.as_mut_ptr(),
+                buffer.len(),
+            )
+        };
+        result(written.number, &[written.count], written.count)
     }
 }
 

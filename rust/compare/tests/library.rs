@@ -4,13 +4,13 @@ use compare::library::{Library, book, with_room, wrong_size};
 use second::refusal::Refusal;
 use second::script::lent_buffer;
 use second::session;
-use trials::agreement::{self, reducing, steps};
+use trials::agreement::{self, newcomers, reducing, steps};
 use trials::cases::cases;
 use trials::damage;
 use trials::extremes;
 use trials::families::{any, any_wide, behind};
 use trials::paper;
-use trials::searches::unfinished;
+use trials::searches::{any_wide_or_unfinished, unfinished};
 use trials::spelling;
 use trials::tally::Tally;
 
@@ -177,6 +177,56 @@ fn book_limits() {
 #[test]
 fn kernels() {
     with_room(|| agreement::kernels_agree::<Library>(2));
+}
+
+#[test]
+fn newcomers_in_books_of_sessions() {
+    with_room(|| newcomers::newcomers_agree::<Library>(1_000, |random| any(random, 8)));
+}
+
+#[test]
+fn newcomers_in_books_of_unfinished_sheets() {
+    with_room(|| newcomers::newcomers_agree::<Library>(200, unfinished));
+}
+
+#[test]
+fn newcomers_in_books_of_wide_sheets() {
+    with_room(|| newcomers::newcomers_agree::<Library>(300, any_wide_or_unfinished));
+}
+
+#[test]
+fn newcomers_in_changed_books() {
+    with_room(|| newcomers::changed_books_agree::<Library>(2_000, |random| any(random, 8)));
+}
+
+#[test]
+fn newcomers_in_changed_books_of_wide_sheets() {
+    with_room(|| newcomers::changed_books_agree::<Library>(500, |random| any_wide(random, 8)));
+}
+
+#[test]
+fn newcomers_one_after_another() {
+    with_room(|| newcomers::chains_agree::<Library>(300, 8, |random| any(random, 6)));
+}
+
+#[test]
+fn damaged_newcomers() {
+    with_room(|| newcomers::damaged_newcomers_agree::<Library>(5_000));
+}
+
+#[test]
+fn refused_newcomers() {
+    with_room(newcomers::refused_newcomers_agree::<Library>);
+}
+
+#[test]
+fn limits_of_newcomers() {
+    with_room(newcomers::limits_agree::<Library>);
+}
+
+#[test]
+fn newcomers_at_large_sheets() {
+    with_room(newcomers::large_extremes_agree::<Library>);
 }
 
 /// Both implementations' answers to one call that loads, reduces, searches and writes, which must be the same.

@@ -3,8 +3,8 @@
 use std::path::{Path, PathBuf};
 
 use baseline::session::Session as FastSession;
-use compare::programs::{both, printed};
-use programs::{book_output, check_output, search_output};
+use compare::programs::{JOIN, both, printed};
+use programs::{book_output, check_output, join_output, search_output};
 use second::implementation::Implementation;
 use second::roles::State;
 use second::script::{Call, answer_line};
@@ -12,10 +12,11 @@ use second::session::{SearchAnswer, Session};
 use trials::calls::{script, sequence};
 use trials::cases::cases;
 use trials::damage;
-use trials::draft::Draft;
+use trials::draft::{Draft, user_line};
 use trials::extremes;
 use trials::families;
 use trials::kernels::with_kernel;
+use trials::newcomers::{self, Joining, Lent, ORDER};
 use trials::paper;
 use trials::random::Random;
 use trials::rounds::lines_without_rates;
@@ -199,6 +200,102 @@ fn check_program_refuses_books_that_are_too_long() {
     }
 }
 
+/// Files with the sheet, the book and the line, in this folder.
+fn files_of(folder: &Path, joining: &Joining) -> [String; 3] {
+    let parts = [("sheet", &joining.sheet), ("book", &joining.book), ("line", &joining.line)];
+    parts.map(|(part, bytes)| {
+        let path = folder.join(part);
+        std::fs::write(&path, bytes).expect("the file can be written");
+        path.to_str().expect("the path is plain text").to_string()
+    })
+}
+
+/// The join program prints what the second one does. Gives it.
+fn assert_joined(folder: &Path, joining: &Joining) -> String {
+    let paths = files_of(folder, joining);
+    let found = printed(JOIN, &paths.each_ref().map(String::as_str), b"");
+    let expected = join_output(&joining.sheet, &joining.book, &joining.line);
+    assert!(found.as_bytes() == expected, "{}\n{found}", String::from_utf8_lossy(&joining.line));
+    found
+}
+
+#[test]
+fn join_program_prints_the_same_books_and_refusals() {
+    let folder = folder("joined");
+    cases(60, |random| {
+        let wide = random.percent(20);
+        let draft = if wide { families::any_wide(random, 8) } else { families::any(random, 10) };
+        assert_joined(&folder, &newcomers::any(random, &draft));
+        assert_joined(&folder, &newcomers::damaged(random, &draft));
+    });
+}
+
+/// Its buffer has room for every book, so that no newcomer is refused by 11.
+#[test]
+fn join_program_prints_each_refusal() {
+    let folder = folder("join-refused");
+    for (place, number) in ORDER.into_iter().enumerate() {
+        let found = assert_joined(&folder, &newcomers::refused_from(place).joining);
+        assert_eq!(found == format!("{number}\n"), number != 11, "{place}");
+    }
+}
+
+#[test]
+fn join_program_takes_the_longest_sheets_books_and_lines() {
+    let folder = folder("join-long");
+    let draft = extremes::with_longest_book();
+    let book = first_book(&draft.bytes());
+    let text = String::from_utf8_lossy(&book);
+    let joining = |book: Vec<u8>, line: Vec<u8>| Joining { sheet: draft.bytes(), book, line };
+    let mut shorter = draft.clone();
+    let (name, row) = (shorter.users.pop(), shorter.held.pop());
+    let line = user_line(&name.expect("there is a user"), &row.expect("there is a user")).into_bytes();
+    let fits = Joining { sheet: shorter.bytes(), book: first_book(&shorter.bytes()), line: line.clone() };
+    assert_eq!(fits.longer_sheet().len(), paper::SHEET_BYTES);
+    assert!(assert_joined(&folder, &fits).len() > 100_000);
+    for bytes in [paper::BOOK_BYTES, paper::BOOK_BYTES + 1, 1 << 20] {
+        assert_joined(
+            &folder,
+            &Joining { book: book_of_bytes(&text, bytes), ..joining(book.clone(), line.clone()) },
+        );
+    }
+    for bytes in [0, 1, paper::SHEET_BYTES, 1 << 20, (1 << 20) + 1, 1 << 21] {
+        let line = vec![b'n'; bytes];
+        let expected = if bytes == 0 { "2\n" } else { "1\n" };
+        assert_eq!(assert_joined(&folder, &joining(book.clone(), line)), expected);
+    }
+    for bytes in [paper::SHEET_BYTES + 1, 1 << 20] {
+        let sheet = extremes::of_bytes(bytes);
+        assert_eq!(assert_joined(&folder, &Joining { sheet, ..joining(book.clone(), line.clone()) }), "1\n");
+    }
+}
+
+/// With other arguments than three files that can be read, the check program and the join program print nothing.
+#[test]
+fn check_and_join_programs_need_their_files() {
+    let joining = newcomers::refused_from(ORDER.len()).joining;
+    let [sheet, book, line] = files_of(&folder("join-files"), &joining);
+    let (sheet, book, line, missing) = (sheet.as_str(), book.as_str(), line.as_str(), "no-such-file");
+    let calls: [(&str, &[&str]); 12] = [
+        ("rolecheck", &[]),
+        ("rolecheck", &[sheet]),
+        ("rolecheck", &[sheet, missing]),
+        ("rolecheck", &[missing, book]),
+        ("rolecheck", &[sheet, book, line]),
+        (JOIN, &[]),
+        (JOIN, &[sheet]),
+        (JOIN, &[sheet, book]),
+        (JOIN, &[sheet, book, missing]),
+        (JOIN, &[sheet, missing, line]),
+        (JOIN, &[missing, book, line]),
+        (JOIN, &[sheet, book, line, line]),
+    ];
+    for (program, arguments) in calls {
+        let (said, printed) = both(program, arguments, b"");
+        assert!(printed.is_empty() && !said.is_empty(), "{program} {arguments:?}: {printed} {said}");
+    }
+}
+
 /// The longest book, with a bound of so many digits that the book has this many bytes.
 fn book_of_bytes(book: &str, bytes: usize) -> Vec<u8> {
     let bound = |digits: usize| book.replacen("\n128,128,", &format!("\n128,{},", "7".repeat(digits)), 1);
@@ -327,6 +424,76 @@ fn play_program_passes_over_lines_that_are_no_call() {
         }
         assert_eq!(printed("play", &[], mixed.as_bytes()), expected, "{mixed}");
     });
+}
+
+/// Newcomers with buffers as long as the book, one byte shorter, of no byte and as long as there can be, and lines of
+/// more bytes than there can be.
+#[test]
+fn play_program_puts_newcomers_in_books() {
+    let folder = folder("newcomers");
+    let call = |joining: &Joining, length: usize| {
+        let Joining { sheet, book, line } = joining.clone();
+        Call::Newcomer { sheet, book, line, length }
+    };
+    cases(20, |random| {
+        let draft = families::any(random, 8);
+        let joining = newcomers::any(random, &draft);
+        let count = joining.result().map_or(0, |book| book.len());
+        let lengths = [0, count.saturating_sub(1), count, count + 1, LONGEST_BUFFER];
+        let mut calls: Vec<Call> = lengths.map(|length| call(&joining, length)).into();
+        calls.push(call(&newcomers::damaged(random, &draft), count + 100));
+        assert_played(&calls, &folder);
+    });
+    let refused = (0..=ORDER.len()).map(newcomers::refused_from);
+    let mut calls: Vec<Call> = refused.map(|Lent { joining, length }| call(&joining, length)).collect();
+    let joining = newcomers::refused_from(ORDER.len()).joining;
+    for bytes in [paper::SHEET_BYTES, (1 << 20) - 1, 1 << 20, (1 << 20) + 1] {
+        let line = [vec![b'n'; bytes - 1], b"\n".to_vec()].concat();
+        calls.push(call(&Joining { line, ..joining.clone() }, 100));
+    }
+    assert_played(&calls, &folder);
+}
+
+/// Bytes of the longest buffer that the play program lends.
+const LONGEST_BUFFER: usize = 262_144;
+
+/// Lines with files that can be read, but too few or too many words, or a length that is none.
+#[test]
+fn play_program_passes_over_lines_that_are_nearly_a_newcomer() {
+    let joining = newcomers::refused_from(ORDER.len()).joining;
+    let [sheet, book, line] = files_of(&folder("nearly"), &joining);
+    let files = format!("{sheet} {book} {line}");
+    let no_calls = [
+        "newcomer".to_string(),
+        "newcomer ".to_string(),
+        format!("newcomer {sheet}"),
+        format!("newcomer {sheet} {book}"),
+        format!("newcomer {files}"),
+        format!("newcomer {files} "),
+        format!("newcomer {files} -1"),
+        format!("newcomer {files} +1"),
+        format!("newcomer {files} x"),
+        format!("newcomer {files} 262145"),
+        format!("newcomer {files} 4294967296"),
+        format!("newcomer {files} 10 "),
+        format!("newcomer {files} 10 10"),
+        format!("newcomer {files} {line} 10"),
+        format!("newcomer  {files} 10"),
+        format!("newcomer {sheet}  {book} {line} 10"),
+        format!("newcomer {sheet} {book} no-such-file 10"),
+        format!("newcomer {sheet} no-such-file {line} 10"),
+        format!("newcomer no-such-file {book} {line} 10"),
+        format!("Newcomer {files} 10"),
+        format!("newcomers {files} 10"),
+        format!(" newcomer {files} 10"),
+    ];
+    let Joining { sheet, book, line } = joining;
+    let answer = answer_line(&mut Session::fresh(), &Call::Newcomer { sheet, book, line, length: 10 });
+    assert!(answer.starts_with("newcomer 11 0 "), "{answer}");
+    for no_call in no_calls {
+        let script = format!("{no_call}\nnewcomer {files} 10\n");
+        assert_eq!(printed("play", &[], script.as_bytes()), format!("?\n{answer}\n"), "{no_call}");
+    }
 }
 
 /// What the search program says of its rounds, without their rates, and what it prints.

@@ -1,12 +1,15 @@
-//! What the small programs share: numbers in arguments and scripts, and what the book program, the check program and
-//! the search program print.
+//! What the small programs share: numbers in arguments and scripts, files that arguments name, and what the book program,
+//! the check program, the join program and the search program print.
 
+use std::io::Write;
+use std::process::ExitCode;
 use std::str::FromStr;
 use std::time::{Duration, Instant};
 
 use second::checker::check;
 use second::implementation::Implementation;
-use second::limits::PROGRAM_BUFFER_BYTES;
+use second::limits::{JOIN_BUFFER_BYTES, PROGRAM_BUFFER_BYTES};
+use second::newcomer::newcomer;
 use second::refusal::Refusal;
 use second::rounds::{DEFAULT_ROUNDS, Rounds};
 use second::session::book;
@@ -45,6 +48,40 @@ pub fn check_output(sheet: &[u8], book: &[u8]) -> Vec<u8> {
     match check(sheet, book) {
         Ok(answer) => format!("{},{}\n", answer.roles, answer.witness_lines).into_bytes(),
         Err(refusal) => number_line(refusal),
+    }
+}
+
+/// The book of the sheet with the line put behind it, or the number of the refusal and a line feed.
+pub fn join_output(sheet: &[u8], book: &[u8], line: &[u8]) -> Vec<u8> {
+    let mut buffer = vec![0; JOIN_BUFFER_BYTES];
+    match newcomer(sheet, book, line, &mut buffer) {
+        Ok(count) => buffer[..count].to_vec(),
+        Err(refusal) => number_line(refusal),
+    }
+}
+
+/// Prints what a program makes of the files that its arguments name, which are called so where they are missing.
+pub fn print_of_files<const COUNT: usize>(
+    program: &str,
+    arguments: [&str; COUNT],
+    output: impl Fn([Vec<u8>; COUNT]) -> Vec<u8>,
+) -> ExitCode {
+    let paths: Vec<_> = std::env::args_os().skip(1).collect();
+    if paths.len() != COUNT {
+        eprintln!("use: {program} {}", arguments.join(" "));
+        return ExitCode::from(2);
+    }
+    let files: Result<Vec<Vec<u8>>, std::io::Error> = paths.iter().map(std::fs::read).collect();
+    let written = files.and_then(|files| {
+        let files = files.try_into().expect("there are as many files as arguments");
+        std::io::stdout().write_all(&output(files))
+    });
+    match written {
+        Ok(()) => ExitCode::SUCCESS,
+        Err(error) => {
+            eprintln!("{program}: {error}");
+            ExitCode::from(2)
+        }
     }
 }
 

@@ -1,4 +1,4 @@
-//! The book program, the check program and the play program as they are called.
+//! The book program, the check program, the join program and the play program as they are called.
 
 use std::path::{Path, PathBuf};
 use std::process::Output;
@@ -143,6 +143,66 @@ fn check_program_says_what_is_wrong_with_its_arguments() {
     }
 }
 
+/// The example's book with a newcomer who has the first role.
+const JOINED_BOOK: &str = "roles,bound,state\n2,2,witnessed\n\nrole,rec,id,map\nR1,1,1,0\nR2,0,1,1\n\n\
+    user,R1,R2\nann,1,0\nbo,0,1\ncy,1,1\ndee,1,0\n\nuser,permission\nann,rec\nbo,map\n";
+
+#[test]
+fn join_program_prints_the_book_of_the_newcomer_or_a_number() {
+    let (sheet, book) = (file("join-sheet", EXAMPLE), file("join-book", EXAMPLE_BOOK));
+    let join = |line: &str| {
+        let line = file("join-line", line);
+        printed(run(env!("CARGO_BIN_EXE_second-join"), &[&sheet, &book, &line], b""))
+    };
+    assert_eq!(join("dee,1,1,0\n"), JOINED_BOOK);
+    let longer = join("dee,1,0,0\n");
+    assert!(longer.starts_with("roles,bound,state\n3,2,open\n\n"), "{longer}");
+    assert!(longer.contains("\nR3,1,0,0\n\n") && longer.contains("\ndee,0,0,1\n\n"), "{longer}");
+    assert_eq!(join("Ann,1,1,0\n"), "17\n");
+    assert_eq!(join("dee,1,1,0\r\n"), "2\n");
+    assert_eq!(join("dee,1,1,0\ned,1,1,0\n"), "2\n");
+    assert_eq!(join(""), "2\n");
+    assert_eq!(join(&"n".repeat(1_100_000)), "1\n");
+}
+
+#[test]
+fn join_program_says_what_is_wrong_with_its_arguments() {
+    let program = env!("CARGO_BIN_EXE_second-join");
+    let there = file("join-there", EXAMPLE);
+    let (there, missing) = (there.as_str(), "no such file");
+    for arguments in [
+        &[][..],
+        &[there, there],
+        &[there, there, there, there],
+        &[missing, there, there],
+        &[there, missing, there],
+        &[there, there, missing],
+    ] {
+        let output = run(program, arguments, b"");
+        assert_eq!(output.status.code(), Some(2), "{output:?}");
+        assert!(output.stdout.is_empty() && !output.stderr.is_empty(), "{output:?}");
+    }
+}
+
+/// The digests were worked out apart from the program.
+#[test]
+fn play_program_puts_newcomers_in_books() {
+    let (sheet, book) = (file("joined-sheet", EXAMPLE), file("joined-book", EXAMPLE_BOOK));
+    let lines = ["dee,1,0,0\n", "dee,1,1,0\n", "BO,1,1,0\n", "dee,1,1,0"];
+    let [more, kept, taken, open_end] = [0, 1, 2, 3].map(|line| file(&format!("joined-{line}"), lines[line]));
+    let script = format!(
+        "newcomer {sheet} {book} {more} 0\nnewcomer {sheet} {book} {more} 155\nnewcomer {sheet} {book} {more} 156\n\
+         newcomer {sheet} {book} {more} 200\nnewcomer {sheet} {book} {kept} 140\nnewcomer {sheet} {book} {kept} 141\n\
+         newcomer {sheet} {book} {kept} 200\nnewcomer {sheet} {book} {taken} 5\nnewcomer {sheet} {book} {open_end} 5\n\
+         newcomer {book} {book} {open_end} 5\nnewcomer {sheet} {sheet} {taken} 5\nreduce\n"
+    );
+    let expected = "newcomer 11 0 00000001\nnewcomer 11 0 8fbe4d7f\nnewcomer 0 156 762e2b66\n\
+        newcomer 0 156 c3594058\nnewcomer 11 0 38ed4613\nnewcomer 0 141 d8a429c4\nnewcomer 0 141 c32b45f3\n\
+        newcomer 17 0 02da015a\nnewcomer 2 0 02da015a\nnewcomer 3 0 02da015a\nnewcomer 12 0 02da015a\n\
+        reduce 10 0 0\n";
+    assert_eq!(printed(run(env!("CARGO_BIN_EXE_second-play"), &[], script.as_bytes())), expected);
+}
+
 /// The digests were worked out apart from the program.
 #[test]
 fn play_program_answers_each_call_with_a_line() {
@@ -187,6 +247,24 @@ fn play_program_stops_at_a_line_that_is_no_call() {
         assert_eq!(output.status.code(), Some(2), "{output:?}");
         assert!(output.stdout.is_empty() && !output.stderr.is_empty(), "{output:?}");
     }
+    let there = file("no-call-there", EXAMPLE);
+    for script in [
+        "newcomer\n".to_string(),
+        format!("newcomer {there} {there} 5\n"),
+        format!("newcomer {there} {there} {there}\n"),
+        format!("newcomer {there} {there} {there} \n"),
+        format!("newcomer {there} {there} {there} x\n"),
+        format!("newcomer {there} {there} {there} 262145\n"),
+        format!("newcomer {there} {there} {there} 5 5\n"),
+        format!("newcomer {there} {there} no-such-file 5\n"),
+        format!("Newcomer {there} {there} {there} 5\n"),
+    ] {
+        let output = run(program, &[], script.as_bytes());
+        assert_eq!(output.status.code(), Some(2), "{output:?}");
+        assert!(output.stdout.is_empty() && !output.stderr.is_empty(), "{output:?}");
+    }
+    let longest = format!("newcomer {there} {there} {there} 262144\n");
+    assert!(printed(run(program, &[], longest.as_bytes())).starts_with("newcomer 2 0 "));
     assert!(printed(run(program, &[], b"write 262144\n")).starts_with("write 10 0 "));
     assert_eq!(printed(run(program, &[], b"reduce")), "reduce 10 0 0\n");
 }

@@ -1,6 +1,7 @@
 //! The book (a role decomposition with its certificate) and its bytes.
 
 use crate::grants::Grant;
+use crate::refusal::Refusal;
 use crate::roles::{Role, State};
 use crate::sheet::{Sheet, User};
 
@@ -22,11 +23,20 @@ pub struct Book {
     pub bound: usize,
     pub state: State,
     pub roles: Vec<Role>,
-    /// In grant order.
+    /// In the order of their lines; a session's stand in grant order.
     pub witness: Vec<Grant>,
 }
 
 impl Book {
+    /// Writes the book to the front of the buffer and gives its byte count; the bytes past it stay, and all of them where
+    /// the buffer is too short.
+    pub fn write(&self, sheet: &Sheet, buffer: &mut [u8]) -> Result<usize, Refusal> {
+        let book = self.render(sheet);
+        let front = buffer.get_mut(..book.len()).ok_or(Refusal::BufferLength)?;
+        front.copy_from_slice(&book);
+        Ok(book.len())
+    }
+
     /// Four blocks with one empty line between.
     pub fn render(&self, sheet: &Sheet) -> Vec<u8> {
         [self.counts_block(), self.roles_block(sheet), self.users_block(sheet), self.witness_block(sheet)]

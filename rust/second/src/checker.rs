@@ -1,11 +1,11 @@
 //! The checker: judges a book against a sheet without a session.
 
-use crate::book::{COUNTS_HEADING, ROLE_HEADING, USER_HEADING, WITNESS_HEADING, role_name};
+use crate::book::{Book, COUNTS_HEADING, ROLE_HEADING, USER_HEADING, WITNESS_HEADING, role_name};
 use crate::grants::{self, Grant, fits};
 use crate::limits;
 use crate::names;
 use crate::refusal::Refusal;
-use crate::roles::State;
+use crate::roles::{Role, State};
 use crate::sheet::{Permission, Sheet, User};
 
 /// What the checker answers about an accepted book.
@@ -17,16 +17,21 @@ pub struct CheckAnswer {
 
 /// Judges the sheet first, then the book's form, counts, product and witness.
 pub fn check(sheet: &[u8], book: &[u8]) -> Result<CheckAnswer, Refusal> {
-    let sheet = Sheet::read(sheet)?;
-    let claim = Claim::read(&sheet, book).ok_or(Refusal::BookForm)?;
+    let book = accepted(&Sheet::read(sheet)?, book)?;
+    Ok(CheckAnswer { roles: book.roles.len(), witness_lines: book.witness.len() })
+}
+
+/// What a book says that stands for this sheet, or the lowest cause to refuse it.
+pub fn accepted(sheet: &Sheet, book: &[u8]) -> Result<Book, Refusal> {
+    let claim = Claim::read(sheet, book).ok_or(Refusal::BookForm)?;
     if !claim.counts_agree() {
         Err(Refusal::BookCounts)
-    } else if !claim.product_is(&sheet) {
+    } else if !claim.product_is(sheet) {
         Err(Refusal::BookProduct)
-    } else if !claim.witness_stands(&sheet) {
+    } else if !claim.witness_stands(sheet) {
         Err(Refusal::BookWitness)
     } else {
-        Ok(CheckAnswer { roles: claim.gives.len(), witness_lines: claim.witness.len() })
+        Ok(claim.book(sheet))
     }
 }
 
@@ -66,6 +71,20 @@ impl<'a> Claim<'a> {
             gives,
             witness: read_witness(sheet, witness)?,
         })
+    }
+
+    /// The book that claims this, once its counts agree.
+    fn book(self, sheet: &Sheet) -> Book {
+        let role = |(index, gives): (usize, &Vec<bool>)| Role {
+            users: sheet.users().filter(|user| self.has[user.0][index]).collect(),
+            permissions: sheet.permissions().filter(|permission| gives[permission.0]).collect(),
+        };
+        Book {
+            bound: self.state.bound(self.gives.len(), self.witness.len()),
+            state: self.state,
+            roles: self.gives.iter().enumerate().map(role).collect(),
+            witness: self.witness,
+        }
     }
 
     fn counts_agree(&self) -> bool {

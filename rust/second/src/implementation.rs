@@ -2,10 +2,11 @@
 //! that implementations can be compared.
 
 use crate::checker::{self, CheckAnswer};
+use crate::newcomer;
 use crate::refusal::Refusal;
 use crate::session::{LoadAnswer, ReduceAnswer, SearchAnswer, Session};
 
-/// A session of an implementation, and its checker.
+/// A session of an implementation, and its calls that need none.
 pub trait Implementation {
     fn fresh() -> Self;
 
@@ -23,6 +24,10 @@ pub trait Implementation {
 
     /// Judges a book against a sheet.
     fn check(sheet: &[u8], book: &[u8]) -> Result<CheckAnswer, Refusal>;
+
+    /// Writes the book of the sheet with this user line put behind it to the front of the buffer, made from a book of the
+    /// sheet, and gives its byte count.
+    fn newcomer(sheet: &[u8], book: &[u8], line: &[u8], buffer: &mut [u8]) -> Result<usize, Refusal>;
 }
 
 impl Implementation for Session {
@@ -48,5 +53,9 @@ impl Implementation for Session {
 
     fn check(sheet: &[u8], book: &[u8]) -> Result<CheckAnswer, Refusal> {
         checker::check(sheet, book)
+    }
+
+    fn newcomer(sheet: &[u8], book: &[u8], line: &[u8], buffer: &mut [u8]) -> Result<usize, Refusal> {
+        newcomer::newcomer(sheet, book, line, buffer)
     }
 }

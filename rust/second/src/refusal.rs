@@ -1,7 +1,8 @@
 //! The causes to refuse a call, with the number of each.
 
 /// A cause; the number is that of document 01, or of the request of document 02 that adds it. Of several causes a call
-/// answers the first in its own order of checks, and that need not be the lowest: a writing is judged by 10, 16 and 11.
+/// answers the first in its own order of checks, and that need not be the lowest: a writing is judged by 10, 16 and 11, and
+/// a newcomer by 11 after all else.
 #[derive(Clone, Copy, Debug, PartialEq, Eq, PartialOrd, Ord, Hash)]
 pub enum Refusal {
     /// The sheet has too many bytes.
@@ -36,11 +37,17 @@ pub enum Refusal {
     BookWitness = 15,
     /// A search or a writing came while the sheet was not yet reduced.
     NotReduced = 16,
+    /// The newcomer's name is that of a user of the sheet.
+    NameTaken = 17,
+    /// A newcomer came where there were as many users already as there can be.
+    UsersFull = 18,
+    /// A newcomer would need a role more than there can be.
+    RolesFull = 19,
 }
 
 impl Refusal {
     /// In the order of their numbers.
-    pub const ALL: [Refusal; 16] = [
+    pub const ALL: [Refusal; 19] = [
         Refusal::SheetLength,
         Refusal::SheetBytes,
         Refusal::FirstLine,
@@ -57,6 +64,9 @@ impl Refusal {
         Refusal::BookProduct,
         Refusal::BookWitness,
         Refusal::NotReduced,
+        Refusal::NameTaken,
+        Refusal::UsersFull,
+        Refusal::RolesFull,
     ];
 
     /// The cause that has this number.

@@ -1,6 +1,7 @@
 //! Calls on one session, each with one line of answer, so that two programs can be compared line by line.
 
 use crate::checker::{CheckAnswer, check};
+use crate::newcomer::newcomer;
 use crate::refusal::Refusal;
 use crate::session::{LoadAnswer, ReduceAnswer, SearchAnswer, Session};
 
@@ -16,6 +17,13 @@ pub enum Call {
         sheet: Vec<u8>,
         book: Vec<u8>,
     },
+    /// A newcomer's book, written into a buffer of this length.
+    Newcomer {
+        sheet: Vec<u8>,
+        book: Vec<u8>,
+        line: Vec<u8>,
+        length: usize,
+    },
 }
 
 /// Makes the call and gives its line: the call's name, 0 or the number of the refusal, and the values, which
@@ -28,13 +36,18 @@ pub fn answer_line(session: &mut Session, call: &Call) -> String {
         Call::Write(length) => {
             let mut buffer = lent_buffer(*length);
             let written = session.write(&mut buffer);
-            write_line(written, &buffer)
+            buffer_line("write", written, &buffer)
         }
         Call::Check { sheet, book } => check_line(check(sheet, book)),
+        Call::Newcomer { sheet, book, line, length } => {
+            let mut buffer = lent_buffer(*length);
+            let written = newcomer(sheet, book, line, &mut buffer);
+            buffer_line("newcomer", written, &buffer)
+        }
     }
 }
 
-/// A buffer of this length as it is before a writing.
+/// A buffer of this length as it is before a call writes into it.
 pub fn lent_buffer(length: usize) -> Vec<u8> {
     (0..length).map(|index| ((31 * index + 7) % 256) as u8).collect()
 }
@@ -75,12 +88,13 @@ fn search_line(answer: Result<SearchAnswer, Refusal>) -> String {
     }
 }
 
-fn write_line(answer: Result<usize, Refusal>, buffer: &[u8]) -> String {
+/// The line of a call that fills a lent buffer.
+fn buffer_line(call: &str, answer: Result<usize, Refusal>, buffer: &[u8]) -> String {
     let (number, count) = match answer {
         Ok(count) => (0, count),
         Err(refusal) => (refusal.number(), 0),
     };
-    format!("write {number} {count} {:08x}", digest(buffer))
+    format!("{call} {number} {count} {:08x}", digest(buffer))
 }
 
 fn check_line(answer: Result<CheckAnswer, Refusal>) -> String {

@@ -103,10 +103,8 @@ impl Session {
 
     /// Writes the book to the front of the buffer and gives its byte count; the bytes past it stay.
     pub fn write(&self, buffer: &mut [u8]) -> Result<usize, Refusal> {
-        let book = self.reduced()?.book_bytes();
-        let front = buffer.get_mut(..book.len()).ok_or(Refusal::BufferLength)?;
-        front.copy_from_slice(&book);
-        Ok(book.len())
+        let reduced = self.reduced()?;
+        reduced.book().write(&reduced.sheet, buffer)
     }
 
     /// The reduced sheet, or the first cause to refuse a search or a writing where there is none.

@@ -25,7 +25,19 @@ impl Sheet {
     /// Reads a sheet, or gives the lowest cause to refuse it.
     pub fn read(bytes: &[u8]) -> Result<Sheet, Refusal> {
         let text = Text::split(bytes);
-        match text.lowest_cause() {
+        match text.lowest_cause(&Refusal::ALL) {
+            Some(refusal) => Err(refusal),
+            None => Ok(text.accepted()),
+        }
+    }
+
+    /// Reads an accepted sheet with a user line put behind its bytes, or gives the lowest cause to refuse that one.
+    /// Whether there are too many users then, or two of one name, is not judged; the first line is judged already.
+    pub fn read_longer(accepted: &[u8], line: &[u8]) -> Result<Sheet, Refusal> {
+        let bytes = [accepted, line].concat();
+        let text = Text::split(&bytes);
+        let of_the_line = (!is_one_line(line)).then_some(Refusal::SheetBytes);
+        match text.lowest_cause(&LONGER_SHEET).into_iter().chain(of_the_line).min() {
             Some(refusal) => Err(refusal),
             None => Ok(text.accepted()),
         }
@@ -85,6 +97,21 @@ const CAUSES: [(Refusal, Cause); 9] = [
     (Refusal::GrantCount, grant_count_is_wrong),
 ];
 
+/// The causes by which a sheet with a line put behind it is judged.
+const LONGER_SHEET: [Refusal; 6] = [
+    Refusal::SheetLength,
+    Refusal::SheetBytes,
+    Refusal::NameLength,
+    Refusal::FieldCount,
+    Refusal::FieldValue,
+    Refusal::GrantCount,
+];
+
+/// Whether a line feed stands at the end, and nowhere else.
+fn is_one_line(line: &[u8]) -> bool {
+    line.iter().position(|byte| *byte == b'\n').is_some_and(|place| place + 1 == line.len())
+}
+
 impl<'a> Text<'a> {
     /// Line feeds end lines and commas part fields; an empty line is one empty field.
     fn split(bytes: &'a [u8]) -> Text<'a> {
@@ -97,8 +124,10 @@ impl<'a> Text<'a> {
         Text { bytes, lines }
     }
 
-    fn lowest_cause(&self) -> Option<Refusal> {
-        CAUSES.iter().find(|(_, applies)| applies(self)).map(|(refusal, _)| *refusal)
+    /// The lowest cause that applies of those by which it is judged.
+    fn lowest_cause(&self, judged: &[Refusal]) -> Option<Refusal> {
+        let mut causes = CAUSES.iter().filter(|(refusal, _)| judged.contains(refusal));
+        causes.find(|(_, applies)| applies(self)).map(|(refusal, _)| *refusal)
     }
 
     /// The sheet that these lines say, once no cause applies.

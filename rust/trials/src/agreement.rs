@@ -25,6 +25,7 @@ use crate::spelling;
 use crate::steps::{NO_STEPS, counts, judged_search};
 use crate::tally::Tally;
 
+pub mod newcomers;
 pub mod reducing;
 pub mod steps;
 
@@ -125,6 +126,9 @@ impl<Other: Implementation> Pair<Other> {
             Call::Search(budget) => ("search", self.search(*budget).err()),
             Call::Write(length) => ("write", self.write(*length).err()),
             Call::Check { sheet, book } => ("check", checked::<Other>(sheet, book).err()),
+            Call::Newcomer { sheet, book, line, length } => {
+                ("newcomer", newcomers::joined::<Other>(sheet, book, line, *length).err())
+            }
         };
         (name, refusal.map_or(0, Refusal::number))
     }
@@ -346,12 +350,13 @@ pub fn sequences_agree<Other: Implementation>(count: u64, length: usize, size: u
             seen.note(pair.call(&call));
         }
     });
-    let outcomes: [(&str, &[u32]); 5] = [
+    let outcomes: [(&str, &[u32]); 6] = [
         ("load", &[0, 1, 2, 3, 5, 6, 7, 8]),
         ("reduce", &[0, 10]),
         ("search", &[0, 10, 16]),
         ("write", &[0, 10, 11, 16]),
         ("check", &[0, 12, 13, 14, 15]),
+        ("newcomer", &[0, 2, 6, 11, 12, 17]),
     ];
     for (call, numbers) in outcomes {
         seen.expect(numbers.iter().map(|number| (call, *number)), 3);

@@ -9,6 +9,7 @@ use crate::damage;
 use crate::draft::Draft;
 use crate::extremes;
 use crate::families;
+use crate::newcomers::{self, Joining};
 use crate::paper;
 use crate::random::Random;
 use crate::sessions::first_book;
@@ -33,7 +34,7 @@ pub fn sequence(random: &mut Random, length: usize, size: usize) -> Vec<Call> {
             Call::Load(sheet) => drop(session.load(sheet)),
             Call::Reduce => drop(session.reduce()),
             Call::Search(budget) => drop(session.search(*budget)),
-            Call::Write(_) | Call::Check { .. } => (),
+            Call::Write(_) | Call::Check { .. } | Call::Newcomer { .. } => (),
         }
         calls.push(call);
     }
@@ -47,13 +48,14 @@ fn any_draft(random: &mut Random, size: usize) -> Draft {
 /// A call that goes well with the state of the session: a buffer just long enough, say, or one byte short. Reductions
 /// come anywhere, and more often while the sheet is not reduced.
 fn any_call(random: &mut Random, sheets: &[Draft], session: &Session) -> Call {
-    match random.below(14) {
+    match random.below(15) {
         0..=1 => Call::Load(any_sheet(random, sheets)),
         2 => Call::Reduce,
         3..=5 if matches!(session, Session::NotReduced(_)) => Call::Reduce,
         3..=8 => Call::Search(any_budget(random, session)),
         9..=12 => Call::Write(any_length(random, session)),
-        _ => any_check(random, sheets),
+        13 => any_check(random, sheets),
+        _ => any_newcomer(random, sheets),
     }
 }
 
@@ -84,7 +86,11 @@ fn any_budget(random: &mut Random, session: &Session) -> u32 {
 fn any_length(random: &mut Random, session: &Session) -> usize {
     let mut session = session.clone();
     session.reduce().ok();
-    let needed = session.reduced().map_or(0, |reduced| reduced.book_bytes().len());
+    length_near(random, session.reduced().map_or(0, |reduced| reduced.book_bytes().len()))
+}
+
+/// Just the length that is needed, less, or more.
+fn length_near(random: &mut Random, needed: usize) -> usize {
     match random.below(5) {
         0 => needed,
         1 => needed.saturating_sub(1),
@@ -107,7 +113,17 @@ fn any_check(random: &mut Random, sheets: &[Draft]) -> Call {
     Call::Check { sheet, book }
 }
 
-/// The sequence as a script, a call a line. The sheets and books that it names are written into the
+/// A newcomer in a book of one of the sheets, in some cases with something damaged.
+fn any_newcomer(random: &mut Random, sheets: &[Draft]) -> Call {
+    let draft = random.pick(sheets);
+    let joining =
+        if random.percent(70) { newcomers::any(random, draft) } else { newcomers::damaged(random, draft) };
+    let length = length_near(random, joining.result().map_or(0, |book| book.len()));
+    let Joining { sheet, book, line } = joining;
+    Call::Newcomer { sheet, book, line, length }
+}
+
+/// The sequence as a script, a call a line. The sheets, books and lines that it names are written into the
 /// directory.
 pub fn script(calls: &[Call], directory: &Path) -> std::io::Result<String> {
     let mut script = String::new();
@@ -122,6 +138,10 @@ pub fn script(calls: &[Call], directory: &Path) -> std::io::Result<String> {
             Call::Search(budget) => format!("search {budget}"),
             Call::Write(length) => format!("write {length}"),
             Call::Check { sheet, book } => format!("check {} {}", file("sheet", sheet)?, file("book", book)?),
+            Call::Newcomer { sheet, book, line, length } => {
+                let files = [file("sheet", sheet)?, file("book", book)?, file("line", line)?];
+                format!("newcomer {} {length}", files.join(" "))
+            }
         };
         script += &(line + "\n");
     }

@@ -135,7 +135,7 @@ fn change_witness(random: &mut Random, draft: &Draft, book: &mut BookDraft) {
 }
 
 /// Makes the counts agree, with a state word that allows it where there is one.
-fn agree(random: &mut Random, book: &mut BookDraft) {
+pub fn agree(random: &mut Random, book: &mut BookDraft) {
     let (roles, witness) = (book.roles.len(), book.witness.len());
     let (state, bound) = match random.below(2) {
         _ if witness == roles => ("witnessed", roles),

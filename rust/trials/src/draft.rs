@@ -69,11 +69,29 @@ impl Draft {
     pub fn bytes(&self) -> Vec<u8> {
         let mut text = format!("user,{}\n", self.permissions.join(","));
         for (name, row) in self.users.iter().zip(&self.held) {
-            let cells: Vec<&str> = row.iter().map(|held| if *held { "1" } else { "0" }).collect();
-            text.push_str(&format!("{name},{}\n", cells.join(",")));
+            text += &user_line(name, row);
         }
         text.into_bytes()
     }
+
+    /// The draft of these bytes, which must be an acceptable sheet.
+    pub fn made_out(sheet: &[u8]) -> Draft {
+        let text = str::from_utf8(sheet).expect("an acceptable sheet is plain text");
+        let mut lines = text.lines().map(|line| line.split(','));
+        let permissions = lines.next().expect("there is a first line").skip(1).map(str::to_string).collect();
+        let mut draft = Draft { users: Vec::new(), permissions, held: Vec::new() };
+        for mut fields in lines {
+            draft.users.extend(fields.next().map(str::to_string));
+            draft.held.push(fields.map(|field| field == "1").collect());
+        }
+        draft
+    }
+}
+
+/// The line of a user of this name, who holds these permissions.
+pub fn user_line(name: &str, row: &[bool]) -> String {
+    let cells: String = row.iter().map(|held| if *held { ",1" } else { ",0" }).collect();
+    format!("{name}{cells}\n")
 }
 
 /// So many different names, some of them also among the others given.
@@ -98,7 +116,8 @@ fn shared_name(random: &mut Random, others: &[String]) -> String {
     if random.percent(50) { spelling::name(random, &name) } else { name }
 }
 
-fn any_name(random: &mut Random) -> String {
+/// A name of any kind.
+pub fn any_name(random: &mut Random) -> String {
     if random.percent(10) {
         return random.pick(&AMBIGUOUS_NAMES).to_string();
     }

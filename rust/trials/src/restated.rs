@@ -4,6 +4,7 @@
 pub mod causes;
 pub mod form;
 pub mod history;
+pub mod newcomer;
 pub mod recursion;
 pub mod spelling;
 pub mod tables;

@@ -19,6 +19,15 @@ pub fn unfinished(random: &mut Random) -> Draft {
     })
 }
 
+/// A sheet with more permissions than a word has bits, on which there may be something to search.
+pub fn any_wide_or_unfinished(random: &mut Random) -> Draft {
+    if random.percent(50) {
+        families::behind(60, &unfinished(random))
+    } else {
+        families::any_wide(random, 10)
+    }
+}
+
 /// Whether the sheet, which must be acceptable, is open when it is reduced.
 pub fn is_open(draft: &Draft) -> bool {
     let answer = sessions::reduced::<Session>(&draft.bytes()).search(0);

@@ -32,6 +32,12 @@ fn read_call(line: &str) -> Result<Call, String> {
         ["search", budget] => Ok(Call::Search(read_number(budget)?)),
         ["write", length] => Ok(Call::Write(read_length(length)?)),
         ["check", sheet, book] => Ok(Call::Check { sheet: read_file(sheet)?, book: read_file(book)? }),
+        ["newcomer", sheet, book, line, length] => Ok(Call::Newcomer {
+            sheet: read_file(sheet)?,
+            book: read_file(book)?,
+            line: read_file(line)?,
+            length: read_length(length)?,
+        }),
         _ => Err(format!("no such call: {line}")),
     }
 }

@@ -7,12 +7,17 @@ use crate::restated::spelling::settled;
 
 /// The lowest number of those that apply to the sheet.
 pub fn lowest_cause(sheet: &[u8]) -> Option<u32> {
+    causes(sheet).first().copied()
+}
+
+/// The numbers that apply to the sheet.
+pub fn causes(sheet: &[u8]) -> BTreeSet<u32> {
     let mut pass = Pass::default();
     for byte in sheet {
         pass.byte(*byte);
     }
     pass.end(sheet);
-    pass.causes.first().copied()
+    pass.causes
 }
 
 /// Where the pass is, and what it has seen.

@@ -30,7 +30,7 @@ pub fn verdict(draft: &Draft, bytes: &[u8]) -> Result<(usize, usize), u32> {
 }
 
 /// The same bytes, with the sheet's spelling of each name that is one of the sheet's. All else stays.
-fn spelled_as_in_the_sheet(draft: &Draft, bytes: &[u8]) -> Vec<u8> {
+pub fn spelled_as_in_the_sheet(draft: &Draft, bytes: &[u8]) -> Vec<u8> {
     with_fields(draft, bytes, |place, field| {
         let known = place.and_then(|place| {
             let names = place.names(draft);

@@ -5,6 +5,7 @@ use std::ops::Range;
 use second::script::Call;
 
 use crate::restated::causes::lowest_cause;
+use crate::restated::newcomer;
 
 /// The last accepted sheet, and what was given for it.
 #[derive(Clone, Copy, Debug, PartialEq, Eq)]
@@ -33,14 +34,17 @@ pub fn last_steps(calls: &[Call]) -> Option<Range<u64>> {
     Some(end - budget(calls.last()?)..end)
 }
 
-/// The number of the refusal of this call, made after those, unless it is that of too short a buffer or one of a check:
-/// the first in the call's order that applies.
+/// The number of the refusal of this call, made after those, unless it is that of a writing into too short a buffer or
+/// one of a check: the first in the call's order that applies.
 pub fn number(calls: &[Call], call: &Call) -> Option<u32> {
     let known = known(calls);
     let causes = [(10, known.is_none()), (16, known.is_some_and(|known| known.budgets.is_none()))];
     let applied = match call {
         Call::Load(sheet) => return lowest_cause(sheet),
         Call::Check { .. } => return None,
+        Call::Newcomer { sheet, book, line, length } => {
+            return newcomer::answer(sheet, book, line, *length).err();
+        }
         Call::Reduce => &causes[..1],
         Call::Search(_) | Call::Write(_) => &causes[..],
     };

@@ -113,8 +113,8 @@ fn number_of_grants_is_as_asked() {
 
 #[test]
 fn sequences_have_every_kind_of_call() {
-    let mut kinds = [0; 5];
-    cases(50, |random| {
+    let mut kinds = [0; 6];
+    cases(60, |random| {
         for call in sequence(random, 20, 5) {
             let kind = match call {
                 Call::Load(_) => 0,
@@ -122,6 +122,7 @@ fn sequences_have_every_kind_of_call() {
                 Call::Search(_) => 2,
                 Call::Write(_) => 3,
                 Call::Check { .. } => 4,
+                Call::Newcomer { .. } => 5,
             };
             kinds[kind] += 1;
         }

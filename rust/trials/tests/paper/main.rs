@@ -11,6 +11,7 @@ mod generators;
 mod kernels;
 mod limits;
 mod machine;
+mod newcomers;
 mod progress;
 mod readings;
 mod reducing;

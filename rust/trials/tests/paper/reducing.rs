@@ -161,13 +161,6 @@ fn number_16_is_judged_after_10_and_before_11() {
     assert_eq!(write_number(&session, 0), 16);
 }
 
-#[test]
-fn numbers_are_1_to_16() {
-    assert!(Refusal::ALL.map(Refusal::number).into_iter().eq(1..=16));
-    assert_eq!(Refusal::with_number(16), Some(Refusal::NotReduced));
-    assert_eq!((Refusal::with_number(0), Refusal::with_number(17)), (None, None));
-}
-
 /// One call that loads, reduces, searches and writes gives what it gave when a load reduced too.
 #[test]
 fn book_by_one_call_is_reduced() {

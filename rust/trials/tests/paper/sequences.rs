@@ -2,6 +2,7 @@
 //! alone.
 
 use second::checker::check;
+use second::newcomer::newcomer;
 use second::refusal::Refusal;
 use second::roles::State;
 use second::script::{Call, answer_line, digest, lent_buffer};
@@ -28,6 +29,7 @@ const OUTCOMES: &[(&str, &[u32])] = &[
     ("search", &[0, 10, 16]),
     ("write", &[0, 10, 11, 16]),
     ("check", &[0, 12, 13, 14, 15]),
+    ("newcomer", &[0, 2, 6, 11, 12, 17]),
 ];
 
 /// A session and the calls made on it. What it has to answer is found from the calls, never from the session.
@@ -57,7 +59,7 @@ impl Trial {
         let is_judged_elsewhere = match call {
             Call::Check { .. } => true,
             Call::Write(_) => expected.is_none() && refusal == Some(11),
-            Call::Load(_) | Call::Reduce | Call::Search(_) => false,
+            Call::Load(_) | Call::Reduce | Call::Search(_) | Call::Newcomer { .. } => false,
         };
         assert!(is_judged_elsewhere || refusal == expected, "{call:?} {refusal:?} {expected:?}");
         seen.note((name, refusal.unwrap_or(0)));
@@ -68,7 +70,7 @@ impl Trial {
         match call {
             Call::Load(_) | Call::Search(_) => true,
             Call::Reduce => !is_reduced(&self.calls),
-            Call::Write(_) | Call::Check { .. } => false,
+            Call::Write(_) | Call::Check { .. } | Call::Newcomer { .. } => false,
         }
     }
 
@@ -80,6 +82,9 @@ impl Trial {
             Call::Search(budget) => ("search", self.search(*budget)),
             Call::Write(length) => ("write", self.write(*length)),
             Call::Check { sheet, book } => ("check", check(sheet, book).err()),
+            Call::Newcomer { sheet, book, line, length } => {
+                ("newcomer", newcomer(sheet, book, line, &mut lent_buffer(*length)).err())
+            }
         }
     }
 
@@ -234,6 +239,17 @@ fn checks_can_be_left_out() {
     assert!(left_out > 50, "only {left_out} checks");
 }
 
+/// A newcomer between two calls changes nothing: it has no session.
+#[test]
+fn newcomers_can_be_left_out() {
+    let mut left_out = 0;
+    cases(100, |random| {
+        let calls = sequence(random, 25, 6);
+        left_out += assert_left_out(&calls, |index| matches!(calls[index], Call::Newcomer { .. }));
+    });
+    assert!(left_out > 50, "only {left_out} newcomers");
+}
+
 /// A reduction changes nothing if there was one since the last accepted load.
 #[test]
 fn reductions_after_the_first_can_be_left_out() {
@@ -283,7 +299,15 @@ fn answer_lines_are_as_agreed() {
     assert_eq!(line(Call::Check { sheet, book }), "check 12 0 0");
     let sheet = b"user,p\nu,0\n".to_vec();
     let book = b"roles,bound,state\n0,0,witnessed\n\nrole,p\n\nuser\nu\n\nuser,permission\n".to_vec();
-    assert_eq!(line(Call::Check { sheet, book }), "check 0 0 0");
+    assert_eq!(line(Call::Check { sheet: sheet.clone(), book: book.clone() }), "check 0 0 0");
+    let joining = |name: &str| Call::Newcomer {
+        sheet: sheet.clone(),
+        book: book.clone(),
+        line: format!("{name},0\n").into_bytes(),
+        length: 10,
+    };
+    assert_eq!(line(joining("v")), format!("newcomer 11 0 {untouched}"));
+    assert_eq!(line(joining("U")), format!("newcomer 17 0 {untouched}"));
 }
 
 #[test]

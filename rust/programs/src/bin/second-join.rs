@@ -1,0 +1,11 @@
+//! A newcomer in a book: prints the book of the sheet with the line put behind it, or the number of the refusal.
+
+use std::process::ExitCode;
+
+use programs::{join_output, print_of_files};
+
+fn main() -> ExitCode {
+    print_of_files("second-join", ["SHEET", "BOOK", "LINE"], |[sheet, book, line]| {
+        join_output(&sheet, &book, &line)
+    })
+}
