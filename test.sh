@@ -41,7 +41,7 @@ done
 paste -d '>' crates/play/stdin target/log/play.stdout | sed 's/^/play: /; s/>/ -> /'
 
 # rt ci leaves the programs
-for program in rolebook rolesearch rolecheck play; do
+for program in rolebook rolesearch rolecheck rolenewcomer play; do
     [ -x "target/bin/$program" ] || rt check "$program"
 done
 
@@ -105,10 +105,23 @@ else
     echo "porvuund search crates/play/data/wide.csv 1: expected a book of more than 65,536 bytes"
     tally 0 0 1
 fi
+# a newcomer: finn's friend, with no new role and with one, also from standard input; refusals and wrong use
+book=crates/rolecheck/data/roosts.book
+front 0 "$(sed 's/^finn,0,0,0,0,1$/&\ngwen,0,0,0,0,1/' "$book")" newcomer examples/roosts.csv "$book" examples/gwen.csv
+front 0 "$(cat crates/rolenewcomer/stdout)" newcomer examples/roosts.csv "$book" crates/rolenewcomer/data/gwen.csv
+front 0 "$(cat crates/rolenewcomer/stdout)" newcomer examples/roosts.csv "$book" - <crates/rolenewcomer/data/gwen.csv
+front 1 2 newcomer examples/roosts.csv "$book" examples/roosts.csv
+front 1 12 newcomer examples/roosts.csv examples/roosts.csv examples/gwen.csv
+front 1 17 newcomer examples/roosts.csv "$book" - <<<'FINN,0,0,0,0,1,0'
+front 2 '' newcomer examples/roosts.csv "$book"
+front 2 '' newcomer examples/roosts.csv "$book" "$log/no such line"
 front 0 'a reduction, a search or a book was asked for with no accepted sheet' explain 10
 front 0 'a search or a book was asked for on a sheet that is not yet reduced' explain 16
 front 2 '' explain 0
-front 2 '' explain 17
+front 0 "the newcomer's name is taken, A-Z read as a-z" explain 17
+front 0 'the sheet has 256 users already, and a newcomer would be one too many' explain 18
+front 0 'the newcomer needs a new role, and it would be number 129' explain 19
+front 2 '' explain 20
 front 2 '' explain
 took "$began" "the shell front"
 

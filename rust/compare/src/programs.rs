@@ -5,7 +5,7 @@ use std::path::Path;
 use trials::process::said_and_printed;
 
 /// The program that puts a newcomer in a book.
-pub const JOIN: &str = "rolejoin";
+pub const NEWCOMER: &str = "rolenewcomer";
 
 /// What a program says on standard error and prints on standard output, given this input. It must be there.
 pub fn both(program: &str, arguments: &[&str], input: &[u8]) -> (String, String) {

@@ -3,7 +3,7 @@
 use std::path::{Path, PathBuf};
 
 use baseline::session::Session as FastSession;
-use compare::programs::{JOIN, both, printed};
+use compare::programs::{NEWCOMER, both, printed};
 use programs::{book_output, check_output, join_output, search_output};
 use second::implementation::Implementation;
 use second::roles::State;
@@ -213,7 +213,7 @@ fn files_of(folder: &Path, joining: &Joining) -> [String; 3] {
 /// The join program prints what the second one does. Gives it.
 fn assert_joined(folder: &Path, joining: &Joining) -> String {
     let paths = files_of(folder, joining);
-    let found = printed(JOIN, &paths.each_ref().map(String::as_str), b"");
+    let found = printed(NEWCOMER, &paths.each_ref().map(String::as_str), b"");
     let expected = join_output(&joining.sheet, &joining.book, &joining.line);
     assert!(found.as_bytes() == expected, "{}\n{found}", String::from_utf8_lossy(&joining.line));
     found
@@ -282,13 +282,13 @@ fn check_and_join_programs_need_their_files() {
         ("rolecheck", &[sheet, missing]),
         ("rolecheck", &[missing, book]),
         ("rolecheck", &[sheet, book, line]),
-        (JOIN, &[]),
-        (JOIN, &[sheet]),
-        (JOIN, &[sheet, book]),
-        (JOIN, &[sheet, book, missing]),
-        (JOIN, &[sheet, missing, line]),
-        (JOIN, &[missing, book, line]),
-        (JOIN, &[sheet, book, line, line]),
+        (NEWCOMER, &[]),
+        (NEWCOMER, &[sheet]),
+        (NEWCOMER, &[sheet, book]),
+        (NEWCOMER, &[sheet, book, missing]),
+        (NEWCOMER, &[sheet, missing, line]),
+        (NEWCOMER, &[missing, book, line]),
+        (NEWCOMER, &[sheet, book, line, line]),
     ];
     for (program, arguments) in calls {
         let (said, printed) = both(program, arguments, b"");

@@ -152,7 +152,7 @@ fn join_program_prints_the_book_of_the_newcomer_or_a_number() {
     let (sheet, book) = (file("join-sheet", EXAMPLE), file("join-book", EXAMPLE_BOOK));
     let join = |line: &str| {
         let line = file("join-line", line);
-        printed(run(env!("CARGO_BIN_EXE_second-join"), &[&sheet, &book, &line], b""))
+        printed(run(env!("CARGO_BIN_EXE_second-newcomer"), &[&sheet, &book, &line], b""))
     };
     assert_eq!(join("dee,1,1,0\n"), JOINED_BOOK);
     let longer = join("dee,1,0,0\n");
@@ -167,7 +167,7 @@ fn join_program_prints_the_book_of_the_newcomer_or_a_number() {
 
 #[test]
 fn join_program_says_what_is_wrong_with_its_arguments() {
-    let program = env!("CARGO_BIN_EXE_second-join");
+    let program = env!("CARGO_BIN_EXE_second-newcomer");
     let there = file("join-there", EXAMPLE);
     let (there, missing) = (there.as_str(), "no such file");
     for arguments in [

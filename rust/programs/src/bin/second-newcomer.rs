@@ -5,7 +5,7 @@ use std::process::ExitCode;
 use programs::{join_output, print_of_files};
 
 fn main() -> ExitCode {
-    print_of_files("second-join", ["SHEET", "BOOK", "LINE"], |[sheet, book, line]| {
+    print_of_files("second-newcomer", ["SHEET", "BOOK", "LINE"], |[sheet, book, line]| {
         join_output(&sheet, &book, &line)
     })
 }
