@@ -1,8 +1,8 @@
 // A newcomer in an existing book: the book of the sheet with one user line more, in which nobody's roles have moved.
+mod call;
+mod evidence;
 mod longer_text;
-mod name_taken;
-mod newcomer;
 mod new_counts;
-mod witness_cells;
+mod taken;
 
-pub use newcomer::newcomer;
+pub use call::newcomer;

@@ -270,7 +270,7 @@ fn join_program_takes_the_longest_sheets_books_and_lines() {
     }
 }
 
-/// With other arguments than three files that can be read, the check program and the join program print nothing.
+/// With other arguments than three files that can be read, the check program and the newcomer program print nothing.
 #[test]
 fn check_and_join_programs_need_their_files() {
     let joining = newcomers::refused_from(ORDER.len()).joining;

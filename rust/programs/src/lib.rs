@@ -1,5 +1,5 @@
 //! What the small programs share: numbers in arguments and scripts, files that arguments name, and what the book program,
-//! the check program, the join program and the search program print.
+//! the check program, the newcomer program and the search program print.
 
 use std::io::Write;
 use std::process::ExitCode;

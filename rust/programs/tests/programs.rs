@@ -1,4 +1,4 @@
-//! The book program, the check program, the join program and the play program as they are called.
+//! The book program, the check program, the newcomer program and the play program as they are called.
 
 use std::path::{Path, PathBuf};
 use std::process::Output;

@@ -31,7 +31,7 @@ pub const PROGRAM_BUFFER_BYTES: usize = 65_536;
 /// Bytes of the buffer that the search program lends; no book of a session is longer.
 pub const SEARCH_BUFFER_BYTES: usize = 131_072;
 
-/// Bytes of the buffer that the join program lends; no newcomer's book is longer.
+/// Bytes of the buffer that the newcomer program lends; no newcomer's book is longer.
 pub const JOIN_BUFFER_BYTES: usize = 131_072;
 
 /// Bytes of a buffer that a script of calls may lend.

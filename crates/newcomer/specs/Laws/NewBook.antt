@@ -11,7 +11,7 @@ use lib.Dec.{eqb, leb}
 use lib.ListN.{length}
 use Rattle.spec.specs.Limits.{role-limit, book-limit, permission-limit}
 use Rattle.spec.specs.Text.{Bytes}
-use Rattle.spec.specs.Sheet.{sheet-of, user-count}
+use Rattle.spec.specs.Sheet.{Sheet, sheet-of, user-count}
 use Rattle.spec.specs.RoleSet.{RoleSet}
 use Rattle.spec.specs.Roles.{unsettled}
 use Rattle.spec.specs.Book.{book-text}
@@ -72,12 +72,13 @@ module _ {lent : Admission} {text : Bytes} {users : ℕ} {read : BookRead} {has 
   pub no-room-is-too-many : no-room (sheet-of text) users roles ≡ too-many-roles lent
   unfolding too-many-roles
   no-room-is-too-many =
-      rw (text-sheet ready, ready .last)
-      (sym
+      ap (λ (sheet : Sheet). no-room sheet users roles) (text-sheet ready)
+      ∙ ap (λ (u : ℕ). no-room (longer-sheet lent) u roles) (ready .last)
+      ∙ sym
       (ap (λ (t : Bool). t && leb role-limit (said-given lent .roles .count))
       (some-left-over-same (longer-sheet lent) (newcomer lent) (said-given lent .roles) roles same-gives)
       ∙ ap (λ (n : ℕ). some-left-over (longer-sheet lent) (newcomer lent) roles && leb role-limit n)
-      (same-gives .count)))
+      (same-gives .count))
 
   -- ---- the new book
 
@@ -144,23 +145,25 @@ module _ {lent : Admission} {text : Bytes} {users : ℕ} {read : BookRead} {has 
         record { rows = rw total (joined .at .rows); total = counted-roles ∙ joined .at .total }
 
     -- what the rows say is what the given book says with the newcomer in it
-    rows-say : {cells : List ℕ} → map grant-of cells ≡ book-says ready .witness
+    rows-say : (cells : List ℕ) → map grant-of cells ≡ book-says ready .witness
         → rows-book text after-has after-gives cells counts
         ≡ book-text (sheet-of text) (said-admitting (sheet-of text) users (book-says ready))
     unfolding said-admitting
-    rows-say {cells} e =
+    rows-say cells e =
         rows-book-says text cells counts matrices-at
         (omega (arith, accepted-lawful text (text-accepted ready) .few-permissions, permissions-fit)) e
         ∙ rw (counted-bound, counted-standing, ready .as-read .says-read .matrices)
 
-    pub rows-are-the-new-book : {cells : List ℕ} → map grant-of cells ≡ book-says ready .witness
+    pub rows-are-the-new-book : (cells : List ℕ) → map grant-of cells ≡ book-says ready .witness
         → rows-book text after-has after-gives cells counts ≡ new-book lent
     unfolding new-book
-    rows-are-the-new-book e =
-        rows-say e
-        ∙ rw (text-sheet ready, ready .last)
-        (sym
+    rows-are-the-new-book cells e =
+        rows-say cells e
+        ∙ ap (λ (sheet : Sheet). book-text sheet (said-admitting sheet users (book-says ready))) (text-sheet ready)
+        ∙ ap (λ (u : ℕ). book-text (longer-sheet lent) (said-admitting (longer-sheet lent) u (book-says ready)))
+        (ready .last)
+        ∙ sym
         (same-said-same-text (longer-sheet lent) (said-admitting (longer-sheet lent) (newcomer lent) (said-given lent))
         (said-admitting (longer-sheet lent) (newcomer lent) (book-says ready))
         (same-admitting (given-sheet lent) (longer-sheet lent) (same-permissions ready) (one-user-more ready)
-        (said-given lent) (book-says ready) same)))
+        (said-given lent) (book-says ready) same))

@@ -2,21 +2,21 @@
 -- roles and the witness lines are few, and the matrices that were read are such as a newcomer can be put in.
 use Prim.Native.Nat.{ℕ, suc, _≤_, _<_}
 use native.Mathlib.Omega.{arith}
-use mathlib.Core.Path.{_≡_, refl, sym, ap, _∙_}
+use mathlib.Core.Path.{_≡_, sym, ap, _∙_}
 use mathlib.Core.Bool.{So}
 use mathlib.Core.List.{List}
 use borrow.Author.Tests.{leb-false}
 use lib.ListN.{length}
-use Rattle.spec.specs.Limits.{user-limit, permission-limit, role-limit}
+use Rattle.spec.specs.Limits.{user-limit, role-limit}
 use Rattle.spec.specs.Text.{Bytes}
-use Rattle.spec.specs.Sheet.{Sheet, Grant, sheet-of, user-count, permission-count}
+use Rattle.spec.specs.Sheet.{sheet-of, user-count, permission-count}
 use Rattle.spec.specs.Cover.{grant-at}
 use Rattle.spec.specs.Refusal.{accepted}
 use Rattle.spec.specs.Book.{Said}
+use Rattle.spec.specs.Form.{said}
 use Rattle.spec.specs.Newcomer.{Admission, given-sheet, longer-sheet, users-at-limit}
 use Rattle.lists.specs.TestLaws.{member-at}
 use Rattle.rules.specs.AcceptedFacts.{Lawful, accepted-lawful}
-use Rattle.cell_rows.specs.Rows.{row-bits}
 use Rattle.cell_rows.specs.Laws.Width.{permissions-fit}
 use Rattle.cells.specs.RowsRead.{RowsRead}
 use Rattle.longer.specs.OneLine.{added-fields}
@@ -72,7 +72,7 @@ module _ {lent : Admission} {text : Bytes} {users : ℕ} {read : BookRead} {has 
   says : Says (given-sheet lent) (read .counts) (read .checked .roles) has gives (read .witness) book-says
   says = ready .as-read .says-read
 
-  same : SaysSame (given-sheet lent) _ book-says
+  same : SaysSame (given-sheet lent) (said (given-sheet lent) (lent .book)) book-says
   same = ready .as-read .same
 
   pub roles-read : book-says .roles .count ≡ read .checked .roles

@@ -27,11 +27,9 @@ use Rattle.newcomer.specs.WitnessCells.{LinesKept, CellsOf}
 -- ---- line after line
 
 module _ (w : Witness) where
-  here : List ℕ → ℕ → Type 0
-  here cells i = getD cells i 0 ≡ cell-of (named-grant (line-of w i))
-
   pub no-cells-yet : (cells : List ℕ) → length cells ≡ role-limit → CellsOf w 0 cells
-  no-cells-yet cells e = record { whole = e; each = below-none (λ i. getD cells i 0 ≡ cell-of (named-grant (line-of w i))) }
+  no-cells-yet cells e =
+      record { whole = e; each = below-none (λ i. getD cells i 0 ≡ cell-of (named-grant (line-of w i))) }
 
   pub one-cell-more : (cells : List ℕ) (n cell : ℕ) → CellsOf w n cells → n < role-limit
       → cell ≡ cell-of (named-grant (line-of w n)) → CellsOf w (n + 1) (set cells n cell)
@@ -74,8 +72,10 @@ module _ {w : Witness} {grants : List Grant} {cells : List ℕ} (kept : LinesKep
   cells-within sheet known =
       record {
         few = omega (arith, as-many-cells, kept .few);
-        user-below = λ i h. rw (grant-there i (omega (arith, as-many-cells))) (at i h .user);
-        permission-below = λ i h. rw (grant-there i (omega (arith, as-many-cells))) (at i h .permission);
+        user-below = λ i h.
+            rw (ap (λ (g : Grant). g .user) (grant-there i (omega (arith, as-many-cells)))) (at i h .user);
+        permission-below = λ i h.
+            rw (ap (λ (g : Grant). g .permission) (grant-there i (omega (arith, as-many-cells)))) (at i h .permission);
       }
     where
       at : (i : ℕ) → i < length listed → Known sheet (grant-at grants i)

@@ -406,7 +406,7 @@ fn newcomers_up_to_the_limit_of_roles() {
     assert!(Joining { sheet: draft.bytes(), book, line: all }.result().is_ok());
 }
 
-/// No newcomer's book is longer than the checker reads, so the buffer of the join program is long enough. The longest
+/// No newcomer's book is longer than the checker reads, so the buffer of the newcomer program is long enough. The longest
 /// names, as many users as there can be, and as many permissions as then have room, and as many roles.
 #[test]
 fn longest_books_are_within_the_limit_of_the_checker() {
