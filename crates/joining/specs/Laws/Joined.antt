@@ -1,5 +1,6 @@
 -- What joining leaves is the role set that the newcomer has joined: their row has the roles got, and with a new role
--- that one too; the row of the new role is what is left over. All other rows stay, and no earlier user has the new role.
+-- that one too; the row of the new role is what is left over. All other rows stay, and no earlier user has the new
+-- role.
 use Prim.Native.Nat.{ℕ, suc, _+_, _≤_, _<_}
 use native.Mathlib.Numerals.{add-one}
 use native.Mathlib.Omega.{arith}
@@ -91,7 +92,8 @@ module _ {sheet : Sheet} {rows : List ℕ} {u : ℕ} {has gives : List ℕ} {rol
 
     gives-new : (p : ℕ) → p < row-bits → cell gives-then roles p ≡ left-over sheet u (roles-in has gives roles) p
     gives-new p k =
-        put .role-row .shows roles p k ∙ rw (eq-eqb roles roles refl) (made .inside p k ∙ left-by-row ready of after p k)
+        put .role-row .shows roles p k
+        ∙ rw (eq-eqb roles roles refl) (made .inside p k ∙ left-by-row ready of after p k)
 
     pub joined-new-role : holds-row taken rows 0 u ≡ false
         → JoinedAt sheet u (roles-in has gives roles) has-then gives-then (roles + 1)

@@ -3,7 +3,6 @@ use Prim.Native.Nat.{_-_, _≤_}
 use native.Mathlib.Omega.{arith}
 use mathlib.Core.Path.{_≡_, refl, sym, _∙_}
 use mathlib.Core.Logic.{⊎-elim}
-use borrow.Author.Needs.{needs}
 use lib.ListN.{length}
 use Rattle.spec.specs.Limits.{user-limit, permission-limit, role-limit}
 use Rattle.cell_rows.specs.Rows.{row-words}

@@ -4,7 +4,7 @@ use native.Mathlib.Omega.{arith}
 use mathlib.Core.Path.{sym, _∙_}
 use borrow.Author.Needs.{needs}
 use Rattle.spec.specs.Limits.{user-limit, permission-limit, role-limit}
-use Rattle.cell_rows.specs.Rows.{row-words, row-bits}
+use Rattle.cell_rows.specs.Rows.{row-words}
 use Rattle.cell_rows.specs.Laws.Width.{roles-fit}
 use Rattle.joining.specs.Laws.Joined.{joined-no-role, no-room-left, joined-new-role}
 use Rattle.joining.proofs.newcomer.join.Statement.{statement}
