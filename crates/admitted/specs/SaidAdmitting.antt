@@ -20,7 +20,7 @@ use Rattle.admitted.specs.OneMoreUser.{OneMore, witness-still-stands}
 use Rattle.admitted.specs.ProductAdmitting.{admitting-multiplies}
 
 -- there are no more roles than a book can have
-few-with-new : (new : Bool) (roles : ℕ) → roles ≤ role-limit → (new && leb role-limit roles) ≡ false
+pub few-with-new : (new : Bool) (roles : ℕ) → roles ≤ role-limit → (new && leb role-limit roles) ≡ false
     → cond new (suc roles) roles ≤ role-limit
 few-with-new true roles few none = leb-false role-limit roles none
 few-with-new false roles few none = few

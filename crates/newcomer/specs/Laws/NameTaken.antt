@@ -1,12 +1,12 @@
 -- The name that a line begins with, looked for among the users: what is found says whether one of them has it. Assumes
 -- nothing.
-use Prim.Native.Nat.{ℕ}
+use Prim.Native.Nat.{ℕ, _-_, _≤_}
 use native.Mathlib.Omega.{arith}
-use mathlib.Core.Path.{_≡_, refl}
+use mathlib.Core.Path.{_≡_, refl, ap, _∙_}
 use mathlib.Core.Bool.{false, So}
 use mathlib.Core.List.{List, [], _∷_}
 use mathlib.Core.Option.{Option, none, some}
-use lib.ListN.{length, getD}
+use lib.ListN.{length, getD, take}
 use Rattle.spec.specs.Text.{Bytes, same-name}
 use Rattle.spec.specs.Form.{known}
 use Rattle.bits.specs.Laws.Lowest.{lowest-below-elim, lowest-below-none-elim}
@@ -19,10 +19,22 @@ use Rattle.refusal.specs.Laws.Fields.{first-line-read}
 use Rattle.refusal.specs.Laws.ReadLine.{first-field-part}
 use Rattle.longer.specs.OneLine.{added-name}
 
--- the name of a line, as it is read
-pub name-of-line : (line : Bytes) → Part line 0 (field-read line 0 .to) (added-name line)
-name-of-line [] = first-field-part [] 0 (omega arith)
-name-of-line (b ∷ rest) = rw (first-line-read b rest) (first-field-part (b ∷ rest) 0 (omega arith))
+-- the bytes of a line up to a place are its name
+pub record NameUpTo (line : Bytes) (to : ℕ) : Type 0 where
+  pub within : to ≤ length line
+  pub reads : take to line ≡ added-name line
+
+first-field-read : (line : Bytes) → Part line 0 (field-read line 0 .to) (added-name line)
+first-field-read [] = first-field-part [] 0 (omega arith)
+first-field-read (b ∷ rest) = rw (first-line-read b rest) (first-field-part (b ∷ rest) 0 (omega arith))
+
+-- the first field is read so
+pub name-of-line : (line : Bytes) → NameUpTo line (field-read line 0 .to)
+name-of-line line =
+    let field = first-field-read line in
+    let to = field-read line 0 .to in
+    let whole : to ≡ to - 0 = omega arith in
+    record { within = field .within; reads = ap (λ (n : ℕ). take n line) whole ∙ field .reads }
 
 module _ (names : List Bytes) (name : Bytes) where
   -- where a number is found, the name is known

@@ -4,17 +4,18 @@
 use Prim.Native.Nat.{ℕ, suc, _≤_}
 use native.Mathlib.Omega.{arith}
 use mathlib.Core.Path.{_≡_, refl, sym, ap, _∙_}
-use mathlib.Core.Bool.{Bool, true, false, _&&_, not, cond}
+use mathlib.Core.Bool.{Bool, true, false, So, _&&_, not, cond}
 use mathlib.Core.List.{List, map}
-use borrow.Author.Tests.{eq-eqb, ne-eqb}
-use lib.Dec.{eqb, leb}
+use borrow.Author.Tests.{eqb-true, eq-eqb, ne-eqb}
+use lib.Dec.{eqb, leb, ltb}
 use lib.ListN.{length}
 use Rattle.spec.specs.Limits.{role-limit, book-limit, permission-limit}
 use Rattle.spec.specs.Text.{Bytes}
 use Rattle.spec.specs.Sheet.{Sheet, sheet-of, user-count}
 use Rattle.spec.specs.RoleSet.{RoleSet}
-use Rattle.spec.specs.Roles.{unsettled}
+use Rattle.spec.specs.Roles.{Standing, unsettled}
 use Rattle.spec.specs.Book.{book-text}
+use Rattle.spec.specs.Refusal.{refuse-if, refusal}
 use Rattle.spec.specs.Newcomer.{Admission, given-sheet, longer-sheet, newcomer, said-given, some-left-over}
 use Rattle.spec.specs.Newcomer.{roles-admitting, said-admitting, new-book, too-many-roles}
 use Rattle.rules.specs.AcceptedFacts.{accepted-lawful}
@@ -29,12 +30,14 @@ use Rattle.book_length.specs.BookRows.{rows-book, rows-book-says}
 use Rattle.digits.specs.Capped.{count-cap, capped}
 use Rattle.right.specs.ReadBack.{SaysSame}
 use Rattle.admitted.specs.RolesAdmitting.{count-admitting}
+use Rattle.admitted.specs.SaidAdmitting.{few-with-new}
 use Rattle.admitted.specs.SameText.{same-said-same-text}
 use Rattle.admitted.specs.SameAdmitting.{GivesSame, some-left-over-same, same-admitting}
 use Rattle.checker.specs.declared.reading.BookRead.{BookRead}
 use Rattle.joining.specs.Joining.{no-room, JoinedAt}
 use Rattle.newcomer.specs.NewCounts.{new-counts}
 use Rattle.newcomer.specs.Ready.{Ready}
+use Rattle.newcomer.specs.Laws.Numbers.{answered-number, roles-refuse, buffer-decides}
 use Rattle.newcomer.specs.Laws.ReadyFacts.{text-accepted, text-sheet, same-permissions, one-user-more, book-says}
 use Rattle.newcomer.specs.Laws.ReadyFacts.{roles-read, few-roles, count-read, bound-read}
 
@@ -69,7 +72,7 @@ module _ {lent : Admission} {text : Bytes} {users : ℕ} {read : BookRead} {has 
 
   -- ---- 19
 
-  pub no-room-is-too-many : no-room (sheet-of text) users roles ≡ too-many-roles lent
+  no-room-is-too-many : no-room (sheet-of text) users roles ≡ too-many-roles lent
   unfolding too-many-roles
   no-room-is-too-many =
       ap (λ (sheet : Sheet). no-room sheet users roles) (text-sheet ready)
@@ -79,6 +82,21 @@ module _ {lent : Admission} {text : Bytes} {users : ℕ} {read : BookRead} {has 
       (some-left-over-same (longer-sheet lent) (newcomer lent) (said-given lent .roles) roles same-gives)
       ∙ ap (λ (n : ℕ). some-left-over (longer-sheet lent) (newcomer lent) roles && leb role-limit n)
       (same-gives .count))
+
+  module _ (buffer : Bytes) where
+    given-accepted : refusal (lent .sheet) ≡ 0
+    given-accepted = eqb-true (refusal (lent .sheet)) 0 (ready .addable .given)
+
+    pub refused-for-roles : So (no-room (sheet-of text) users roles) → answered-number lent buffer ≡ 19
+    refused-for-roles none =
+        roles-refuse lent buffer given-accepted (ready .addable .unrefused) (ready .book-accepted)
+        (ready .addable .new-name) (ready .addable .room) (sym no-room-is-too-many ∙ none)
+
+    pub only-the-buffer : no-room (sheet-of text) users roles ≡ false
+        → answered-number lent buffer ≡ refuse-if (ltb (length buffer) (length (new-book lent))) 11 0
+    only-the-buffer room =
+        buffer-decides lent buffer given-accepted (ready .addable .unrefused) (ready .book-accepted)
+        (ready .addable .new-name) (ready .addable .room) (sym no-room-is-too-many ∙ room)
 
   -- ---- the new book
 
@@ -109,7 +127,7 @@ module _ {lent : Admission} {text : Bytes} {users : ℕ} {read : BookRead} {has 
         choose true e = ne-eqb count (read .counts .roles) (λ z. omega (arith, e, roles-before))
         choose false e = eq-eqb count (read .counts .roles) (e ∙ sym roles-before)
 
-    counted-roles : counts .roles ≡ count
+    pub counted-roles : counts .roles ≡ count
     counted-roles = rw as-many-as-before (choose new count-told)
       where
         choose : (t : Bool) → count ≡ cond t (suc (read .checked .roles)) (read .checked .roles)
@@ -152,7 +170,28 @@ module _ {lent : Admission} {text : Bytes} {users : ℕ} {read : BookRead} {has 
     rows-say cells e =
         rows-book-says text cells counts matrices-at
         (omega (arith, accepted-lawful text (text-accepted ready) .few-permissions, permissions-fit)) e
-        ∙ rw (counted-bound, counted-standing, ready .as-read .says-read .matrices)
+        ∙ ap (λ (bound : ℕ). book-text (sheet-of text) (record {
+          count = roles-admitting (sheet-of text) users roles .count;
+          bound = bound;
+          standing = standing-case (counts .standing);
+          roles = roles-admitting (sheet-of text) users roles;
+          witness = book-says ready .witness;
+        })) counted-bound
+        ∙ ap (λ (standing : Standing). book-text (sheet-of text) (record {
+          count = roles-admitting (sheet-of text) users roles .count;
+          bound = cond new (length (book-says ready .witness)) (book-says ready .bound);
+          standing = standing;
+          roles = roles-admitting (sheet-of text) users roles;
+          witness = book-says ready .witness;
+        })) counted-standing
+        ∙ ap (λ (set : RoleSet). book-text (sheet-of text) (record {
+          count = roles-admitting (sheet-of text) users set .count;
+          bound = cond (some-left-over (sheet-of text) users set) (length (book-says ready .witness))
+              (book-says ready .bound);
+          standing = cond (some-left-over (sheet-of text) users set) unsettled (book-says ready .standing);
+          roles = roles-admitting (sheet-of text) users set;
+          witness = book-says ready .witness;
+        })) (sym (ready .as-read .says-read .matrices))
 
     pub rows-are-the-new-book : (cells : List ℕ) → map grant-of cells ≡ book-says ready .witness
         → rows-book text after-has after-gives cells counts ≡ new-book lent
@@ -167,3 +206,8 @@ module _ {lent : Admission} {text : Bytes} {users : ℕ} {read : BookRead} {has 
         (said-admitting (longer-sheet lent) (newcomer lent) (book-says ready))
         (same-admitting (given-sheet lent) (longer-sheet lent) (same-permissions ready) (one-user-more ready)
         (said-given lent) (book-says ready) same))
+
+    -- there is a place for each role
+    pub room-for-roles : counts .roles ≤ role-limit
+    room-for-roles =
+        rw (counted-roles ∙ count-told) (few-with-new new (read .checked .roles) (few-roles ready) (joined .room))

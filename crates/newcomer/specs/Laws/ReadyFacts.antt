@@ -15,6 +15,7 @@ use Rattle.spec.specs.Refusal.{accepted}
 use Rattle.spec.specs.Book.{Said}
 use Rattle.spec.specs.Form.{said}
 use Rattle.spec.specs.Newcomer.{Admission, given-sheet, longer-sheet, users-at-limit}
+use Rattle.lists.specs.EachLaws.{Each}
 use Rattle.lists.specs.TestLaws.{member-at}
 use Rattle.rules.specs.AcceptedFacts.{Lawful, accepted-lawful}
 use Rattle.cell_rows.specs.Laws.Width.{permissions-fit}
@@ -89,8 +90,10 @@ module _ {lent : Admission} {text : Bytes} {users : ℕ} {read : BookRead} {has 
   no-more-than-roles : (book-says .bound ≤ read .checked .roles)
       × (length (book-says .witness) ≤ read .checked .roles)
   no-more-than-roles =
-      let agrees = ready .as-read .right .counts .bound in
-      let most = bound-le-roles _ _ _ _ agrees in
+      let read-said = said (given-sheet lent) (lent .book) in
+      let most =
+      bound-le-roles (read-said .standing) (read-said .bound) (read-said .roles .count) (length (read-said .witness))
+      (ready .as-read .right .counts .bound) in
       let roles = same .roles ∙ roles-read in
       (omega (arith, most .0, roles, same .bound), omega (arith, most .1, roles, ap length (same .witness)))
 
@@ -114,6 +117,15 @@ module _ {lent : Admission} {text : Bytes} {users : ℕ} {read : BookRead} {has 
         user = λ i h. omega (arith, grant-known i h .user, given-lawful .few-users);
         permission = λ i h.
             omega (arith, grant-known i h .permission, given-lawful .few-permissions, permissions-fit);
+      }
+
+  -- every grant of it is one of the longer sheet's users and permissions
+  pub witness-known : Each (Known (sheet-of text)) (book-says .witness)
+  witness-known g m =
+      let known = says .known g m in
+      record {
+        user = omega (arith, known .user, ap user-count text-sheet, one-user-more);
+        permission = omega (arith, known .permission, ap permission-count text-sheet, same-permissions);
       }
 
   -- ---- the matrices

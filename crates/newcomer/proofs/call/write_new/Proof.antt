@@ -1,0 +1,85 @@
+-- `call::write_new`: the longer sheet is accepted, so its layout and its rows are read. The matrices that were read are
+-- such as a newcomer can be put in; with them, the counts and the witness's cells, what is written is the new book. Where
+-- there is no room for a new role, it is refused by 19.
+use borrow.Author.Needs.{needs}
+use native.Mathlib.Omega.{arith}
+use mathlib.Core.Path.{_≡_, sym, ap, _∙_}
+use borrow.Author.Tests.{eqb-true}
+use lib.Seq.{length-take-le}
+use Rattle.spec.specs.Sheet.{sheet-of}
+use Rattle.spec.specs.Refusal.{refusal}
+use Rattle.spec.specs.Newcomer.{Admission}
+use Rattle.names.specs.LaidOut.{LaidOut}
+use Rattle.cells.specs.RowsRead.{RowsRead}
+use Rattle.product.specs.RowAfter.{roles-in}
+use Rattle.joining.specs.Joining.{RowsJoined, JoinedAt}
+use Rattle.newcomer.specs.Ready.{Ready}
+use Rattle.newcomer.specs.Laws.WitnessCells.{as-many-cells, cells-are-the-witness, cells-within}
+use Rattle.newcomer.specs.Laws.Numbers.{refused-by, written-or-short}
+use Rattle.newcomer.specs.Laws.ReadyFacts.{text-accepted, room-for-the-user, few-roles, lines-kept, witness-known}
+use Rattle.newcomer.specs.Laws.ReadyFacts.{join-ready}
+use Rattle.newcomer.specs.Laws.NewBook.{refused-for-roles, only-the-buffer, rows-are-the-new-book, room-for-roles}
+use Rattle.newcomer.proofs.call.write_new.Statement.{statement}
+use Rattle.newcomer.proofs.call.write_new.Tie as tie
+
+-- ---- places
+
+-- the call and the reading, from where the newcomer has joined; that place from where the counts are made; and the
+-- counts from where all is lent to the writer
+abbrev call : tie.After-join → tie.Start
+call c = c .before .before .before .before .before .before .before .before
+
+abbrev longer : tie.After-join → tie.After-read
+longer c = c .before .before .before .before .before
+
+abbrev joined : tie.After-counts-with → tie.After-join
+joined c = c .before .before .before .before .before
+
+abbrev counted : tie.After-witness-cells → tie.After-counts-with
+counted c = c .before
+
+-- ---- what is known there
+
+laid : (c : tie.After-join) → LaidOut (call c .args .text .now) (longer c .read .result .layout)
+laid c =
+    let e = longer c .read .ensures in
+    e .1 .0 (e .0 ∙ eqb-true (refusal (call c .args .text .now)) 0 (text-accepted (call c .pre .ready))) .0
+
+shown : (c : tie.After-join) → RowsRead (longer c .read .result .rows) (sheet-of (call c .args .text .now))
+shown c =
+    let e = longer c .read .ensures in
+    e .1 .0 (e .0 ∙ eqb-true (refusal (call c .args .text .now)) 0 (text-accepted (call c .pre .ready))) .1
+
+join-requires : tie.Need-join-requires
+join-requires c κs =
+    let ready = c .before .before .before .before .before .before .before .pre .ready in
+    (room-for-the-user ready, few-roles ready)
+
+returns : tie.Need-returns
+returns c = ?
+
+witness-cells-requires : tie.Need-witness-cells-requires
+witness-cells-requires c κs = lines-kept (call (joined c) .pre .ready)
+
+array-share-prefix-cells : tie.Need-array-share-prefix-cells
+array-share-prefix-cells c =
+    let w = c .before .before .before .before in
+    omega (arith, lines-kept (call (joined (counted w)) .pre .ready) .few, w .witness-cells .ensures .whole)
+
+slice-aggregate-write-if-room : tie.Need-slice-aggregate-write-if-room
+slice-aggregate-write-if-room c =
+    let w = c .before .before .before .before .before in
+    let ready = call (joined (counted w)) .pre .ready in
+    sym (as-many-cells (lines-kept ready) (ready .as-read .says-read .collects) (w .witness-cells .ensures))
+
+write-if-room-requires : tie.Need-write-if-room-requires
+write-if-room-requires c κs = ?
+
+returns-2 : tie.Need-returns-2
+returns-2 c = ?
+
+pub write-new-spec : {M : Type 1} → statement M
+write-new-spec =
+    tie.close (tie.spec (λ c κs. search needs) join-requires (λ c. search needs) (λ c. search needs)
+    (λ c κs. search needs) returns (λ c κs. search needs) witness-cells-requires array-share-prefix-cells
+    slice-aggregate-write-if-room write-if-room-requires (λ c κs. search needs) (λ c. search needs) returns-2)
