@@ -11,15 +11,18 @@ use crate::new_counts::counts_with;
 use crate::evidence::witness_cells;
 use joining::RolesJoined;
 use joining::join;
+use names::Layout;
 use numbers::CELL_WORDS;
 use numbers::ROLE_WORDS;
 use numbers::SHEET_LIMIT;
 use numbers::USER_LIMIT;
 use numbers::UserNo;
-ghost use mathlib.Core.Bool.{So};
-ghost use Rattle.spec.specs.Text.{Bytes};
-ghost use Rattle.spec.specs.Refusal.{accepted};
-ghost use Rattle.spec.specs.Newcomer.{Admission, longer, Admits};
+ghost use mathlib.Core.Path.{_≡_};
+ghost use Rattle.spec.specs.Sheet.{sheet-of};
+ghost use Rattle.spec.specs.Refusal.{first-number};
+ghost use Rattle.spec.specs.Newcomer.{Admission, longer-causes, Admits};
+ghost use Rattle.cells.specs.RowsRead.{RowsRead};
+ghost use Rattle.names.specs.LaidOut.{LaidOut};
 ghost use Rattle.answers.specs.Said.{write-said};
 ghost use Rattle.newcomer.specs.Ready.{Ready, SomeReady};
 
@@ -52,27 +55,27 @@ fn write_new<'a>(
     WriteAnswer::of(write_if_room(out, text, layout, has, gives, &cells[..lines], counts))
 }
 
-// The book of a sheet with a user line added, from a book that is right for the sheet, at the front of the buffer; or
-// the first number that applies, and every byte of the buffer as it was.
-pub fn newcomer<'a>(sheet: &'a [u8], book: &'a [u8], line: &'a [u8], out: &mut [u8]) -> WriteAnswer
+// Reads and judges the book of a sheet to which a line can be added, then the newcomer's name and the room for one user
+// more, and writes the new book.
+fn admit<'a>(
+    sheet: &'a [u8],
+    layout: Layout,
+    rows: &'a [u64; CELL_WORDS],
+    book: &'a [u8],
+    line: &'a [u8],
+    out: &mut [u8],
+) -> WriteAnswer
+    requires { ⌜ LaidOut (now sheet) layout × RowsRead (now rows) (sheet-of (now sheet))
+        × (first-number (longer-causes (now sheet) (now line)) ≡ 0) ⌝ }
     ensures { λ r. ⌜ Admits (record { sheet = now (sheet .entry); book = now (book .entry);
         line = now (line .entry) }) (now (out .entry)) (write-said r) (now (out .exit)) ⌝ }
 {
-    let given = sheet::read(sheet);
-    if given.number != 0 {
-        return WriteAnswer::refused(given.number);
-    }
-    let layout = given.layout;
-    let number = judge_line(sheet, layout, line);
+    let mut has = no_rows();
+    let mut gives = [0; ROLE_WORDS];
+    let read = read_book(sheet, layout, rows, book, &mut has, &mut gives);
+    let number = read.checked.number;
     if number != 0 {
         return WriteAnswer::refused(number);
-    }
-    let rows = given.rows;
-    let mut has = no_rows();
-    let mut gives = [0u64; ROLE_WORDS];
-    let read = read_book(sheet, layout, &rows, book, &mut has, &mut gives);
-    if read.checked.number != 0 {
-        return WriteAnswer::refused(read.checked.number);
     }
     if name_taken(sheet, layout, line) {
         return WriteAnswer::refused(17);
@@ -81,7 +84,27 @@ pub fn newcomer<'a>(sheet: &'a [u8], book: &'a [u8], line: &'a [u8], out: &mut [
     if users == USER_LIMIT {
         return WriteAnswer::refused(18);
     }
-    let mut text = [0u8; SHEET_LIMIT];
+    let mut text = [0; SHEET_LIMIT];
     let length = put_longer(&mut text, sheet, line);
     write_new(&text[..length], users, read, &mut has, &mut gives, out)
+}
+
+// The book of a sheet with a user line added, from a book that is right for the sheet, at the front of the buffer; or
+// the first number that applies, and every byte of the buffer as it was.
+pub fn newcomer<'a>(sheet: &'a [u8], book: &'a [u8], line: &'a [u8], out: &mut [u8]) -> WriteAnswer
+    ensures { λ r. ⌜ Admits (record { sheet = now (sheet .entry); book = now (book .entry);
+        line = now (line .entry) }) (now (out .entry)) (write-said r) (now (out .exit)) ⌝ }
+{
+    let read = sheet::read(sheet);
+    let number = read.number;
+    if number != 0 {
+        return WriteAnswer::refused(number);
+    }
+    let layout = read.layout;
+    let number = judge_line(sheet, layout, line);
+    if number != 0 {
+        return WriteAnswer::refused(number);
+    }
+    let rows = read.rows;
+    admit(sheet, layout, &rows, book, line, out)
 }

@@ -132,7 +132,7 @@ module _ (lent : Admission) (buffer : Bytes) where
       let apart = ne-eqb answered-number 0 (λ z. refuses (sym e ∙ z)) in
       record { answers = rw apart (a ∙ ap write-refused (sym e)); fills = rw apart }
 
-  pub written-or-short : {answer : WriteAnswer} {after : Bytes}
+  written-or-short : {answer : WriteAnswer} {after : Bytes}
       → answered-number ≡ refuse-if (ltb (length buffer) (length (new-book lent))) 11 0
       → Writes (new-book lent) buffer answer after → Admits lent buffer answer after
   unfolding newcomer-answer buffer-admitting
@@ -145,3 +145,9 @@ module _ (lent : Admission) (buffer : Bytes) where
       choose false s =
           let number : answered-number ≡ 0 = rw s at e in
           record { answers = rw number (rw s at (w .answers)); fills = rw number (rw s at (w .leaves)) }
+
+  -- the same of a book that is the new one, and of an answer under another name
+  pub written-as-new-book : {book after : Bytes} {answer said : WriteAnswer}
+      → answered-number ≡ refuse-if (ltb (length buffer) (length (new-book lent))) 11 0 → book ≡ new-book lent
+      → answer ≡ said → Writes book buffer said after → Admits lent buffer answer after
+  written-as-new-book decides same told w = rw told (written-or-short decides (rw same at w))

@@ -3,19 +3,21 @@
 -- there is no room for a new role, it is refused by 19.
 use borrow.Author.Needs.{needs}
 use native.Mathlib.Omega.{arith}
-use mathlib.Core.Path.{_≡_, sym, ap, _∙_}
+use mathlib.Core.Path.{_≡_, sym, ap, subst, _∙_}
 use borrow.Author.Tests.{eqb-true}
-use lib.Seq.{length-take-le}
+use lib.ListN.{take}
 use Rattle.spec.specs.Sheet.{sheet-of}
 use Rattle.spec.specs.Refusal.{refusal}
 use Rattle.spec.specs.Newcomer.{Admission}
 use Rattle.names.specs.LaidOut.{LaidOut}
 use Rattle.cells.specs.RowsRead.{RowsRead}
 use Rattle.product.specs.RowAfter.{roles-in}
+use Rattle.book_lines.specs.declared.counts.Counts.{Counts}
+use Rattle.book_length.specs.BookRows.{rows-book}
 use Rattle.joining.specs.Joining.{RowsJoined, JoinedAt}
 use Rattle.newcomer.specs.Ready.{Ready}
 use Rattle.newcomer.specs.Laws.WitnessCells.{as-many-cells, cells-are-the-witness, cells-within}
-use Rattle.newcomer.specs.Laws.Numbers.{refused-by, written-or-short}
+use Rattle.newcomer.specs.Laws.Numbers.{refused-by, written-as-new-book}
 use Rattle.newcomer.specs.Laws.ReadyFacts.{text-accepted, room-for-the-user, few-roles, lines-kept, witness-known}
 use Rattle.newcomer.specs.Laws.ReadyFacts.{join-ready}
 use Rattle.newcomer.specs.Laws.NewBook.{refused-for-roles, only-the-buffer, rows-are-the-new-book, room-for-roles}
@@ -50,13 +52,46 @@ shown c =
     let e = longer c .read .ensures in
     e .1 .0 (e .0 ∙ eqb-true (refusal (call c .args .text .now)) 0 (text-accepted (call c .pre .ready))) .1
 
+-- what was answered of the newcomer's roles, and what the matrices then hold
+rows-joined : (c : tie.After-join) (lent : Admission)
+    → Ready lent (call c .args .text .now) (call c .args .users) (call c .args .read) (call c .args .has .now)
+    (call c .args .gives .now)
+    → RowsJoined (sheet-of (call c .args .text .now)) (call c .args .users)
+    (roles-in (call c .args .has .now) (call c .args .gives .now) (call c .args .read .checked .roles))
+    (c .join .last .1 .1 .0) (c .join .last .1 .1 .1 .0) (c .join .result)
+rows-joined c lent ready = c .join .ensures (sheet-of (call c .args .text .now)) (join-ready ready (shown c))
+
+joined-at : (c : tie.After-counts-with) (lent : Admission)
+    → let j = joined c in
+    Ready lent (call j .args .text .now) (call j .args .users) (call j .args .read) (call j .args .has .now)
+    (call j .args .gives .now)
+    → JoinedAt (sheet-of (call j .args .text .now)) (call j .args .users)
+    (roles-in (call j .args .has .now) (call j .args .gives .now) (call j .args .read .checked .roles))
+    (j .join .last .1 .1 .0) (j .join .last .1 .1 .1 .0) (c .before .before .before .roles .given .0 .0)
+joined-at c lent ready =
+    let j = joined c in
+    subst
+    (RowsJoined (sheet-of (call j .args .text .now)) (call j .args .users)
+    (roles-in (call j .args .has .now) (call j .args .gives .now) (call j .args .read .checked .roles))
+    (j .join .last .1 .1 .0) (j .join .last .1 .1 .1 .0))
+    (c .before .before .before .roles .given .1) (rows-joined j lent ready)
+
 join-requires : tie.Need-join-requires
 join-requires c κs =
     let ready = c .before .before .before .before .before .before .before .pre .ready in
     (room-for-the-user ready, few-roles ready)
 
 returns : tie.Need-returns
-returns c = ?
+returns c lent ready =
+    let j = c .before .before .before in
+    let buffer = call j .args .out .now in
+    let none =
+    subst
+    (RowsJoined (sheet-of (call j .args .text .now)) (call j .args .users)
+    (roles-in (call j .args .has .now) (call j .args .gives .now) (call j .args .read .checked .roles))
+    (j .join .last .1 .1 .0) (j .join .last .1 .1 .1 .0))
+    (c .before .enum-told .given .1) (rows-joined j lent ready) in
+    refused-by lent buffer (refused-for-roles ready buffer none) (λ z. omega arith) (c .refused .ensures)
 
 witness-cells-requires : tie.Need-witness-cells-requires
 witness-cells-requires c κs = lines-kept (call (joined c) .pre .ready)
@@ -73,10 +108,37 @@ slice-aggregate-write-if-room c =
     sym (as-many-cells (lines-kept ready) (ready .as-read .says-read .collects) (w .witness-cells .ensures))
 
 write-if-room-requires : tie.Need-write-if-room-requires
-write-if-room-requires c κs = ?
+write-if-room-requires c κs =
+    let w = c .before .before .before .before .before in
+    let k = counted w in
+    let some = call (joined k) .pre in
+    let ready = some .ready in (
+      laid (joined k),
+      omega (
+        arith,
+        ap (λ (counts : Counts). counts .roles) (k .counts-with .ensures),
+        room-for-roles ready (joined-at k (some .lent) ready),
+      ),
+      cells-within (lines-kept ready) (ready .as-read .says-read .collects) (w .witness-cells .ensures) _
+          (witness-known ready),
+    )
 
 returns-2 : tie.Need-returns-2
-returns-2 c = ?
+returns-2 c lent ready =
+    let written = c .before .before .before in
+    let w = written .before .before .before .before .before .before in
+    let k = counted w in
+    let buffer = call (joined k) .args .out .now in
+    let at = joined-at k lent ready in
+    let text = call (joined k) .args .text .now in
+    let has = joined k .join .last .1 .1 .0 in
+    let gives = joined k .join .last .1 .1 .1 .0 in
+    let cells = take (call (joined k) .args .read .witness .lines) (w .witness-cells .result) in
+    written-as-new-book lent buffer (only-the-buffer ready buffer (at .room))
+    (ap (λ (counts : Counts). rows-book text has gives cells counts) (k .counts-with .ensures)
+    ∙ rows-are-the-new-book ready at cells
+    (cells-are-the-witness (lines-kept ready) (ready .as-read .says-read .collects) (w .witness-cells .ensures)))
+    (c .of .ensures) (written .write-if-room .ensures)
 
 pub write-new-spec : {M : Type 1} → statement M
 write-new-spec =
