@@ -16,7 +16,7 @@ use Rattle.spec.specs.Form.{said}
 use Rattle.spec.specs.Right.{BoundAgrees, Right}
 use Rattle.spec.specs.Refusal.{accepted}
 use Rattle.spec.specs.Calls.{check, check-counts}
-use Rattle.spec.specs.Joined.{AtLeast}
+use Rattle.spec.specs.Admitted.{AtLeast}
 use Rattle.cells.specs.Laws.Grant.{held-grant}
 use Rattle.right.specs.Exact.{sheet-accepted, reads-books}
 use Rattle.right.specs.Verdict.{check-confirms}
