@@ -31,8 +31,7 @@ returns-4 c =
 returns-5 : tie.Need-returns-5
 returns-5 c =
     let put = c .before .before in
-    let lent = put .before .before in
-    written-as (sym (ap line-of (lent .before .before .answer4 .given .1))) (put .put-lent .ensures)
+    written-as (sym (ap line-of (put .before .before .before .before .answer4 .given .1))) (put .put-lent .ensures)
 
 returns-6 : tie.Need-returns-6
 returns-6 c =
@@ -40,12 +39,18 @@ returns-6 c =
     let lent = put .before .before .before in
     written-as (sym (ap line-of (lent .before .before .before .answer5 .given .1))) (put .put-line3 .ensures)
 
+returns-7 : tie.Need-returns-7
+returns-7 c =
+    let put = c .before .before in
+    written-as (sym (ap line-of (put .before .before .before .before .answer6 .given .1))) (put .put-lent2 .ensures)
+
 pub put-answer-spec : {M : Type 1} → statement M
 put-answer-spec =
     tie.close (tie.spec (λ c. search needs) (λ c. search needs) (λ c κs. search needs) (λ c. search needs)
     (λ c. search needs) (λ c. search needs) (λ c. search needs) (λ c κs. search needs) (λ c. search needs)
     (λ c. search needs) (λ c. search needs) (λ c. search needs) (λ c κs. search needs) (λ c. search needs)
-    (λ c κs. search needs) (λ c. search needs) (λ c. search needs) (λ c. search needs) (λ c κs. search needs)
-    (λ c. search needs) (λ c. search needs) (λ c. search needs) (λ c. search needs) (λ c κs. search needs)
-    (λ c. search needs) returns (λ c. search needs) returns-2 (λ c. search needs) returns-3 (λ c. search needs)
-    returns-4 (λ c. search needs) returns-5 (λ c. search needs) returns-6)
+    (λ c κs. search needs) (λ c. search needs) (λ c. search needs) (λ c κs. search needs) (λ c. search needs)
+    (λ c. search needs) (λ c. search needs) (λ c. search needs) (λ c κs. search needs) (λ c. search needs)
+    (λ c. search needs) (λ c κs. search needs) (λ c. search needs) returns (λ c. search needs) returns-2
+    (λ c. search needs) returns-3 (λ c. search needs) returns-4 (λ c. search needs) returns-5 (λ c. search needs)
+    returns-6 (λ c. search needs) returns-7)
