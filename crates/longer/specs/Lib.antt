@@ -3,5 +3,6 @@ pub mod OneLine
 pub mod AddedUser
 pub mod AddedLine
 pub mod AddedCauses
+pub mod LineAdded
 pub mod Addable
 pub mod LongerSheet

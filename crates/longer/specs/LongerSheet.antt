@@ -1,4 +1,4 @@
--- A line that is admitted is a name and a cell for each permission, and the longer sheet is the given one with that
+-- A line that can be added is a name and a cell for each permission, and the longer sheet is the given one with that
 -- user last: the causes 6 and 7 ask it of the line, and fields that are `0` or `1` are written as their cells are.
 -- Assumes nothing.
 use Prim.Native.Nat.{suc}
@@ -20,8 +20,8 @@ use Rattle.lists.specs.TailLaws.{length-tail}
 use Rattle.rules.specs.SheetLines.{UserLine, user-line-spelled}
 use Rattle.longer.specs.OneLine.{added-fields, added-name, added-row, one-line-written}
 use Rattle.longer.specs.AddedLine.{sheet-with}
-use Rattle.longer.specs.Addable.{Addable, none-applies, line-bytes, line-count, admitted-one-line}
-use Rattle.longer.specs.Addable.{longer-accepted}
+use Rattle.longer.specs.LineAdded.{none-applies, line-bytes, line-count, added-one-line}
+use Rattle.longer.specs.Addable.{Addable, longer-accepted}
 use Rattle.longer.specs.AddedCauses.{uneven-line-told, bad-cell-told}
 
 -- the longer sheet: accepted, written as the given sheet and a line of the newcomer's name and cells, and read as the
@@ -48,16 +48,16 @@ module _ (lent : Admission) (a : Addable lent) where
   even =
       let test : Bool = eqb (length fields) (suc (permission-count (given-sheet lent))) in
       let told : uneven-line (lines-of (longer lent)) ≡ not test =
-      uneven-line-told text line fields (a .given) (admitted-one-line lent a) in
+      uneven-line-told text line fields (a .given) (added-one-line lent (a .given) (a .unrefused)) in
       eqb-true (length fields) (suc (permission-count (given-sheet lent)))
-      (not-false test (sym told ∙ none-applies lent a .1 .1 .1 .0))
+      (not-false test (sym told ∙ none-applies lent (a .given) (a .unrefused) .1 .1 .1 .0))
 
   bits : So (all is-bit (tail fields))
   unfolding longer-causes
   bits =
       not-false (all is-bit (tail fields))
-      (sym (bad-cell-told text line fields (a .given) (admitted-one-line lent a))
-      ∙ none-applies lent a .1 .1 .1 .1 .0)
+      (sym (bad-cell-told text line fields (a .given) (added-one-line lent (a .given) (a .unrefused)))
+      ∙ none-applies lent (a .given) (a .unrefused) .1 .1 .1 .1 .0)
 
   user-line : UserLine fields
   user-line =
@@ -67,10 +67,10 @@ module _ (lent : Admission) (a : Addable lent) where
   longer-sheet-told =
       record {
         accepts = longer-accepted lent a;
-        one-line = admitted-one-line lent a;
-        line-written = one-line-written line (line-count lent a) (line-bytes lent a .ends)
+        one-line = added-one-line lent (a .given) (a .unrefused);
+        line-written = one-line-written line (line-count lent (a .given) (a .unrefused)) (line-bytes lent (a .given) (a .unrefused) .ends)
             ∙ ap line-text (sym (user-line-spelled fields user-line));
-        longer-is = sheet-with text line fields (a .given) (admitted-one-line lent a);
+        longer-is = sheet-with text line fields (a .given) (added-one-line lent (a .given) (a .unrefused));
         a-cell-each = length-map (tail fields) is-one
             ∙ omega (arith, even, length-tail fields (user-line .some-field));
       }

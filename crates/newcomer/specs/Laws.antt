@@ -1,6 +1,7 @@
 -- The laws behind what contracts cite.
 pub mod WitnessCells
 pub mod NameTaken
+pub mod LongerText
 pub mod Numbers
 pub mod ReadyFacts
 pub mod NewBook
