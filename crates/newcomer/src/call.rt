@@ -1,16 +1,16 @@
 // The call.
 use added_line::judge_line;
+use admitting::RolesAdmitted;
+use admitting::admit;
 use answers::WriteAnswer;
 use book::write_if_room;
 use cell_rows::no_rows;
 use checker::BookRead;
 use checker::read_book;
-use crate::longer_text::put_longer;
-use crate::taken::name_taken;
-use crate::new_counts::counts_with;
 use crate::evidence::witness_cells;
-use joining::RolesJoined;
-use joining::join;
+use crate::longer_text::put_longer;
+use crate::new_counts::counts_with;
+use crate::taken::name_taken;
 use names::Layout;
 use numbers::CELL_WORDS;
 use numbers::ROLE_WORDS;
@@ -44,7 +44,7 @@ fn write_new<'a>(
     let longer = sheet::read(text);
     let rows = longer.rows;
     let before = read.checked.roles;
-    let RolesJoined::Roles(roles) = join(&rows, UserNo(users), has, gives, before) else {
+    let RolesAdmitted::Roles(roles) = admit(&rows, UserNo(users), has, gives, before) else {
         return WriteAnswer::refused(19);
     };
     let witness = read.witness;
@@ -57,7 +57,7 @@ fn write_new<'a>(
 
 // Reads and judges the book of a sheet to which a line can be added, then the newcomer's name and the room for one user
 // more, and writes the new book.
-fn admit<'a>(
+fn admit_line<'a>(
     sheet: &'a [u8],
     layout: Layout,
     rows: &'a [u64; CELL_WORDS],
@@ -106,5 +106,5 @@ pub fn newcomer<'a>(sheet: &'a [u8], book: &'a [u8], line: &'a [u8], out: &mut [
         return WriteAnswer::refused(number);
     }
     let rows = read.rows;
-    admit(sheet, layout, &rows, book, line, out)
+    admit_line(sheet, layout, &rows, book, line, out)
 }

@@ -34,7 +34,7 @@ use Rattle.admitted.specs.SaidAdmitting.{few-with-new}
 use Rattle.admitted.specs.SameText.{same-said-same-text}
 use Rattle.admitted.specs.SameAdmitting.{GivesSame, some-left-over-same, same-admitting}
 use Rattle.checker.specs.declared.reading.BookRead.{BookRead}
-use Rattle.joining.specs.Joining.{no-room, JoinedAt}
+use Rattle.admitting.specs.RowsAdmitted.{no-room, AdmittedAt}
 use Rattle.newcomer.specs.NewCounts.{new-counts}
 use Rattle.newcomer.specs.Ready.{Ready}
 use Rattle.newcomer.specs.Laws.Numbers.{answered-number, roles-refuse, buffer-decides}
@@ -101,7 +101,7 @@ module _ {lent : Admission} {text : Bytes} {users : ℕ} {read : BookRead} {has 
   -- ---- the new book
 
   module _ {after-has after-gives : List ℕ} {count : ℕ}
-      (joined : JoinedAt (sheet-of text) users roles after-has after-gives count) where
+      (joined : AdmittedAt (sheet-of text) users roles after-has after-gives count) where
     abbrev counts : Counts
     counts = new-counts (read .counts) count (read .witness .lines)
 

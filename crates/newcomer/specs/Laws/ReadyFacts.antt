@@ -30,7 +30,7 @@ use Rattle.read_fields.specs.WitnessLineSteps.{Known}
 use Rattle.judging.specs.BookSays.{Says}
 use Rattle.judging.specs.WitnessWords.{line-of}
 use Rattle.checker.specs.declared.reading.BookRead.{BookRead}
-use Rattle.joining.specs.Joining.{JoinReady}
+use Rattle.admitting.specs.RowsAdmitted.{AdmitReady}
 use Rattle.newcomer.specs.WitnessCells.{LinesKept}
 use Rattle.newcomer.specs.Ready.{Ready}
 
@@ -130,9 +130,9 @@ module _ {lent : Admission} {text : Bytes} {users : ℕ} {read : BookRead} {has 
 
   -- ---- the matrices
 
-  pub join-ready : {rows : List ℕ} → RowsRead rows (sheet-of text) → JoinReady (sheet-of text) rows users has gives
+  pub admit-ready : {rows : List ℕ} → RowsRead rows (sheet-of text) → AdmitReady (sheet-of text) rows users has gives
       (read .checked .roles)
-  join-ready shown =
+  admit-ready shown =
       record {
         lawful = accepted-lawful text text-accepted;
         user = omega (arith, ap user-count text-sheet, one-user-more, ready .last);

@@ -39,8 +39,8 @@ returns-2 c =
     (line-refuses (lent start) (start .args .out .now) (accepts taken) (judged .judge-line .ensures) refuses) refuses
     (c .refused2 .ensures)
 
-admit-requires : tie.Need-admit-requires
-admit-requires c κs =
+admit-line-requires : tie.Need-admit-line-requires
+admit-line-requires c κs =
     let judged = c .before .before .before .before in
     let taken = judged .before .before in
     let read = taken .before .read .ensures .1 .0 (taken .if1 .left) in
@@ -49,4 +49,4 @@ admit-requires c κs =
 pub newcomer-spec : {M : Type 1} → statement M
 newcomer-spec =
     tie.close (tie.spec (λ c κs. search needs) (λ c κs. search needs) returns judge-line-requires (λ c κs. search needs)
-    returns-2 admit-requires (λ c. search needs) (λ c. c .before .before .admit .ensures))
+    returns-2 admit-line-requires (λ c. search needs) (λ c. c .before .before .admit-line .ensures))

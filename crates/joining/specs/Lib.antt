@@ -1,6 +1,0 @@
--- A newcomer's roles over rows of words.
-pub mod RolesGot
-pub mod LeftRow
-pub mod RowPut
-pub mod Joining
-pub mod Laws
