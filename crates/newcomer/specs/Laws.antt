@@ -1,7 +1,6 @@
 -- The laws behind what contracts cite.
 pub mod WitnessCells
 pub mod NameTaken
-pub mod LongerText
 pub mod Numbers
 pub mod ReadyFacts
 pub mod NewBook

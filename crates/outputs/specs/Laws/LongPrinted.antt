@@ -18,12 +18,12 @@ use Rattle.spec.specs.LongSearch.{rounds-of, after-rounds, opened, long-search-
 use Rattle.spec.specs.Sequence.{reached}
 use Rattle.spec.specs.Demands.{Believed}
 use Rattle.text.specs.Written.{Written}
+use Rattle.book_lines.specs.Laws.LineWritten.{front-written}
 use Rattle.demands.specs.Answers.{reduced-write, reduced-book}
 use Rattle.demands.specs.Believed.{book-believed}
 use Rattle.demands.specs.Reached.{reached-at-first}
 use Rattle.demands.specs.Rounds.{rounds-are-one-search}
 use Rattle.outputs.specs.Laws.Output.{printed-book}
-use Rattle.outputs.specs.Laws.Printed.{front-written}
 
 module _ (text : Bytes) (arguments : List Bytes) where
   -- the steps that the searches have together, if none settles before

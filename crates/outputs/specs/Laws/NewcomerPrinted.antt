@@ -14,10 +14,10 @@ use Rattle.spec.specs.Program.{number-line}
 use Rattle.spec.specs.Newcomer.{Admission, new-book, newcomer-causes, newcomer-answer, buffer-admitting, Admits}
 use Rattle.spec.specs.Admitted.{Admitted}
 use Rattle.text.specs.Written.{Written}
+use Rattle.book_lines.specs.Laws.LineWritten.{front-written}
 use Rattle.demands.specs.Demand1.{demand-1, newcomer-number}
 use Rattle.demands.specs.NewcomerBook.{newcomer-owed, brings-the-new-book}
 use Rattle.outputs.specs.NewcomerOutput.{own-number, newcomer-output}
-use Rattle.outputs.specs.Laws.Printed.{front-written}
 
 -- ---- by the answer
 

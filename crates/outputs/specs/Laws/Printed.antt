@@ -23,17 +23,12 @@ use Rattle.spec.specs.Program.{budget-of, number-line, printed, program-output}
 use Rattle.spec.specs.Sequence.{WriteOutcome, brought-out}
 use Rattle.spec.specs.Demands.{Believed}
 use Rattle.text.specs.Written.{Written}
+use Rattle.book_lines.specs.Laws.LineWritten.{front-written}
 use Rattle.demands.specs.Answers.{reduced-write, reduced-write-short}
 use Rattle.right.specs.CheckOwed.{CheckOwed, check-owed}
 use Rattle.porvuund.specs.OneShot.{searched-once, book-answer, book-buffer}
 use Rattle.porvuund.specs.Laws.TaskOwed.{TaskOwed, task-owed}
 use Rattle.outputs.specs.CheckOutput.{check-line, check-output}
-
--- what is written at the front of a buffer is what its first bytes then are
-pub front-written : {bytes before after : Bytes} {count : ℕ} → Written bytes before after count
-    → take count after ≡ bytes
-front-written {bytes} {before} {after} {count} w =
-    ap (take count) (w .buffer) ∙ take-at bytes (drop (length bytes) before) count (sym (w .counted))
 
 -- ---- the book program
 

@@ -18,9 +18,9 @@ use Rattle.rules.specs.AcceptedFacts.{accepted-lawful}
 use Rattle.cell_rows.specs.Rows.{row-words}
 use Rattle.form.specs.RowSteps.{zeros-blank}
 use Rattle.text.specs.Laws.Front.{count-within, front-counted}
+use Rattle.book_lines.specs.Laws.LineWritten.{front-written}
 use Rattle.longer.specs.LineAdded.{longer-short, name-taken-told}
 use Rattle.newcomer.specs.Ready.{Ready}
-use Rattle.newcomer.specs.Laws.LongerText.{front-written}
 use Rattle.newcomer.specs.Laws.Numbers.{book-refuses, name-refuses, users-refuse, refused-by}
 use Rattle.newcomer.proofs.call.admit_line.Statement.{statement}
 use Rattle.newcomer.proofs.call.admit_line.Tie as tie
