@@ -12,12 +12,12 @@ use Rattle.outputs.specs.Lines.{number-line-length}
 use Rattle.outputs.proofs.output.newcomer_output.Statement.{statement}
 use Rattle.outputs.proofs.output.newcomer_output.Tie as tie
 
-room : (c : tie.After-porvuund-newcomer-arg) → length (c .before .args .out .now) ≡ book-limit
+room : (c : tie.After-porvuund-newcomer-arg) → length (c .before .before .before .before .args .out .now) ≡ book-limit
 unfolding book-limit
 room c = search needs
 
 abbrev start : tie.After-porvuund-newcomer → tie.Start
-start c = c .before .before
+start c = c .before .before .before .before .before
 
 abbrev lent : tie.Start → Admission
 lent c = record { sheet = c .args .sheet .now; book = c .args .book .now; line = c .args .line .now }
