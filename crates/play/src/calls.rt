@@ -13,13 +13,11 @@ use numbers::SHEET_LIMIT;
 use session::Session;
 ghost use Rattle.session.specs.CodeSession.{Sound};
 
-// One byte more than a sheet and a book have, by which longer ones are known.
+// One byte more than a sheet and a book have, by which longer ones are known. A line of as many bytes as the sheet's
+// buffer is too long for every sheet.
 const SHEET_BUFFER: usize = SHEET_LIMIT + 1;
 
 const BOOK_BUFFER: usize = BOOK_LIMIT + 1;
-
-// The bytes that are read of a newcomer's line, at most: more than a sheet has room for.
-const LINE_BUFFER: usize = 1_048_576;
 
 pub fn load(session: Session, path: &[u8]) -> Session
     requires { ⌜ Sound session ⌝ }
@@ -112,7 +110,7 @@ pub fn admit<'a>(sheet_path: &'a [u8], book_path: &'a [u8], line_path: &'a [u8],
     let first = files::read_file(sheet_path, &mut sheet);
     let mut book = [0u8; BOOK_BUFFER];
     let second = files::read_file(book_path, &mut book);
-    let mut line = [0u8; LINE_BUFFER];
+    let mut line = [0u8; SHEET_BUFFER];
     let third = files::read_file(line_path, &mut line);
     if !first.readable || !second.readable || !third.readable {
         say(Answer::NoCall);
