@@ -60,27 +60,32 @@ fn check_files(names: &[u8]) {
     calls::check(&names[..end], &names[from..]);
 }
 
-// Puts a newcomer in a book: a sheet, a book, a line and a length are named.
-fn admit_line(words: &[u8]) {
-    let sheet = first_blank(words);
-    if sheet == words.len() {
-        say(Answer::NoCall);
-        return;
-    }
-    let second = sheet + 1;
-    let book = second + first_blank(&words[second..]);
+// Puts a newcomer in the book of a sheet: a book, a line and a length are named.
+fn admit_to<'a>(sheet: &'a [u8], words: &'a [u8]) {
+    let book = first_blank(words);
     if book == words.len() {
         say(Answer::NoCall);
         return;
     }
-    let third = book + 1;
-    let line = third + first_blank(&words[third..]);
+    let second = book + 1;
+    let line = second + first_blank(&words[second..]);
     if line == words.len() {
         say(Answer::NoCall);
         return;
     }
     let last = line + 1;
-    calls::admit(&words[..sheet], &words[second..book], &words[third..line], &words[last..]);
+    calls::admit(sheet, &words[..book], &words[second..line], &words[last..]);
+}
+
+// Puts a newcomer in a book: a sheet is named before all that.
+fn admit_files(words: &[u8]) {
+    let end = first_blank(words);
+    if end == words.len() {
+        say(Answer::NoCall);
+        return;
+    }
+    let from = end + 1;
+    admit_to(&words[..end], &words[from..]);
 }
 
 // Makes the call that a line asks for, and answers it. A reduction is asked for by its word alone.
@@ -106,7 +111,7 @@ pub fn answer(session: Session, line: &[u8]) -> Session
             session
         }
         Asked::Newcomer => {
-            admit_line(&line[from..]);
+            admit_files(&line[from..]);
             session
         }
         Asked::Nothing => {
