@@ -1,4 +1,8 @@
 // The call.
+use crate::evidence::witness_cells;
+use crate::longer_text::put_longer;
+use crate::new_counts::counts_with;
+use crate::taken::name_taken;
 use added_line::judge_line;
 use admitting::RolesAdmitted;
 use admitting::admit;
@@ -7,10 +11,6 @@ use book::write_if_room;
 use cell_rows::no_rows;
 use checker::BookRead;
 use checker::read_book;
-use crate::evidence::witness_cells;
-use crate::longer_text::put_longer;
-use crate::new_counts::counts_with;
-use crate::taken::name_taken;
 use names::Layout;
 use numbers::CELL_WORDS;
 use numbers::ROLE_WORDS;
@@ -67,8 +67,11 @@ fn admit_line<'a>(
 ) -> WriteAnswer
     requires { ⌜ LaidOut (now sheet) layout × RowsRead (now rows) (sheet-of (now sheet))
         × (first-number (longer-causes (now sheet) (now line)) ≡ 0) ⌝ }
-    ensures { λ r. ⌜ Admits (record { sheet = now (sheet .entry); book = now (book .entry);
-        line = now (line .entry) }) (now (out .entry)) (write-said r) (now (out .exit)) ⌝ }
+    ensures { λ r. ⌜ Admits (record {
+      sheet = now (sheet .entry);
+      book = now (book .entry);
+      line = now (line .entry);
+    }) (now (out .entry)) (write-said r) (now (out .exit)) ⌝ }
 {
     let mut has = no_rows();
     let mut gives = [0; ROLE_WORDS];
@@ -92,8 +95,11 @@ fn admit_line<'a>(
 // The book of a sheet with a user line added, from a book that is right for the sheet, at the front of the buffer; or
 // the first number that applies, and every byte of the buffer as it was.
 pub fn newcomer<'a>(sheet: &'a [u8], book: &'a [u8], line: &'a [u8], out: &mut [u8]) -> WriteAnswer
-    ensures { λ r. ⌜ Admits (record { sheet = now (sheet .entry); book = now (book .entry);
-        line = now (line .entry) }) (now (out .entry)) (write-said r) (now (out .exit)) ⌝ }
+    ensures { λ r. ⌜ Admits (record {
+      sheet = now (sheet .entry);
+      book = now (book .entry);
+      line = now (line .entry);
+    }) (now (out .entry)) (write-said r) (now (out .exit)) ⌝ }
 {
     let read = sheet::read(sheet);
     let number = read.number;

@@ -71,8 +71,11 @@ pub fn newcomer_output<'a>(
     line: &'a [u8],
     out: &mut [u8; BOOK_LIMIT],
 ) -> usize
-    ensures { λ r. ⌜ Written (newcomer-output (record { sheet = now (sheet .entry); book = now (book .entry);
-        line = now (line .entry) })) (now (out .entry)) (now (out .exit)) r ⌝ }
+    ensures { λ r. ⌜ Written (newcomer-output (record {
+      sheet = now (sheet .entry);
+      book = now (book .entry);
+      line = now (line .entry);
+    })) (now (out .entry)) (now (out .exit)) r ⌝ }
 {
     let answer = porvuund_newcomer(sheet, book, line, out);
     if answer.number == 0 {

@@ -48,8 +48,11 @@ pub extern "C" fn porvuund_newcomer<'a>(
     line: &'a [u8],
     out: &mut [u8],
 ) -> WriteAnswer
-    ensures { λ r. ⌜ Admits (record { sheet = now (sheet .entry); book = now (book .entry);
-        line = now (line .entry) }) (now (out .entry)) (write-said r) (now (out .exit)) ⌝ }
+    ensures { λ r. ⌜ Admits (record {
+      sheet = now (sheet .entry);
+      book = now (book .entry);
+      line = now (line .entry);
+    }) (now (out .entry)) (write-said r) (now (out .exit)) ⌝ }
 {
     newcomer::newcomer(sheet, book, line, out)
 }

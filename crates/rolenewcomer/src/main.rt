@@ -65,6 +65,9 @@ fn main() {
     if os::arg_count() == 4 {
         print_answer();
     } else {
-        io::write_all(STDERR_FILENO, b"use: rolenewcomer SHEETFILE BOOKFILE LINEFILE\n");
+        io::write_all(
+            STDERR_FILENO,
+            b"use: rolenewcomer SHEETFILE BOOKFILE LINEFILE\n",
+        );
     }
 }

@@ -35,7 +35,10 @@ pub put-longer-spec : {M : Type 1} → statement M
 put-longer-spec =
     tie.close (tie.spec put-bytes-requires (λ c. within-buffer (behind-sheet (c .before .before)))
     (λ c. within-buffer (behind-sheet (c .before .before))) (λ c. search needs) put-bytes-requires-2
-    (λ c. omega (arith, end-within (behind-sheet (sheet-put (c .before .before)))
-    (c .before .before .put-bytes2 .ensures)))
+    (λ c. omega (
+      arith,
+      end-within (behind-sheet (sheet-put (c .before .before)))
+          (c .before .before .put-bytes2 .ensures),
+    ))
     (λ c. then-same-length (behind-sheet (sheet-put (c .before .before))) (c .before .before .put-bytes2 .ensures))
     returns)

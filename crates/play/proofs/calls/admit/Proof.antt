@@ -35,4 +35,4 @@ admit-spec =
     (λ c. search needs) (λ c κs. search needs) (λ c κs. search needs) (λ c. search needs) (λ c κs. search needs)
     (λ c. search needs) (λ c. search needs) (λ c. search needs) (λ c. search needs) (λ c. search needs)
     (λ c. search needs) array-borrow-prefix-space slice-aggregate-admit-into-4 (λ c κs. search needs)
-    (λ c. search needs) )
+    (λ c. search needs))
