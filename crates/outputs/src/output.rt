@@ -77,9 +77,9 @@ pub fn newcomer_output<'a>(
       line = now (line .entry);
     })) (now (out .entry)) (now (out .exit)) r ⌝ }
 {
-    let answer = porvuund_newcomer(sheet, book, line, out);
-    if answer.number == 0 {
-        return answer.count;
+    let admitted = porvuund_newcomer(sheet, book, line, out);
+    if admitted.number == 0 {
+        return admitted.count;
     }
-    put_number_line(out, answer.number)
+    put_number_line(out, admitted.number)
 }
