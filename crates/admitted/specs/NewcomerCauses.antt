@@ -82,8 +82,8 @@ eleven-comes-last lent = refl
 
 -- ---- what the number says
 
--- what is so where none of them applies but the buffer's: the line can be added, the checker accepts the book, and there
--- is room for a new role
+-- what is so where none of them applies but the buffer's: the line can be added, the checker accepts the book, and
+-- there is room for a new role
 pub record Admissible (lent : Admission) : Type 0 where
   pub addable : Addable lent
   pub book-accepted : check (lent .sheet) (lent .book) .number ≡ 0

@@ -1,5 +1,5 @@
--- To say the same of a sheet goes either way and carries on, so all that one right book can be taken to say is the
--- same: the checker reads it as each of them.
+-- To say the same of a sheet is symmetric and transitive, so all that one right book can be taken to say is the same:
+-- the checker reads it as each of them.
 use mathlib.Core.Path.{sym, _∙_}
 use Rattle.spec.specs.Text.{Bytes}
 use Rattle.spec.specs.Sheet.{Sheet}

@@ -1,5 +1,6 @@
--- Two books that say the same of a sheet are the same bytes. A book spells counts, state word and witness, which are
--- equal, and cells only of the sheet's users, of its permissions and of the roles, which are equal one by one.
+-- What says the same of a sheet is written as the same bytes, names spelled as in the sheet. A book spells counts,
+-- state word and witness, which are equal, and cells only of the sheet's users, of its permissions and of the roles,
+-- which are equal one by one.
 use Prim.Native.Nat.{ℕ}
 use mathlib.Core.Path.{_≡_, ap, _∙_}
 use mathlib.Core.List.{List, _∷_, map}

@@ -20,8 +20,8 @@ ghost use Rattle.answer_lines.specs.LineOf.{answer-most, line-of};
 // The bytes of an answer, at most.
 pub const ANSWER_BUFFER: usize = 192;
 
-// The answer of a call, or that a line is no call. A writing's and a newcomer's have the Adler-32 of the bytes that were
-// lent.
+// The answer of a call, or that a line is no call. A writing's and a newcomer's have the Adler-32 of the bytes that
+// were lent.
 pub enum Answer {
     NoCall,
     Loaded(LoadAnswer),

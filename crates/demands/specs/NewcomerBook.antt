@@ -129,17 +129,18 @@ module _ (lent : Admission) (admissible : Admissible lent) where
 
 -- ---- through what a call brought out
 
-module _ (lent : Admission) (before after : Bytes) (answer : WriteAnswer) (admits : Admits lent before answer after) where
-  answered-number : answer .number ≡ first-number (newcomer-causes lent before)
-  answered-number = ap (λ (a : WriteAnswer). a .number) (admits .answers) ∙ newcomer-number lent before
+module _ (lent : Admission) (before after : Bytes) (answer : WriteAnswer) (admits : Admits lent before answer after)
+  where
+    answered-number : answer .number ≡ first-number (newcomer-causes lent before)
+    answered-number = ap (λ (a : WriteAnswer). a .number) (admits .answers) ∙ newcomer-number lent before
 
-  -- an accepted call brings out the new book, whole
-  pub brings-the-new-book : answer .number ≡ 0 → take (answer .count) after ≡ new-book lent
-  unfolding newcomer-answer buffer-admitting
-  brings-the-new-book accepts =
-      rw (admits .answers, admits .fills)
-      (front-is-the-text (first-number (newcomer-causes lent before)) (new-book lent) before
-      (sym answered-number ∙ accepts))
+    -- an accepted call brings out the new book, whole
+    pub brings-the-new-book : answer .number ≡ 0 → take (answer .count) after ≡ new-book lent
+    unfolding newcomer-answer buffer-admitting
+    brings-the-new-book accepts =
+        rw (admits .answers, admits .fills)
+        (front-is-the-text (first-number (newcomer-causes lent before)) (new-book lent) before
+        (sym answered-number ∙ accepts))
 
 pub newcomer-owed : NewcomerOwed
 newcomer-owed =

@@ -16,8 +16,8 @@ use Rattle.spec.specs.Text.{Bytes, Line, same-name, lines-of}
 use Rattle.spec.specs.Sheet.{first-field, sheet-of, user-count}
 use Rattle.spec.specs.Form.{known}
 use Rattle.spec.specs.Refusal.{first-number, bad-bytes, accepted}
-use Rattle.spec.specs.Newcomer.{Admission, longer, given-sheet, longer-sheet, feed-before-end, longer-causes, name-taken}
-use Rattle.spec.specs.Newcomer.{users-at-limit}
+use Rattle.spec.specs.Newcomer.{Admission, longer, given-sheet, longer-sheet, feed-before-end, longer-causes}
+use Rattle.spec.specs.Newcomer.{name-taken, users-at-limit}
 use Rattle.bits.specs.Truth.{not-both, or-fails-left}
 use Rattle.bits.specs.Laws.Below.{last-or-below}
 use Rattle.lists.specs.TestLaws.{none-elim, member-at}

@@ -1,6 +1,6 @@
--- The causes of a longer sheet, each by the line alone: none of them applies to the accepted sheet, so the line decides
--- whether it applies to both together. What is asked of all elements of a list is asked of the last one, where the
--- others pass. Assumes nothing.
+-- The causes of a longer sheet, each by the line and a count of the given sheet: none of them applies to the accepted
+-- sheet, so the line decides whether it applies to both together. What is asked of all elements of a list is asked of
+-- the last one, where the others pass. Assumes nothing.
 use Prim.Native.Nat.{suc, _+_, _≤_}
 use native.Mathlib.Nat.{not-suc-le-zero}
 use native.Mathlib.Omega.{arith}

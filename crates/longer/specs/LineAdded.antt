@@ -1,5 +1,5 @@
--- A line to which none of the causes 1, 2, 5, 6, 7 and 9 of the longer sheet applies is one line, with its line feed; it
--- begins with the newcomer's name, and there is room for it. Assumes nothing.
+-- A line to which none of the causes 1, 2, 5, 6, 7 and 9 of the longer sheet applies is one line, with its line feed;
+-- it begins with the newcomer's name, and there is room for it. Assumes nothing.
 use Prim.Native.Nat.{_≤_}
 use mathlib.Core.Path.{_≡_, refl, sym, ap, _∙_}
 use mathlib.Core.Bool.{false, So, _||_, not}

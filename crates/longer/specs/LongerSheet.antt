@@ -68,7 +68,8 @@ module _ (lent : Admission) (a : Addable lent) where
       record {
         accepts = longer-accepted lent a;
         one-line = added-one-line lent (a .given) (a .unrefused);
-        line-written = one-line-written line (line-count lent (a .given) (a .unrefused)) (line-bytes lent (a .given) (a .unrefused) .ends)
+        line-written = one-line-written line (line-count lent (a .given) (a .unrefused))
+            (line-bytes lent (a .given) (a .unrefused) .ends)
             ∙ ap line-text (sym (user-line-spelled fields user-line));
         longer-is = sheet-with text line fields (a .given) (added-one-line lent (a .given) (a .unrefused));
         a-cell-each = length-map (tail fields) is-one

@@ -9,8 +9,8 @@ use Rattle.longer.specs.Addable.{Addable}
 use Rattle.checker.specs.ReadAs.{ReadAs}
 use Rattle.checker.specs.declared.reading.BookRead.{BookRead}
 
--- the text is the longer sheet, with so many users before the newcomer; the line can be added, the book is accepted, and
--- this is what was read of it
+-- the text is the longer sheet, with so many users before the newcomer; the line can be added, the book is accepted,
+-- and this is what was read of it
 pub record Ready (lent : Admission) (text : Bytes) (users : ℕ) (read : BookRead) (has gives : List ℕ) : Type 0 where
   pub longer-text : text ≡ longer lent
   pub last : users ≡ newcomer lent

@@ -9,10 +9,10 @@
 //
 // NUMBER is 0 for a result, else the number of the refusal; the counts are then 0 and STATE is `-`. A writing and a
 // newcomer are lent LENGTH bytes, at most 262,144, byte i being (31 i + 7) mod 256 before the call; DIGEST is the
-// Adler-32 of all of them after it, in 8 hexadecimal digits. One blank stands behind each word but the last. A line that is no call is
-// answered by `?`, and so is a call whose file cannot be read: standard error says why. A script may be of any
-// length, a line of at most 8,192 bytes. A script is read byte by byte, so that a call is answered before the next
-// one is there.
+// Adler-32 of all of them after it, in 8 hexadecimal digits. One blank stands behind each word but the last. A line
+// that is no call is answered by `?`, and so is a call whose file cannot be read: standard error says why. A script may
+// be of any length, a line of at most 8,192 bytes. A script is read byte by byte, so that a call is answered before the
+// next one is there.
 mod calls;
 mod input;
 mod say;

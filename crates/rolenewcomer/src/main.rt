@@ -67,7 +67,7 @@ fn main() {
     } else {
         io::write_all(
             STDERR_FILENO,
-            b"use: rolenewcomer SHEETFILE BOOKFILE LINEFILE\n",
+            b"use: rolenewcomer SHEETFILE BOOKFILE LINEFILE, - for standard input\n",
         );
     }
 }

@@ -3,7 +3,7 @@
 use Rattle.spec.specs.Vocabulary.{ℕ, suc, _≤_, _<_, _≡_, _≢_, _⊎_, _↔_, Bool, So, false, List, [], _∷_, _++_}
 use Rattle.spec.specs.Vocabulary.{map, length, take}
 use Rattle.spec.specs.Text.{Bytes, line-text}
-use Rattle.spec.specs.Sheet.{Sheet, cell-text, user-count, permission-count, holds}
+use Rattle.spec.specs.Sheet.{Sheet, cell-text, permission-count, holds}
 use Rattle.spec.specs.Rules.{Keeps}
 use Rattle.spec.specs.RoleSet.{RoleSet, Multiplies}
 use Rattle.spec.specs.Roles.{witnessed, searched, unsettled}

@@ -1,7 +1,7 @@
--- The customer's three demands as statements. The limits that they speak of stand here and in `Rules` and `Right` as
--- the paper has them, and not by the names that the tests and the machine use; so do 10, 16 and 11, which demand 3 owes
--- by the calls before. The numbers of sheets and books stand once, in `Refusal`, those of a newcomer in `Newcomer`,
--- 2·(1!+2!+..+k!)+1 in `Sequence`, and what equal names are in `Text`.
+-- The customer's three demands as statements. The limits that they speak of stand here and in `Rules`, `Right` and
+-- `Admitted` as the papers have them, and not by the names that the tests and the machine use; so do 10, 16 and 11,
+-- which demand 3 owes by the calls before. The numbers of sheets and books stand once, in `Refusal`, those of a
+-- newcomer in `Newcomer`, 2·(1!+2!+..+k!)+1 in `Sequence`, and what equal names are in `Text`.
 use Rattle.spec.specs.Vocabulary.{ℕ, _+_, _≤_, _≡_, _≢_, _⊎_, _↔_, So, false, none, some, List, [], _∷_}
 use Rattle.spec.specs.Vocabulary.{_++_, List·Memᴰ, length}
 use Rattle.spec.specs.Text.{Bytes}

@@ -35,8 +35,8 @@ fn print<'a>(
     io::write_all(STDOUT_FILENO, &out[..n]);
 }
 
-// The paper's sheet: ann and cy share `rec` and `id`, bo and cy share `id` and `map`. Its witness is the cells of ann and
-// `rec` and of bo and `map`.
+// The paper's sheet: ann and cy share `rec` and `id`, bo and cy share `id` and `map`. Its witness is the cells of ann
+// and `rec` and of bo and `map`.
 fn worked() {
     let s = *b"user,rec,id,map\nann,1,1,0\nbo,0,1,1\ncy,1,1,1\n";
     let mut has = [0; CELL_WORDS];

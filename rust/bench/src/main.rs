@@ -14,7 +14,7 @@ use compare::library::{Library, SESSION_BYTES, with_room};
 use second::implementation::Implementation;
 use second::limits::BOOK_BYTES;
 use second::session::{LoadAnswer, ReduceAnswer};
-use trials::newcomers::Joining;
+use trials::newcomers::Admission;
 use trials::sessions::reduced;
 
 use crate::clock::{Pair, measure};
@@ -89,10 +89,10 @@ fn check<Kind: Implementation + 'static>(sheet: &Sheet) -> Call<'_> {
 }
 
 /// The buffer is that of a writing.
-fn newcomer<Kind: Implementation + 'static>(joining: &Joining) -> Call<'_> {
+fn newcomer<Kind: Implementation + 'static>(admission: &Admission) -> Call<'_> {
     let mut buffer = vec![0; BOOK_BYTES];
     Box::new(move || {
-        let Joining { sheet, book, line } = black_box(joining);
+        let Admission { sheet, book, line } = black_box(admission);
         let written = Kind::newcomer(sheet, book, line, black_box(&mut buffer));
         black_box(written.expect("the newcomer is accepted"));
     })
@@ -151,10 +151,11 @@ fn print_calls<'a>(title: &str, rounds: usize, calls: impl Fn(&Sheet) -> Pair<Ca
 fn print_newcomers(rounds: usize) {
     print_heading("Newcomer", MICROSECONDS);
     for sheet in sheets() {
-        let joining = sheet.joining();
-        let calls = Pair { baseline: newcomer::<Session>(&joining), library: newcomer::<Library>(&joining) };
+        let admission = sheet.admission();
+        let calls =
+            Pair { baseline: newcomer::<Session>(&admission), library: newcomer::<Library>(&admission) };
         let nanoseconds = measure(rounds, calls);
-        let name = sheet.name + if has_own_role(&joining) { ", a role more" } else { "" };
+        let name = sheet.name + if has_own_role(&admission) { ", a role more" } else { "" };
         print_row(&name, nanoseconds.map(|time| time / 1_000.0));
     }
 }

@@ -6,7 +6,7 @@ use second::refusal::Refusal;
 use trials::draft::{Draft, user_line};
 use trials::extremes;
 use trials::families;
-use trials::newcomers::{Joining, row_with_rest};
+use trials::newcomers::{Admission, row_with_rest};
 use trials::paper::{BOOK_BYTES, GRANTS};
 use trials::random::Random;
 use trials::sessions;
@@ -26,13 +26,13 @@ impl Sheet {
 
     /// A newcomer who holds what two users hold and one permission more, where there is one. The sheet lacks as many of
     /// its last users as it takes to make room for that; its book is spelled as the one that is checked.
-    pub fn joining(&self) -> Joining {
+    pub fn admission(&self) -> Admission {
         let [mut draft, mut spelled] = [&self.checked, &self.bytes].map(|bytes| Draft::made_out(bytes));
         loop {
             let line = user_line("newcomer", &row_with_rest(&draft)).into_bytes();
-            let joining = Joining { sheet: draft.bytes(), book: first_book(&spelled), line };
-            if result(&joining).is_ok() {
-                return joining;
+            let admission = Admission { sheet: draft.bytes(), book: first_book(&spelled), line };
+            if result(&admission).is_ok() {
+                return admission;
             }
             for draft in [&mut draft, &mut spelled] {
                 draft.users.pop();
@@ -48,8 +48,8 @@ fn first_book(draft: &Draft) -> Vec<u8> {
 }
 
 /// The newcomer's book.
-fn result(joining: &Joining) -> Result<Vec<u8>, Refusal> {
-    written(|buffer| Session::newcomer(&joining.sheet, &joining.book, &joining.line, buffer))
+fn result(admission: &Admission) -> Result<Vec<u8>, Refusal> {
+    written(|buffer| Session::newcomer(&admission.sheet, &admission.book, &admission.line, buffer))
 }
 
 /// What a call writes into a buffer that is long enough.
@@ -61,10 +61,10 @@ fn written(call: impl FnOnce(&mut [u8]) -> Result<usize, Refusal>) -> Result<Vec
 }
 
 /// Whether the newcomer gets a role of their own.
-pub fn has_own_role(joining: &Joining) -> bool {
+pub fn has_own_role(admission: &Admission) -> bool {
     let roles = |sheet: &[u8], book: &[u8]| Session::check(sheet, book).expect("the book is right").roles;
-    let result = result(joining).expect("the newcomer is accepted");
-    roles(&joining.sheet, &joining.book) < roles(&joining.longer_sheet(), &result)
+    let result = result(admission).expect("the newcomer is accepted");
+    roles(&admission.sheet, &admission.book) < roles(&admission.longer_sheet(), &result)
 }
 
 fn sheet(name: &str, draft: &Draft) -> Sheet {
@@ -167,10 +167,10 @@ mod tests {
     fn newcomers_join_large_sheets() {
         let sheets = sheets();
         let own_roles = sheets[1..].iter().filter(|sheet| {
-            let joining = sheet.joining();
-            let length = joining.longer_sheet().len();
+            let admission = sheet.admission();
+            let length = admission.longer_sheet().len();
             assert!(length > sheet.bytes.len() * 8 / 10, "{}: {length}", sheet.name);
-            has_own_role(&joining)
+            has_own_role(&admission)
         });
         assert_eq!(own_roles.count(), 6);
     }

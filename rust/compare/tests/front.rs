@@ -3,8 +3,8 @@
 use std::path::PathBuf;
 
 use compare::front::{Said, porvuund};
-use programs::{book_output, join_output};
-use trials::newcomers::{Joining, ORDER, refused_from};
+use programs::{book_output, newcomer_output};
+use trials::newcomers::{Admission, ORDER, refused_from};
 
 const ROOSTS: &str = include_str!("../../../examples/roosts.csv");
 
@@ -19,9 +19,9 @@ fn folder(name: &str) -> PathBuf {
 }
 
 /// Files with the sheet, the book and the line, in a folder of this name.
-fn files(name: &str, joining: &Joining) -> [String; 3] {
+fn files(name: &str, admission: &Admission) -> [String; 3] {
     let folder = folder(name);
-    let parts = [("sheet", &joining.sheet), ("book", &joining.book), ("line", &joining.line)];
+    let parts = [("sheet", &admission.sheet), ("book", &admission.book), ("line", &admission.line)];
     parts.map(|(part, bytes)| {
         let path = folder.join(part);
         std::fs::write(&path, bytes).expect("the file can be written");
@@ -29,21 +29,21 @@ fn files(name: &str, joining: &Joining) -> [String; 3] {
     })
 }
 
-fn roosts(line: &str) -> Joining {
+fn roosts(line: &str) -> Admission {
     let sheet = ROOSTS.as_bytes().to_vec();
-    Joining { book: book_output(&sheet, 0), sheet, line: line.as_bytes().to_vec() }
+    Admission { book: book_output(&sheet, 0), sheet, line: line.as_bytes().to_vec() }
 }
 
-fn expected(joining: &Joining) -> String {
-    let output = join_output(&joining.sheet, &joining.book, &joining.line);
+fn expected(admission: &Admission) -> String {
+    let output = newcomer_output(&admission.sheet, &admission.book, &admission.line);
     String::from_utf8(output).expect("a book is plain text")
 }
 
 /// The front's answer to this newcomer, from files and with the line on standard input, which must be the same.
-fn newcomer(name: &str, joining: &Joining) -> Said {
-    let [sheet, book, line] = files(name, joining);
+fn newcomer(name: &str, admission: &Admission) -> Said {
+    let [sheet, book, line] = files(name, admission);
     let said = porvuund(&["newcomer", &sheet, &book, &line], b"");
-    assert_eq!(porvuund(&["newcomer", &sheet, &book, "-"], &joining.line), said, "{name}");
+    assert_eq!(porvuund(&["newcomer", &sheet, &book, "-"], &admission.line), said, "{name}");
     said
 }
 
@@ -55,9 +55,9 @@ fn meaning(number: u32) -> String {
 }
 
 /// The front prints the number of the refusal, says what it means, and ends with status 1.
-fn assert_refused(name: &str, joining: &Joining, number: u32) {
-    assert_eq!(expected(joining), format!("{number}\n"), "{name}");
-    let said = newcomer(name, joining);
+fn assert_refused(name: &str, admission: &Admission, number: u32) {
+    assert_eq!(expected(admission), format!("{number}\n"), "{name}");
+    let said = newcomer(name, admission);
     assert_eq!((said.status, said.printed), (Some(1), format!("{number}\n")), "{name}");
     assert!(said.said.contains(&meaning(number)), "{name}: {}", said.said);
 }
@@ -66,10 +66,10 @@ fn assert_refused(name: &str, joining: &Joining, number: u32) {
 fn book_of_a_newcomer_is_printed() {
     for (name, line) in [("friend", "gus,0,0,0,0,1,0\n"), ("leftover", GUS), ("nothing", "gus,0,0,0,0,0,0\n")]
     {
-        let joining = roosts(line);
-        let book = expected(&joining);
+        let admission = roosts(line);
+        let book = expected(&admission);
         assert!(book.starts_with("roles,bound,state\n") && book.contains("\ngus,"), "{book}");
-        let said = newcomer(name, &joining);
+        let said = newcomer(name, &admission);
         assert_eq!(said, Said { status: Some(0), printed: book, said: String::new() }, "{name}");
     }
 }
@@ -98,10 +98,10 @@ fn lines_that_are_no_line_of_a_sheet_are_refused() {
 #[test]
 fn each_refusal_is_said() {
     for (place, number) in ORDER.into_iter().enumerate().filter(|(_, number)| *number != 11) {
-        assert_refused(&format!("refused {place}"), &refused_from(place).joining, number);
+        assert_refused(&format!("refused {place}"), &refused_from(place).admission, number);
     }
     let last = ORDER.len() - 1;
-    assert!(expected(&refused_from(last).joining).starts_with("roles,bound,state\n"));
+    assert!(expected(&refused_from(last).admission).starts_with("roles,bound,state\n"));
 }
 
 #[test]
@@ -147,7 +147,7 @@ fn wrong_use_and_files_that_cannot_be_read_end_with_status_2() {
 fn printed_book_is_checked_and_joined_in_turn() {
     let first = roosts(GUS);
     let book = newcomer("first", &first).printed.into_bytes();
-    let second = Joining { sheet: first.longer_sheet(), book, line: b"hal,0,0,0,1,0,1\n".to_vec() };
+    let second = Admission { sheet: first.longer_sheet(), book, line: b"hal,0,0,0,1,0,1\n".to_vec() };
     let [sheet, book, _] = files("checked", &second);
     let said = porvuund(&["check", &sheet, &book], b"");
     assert_eq!((said.status, said.printed.as_str()), (Some(0), "6,5\n"));

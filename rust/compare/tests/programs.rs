@@ -4,7 +4,7 @@ use std::path::{Path, PathBuf};
 
 use baseline::session::Session as FastSession;
 use compare::programs::{NEWCOMER, both, printed};
-use programs::{book_output, check_output, join_output, search_output};
+use programs::{book_output, check_output, newcomer_output, search_output};
 use second::implementation::Implementation;
 use second::roles::State;
 use second::script::{Call, answer_line};
@@ -16,7 +16,7 @@ use trials::draft::{Draft, user_line};
 use trials::extremes;
 use trials::families;
 use trials::kernels::with_kernel;
-use trials::newcomers::{self, Joining, Lent, ORDER};
+use trials::newcomers::{self, Admission, Lent, ORDER};
 use trials::paper;
 use trials::random::Random;
 use trials::rounds::lines_without_rates;
@@ -201,8 +201,8 @@ fn check_program_refuses_books_that_are_too_long() {
 }
 
 /// Files with the sheet, the book and the line, in this folder.
-fn files_of(folder: &Path, joining: &Joining) -> [String; 3] {
-    let parts = [("sheet", &joining.sheet), ("book", &joining.book), ("line", &joining.line)];
+fn files_of(folder: &Path, admission: &Admission) -> [String; 3] {
+    let parts = [("sheet", &admission.sheet), ("book", &admission.book), ("line", &admission.line)];
     parts.map(|(part, bytes)| {
         let path = folder.join(part);
         std::fs::write(&path, bytes).expect("the file can be written");
@@ -211,11 +211,11 @@ fn files_of(folder: &Path, joining: &Joining) -> [String; 3] {
 }
 
 /// The join program prints what the second one does. Gives it.
-fn assert_joined(folder: &Path, joining: &Joining) -> String {
-    let paths = files_of(folder, joining);
+fn assert_joined(folder: &Path, admission: &Admission) -> String {
+    let paths = files_of(folder, admission);
     let found = printed(NEWCOMER, &paths.each_ref().map(String::as_str), b"");
-    let expected = join_output(&joining.sheet, &joining.book, &joining.line);
-    assert!(found.as_bytes() == expected, "{}\n{found}", String::from_utf8_lossy(&joining.line));
+    let expected = newcomer_output(&admission.sheet, &admission.book, &admission.line);
+    assert!(found.as_bytes() == expected, "{}\n{found}", String::from_utf8_lossy(&admission.line));
     found
 }
 
@@ -235,7 +235,7 @@ fn join_program_prints_the_same_books_and_refusals() {
 fn join_program_prints_each_refusal() {
     let folder = folder("join-refused");
     for (place, number) in ORDER.into_iter().enumerate() {
-        let found = assert_joined(&folder, &newcomers::refused_from(place).joining);
+        let found = assert_joined(&folder, &newcomers::refused_from(place).admission);
         assert_eq!(found == format!("{number}\n"), number != 11, "{place}");
     }
 }
@@ -246,35 +246,38 @@ fn join_program_takes_the_longest_sheets_books_and_lines() {
     let draft = extremes::with_longest_book();
     let book = first_book(&draft.bytes());
     let text = String::from_utf8_lossy(&book);
-    let joining = |book: Vec<u8>, line: Vec<u8>| Joining { sheet: draft.bytes(), book, line };
+    let admission = |book: Vec<u8>, line: Vec<u8>| Admission { sheet: draft.bytes(), book, line };
     let mut shorter = draft.clone();
     let (name, row) = (shorter.users.pop(), shorter.held.pop());
     let line = user_line(&name.expect("there is a user"), &row.expect("there is a user")).into_bytes();
-    let fits = Joining { sheet: shorter.bytes(), book: first_book(&shorter.bytes()), line: line.clone() };
+    let fits = Admission { sheet: shorter.bytes(), book: first_book(&shorter.bytes()), line: line.clone() };
     assert_eq!(fits.longer_sheet().len(), paper::SHEET_BYTES);
     assert!(assert_joined(&folder, &fits).len() > 100_000);
     for bytes in [paper::BOOK_BYTES, paper::BOOK_BYTES + 1, 1 << 20] {
         assert_joined(
             &folder,
-            &Joining { book: book_of_bytes(&text, bytes), ..joining(book.clone(), line.clone()) },
+            &Admission { book: book_of_bytes(&text, bytes), ..admission(book.clone(), line.clone()) },
         );
     }
     for bytes in [0, 1, paper::SHEET_BYTES, 1 << 20, (1 << 20) + 1, 1 << 21] {
         let line = vec![b'n'; bytes];
         let expected = if bytes == 0 { "2\n" } else { "1\n" };
-        assert_eq!(assert_joined(&folder, &joining(book.clone(), line)), expected);
+        assert_eq!(assert_joined(&folder, &admission(book.clone(), line)), expected);
     }
     for bytes in [paper::SHEET_BYTES + 1, 1 << 20] {
         let sheet = extremes::of_bytes(bytes);
-        assert_eq!(assert_joined(&folder, &Joining { sheet, ..joining(book.clone(), line.clone()) }), "1\n");
+        assert_eq!(
+            assert_joined(&folder, &Admission { sheet, ..admission(book.clone(), line.clone()) }),
+            "1\n"
+        );
     }
 }
 
 /// With other arguments than three files that can be read, the check program and the newcomer program print nothing.
 #[test]
 fn check_and_join_programs_need_their_files() {
-    let joining = newcomers::refused_from(ORDER.len()).joining;
-    let [sheet, book, line] = files_of(&folder("join-files"), &joining);
+    let admission = newcomers::refused_from(ORDER.len()).admission;
+    let [sheet, book, line] = files_of(&folder("join-files"), &admission);
     let (sheet, book, line, missing) = (sheet.as_str(), book.as_str(), line.as_str(), "no-such-file");
     let calls: [(&str, &[&str]); 12] = [
         ("rolecheck", &[]),
@@ -431,25 +434,25 @@ fn play_program_passes_over_lines_that_are_no_call() {
 #[test]
 fn play_program_puts_newcomers_in_books() {
     let folder = folder("newcomers");
-    let call = |joining: &Joining, length: usize| {
-        let Joining { sheet, book, line } = joining.clone();
+    let call = |admission: &Admission, length: usize| {
+        let Admission { sheet, book, line } = admission.clone();
         Call::Newcomer { sheet, book, line, length }
     };
     cases(20, |random| {
         let draft = families::any(random, 8);
-        let joining = newcomers::any(random, &draft);
-        let count = joining.result().map_or(0, |book| book.len());
+        let admission = newcomers::any(random, &draft);
+        let count = admission.result().map_or(0, |book| book.len());
         let lengths = [0, count.saturating_sub(1), count, count + 1, LONGEST_BUFFER];
-        let mut calls: Vec<Call> = lengths.map(|length| call(&joining, length)).into();
+        let mut calls: Vec<Call> = lengths.map(|length| call(&admission, length)).into();
         calls.push(call(&newcomers::damaged(random, &draft), count + 100));
         assert_played(&calls, &folder);
     });
     let refused = (0..=ORDER.len()).map(newcomers::refused_from);
-    let mut calls: Vec<Call> = refused.map(|Lent { joining, length }| call(&joining, length)).collect();
-    let joining = newcomers::refused_from(ORDER.len()).joining;
+    let mut calls: Vec<Call> = refused.map(|Lent { admission, length }| call(&admission, length)).collect();
+    let admission = newcomers::refused_from(ORDER.len()).admission;
     for bytes in [paper::SHEET_BYTES, (1 << 20) - 1, 1 << 20, (1 << 20) + 1] {
         let line = [vec![b'n'; bytes - 1], b"\n".to_vec()].concat();
-        calls.push(call(&Joining { line, ..joining.clone() }, 100));
+        calls.push(call(&Admission { line, ..admission.clone() }, 100));
     }
     assert_played(&calls, &folder);
 }
@@ -460,8 +463,8 @@ const LONGEST_BUFFER: usize = 262_144;
 /// Lines with files that can be read, but too few or too many words, or a length that is none.
 #[test]
 fn play_program_passes_over_lines_that_are_nearly_a_newcomer() {
-    let joining = newcomers::refused_from(ORDER.len()).joining;
-    let [sheet, book, line] = files_of(&folder("nearly"), &joining);
+    let admission = newcomers::refused_from(ORDER.len()).admission;
+    let [sheet, book, line] = files_of(&folder("nearly"), &admission);
     let files = format!("{sheet} {book} {line}");
     let no_calls = [
         "newcomer".to_string(),
@@ -487,7 +490,7 @@ fn play_program_passes_over_lines_that_are_nearly_a_newcomer() {
         format!("newcomers {files} 10"),
         format!(" newcomer {files} 10"),
     ];
-    let Joining { sheet, book, line } = joining;
+    let Admission { sheet, book, line } = admission;
     let answer = answer_line(&mut Session::fresh(), &Call::Newcomer { sheet, book, line, length: 10 });
     assert!(answer.starts_with("newcomer 11 0 "), "{answer}");
     for no_call in no_calls {

@@ -52,7 +52,7 @@ pub fn check_output(sheet: &[u8], book: &[u8]) -> Vec<u8> {
 }
 
 /// The book of the sheet with the line put behind it, or the number of the refusal and a line feed.
-pub fn join_output(sheet: &[u8], book: &[u8], line: &[u8]) -> Vec<u8> {
+pub fn newcomer_output(sheet: &[u8], book: &[u8], line: &[u8]) -> Vec<u8> {
     let mut buffer = vec![0; JOIN_BUFFER_BYTES];
     match newcomer(sheet, book, line, &mut buffer) {
         Ok(count) => buffer[..count].to_vec(),

@@ -9,7 +9,7 @@ use crate::damage;
 use crate::draft::Draft;
 use crate::extremes;
 use crate::families;
-use crate::newcomers::{self, Joining};
+use crate::newcomers::{self, Admission};
 use crate::paper;
 use crate::random::Random;
 use crate::sessions::first_book;
@@ -116,10 +116,10 @@ fn any_check(random: &mut Random, sheets: &[Draft]) -> Call {
 /// A newcomer in a book of one of the sheets, in some cases with something damaged.
 fn any_newcomer(random: &mut Random, sheets: &[Draft]) -> Call {
     let draft = random.pick(sheets);
-    let joining =
+    let admission =
         if random.percent(70) { newcomers::any(random, draft) } else { newcomers::damaged(random, draft) };
-    let length = length_near(random, joining.result().map_or(0, |book| book.len()));
-    let Joining { sheet, book, line } = joining;
+    let length = length_near(random, admission.result().map_or(0, |book| book.len()));
+    let Admission { sheet, book, line } = admission;
     Call::Newcomer { sheet, book, line, length }
 }
 

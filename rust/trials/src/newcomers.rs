@@ -20,14 +20,14 @@ pub const ORDER: [u32; 23] = [1, 2, 3, 4, 5, 6, 7, 8, 9, 1, 2, 5, 6, 7, 9, 12, 1
 
 /// What a newcomer's call is given, but for the buffer.
 #[derive(Clone, Debug, PartialEq, Eq)]
-pub struct Joining {
+pub struct Admission {
     pub sheet: Vec<u8>,
     pub book: Vec<u8>,
     /// With its line feed.
     pub line: Vec<u8>,
 }
 
-impl Joining {
+impl Admission {
     /// The sheet with the line put behind it.
     pub fn longer_sheet(&self) -> Vec<u8> {
         [&self.sheet[..], &self.line].concat()
@@ -53,30 +53,30 @@ impl Draft {
 }
 
 /// A newcomer of any kind in a book of any kind. Nothing is wrong, but that there may be too many roles.
-pub fn any(random: &mut Random, draft: &Draft) -> Joining {
+pub fn any(random: &mut Random, draft: &Draft) -> Admission {
     let book = any_book(random, draft);
     in_book(random, draft, book)
 }
 
 /// A newcomer of any kind in this book of the sheet.
-pub fn in_book(random: &mut Random, draft: &Draft, book: Vec<u8>) -> Joining {
+pub fn in_book(random: &mut Random, draft: &Draft, book: Vec<u8>) -> Admission {
     let row = any_row(random, draft, &book);
     let line = user_line(&free_name(random, draft), &row).into_bytes();
-    Joining { sheet: draft.bytes(), book, line }
+    Admission { sheet: draft.bytes(), book, line }
 }
 
 /// A newcomer with one or two of the sheet, the book and the line damaged.
-pub fn damaged(random: &mut Random, draft: &Draft) -> Joining {
-    let mut joining = any(random, draft);
+pub fn damaged(random: &mut Random, draft: &Draft) -> Admission {
+    let mut admission = any(random, draft);
     for _ in 0..random.between(1, 2) {
         match random.below(7) {
-            0 => joining.sheet = damage::bytes(random, &joining.sheet),
-            1..=2 => joining.book = damage::book(random, draft, &joining.book),
-            3 => joining.line = taken_line(random, draft),
-            _ => joining.line = damage::bytes(random, &joining.line),
+            0 => admission.sheet = damage::bytes(random, &admission.sheet),
+            1..=2 => admission.book = damage::book(random, draft, &admission.book),
+            3 => admission.line = taken_line(random, draft),
+            _ => admission.line = damage::bytes(random, &admission.line),
         }
     }
-    joining
+    admission
 }
 
 /// The line of a newcomer whose name is taken, in any case.
@@ -227,7 +227,7 @@ fn put_copied_role(random: &mut Random, book: &mut BookDraft) {
 /// A call, and the length of its buffer.
 #[derive(Clone, Debug, PartialEq, Eq)]
 pub struct Lent {
-    pub joining: Joining,
+    pub admission: Admission,
     pub length: usize,
 }
 
@@ -293,9 +293,9 @@ pub fn refused_from(place: usize) -> Lent {
     if of_the_sheet(1) {
         sheet.insert_str(0, &"u".repeat(paper::SHEET_BYTES));
     }
-    let joining = Joining { sheet: sheet.into_bytes(), book: book.into_bytes(), line };
+    let admission = Admission { sheet: sheet.into_bytes(), book: book.into_bytes(), line };
     let length = if behind(11) { 100 } else { paper::BOOK_BYTES };
-    Lent { joining, length }
+    Lent { admission, length }
 }
 
 /// The line of a newcomer who holds the last of nine permissions.

@@ -1,6 +1,6 @@
--- What is written is the new book. The matrices with the newcomer in them are those of the definitions for what was read
--- of the given book, which says what the book says; its counts are those of the given book where there is no new role;
--- and only cells of the sheet's users, the roles and the sheet's permissions are spelled.
+-- What is written is the new book. The matrices with the newcomer in them are those of the definitions for what was
+-- read of the given book, which says what the book says; its counts are those of the given book where there is no new
+-- role; and only cells of the sheet's users, the roles and the sheet's permissions are spelled.
 use Prim.Native.Nat.{ℕ, suc, _≤_}
 use native.Mathlib.Omega.{arith}
 use mathlib.Core.Path.{_≡_, refl, sym, ap, _∙_}
@@ -105,6 +105,10 @@ module _ {lent : Admission} {text : Bytes} {users : ℕ} {read : BookRead} {has 
     abbrev counts : Counts
     counts = new-counts (read .counts) count (read .witness .lines)
 
+    -- what they are with a new role
+    abbrev new-role-counts : Counts
+    new-role-counts = record { roles = count; bound = read .witness .lines; standing = standing.Open }
+
     roles-before : read .counts .roles ≡ read .checked .roles
     roles-before =
         ready .as-read .says-read .role-number
@@ -131,8 +135,7 @@ module _ {lent : Admission} {text : Bytes} {users : ℕ} {read : BookRead} {has 
     counted-roles = rw as-many-as-before (choose new count-told)
       where
         choose : (t : Bool) → count ≡ cond t (suc (read .checked .roles)) (read .checked .roles)
-            → cond (not t) (read .counts) (record { roles = count; bound = read .witness .lines; standing = standing.Open })
-            .roles ≡ count
+            → cond (not t) (read .counts) new-role-counts .roles ≡ count
         choose true e = refl
         choose false e = roles-before ∙ sym e
 
@@ -140,8 +143,8 @@ module _ {lent : Admission} {text : Bytes} {users : ℕ} {read : BookRead} {has 
     counted-bound = rw as-many-as-before (choose new)
       where
         choose : (t : Bool)
-            → cond (not t) (read .counts) (record { roles = count; bound = read .witness .lines; standing = standing.Open })
-            .bound ≡ cond t (length (book-says ready .witness)) (book-says ready .bound)
+            → cond (not t) (read .counts) new-role-counts .bound
+            ≡ cond t (length (book-says ready .witness)) (book-says ready .bound)
         choose true = ready .as-read .says-read .collects .counted
         choose false = bound-before
 
@@ -149,8 +152,7 @@ module _ {lent : Admission} {text : Bytes} {users : ℕ} {read : BookRead} {has 
     counted-standing = rw as-many-as-before (choose new)
       where
         choose : (t : Bool)
-            → standing-case (cond (not t) (read .counts)
-            (record { roles = count; bound = read .witness .lines; standing = standing.Open }) .standing)
+            → standing-case (cond (not t) (read .counts) new-role-counts .standing)
             ≡ cond t unsettled (book-says ready .standing)
         choose true = refl
         choose false = ready .as-read .says-read .standing

@@ -1,5 +1,5 @@
--- The number that the call answers, by the order of its causes: where nothing applies of those that come first, the next
--- ones decide. Assumes nothing.
+-- The number that the call answers, by the order of its causes: where nothing applies of those that come first, the
+-- next ones decide. Assumes nothing.
 use Prim.Native.Nat.{ℕ}
 use mathlib.Core.Path.{_≡_, refl, sym, ap, _∙_}
 use mathlib.Core.Logic.{_≢_}
@@ -88,7 +88,8 @@ module _ (lent : Admission) (buffer : Bytes) where
     unfolding check-causes refusal
     book-number =
         check-number (lent .sheet) (lent .book)
-        ∙ passed-on (sheet-causes (lent .sheet)) (book-causes (given-sheet lent) (lent .book)) sheet-causes-above accepts
+        ∙ passed-on (sheet-causes (lent .sheet)) (book-causes (given-sheet lent) (lent .book)) sheet-causes-above
+        accepts
 
     module _ (addable : first-number (longer-causes (lent .sheet) (lent .line)) ≡ 0) where
       texts-number : first-number texts ≡ check (lent .sheet) (lent .book) .number

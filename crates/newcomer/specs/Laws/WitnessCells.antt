@@ -1,19 +1,18 @@
--- A list with the cell of each line has the grants of the witness, in the order of its lines: a cell is that of a grant,
--- and the grant at it is that grant. Assumes nothing.
-use Prim.Native.Nat.{ℕ, _+_, _≤_, _<_}
+-- A list with the cell of each line has the grants of the witness, in the order of its lines: a cell is that of a
+-- grant, and the grant at it is that grant. Assumes nothing.
+use Prim.Native.Nat.{ℕ, _+_, _<_}
 use native.Mathlib.Nat.{ne-of-lt}
 use native.Mathlib.Omega.{arith}
 use borrow.Author.Count.{below-none, below-more}
-use mathlib.Core.Path.{_≡_, sym, ap, _∙_}
+use mathlib.Core.Path.{_≡_, ap, _∙_}
 use mathlib.Core.List.{List, map}
 use lib.ListN.{length, getD, take, set, length-set, length-map}
 use lib.Seq.{getD-set-same, getD-set-other, length-take-le, getD-take, ext-getD}
 use Rattle.spec.specs.Limits.{role-limit, grant-limit, permission-limit}
-use Rattle.spec.specs.Sheet.{Sheet, Grant, user-count, permission-count}
+use Rattle.spec.specs.Sheet.{Sheet, Grant}
 use Rattle.spec.specs.Cover.{grant-at}
 use Rattle.lists.specs.EachLaws.{Each}
 use Rattle.lists.specs.TestLaws.{member-at}
-use Rattle.cell_rows.specs.Rows.{row-bits}
 use Rattle.cell_rows.specs.CellPlaces.{grant-of}
 use Rattle.cells.specs.KernelArray.{grant-at-cell}
 use Rattle.cells.specs.Laws.CellList.{cell-of, grant-of-cell}

@@ -1,8 +1,8 @@
--- Newcomers in books, computed from the definitions: the new books, byte for byte, and the refusals in their order, for
--- each two neighbours a case in which both apply.
+-- Newcomers in books, computed from the definitions: the new books, byte for byte, the causes in their order, and of
+-- neighbours among them the one that is answered.
 use Prim.Native.String.{String}
 use mathlib.Core.Path.{refl}
-use Rattle.spec.specs.Vocabulary.{ℕ, _≡_, Bool, true, false, List, [], _∷_, _++_, map, length, replicate, concat}
+use Rattle.spec.specs.Vocabulary.{ℕ, _≡_, Bool, true, false, [], _∷_, _++_, map, replicate, concat}
 use Rattle.spec.specs.Vocabulary.{every-below, lowest-below, list-of}
 use Rattle.spec.specs.Limits.{user-limit, role-limit}
 use Rattle.spec.specs.Text.{Bytes, ascii}

@@ -2,10 +2,10 @@
 
 use std::process::ExitCode;
 
-use programs::{join_output, print_of_files};
+use programs::{newcomer_output, print_of_files};
 
 fn main() -> ExitCode {
     print_of_files("second-newcomer", ["SHEET", "BOOK", "LINE"], |[sheet, book, line]| {
-        join_output(&sheet, &book, &line)
+        newcomer_output(&sheet, &book, &line)
     })
 }

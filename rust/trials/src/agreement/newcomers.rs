@@ -14,7 +14,7 @@ use crate::cases::cases;
 use crate::draft::{Draft, user_line};
 use crate::extremes;
 use crate::families;
-use crate::newcomers::{self, Joining, Lent, ORDER};
+use crate::newcomers::{self, Admission, Lent, ORDER};
 use crate::paper;
 use crate::random::Random;
 use crate::sessions::first_book;
@@ -43,8 +43,8 @@ pub fn joined<Other: Implementation>(
 
 /// The answer of both with a buffer that is long enough. If there is a book, also with buffers of its length, one byte
 /// shorter, of no byte and some bytes longer. Gives the book, of which both checkers must think the same.
-pub fn joined_book<Other: Implementation>(joining: &Joining) -> Result<Vec<u8>, Refusal> {
-    let Joining { sheet, book, line } = joining;
+pub fn joined_book<Other: Implementation>(admission: &Admission) -> Result<Vec<u8>, Refusal> {
+    let Admission { sheet, book, line } = admission;
     let answer = |length| joined::<Other>(sheet, book, line, length);
     let count = answer(paper::BOOK_BYTES)?;
     for length in [0, count / 2, count - 1] {
@@ -53,8 +53,8 @@ pub fn joined_book<Other: Implementation>(joining: &Joining) -> Result<Vec<u8>, 
     for length in [count, count + 1, count + 100] {
         assert_eq!(answer(length), Ok(count), "{length}");
     }
-    let book = joining.result()?;
-    checked::<Other>(&joining.longer_sheet(), &book).expect("a newcomer's book is accepted");
+    let book = admission.result()?;
+    checked::<Other>(&admission.longer_sheet(), &book).expect("a newcomer's book is accepted");
     Ok(book)
 }
 
@@ -65,8 +65,8 @@ fn counts(book: &[u8]) -> Vec<String> {
 }
 
 /// The state word of the book, and whether the newcomer's book has a role more.
-fn outcome(joining: &Joining, result: &[u8]) -> (String, bool) {
-    let (before, after) = (counts(&joining.book), counts(result));
+fn outcome(admission: &Admission, result: &[u8]) -> (String, bool) {
+    let (before, after) = (counts(&admission.book), counts(result));
     (before[2].clone(), before[0] != after[0])
 }
 
@@ -77,9 +77,9 @@ pub fn newcomers_agree<Other: Implementation>(count: u64, sheet: impl Fn(&mut Ra
         let draft = sheet(random);
         let book = newcomers::searched_book(random, &draft);
         for _ in 0..3 {
-            let joining = newcomers::in_book(random, &draft, book.clone());
-            let result = joined_book::<Other>(&joining).expect("nothing is wrong");
-            seen.note(outcome(&joining, &result));
+            let admission = newcomers::in_book(random, &draft, book.clone());
+            let result = joined_book::<Other>(&admission).expect("nothing is wrong");
+            seen.note(outcome(&admission, &result));
         }
     });
     for state in State::ALL.map(State::word) {
@@ -99,9 +99,9 @@ pub fn changed_books_agree<Other: Implementation>(count: u64, sheet: impl Fn(&mu
             seen.note(None);
             return;
         }
-        let joining = newcomers::in_book(random, &draft, changed.clone());
-        let result = joined_book::<Other>(&joining);
-        let respelt = Joining { book: spelling::book(random, &draft, &changed), ..joining };
+        let admission = newcomers::in_book(random, &draft, changed.clone());
+        let result = joined_book::<Other>(&admission);
+        let respelt = Admission { book: spelling::book(random, &draft, &changed), ..admission };
         assert_eq!(joined_book::<Other>(&respelt), result, "{draft:?}");
         seen.note(Some(result.map_or_else(Refusal::number, |_| 0)));
     });
@@ -116,10 +116,10 @@ pub fn chains_agree<Other: Implementation>(count: u64, length: usize, sheet: imp
         let mut draft = sheet(random);
         let mut book = newcomers::any_book(random, &draft);
         for _ in 0..length {
-            let joining = newcomers::in_book(random, &draft, book);
-            let Ok(result) = joined_book::<Other>(&joining) else { return };
-            seen.note(outcome(&joining, &result));
-            draft = Draft::made_out(&joining.longer_sheet());
+            let admission = newcomers::in_book(random, &draft, book);
+            let Ok(result) = joined_book::<Other>(&admission) else { return };
+            seen.note(outcome(&admission, &result));
+            draft = Draft::made_out(&admission.longer_sheet());
             book = if random.percent(30) { spelling::book(random, &draft, &result) } else { result };
         }
     });
@@ -133,7 +133,7 @@ pub fn damaged_newcomers_agree<Other: Implementation>(count: u64) {
     let mut numbers = Tally::default();
     cases(count, |random| {
         let draft = families::any(random, 8);
-        let Joining { sheet, book, line } = newcomers::damaged(random, &draft);
+        let Admission { sheet, book, line } = newcomers::damaged(random, &draft);
         for length in [paper::BOOK_BYTES, random.below(400)] {
             let answer = joined::<Other>(&sheet, &book, &line, length);
             numbers.note(answer.map_or_else(Refusal::number, |_| 0));
@@ -145,8 +145,8 @@ pub fn damaged_newcomers_agree<Other: Implementation>(count: u64) {
 /// Every cause with the one that is judged behind it, and as many of the others behind it as can apply with it.
 pub fn refused_newcomers_agree<Other: Implementation>() {
     let answer = |place| {
-        let Lent { joining, length } = newcomers::refused_from(place);
-        joined::<Other>(&joining.sheet, &joining.book, &joining.line, length)
+        let Lent { admission, length } = newcomers::refused_from(place);
+        joined::<Other>(&admission.sheet, &admission.book, &admission.line, length)
     };
     for (place, number) in ORDER.into_iter().enumerate() {
         assert_eq!(answer(place).map_err(Refusal::number), Err(number), "{place}");
@@ -169,21 +169,21 @@ fn book_with_roles(draft: &Draft, roles: usize) -> Vec<u8> {
 
 /// Each limit passes and one more is refused.
 pub fn limits_agree<Other: Implementation>() {
-    for (joining, number) in at_the_limits() {
-        let answer = joined_book::<Other>(&joining);
+    for (admission, number) in at_the_limits() {
+        let answer = joined_book::<Other>(&admission);
         let found = answer.as_ref().map_or_else(|refusal| refusal.number(), |_| 0);
-        assert_eq!(found, number, "{}", String::from_utf8_lossy(&joining.line));
+        assert_eq!(found, number, "{}", String::from_utf8_lossy(&admission.line));
     }
 }
 
 /// Newcomers at each limit and one beyond, with the number of the refusal, 0 if there is none.
-fn at_the_limits() -> Vec<(Joining, u32)> {
-    let joining = |draft: &Draft, line: &str| Joining {
+fn at_the_limits() -> Vec<(Admission, u32)> {
+    let admission = |draft: &Draft, line: &str| Admission {
         sheet: draft.bytes(),
         book: first_book(&draft.bytes()),
         line: line.as_bytes().to_vec(),
     };
-    let in_plain_book = |draft: &Draft, line: &str| Joining {
+    let in_plain_book = |draft: &Draft, line: &str| Admission {
         sheet: draft.bytes(),
         book: newcomers::plain_book(draft),
         line: line.as_bytes().to_vec(),
@@ -191,7 +191,7 @@ fn at_the_limits() -> Vec<(Joining, u32)> {
     let mut outcomes = Vec::new();
     let two = Draft::plain(2, 2, |user, permission| user <= permission);
     for (line, number) in LINES {
-        outcomes.push((joining(&two, line), number));
+        outcomes.push((admission(&two, line), number));
     }
     // Bytes of the longer sheet. The sheet has as many grants as there can be, so the newcomer holds nothing.
     for (users, permissions, bytes, number) in [
@@ -212,22 +212,22 @@ fn at_the_limits() -> Vec<(Joining, u32)> {
     for (users, number) in [(254, 0), (255, 0), (256, 18)] {
         let draft = extremes::full(users, 4);
         for line in ["n,0,0,0,0\n", "n,1,1,1,1\n", "n,0,1,0,0\n"] {
-            outcomes.push((joining(&draft, line), number));
+            outcomes.push((admission(&draft, line), number));
         }
-        outcomes.push((joining(&draft, "U253,1,1,1,1\n"), 17));
+        outcomes.push((admission(&draft, "U253,1,1,1,1\n"), 17));
     }
     // Grants: 255 users who hold all of eight permissions have eight grants less than there may be.
     let draft = Draft::plain(255, 9, |_, permission| permission < 8);
     for (line, number) in
         [("n,1,1,1,1,1,1,1,1,0\n", 0), ("n,1,1,1,1,1,1,1,1,1\n", 9), ("n,0,1,1,1,1,1,1,1,1\n", 0)]
     {
-        outcomes.push((joining(&draft, line), number));
+        outcomes.push((admission(&draft, line), number));
     }
     // Roles: with one more of them, or without. Of those that there are only the first holds something.
     for (roles, number) in [(1, 0), (63, 0), (64, 0), (126, 0), (127, 0), (128, 19)] {
         let draft = extremes::full(3, 3);
         let with_roles =
-            |line: &str| Joining { book: book_with_roles(&draft, roles), ..joining(&draft, line) };
+            |line: &str| Admission { book: book_with_roles(&draft, roles), ..admission(&draft, line) };
         outcomes.extend(["n,0,1,0\n", "n,1,1,0\n"].map(|line| (with_roles(line), number)));
         outcomes.extend(["n,0,0,0\n", "n,1,1,1\n"].map(|line| (with_roles(line), 0)));
     }
@@ -236,16 +236,16 @@ fn at_the_limits() -> Vec<(Joining, u32)> {
 }
 
 /// Books of as many bytes as are read, whose bound is a number of many digits, and of one more.
-fn at_the_limit_of_the_book() -> Vec<(Joining, u32)> {
+fn at_the_limit_of_the_book() -> Vec<(Admission, u32)> {
     let draft = families::crown(4);
     let book = String::from_utf8(first_book(&draft.bytes())).expect("a book is plain text");
     let with_bytes = |bytes: usize| {
         let bound = |digits: usize| book.replacen("\n4,3,", &format!("\n4,{},", "7".repeat(digits)), 1);
         bound(bytes - bound(0).len()).into_bytes()
     };
-    let joining =
-        |bytes| Joining { sheet: draft.bytes(), book: with_bytes(bytes), line: b"n,1,0,0,0\n".to_vec() };
-    vec![(joining(paper::BOOK_BYTES), 13), (joining(paper::BOOK_BYTES + 1), 12)]
+    let admission =
+        |bytes| Admission { sheet: draft.bytes(), book: with_bytes(bytes), line: b"n,1,0,0,0\n".to_vec() };
+    vec![(admission(paper::BOOK_BYTES), 13), (admission(paper::BOOK_BYTES + 1), 12)]
 }
 
 /// Lines for a sheet of two users `u0` and `u1` and two permissions, with the number of the refusal.
@@ -314,15 +314,16 @@ pub fn large_newcomers_agree<Other: Implementation>(drafts: &[Draft]) {
         let none = vec![false; draft.permissions.len()];
         for row in [newcomers::row_with_rest(draft), none, draft.held[0].clone()] {
             let name = newcomers::free_name(&mut random, draft);
-            let joining = Joining {
+            let admission = Admission {
                 sheet: draft.bytes(),
                 book: spelling::book(&mut random, draft, &book),
                 line: user_line(&name, &row).into_bytes(),
             };
-            let answer = joined_book::<Other>(&joining);
+            let answer = joined_book::<Other>(&admission);
             if let Ok(result) = &answer {
                 let CheckAnswer { roles, witness_lines } =
-                    checked::<Other>(&joining.longer_sheet(), result).expect("a newcomer's book is accepted");
+                    checked::<Other>(&admission.longer_sheet(), result)
+                        .expect("a newcomer's book is accepted");
                 assert!(roles == given.roles || roles == given.roles + 1, "{draft:?}");
                 assert_eq!(witness_lines, given.witness_lines, "{draft:?}");
             }

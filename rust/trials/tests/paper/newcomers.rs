@@ -14,7 +14,7 @@ use trials::cases::cases;
 use trials::draft::{Draft, user_line};
 use trials::extremes;
 use trials::families;
-use trials::newcomers::{self, Joining, Lent, ORDER};
+use trials::newcomers::{self, Admission, Lent, ORDER};
 use trials::paper;
 use trials::random::Random;
 use trials::restated;
@@ -28,15 +28,15 @@ const ROOSTS: &str = include_str!("../../../../examples/roosts.csv");
 
 /// The book of the newcomer, or the number of the refusal, with a buffer that is long enough.
 fn joined(sheet: &str, book: &str, line: &str) -> Result<String, u32> {
-    joining(sheet, book, line)
+    admission(sheet, book, line)
         .result()
         .map(|book| String::from_utf8(book).expect("a book is plain text"))
         .map_err(Refusal::number)
 }
 
-fn joining(sheet: &str, book: &str, line: &str) -> Joining {
+fn admission(sheet: &str, book: &str, line: &str) -> Admission {
     let [sheet, book, line] = [sheet, book, line].map(|text| text.as_bytes().to_vec());
-    Joining { sheet, book, line }
+    Admission { sheet, book, line }
 }
 
 fn text(bytes: Vec<u8>) -> String {
@@ -241,7 +241,7 @@ fn number_is_the_first_in_the_order_of_checks() {
 fn each_cause_with_the_one_judged_behind_it() {
     agreement::refused_newcomers_agree::<Session>();
     for (place, number) in ORDER.into_iter().enumerate() {
-        let Lent { joining: Joining { sheet, book, line }, length } = newcomers::refused_from(place);
+        let Lent { admission: Admission { sheet, book, line }, length } = newcomers::refused_from(place);
         assert_eq!(restated::newcomer::answer(&sheet, &book, &line, length), Err(number), "{place}");
     }
 }
@@ -252,8 +252,8 @@ fn each_limit_passes_and_one_more_is_refused() {
 }
 
 /// The call and the restated one, with buffers of any length. Gives the number of the refusal, 0 if there is none.
-fn assert_restated(joining: &Joining, length: usize) -> u32 {
-    let Joining { sheet, book, line } = joining;
+fn assert_restated(admission: &Admission, length: usize) -> u32 {
+    let Admission { sheet, book, line } = admission;
     let mut buffer = lent_buffer(length);
     let answer = newcomer(sheet, book, line, &mut buffer);
     let expected = restated::newcomer::answer(sheet, book, line, length);
@@ -275,13 +275,13 @@ fn rules_are_the_restated_ones() {
     cases(4_000, |random| {
         let wide = random.percent(10);
         let draft = if wide { families::any_wide(random, 8) } else { families::any(random, 8) };
-        let joining = if random.percent(50) {
+        let admission = if random.percent(50) {
             newcomers::any(random, &draft)
         } else {
             newcomers::damaged(random, &draft)
         };
         for length in [paper::BOOK_BYTES, random.below(500)] {
-            numbers.note(assert_restated(&joining, length));
+            numbers.note(assert_restated(&admission, length));
         }
     });
     numbers.expect([0, 2, 3, 5, 6, 7, 8, 11, 12, 13, 14, 15, 17, 19], 5);
@@ -311,10 +311,10 @@ fn rules_are_the_restated_ones_on_large_sheets() {
         without_last.role_count = without_last.roles.len().to_string();
         let changed = newcomers::changed_book(&mut random, &draft, &plain);
         for book in [plain, without_last.text(&draft).into_bytes(), changed] {
-            let joining = Joining { sheet: draft.bytes(), book, line: line.clone() };
-            numbers.note(assert_restated(&joining, paper::BOOK_BYTES));
-            if let Ok(result) = joining.result() {
-                assert_promised(&joining, &result);
+            let admission = Admission { sheet: draft.bytes(), book, line: line.clone() };
+            numbers.note(assert_restated(&admission, paper::BOOK_BYTES));
+            if let Ok(result) = admission.result() {
+                assert_promised(&admission, &result);
             }
         }
     }
@@ -323,16 +323,16 @@ fn rules_are_the_restated_ones_on_large_sheets() {
 
 /// The checker accepts the book for the longer sheet with the right counts. Those who were there have the roles that
 /// they had, and those roles hold what they held.
-fn assert_promised(joining: &Joining, result: &[u8]) {
-    let (sheet, longer) = (Draft::made_out(&joining.sheet), Draft::made_out(&joining.longer_sheet()));
-    let given = restated_book(&sheet, &joining.book);
+fn assert_promised(admission: &Admission, result: &[u8]) {
+    let (sheet, longer) = (Draft::made_out(&admission.sheet), Draft::made_out(&admission.longer_sheet()));
+    let given = restated_book(&sheet, &admission.book);
     let found = BookDraft::made_out(&longer, &String::from_utf8_lossy(result));
     let (roles, users) = (given.roles.len(), given.users.len());
     assert_eq!(found.roles[..roles], given.roles);
     assert_eq!(found.users[..users], given.users);
     assert_eq!(found.witness, given.witness);
     assert_eq!(
-        check(&joining.longer_sheet(), result),
+        check(&admission.longer_sheet(), result),
         Ok(check_answer(found.roles.len(), given.witness.len()))
     );
     if found.roles.len() == roles {
@@ -356,12 +356,12 @@ fn book_is_accepted_and_nobody_is_moved() {
     let mut roles = Tally::default();
     cases(3_000, |random| {
         let draft = families::any(random, 8);
-        let joining = newcomers::any(random, &draft);
-        if let Ok(result) = joining.result() {
-            assert_promised(&joining, &result);
-            let longer = Draft::made_out(&joining.longer_sheet());
+        let admission = newcomers::any(random, &draft);
+        if let Ok(result) = admission.result() {
+            assert_promised(&admission, &result);
+            let longer = Draft::made_out(&admission.longer_sheet());
             let new = BookDraft::made_out(&longer, &String::from_utf8_lossy(&result)).roles.len()
-                - restated_book(&draft, &joining.book).roles.len();
+                - restated_book(&draft, &admission.book).roles.len();
             roles.note(new);
         }
     });
@@ -377,10 +377,10 @@ fn newcomers_up_to_the_limit_of_users() {
     for user in draft.users.len()..paper::USERS {
         let row: Vec<bool> = (0..4).map(|_| random.percent(50)).collect();
         let line = user_line(&format!("joined{user}"), &row).into_bytes();
-        let joining = Joining { sheet: draft.bytes(), book, line };
-        let result = joining.result().expect("there is room");
-        assert_promised(&joining, &result);
-        (draft, book) = (Draft::made_out(&joining.longer_sheet()), result);
+        let admission = Admission { sheet: draft.bytes(), book, line };
+        let result = admission.result().expect("there is room");
+        assert_promised(&admission, &result);
+        (draft, book) = (Draft::made_out(&admission.longer_sheet()), result);
     }
     assert_eq!(draft.users.len(), 256);
     let sheet = text(draft.bytes());
@@ -396,14 +396,14 @@ fn newcomers_up_to_the_limit_of_roles() {
     for permission in 0..paper::PERMISSIONS {
         let row: Vec<bool> = (0..paper::PERMISSIONS).map(|other| other == permission).collect();
         let line = user_line(&format!("joined{permission}"), &row).into_bytes();
-        let joining = Joining { sheet: draft.bytes(), book, line };
-        let result = joining.result().expect("there is room");
-        assert_promised(&joining, &result);
-        (draft, book) = (Draft::made_out(&joining.longer_sheet()), result);
+        let admission = Admission { sheet: draft.bytes(), book, line };
+        let result = admission.result().expect("there is room");
+        assert_promised(&admission, &result);
+        (draft, book) = (Draft::made_out(&admission.longer_sheet()), result);
     }
     assert!(book.starts_with(b"roles,bound,state\n128,0,open\n"));
     let all = user_line("all", &[true; paper::PERMISSIONS]).into_bytes();
-    assert!(Joining { sheet: draft.bytes(), book, line: all }.result().is_ok());
+    assert!(Admission { sheet: draft.bytes(), book, line: all }.result().is_ok());
 }
 
 /// No newcomer's book is longer than the checker reads, so the buffer of the newcomer program is long enough. The longest
@@ -424,12 +424,12 @@ fn longest_books_are_within_the_limit_of_the_checker() {
     book.roles.resize_with(paper::ROLES, Default::default);
     book.role_count = paper::ROLES.to_string();
     book.state = "open".to_string();
-    let joining = Joining {
+    let admission = Admission {
         sheet: draft.bytes(),
         book: book.text(&draft).into_bytes(),
         line: user_line(&name, &row).into_bytes(),
     };
-    let count = joining.result().expect("nothing is wrong").len();
+    let count = admission.result().expect("nothing is wrong").len();
     assert!((100_000..paper::BOOK_BYTES).contains(&count), "{count}");
 }
 
@@ -447,9 +447,9 @@ fn kept_words_stay_true() {
             return;
         }
         let book = newcomers::searched_book(random, &draft);
-        let joining = newcomers::in_book(random, &draft, book);
-        let result = joining.result().expect("nothing is wrong");
-        let longer = Draft::made_out(&joining.longer_sheet());
+        let admission = newcomers::in_book(random, &draft, book);
+        let result = admission.result().expect("nothing is wrong");
+        let longer = Draft::made_out(&admission.longer_sheet());
         let (before, after) = (brute::smallest(&draft.held), brute::smallest(&longer.held));
         assert!(before <= after && after <= before + 1, "{before} {after} {longer:?}");
         let found = BookDraft::made_out(&longer, &String::from_utf8_lossy(&result));

@@ -300,14 +300,14 @@ fn answer_lines_are_as_agreed() {
     let sheet = b"user,p\nu,0\n".to_vec();
     let book = b"roles,bound,state\n0,0,witnessed\n\nrole,p\n\nuser\nu\n\nuser,permission\n".to_vec();
     assert_eq!(line(Call::Check { sheet: sheet.clone(), book: book.clone() }), "check 0 0 0");
-    let joining = |name: &str| Call::Newcomer {
+    let admission = |name: &str| Call::Newcomer {
         sheet: sheet.clone(),
         book: book.clone(),
         line: format!("{name},0\n").into_bytes(),
         length: 10,
     };
-    assert_eq!(line(joining("v")), format!("newcomer 11 0 {untouched}"));
-    assert_eq!(line(joining("U")), format!("newcomer 17 0 {untouched}"));
+    assert_eq!(line(admission("v")), format!("newcomer 11 0 {untouched}"));
+    assert_eq!(line(admission("U")), format!("newcomer 17 0 {untouched}"));
 }
 
 #[test]

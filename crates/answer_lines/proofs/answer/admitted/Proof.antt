@@ -9,7 +9,9 @@ use Rattle.answer_lines.proofs.answer.admitted.Statement.{statement}
 use Rattle.answer_lines.proofs.answer.admitted.Tie as tie
 
 returns : tie.Need-returns
-returns c = ap (λ (sum : ℕ). digest-line (ascii "newcomer") (write-said (c .before .before .args .answer)) sum) (c .adler-32 .ensures)
+returns c =
+    let answer = c .before .before .args .answer in
+    ap (λ (sum : ℕ). digest-line (ascii "newcomer") (write-said answer) sum) (c .adler-32 .ensures)
 
 pub admitted-spec : {M : Type 1} → statement M
 admitted-spec =

@@ -9,7 +9,9 @@ use Rattle.answer_lines.proofs.answer.written.Statement.{statement}
 use Rattle.answer_lines.proofs.answer.written.Tie as tie
 
 returns : tie.Need-returns
-returns c = ap (λ (sum : ℕ). digest-line (ascii "write") (write-said (c .before .before .args .answer)) sum) (c .adler-32 .ensures)
+returns c =
+    let answer = c .before .before .args .answer in
+    ap (λ (sum : ℕ). digest-line (ascii "write") (write-said answer) sum) (c .adler-32 .ensures)
 
 pub written-spec : {M : Type 1} → statement M
 written-spec =

@@ -1,14 +1,12 @@
--- `call::admit_line`: the book is judged by what the checker answers of it, then the name, then the room for a user. Where none
--- of these refuses, the line can be added, and what was read of the book is ready for the newcomer.
+-- `call::admit_line`: the book is judged by what the checker answers of it, then the name, then the room for a user.
+-- Where none of these refuses, the line can be added, and what was read of the book is ready for the newcomer.
 use borrow.Author.Needs.{needs}
-use Prim.Native.Nat.{_*_, _≤_}
+use Prim.Native.Nat.{_*_}
 use native.Mathlib.Omega.{arith}
 use mathlib.Core.Path.{_≡_, sym, ap, _∙_}
 use mathlib.Core.Bool.{false}
-use mathlib.Core.List.{_++_}
 use borrow.Author.Tests.{eqb-true, le-leb, lt-leb}
-use lib.ListN.{length, take}
-use lib.Seq.{length-take-le}
+use lib.ListN.{take}
 use Rattle.spec.specs.Limits.{user-limit, sheet-limit, role-limit}
 use Rattle.spec.specs.Refusal.{refusal}
 use Rattle.spec.specs.Calls.{CheckAnswer, check}

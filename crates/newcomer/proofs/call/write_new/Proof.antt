@@ -1,9 +1,9 @@
 -- `call::write_new`: the longer sheet is accepted, so its layout and its rows are read. The matrices that were read are
--- such as a newcomer can be put in; with them, the counts and the witness's cells, what is written is the new book. Where
--- there is no room for a new role, it is refused by 19.
+-- such as a newcomer can be put in; with them, the counts and the witness's cells, what is written is the new book.
+-- Where there is no room for a new role, it is refused by 19.
 use borrow.Author.Needs.{needs}
 use native.Mathlib.Omega.{arith}
-use mathlib.Core.Path.{_≡_, sym, ap, subst, _∙_}
+use mathlib.Core.Path.{sym, ap, subst, _∙_}
 use borrow.Author.Tests.{eqb-true}
 use lib.ListN.{take}
 use Rattle.spec.specs.Sheet.{sheet-of}

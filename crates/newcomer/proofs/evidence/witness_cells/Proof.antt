@@ -1,6 +1,5 @@
--- `evidence::witness_cells`: the cells of the first j lines are there; each line is kept, and its cell is a number of 16
--- bits, since there are no more users and permissions than that.
-use borrow.Author.Needs.{needs}
+-- `evidence::witness_cells`: the cells of the first j lines are there; each line is kept, and its cell is a number of
+-- 16 bits, since there are no more users and permissions than that.
 use Prim.Native.Nat.{_-_, _≤_}
 use native.Mathlib.Omega.{arith}
 use mathlib.Core.Path.{_≡_, refl}

@@ -44,8 +44,8 @@ read c = c .before .before .before .before .before
 
 -- what was found is the number of the newcomer's name among the users
 looked-for : (c : tie.After-find-from)
-    → c .find-from .result
-    ≡ found (name-number (sheet-of (call (read c) .args .sheet .now) .users) (added-name (call (read c) .args .line .now)))
+    → let args = call (read c) .args in
+    c .find-from .result ≡ found (name-number (sheet-of (args .sheet .now) .users) (added-name (args .line .now)))
 looked-for c = rw (users (call (read c)) .same, name (read c) .reads) at (c .find-from .ensures)
 
 returns : tie.Need-returns
