@@ -55,7 +55,7 @@ def declared():
                 for name in (m.group(1) or m.group(2)).split():
                     if "-" in name.strip("-") and re.fullmatch(NAME, name):
                         found[name].add(path)
-    return {n: p for n, p in found.items() if not MADE.match(n)}
+    return {n: p for n, p in found.items() if not MADE.match(n) and n != "a-z"}
 
 
 def respelled(name):

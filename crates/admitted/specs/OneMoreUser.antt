@@ -8,9 +8,9 @@ use Rattle.spec.specs.Text.{Bytes}
 use Rattle.spec.specs.Sheet.{Sheet, Grant, user_count, permission_count, holds}
 use Rattle.spec.specs.Fit.{fits}
 use Rattle.spec.specs.Cover.{grant_at}
-use Rattle.spec.specs.RoleSet.{RoleSet, Multiplies, AtLeast}
+use Rattle.spec.specs.RoleSet.{RoleSet, Multiplies}
 use Rattle.spec.specs.Right.{WitnessStands}
-use Rattle.spec.specs.Admitted.{with_user}
+use Rattle.spec.specs.Admitted.{with_user, AtLeast}
 use Rattle.longer.specs.AddedUser.{user_count_with, earlier_holds}
 use Rattle.cells.specs.Laws.Number.{grant_at_member}
 

@@ -21,7 +21,7 @@ use Rattle.admitted.specs.RolesAdmitting.{gives_as_before, gives_new}
 module _ (sheet : Sheet) (u : ℕ) (roles : RoleSet) where
   -- ---- a cell of an earlier user
 
-  pub earlier_cell : (v p : ℕ) → v ≢ u → product (roles_admitting sheet u roles) v p ≡ product roles v p
+  pub earlier_cell : (v p : ℕ) → (v ≡ u → ⊥) → product (roles_admitting sheet u roles) v p ≡ product roles v p
   unfolding product
   earlier_cell v p other = same_truth (product admitting v p) (product roles v p) back on
     where

@@ -7,13 +7,14 @@ use Rattle.std.proofs.Common.{arith, sym}
 use Rattle.std.proofs.Math.Bool.{So}
 use Rattle.spec.specs.Text.{Bytes}
 use Rattle.spec.specs.Sheet.{sheet_of}
-use Rattle.spec.specs.RoleSet.{RoleSet, Multiplies, AtLeast}
+use Rattle.spec.specs.RoleSet.{RoleSet, Multiplies}
 use Rattle.spec.specs.Roles.{Standing, witnessed, searched, unsettled}
 use Rattle.spec.specs.Book.{Said}
 use Rattle.spec.specs.Form.{said}
 use Rattle.spec.specs.Right.{BoundAgrees, Right}
 use Rattle.spec.specs.Refusal.{accepted}
 use Rattle.spec.specs.Calls.{check, check_counts}
+use Rattle.spec.specs.Admitted.{AtLeast}
 use Rattle.cells.specs.Laws.Grant.{held_grant}
 use Rattle.right.specs.Exact.{sheet_accepted, reads_books}
 use Rattle.right.specs.Verdict.{check_confirms}

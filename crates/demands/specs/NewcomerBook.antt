@@ -6,7 +6,6 @@ use Rattle.std.specs.Prelude.{ℕ, ◌≤◌, ◌≡◌, refl, ◌≢◌, ◌⊎
 use Rattle.std.proofs.Common.{arith, sym, ap, ◌∙◌, ⊎_elim}
 use Rattle.spec.specs.Text.{Bytes}
 use Rattle.spec.specs.Rules.{Keeps}
-use Rattle.spec.specs.RoleSet.{AtLeast}
 use Rattle.spec.specs.Roles.{Standing, witnessed, searched, unsettled}
 use Rattle.spec.specs.Book.{Said}
 use Rattle.spec.specs.Refusal.{first_number}
@@ -15,7 +14,7 @@ use Rattle.spec.specs.Calls.{WriteAnswer, write_refused}
 use Rattle.spec.specs.Demands.{Judged}
 use Rattle.spec.specs.Newcomer.{Admission, longer, given_sheet, longer_sheet, newcomer, said_given, said_admitting}
 use Rattle.spec.specs.Newcomer.{new_book, newcomer_causes, newcomer_answer, buffer_admitting, Admits}
-use Rattle.spec.specs.Admitted.{WordTrue, NoNewRole, OneNewRole, Admitted, NewcomerOwed}
+use Rattle.spec.specs.Admitted.{AtLeast, WordTrue, NoNewRole, OneNewRole, Admitted, NewcomerOwed}
 use Rattle.rules.specs.Accepted.{accepted_keeps}
 use Rattle.longer.specs.OneLine.{added_name, added_row}
 use Rattle.longer.specs.LongerSheet.{longer_sheet_told}

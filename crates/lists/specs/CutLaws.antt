@@ -74,6 +74,17 @@ module _ {A : Type 0} where
   pub append_ending : (s : A) (part rest : List A) → ending s part ++ rest ≡ part ++ s ∷ rest
   append_ending s part rest = append_assoc part (s ∷ []) rest
 
+  -- parts that hold no separator, each with a separator after it, are the parts of the whole
+  pub ended_concat : (separator : A → Bool) (s : A) → So (separator s) → (parts : List (List A)) → Parts separator parts
+      → ended_by separator (concat (map (ending s) parts)) ≡ parts
+  ended_concat separator s p [] h = refl
+  ended_concat separator s p (part ∷ later) h =
+      rw (
+        append_ending s part (concat (map (ending s) later)),
+        ended_front separator s p part (concat (map (ending s) later)) (h part (Memᴰ.head refl)),
+        ended_concat separator s p later (later_parts h),
+      )
+
   -- ---- from the list to parts and back
 
   cut_some : (t : Bool) (a : A) (parts : List (List A)) → 1 ≤ length (cut t a parts)

@@ -4,7 +4,8 @@
 use Rattle.std.specs.Prelude.{ℕ, suc, ◌≤◌, ◌≡◌, ◌⊎◌}
 use Rattle.std.proofs.Common.{arith, sym, ◌∙◌, inl, inr, ⊎_elim}
 use Rattle.spec.specs.Sheet.{Sheet}
-use Rattle.spec.specs.RoleSet.{RoleSet, Multiplies, AtLeast}
+use Rattle.spec.specs.RoleSet.{RoleSet, Multiplies}
+use Rattle.spec.specs.Admitted.{AtLeast}
 use Rattle.spec.specs.OneChange.{SmallestCount, OnlyInLine, OnlyInColumn, OneChange, AtMostOneApart}
 use Rattle.spec.specs.OneChange.{OnlyPermissionMoved}
 use Rattle.one_change.specs.Exchanged.{exchanged_roles, exchanged, exchanged_holds, multiplies_exchanged}

@@ -5,7 +5,7 @@ use Rattle.spec.specs.Vocabulary.{map, length, take}
 use Rattle.spec.specs.Text.{Bytes, line_text}
 use Rattle.spec.specs.Sheet.{Sheet, cell_text, permission_count, holds}
 use Rattle.spec.specs.Rules.{Keeps}
-use Rattle.spec.specs.RoleSet.{RoleSet, AtLeast}
+use Rattle.spec.specs.RoleSet.{RoleSet, Multiplies}
 use Rattle.spec.specs.Roles.{witnessed, searched, unsettled}
 use Rattle.spec.specs.Book.{Said, book_text}
 use Rattle.spec.specs.Right.{Right}
@@ -20,6 +20,10 @@ with_user sheet name row =
       permissions = sheet.permissions;
       rows = sheet.rows ++ row ∷ [];
     }
+
+-- every role set with this sheet for product has at least n roles
+abbrev pub AtLeast : ℕ → Sheet → Type 0
+AtLeast n sheet = (roles : RoleSet) → Multiplies roles sheet → n ≤ roles.count
 
 -- where a book says `witnessed` or `searched`, every role set has at least as many roles as the book
 abbrev pub WordTrue : Said → Sheet → Type 0

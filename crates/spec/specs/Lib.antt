@@ -1,6 +1,6 @@
 -- What must be believed: document 01 as definitions, in its order, the three demands, and what requests of document 02
 -- promise besides (`NewcomerOwed`, `OneMovesOne`). What such a request changes stands here as changed: the numbers of
--- request [1], the product role after role of [2], names that are equal with `A-Z` read as `a_z` of [3], loads that
+-- request [1], the product role after role of [2], names that are equal with `A-Z` read as `a-z` of [3], loads that
 -- only read of [4], what the steps were of [5]; a newcomer in an existing book is of [6], one change in a sheet of [7].
 -- Documents 01 and 02 are the papers that the files speak of, with source document 001 for the product. There is no law
 -- here, and nothing about how the code holds its data. Who reads these files and the papers side by side, and trusts

@@ -108,7 +108,7 @@ longer_causes sheet line =
     ∷ record { number = 9; applies = too_many_grants (sheet_of text) }
     ∷ []
 
--- 17: the name is taken, `A-Z` read as `a_z`
+-- 17: the name is taken, `A-Z` read as `a-z`
 unfoldable pub name_taken : Admission → Bool
 unfolding lower sheet_of
 name_taken lent = known (given_sheet lent).users (user_name (longer_sheet lent) (newcomer lent))

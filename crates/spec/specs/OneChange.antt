@@ -5,10 +5,11 @@ use Rattle.spec.specs.Vocabulary.{ℕ, suc, ◌≤◌, ◌<◌, ◌≡◌, ◌�
 use Rattle.spec.specs.Text.{Bytes, lowered, text_of}
 use Rattle.spec.specs.Sheet.{Sheet, sheet_of, user_count, permission_count, holds}
 use Rattle.spec.specs.Rules.{Keeps}
-use Rattle.spec.specs.RoleSet.{RoleSet, Multiplies, AtLeast}
+use Rattle.spec.specs.RoleSet.{RoleSet, Multiplies}
 use Rattle.spec.specs.Roles.{Standing, witnessed, searched}
 use Rattle.spec.specs.Book.{counts_block}
 use Rattle.spec.specs.Session.{Session}
+use Rattle.spec.specs.Admitted.{AtLeast}
 use Rattle.spec.specs.Sequence.{write, WriteOutcome, Event, Led, calls, last_accepted, brought_out}
 
 -- n is the smallest role count of a sheet: some role set with that product has n roles, and none has fewer
@@ -20,7 +21,7 @@ pub record SmallestCount (n : ℕ) (sheet : Sheet) : Type 0 where
 
 -- ---- one change
 
--- two sheets with the same names: as many permissions and as many users, each name equal, with `A-Z` read as `a_z`, to
+-- two sheets with the same names: as many permissions and as many users, each name equal, with `A-Z` read as `a-z`, to
 -- the one at its place
 pub record NamesAgree (sheet other : Sheet) : Type 0 where
   pub permissions : map lowered sheet.permissions ≡ map lowered other.permissions

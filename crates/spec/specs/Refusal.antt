@@ -71,7 +71,7 @@ uneven_line lines = not (all (λ line. eqb (length line) (length (first_line lin
 unfoldable pub bad_cell : List Line → Bool
 bad_cell lines = not (all (λ line. all is_bit (tail line)) (tail lines))
 
--- 8: two users or two permissions of one name, `A-Z` read as `a_z`; a user and a permission may share a name
+-- 8: two users or two permissions of one name, `A-Z` read as `a-z`; a user and a permission may share a name
 unfoldable pub name_twice : Sheet → Bool
 unfolding lower
 name_twice sheet = repeats same_name sheet.users || repeats same_name sheet.permissions

@@ -1,6 +1,6 @@
 -- "Roles and state", a role set: any user-to-role and any role-to-permission matrix, with any number of roles ("The
 -- sequence of demand 3"), and their and/or product as source document 001 has it, role after role.
-use Rattle.spec.specs.Vocabulary.{ℕ, zero, suc, ◌≤◌, ◌<◌, ◌≡◌, Bool, false, ◌&&◌, ◌||◌, List, any, list_of}
+use Rattle.spec.specs.Vocabulary.{ℕ, zero, suc, ◌<◌, ◌≡◌, Bool, false, ◌&&◌, ◌||◌, List, any, list_of}
 use Rattle.spec.specs.Sheet.{Sheet, user_count, permission_count, holds}
 
 -- user u has role h; role h holds permission p. Users, permissions and roles are numbered from 0: role h is document
@@ -36,7 +36,3 @@ or_over_roles roles u p r = any (opens roles u p) (roles_1_to r)
 -- the product is the sheet, cell for cell
 pub record Multiplies (roles : RoleSet) (sheet : Sheet) : Type 0 where
   pub cell : (u p : ℕ) → u < user_count sheet → p < permission_count sheet → product roles u p ≡ holds sheet u p
-
--- every role set with this sheet for product has at least n roles
-abbrev pub AtLeast : ℕ → Sheet → Type 0
-AtLeast n sheet = (roles : RoleSet) → Multiplies roles sheet → n ≤ roles.count

@@ -14,13 +14,13 @@ user_lines (name ∷ names) (row ∷ rows) = (name ∷ map cell_text row) ∷ us
 unfoldable pub sheet_text : Sheet → Bytes
 sheet_text sheet = text_of ((ascii "user" ∷ sheet.permissions) ∷ user_lines sheet.users sheet.rows)
 
--- a name: 1 to 16 bytes of `A-Z a_z 0-9 - . _`
+-- a name: 1 to 16 bytes of `A-Z a-z 0-9 - . _`
 pub record Name (name : Bytes) : Type 0 where
   pub some_byte : 1 ≤ length name
   pub short : length name ≤ 16
   pub spelled : (b : ℕ) → List-as-Memᴰ b name → So (name_byte b)
 
--- names of which no two are equal: none agrees with another when `A-Z` are read as `a_z`
+-- names of which no two are equal: none agrees with another when `A-Z` are read as `a-z`
 pub record Names (names : List Bytes) : Type 0 where
   pub each : (name : Bytes) → List-as-Memᴰ name names → Name name
   pub distinct : (i j : ℕ) → i < j → j < length names → lowered (get_or names i []) ≢ lowered (get_or names j [])

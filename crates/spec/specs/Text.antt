@@ -36,7 +36,7 @@ last_byte (b ∷ next ∷ rest) = last_byte (next ∷ rest)
 abbrev pub between : ℕ → ℕ → ℕ → Bool
 between low high n = leb low n && leb n high
 
--- a byte of a name: `A-Z a_z 0-9 - . _`
+-- a byte of a name: `A-Z a-z 0-9 - . _`
 unfoldable pub name_byte : ℕ → Bool
 name_byte b =
     between (code "A") (code "Z") b
@@ -46,11 +46,11 @@ name_byte b =
     || eqb b (code ".")
     || eqb b (code "_")
 
--- a byte with `A-Z` read as `a_z`
+-- a byte with `A-Z` read as `a-z`
 unfoldable pub lower : ℕ → ℕ
 lower b = cond (between (code "A") (code "Z") b) (code "a" + (b - code "A")) b
 
--- a name with `A-Z` read as `a_z`. Two names of users, or two of permissions, are equal if these are the same: rules
+-- a name with `A-Z` read as `a-z`. Two names of users, or two of permissions, are equal if these are the same: rules
 -- say so of `lowered`, and tests ask `same_name`
 abbrev pub lowered : Bytes → Bytes
 lowered = map lower

@@ -52,7 +52,7 @@ pub fn is_name_byte(b: u8) -> bool
     b == b'_'
 }
 
-// A byte with `A-Z` read as `a_z`.
+// A byte with `A-Z` read as `a-z`.
 pub fn lower_byte(byte: u8) -> u8
     ensures { result ≡ lower byte }
 {

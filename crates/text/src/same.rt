@@ -21,7 +21,7 @@ pub fn same_bytes<'a>(a: &'a [u8], b: &'a [u8]) -> bool
     true
 }
 
-// Whether two bytes are the same with `A-Z` read as `a_z`. Most bytes are the same as they are, or differ in more than
+// Whether two bytes are the same with `A-Z` read as `a-z`. Most bytes are the same as they are, or differ in more than
 // a capital and its small letter do; only for others is a byte lowered.
 fn same_letter(a: u8, b: u8) -> bool
     ensures { result ≡ eqb (lower a) (lower b) }

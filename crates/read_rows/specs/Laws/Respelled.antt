@@ -1,5 +1,5 @@
 -- A line of names in other case: commas and line feeds stay as they are, and no other byte becomes one. So bytes that
--- are such a line with `A-Z` read as `a_z` are a line of as many names, each of them equal to the one at its place.
+-- are such a line with `A-Z` read as `a-z` are a line of as many names, each of them equal to the one at its place.
 use Rattle.std.specs.Prelude.{ℕ, ◌≡◌, refl, false}
 use Prim.Native.Char.{code}
 use Rattle.std.proofs.Common.{sym, ap, ◌∙◌}

@@ -2,11 +2,11 @@
 -- class that the machine skips is unfit, was tried before, or would use as many classes as the best, and a better
 -- placement has no such class. So where the machine closes, no placement is better than the best, and with it no
 -- classing, since every classing can be renumbered by first appearance. Assumes nothing.
-use Rattle.std.specs.Prelude.{ℕ, suc, ◌≤◌, ◌<◌, max, ◌≡◌, ◌⊎◌, List, [], ◌∷◌, length}
+use Rattle.std.specs.Prelude.{ℕ, suc, ◌≤◌, ◌<◌, max, ◌≡◌, false, ◌⊎◌, List, [], ◌∷◌, length}
 use Rattle.std.proofs.Common.{zero-le, ap, ◌∙◌, inl, inr, ⊎_elim, le_trans, eq-or-lt_of_le, arith, lt-ltb, le-leb}
 use Rattle.std.proofs.Math.Bool.{So}
 use Rattle.spec.specs.Cover.{used}
-use Rattle.spec.specs.Machine.{Kernel, State, Step, depth, best_count, reaches_witness, start, possible, step}
+use Rattle.spec.specs.Machine.{Kernel, State, Step, depth, best_count, reaches_witness, start, possible, step, search}
 use Rattle.bits.specs.Truth.{and_intro, not_both}
 use Rattle.bits.specs.Laws.Below.{below_or_from}
 use Rattle.lists.specs.Classing.{Classing}
@@ -14,7 +14,8 @@ use Rattle.lists.specs.Beginning.{Begins, nothing_begins, begins_and_goes_on, be
 use Rattle.lists.specs.Beginning.{begins_valid, begins_grown}
 use Rattle.search.specs.Laws.Steps.{Chosen, NoneChosen, Stepped, placing, improving, taking_back, closing}
 use Rattle.search.specs.Laws.Steps.{step_cases}
-use Rattle.search.specs.Laws.SoundState.{Whole, SoundState}
+use Rattle.search.specs.Laws.Runs.{search_keeps}
+use Rattle.search.specs.Laws.SoundState.{Whole, SoundState, sound_step}
 use Rattle.search.specs.Laws.Canonical.{canonical}
 
 -- a placement does not stand before a position: where it begins as the position does, its next class is not lower
@@ -139,6 +140,17 @@ passed_step kernel st s p = by_cases (step_cases kernel st)
           closed = λ f.
               inr (closing_leaves_none_better kernel st s p e h);
         }
+
+-- ---- runs and searches
+
+both_step : (kernel : Kernel) (st : State) → st.finished ≡ false → SoundState kernel st × Passed kernel st
+    → SoundState kernel (step kernel st).state × Passed kernel (step kernel st).state
+both_step kernel st e h = (sound_step kernel st h.0, passed_step kernel st h.0 h.1)
+
+pub passed_search : (kernel : Kernel) (budget : ℕ) (st : State) → SoundState kernel st → Passed kernel st
+    → Passed kernel (search kernel budget st).state
+passed_search kernel budget st s p =
+    search_keeps kernel (λ later. SoundState kernel later × Passed kernel later) (both_step kernel) budget st (s, p) .1
 
 -- ---- what a finished machine says
 

@@ -4,10 +4,11 @@
 use Rattle.std.specs.Prelude.{ℕ, suc, ◌≤◌, ◌≡◌, List, ◌∷◌, length}
 use Rattle.std.proofs.Common.{le_refl, arith}
 use Rattle.spec.specs.Cover.{used}
-use Rattle.spec.specs.Machine.{Kernel, State, Step, depth, best_count, start, step}
+use Rattle.spec.specs.Machine.{Kernel, State, Step, depth, best_count, start, step, search}
 use Rattle.lists.specs.Classing.{Valid, Grown}
 use Rattle.lists.specs.GrownLaws.{grown_used_le}
 use Rattle.search.specs.Laws.Steps.{Stepped, placing, improving, taking_back, closing, step_cases}
+use Rattle.search.specs.Laws.Runs.{search_keeps}
 use Rattle.search.specs.Laws.Admissible.{Admissible, start_admissible, step_admissible}
 
 -- a placement of the whole kernel: valid, and its classes are numbered by first appearance
@@ -70,3 +71,7 @@ sound_step kernel st s = by_cases (step_cases kernel st) (step_admissible kernel
           whole_no_better = rw e at
               s.whole_no_better;
         }
+
+pub sound_search : (kernel : Kernel) (budget : ℕ) (st : State) → SoundState kernel st
+    → SoundState kernel (search kernel budget st).state
+sound_search kernel = search_keeps kernel (SoundState kernel) (λ st e. sound_step kernel st)

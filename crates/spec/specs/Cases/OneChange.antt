@@ -9,7 +9,8 @@ use Rattle.spec.specs.Vocabulary.{length, get_or, replicate, every_below, lowest
 use Rattle.spec.specs.Text.{Bytes, ascii, lower, text_of}
 use Rattle.spec.specs.Sheet.{sheet_of, holds}
 use Rattle.spec.specs.Machine.{search}
-use Rattle.spec.specs.RoleSet.{RoleSet, cell_after, product, Multiplies, AtLeast}
+use Rattle.spec.specs.RoleSet.{RoleSet, cell_after, product, Multiplies}
+use Rattle.spec.specs.Admitted.{AtLeast}
 use Rattle.spec.specs.Roles.{witnessed, searched, kernel_of, start_of}
 use Rattle.spec.specs.Decimal.{decimal}
 use Rattle.spec.specs.Book.{counts_block, book}

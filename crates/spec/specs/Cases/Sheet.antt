@@ -15,7 +15,7 @@ bytes : filter allowed_byte (list_of 256 (λ b. b))
 unfolding allowed_byte
 bytes = refl
 
--- of all 256 bytes only `A-Z` are read as others, as `a_z`
+-- of all 256 bytes only `A-Z` are read as others, as `a-z`
 letters : map lower (list_of 256 (λ b. b))
     ≡ list_of 65 (λ b. b) ++ ascii "abcdefghijklmnopqrstuvwxyz" ++ list_from 91 165 (λ b. b)
 unfolding lower

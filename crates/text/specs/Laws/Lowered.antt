@@ -1,4 +1,4 @@
--- Equal names: bytes with `A-Z` read as `a_z`. Being equal is an equivalence, equal bytes are equal names, and equal
+-- Equal names: bytes with `A-Z` read as `a-z`. Being equal is an equivalence, equal bytes are equal names, and equal
 -- names are as long. No byte becomes a comma or a line feed and these two stay, so a name without them has none in other
 -- case. Each law follows from what is said of one byte. Assumes nothing.
 use Rattle.std.specs.Prelude.{ℕ, suc, ◌+◌, ◌-◌, ◌%◌, ◌<◌, ◌≡◌, refl, ◌≢◌, false, ◌&&◌, List, [], eqb, length, get_or, drop}

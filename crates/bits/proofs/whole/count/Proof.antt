@@ -6,7 +6,7 @@ use Rattle.bits.specs.Laws.Word.{ones_count}
 use Rattle.bits.proofs.whole.count.Statement.{statement}
 use Rattle.bits.proofs.whole.count.Tie as tie
 
-cast_result : tie.Need-overflow-cast-result
+cast_result : tie.Need-overflow_cast-result
 cast_result c = omega (arith, ones-le word_bits c.args.w c.ranges.w.fits)
 
 returns : tie.Need-returns

@@ -6,7 +6,7 @@ use Rattle.bits.specs.Laws.Word.{lowest_trailing}
 use Rattle.bits.proofs.whole.lowest.Statement.{statement}
 use Rattle.bits.proofs.whole.lowest.Tie as tie
 
-cast_result : tie.Need-overflow-cast-result
+cast_result : tie.Need-overflow_cast-result
 cast_result c = omega (arith, trailing_le word_bits c.args.w)
 
 returns : tie.Need-returns

@@ -5,13 +5,13 @@ use Rattle.bits.specs.Laws.Next.{shifted_to_none, shifted_to_lowest}
 use Rattle.bits.proofs.whole.lowest_from.Statement.{statement}
 use Rattle.bits.proofs.whole.lowest_from.Tie as tie
 
-returns : tie.Need-returns
-returns c = let a = c.before.args in shifted_to_none a.w a.from (omega arith) c.if1.true
+returns : tie.Need-returns-then-rest-eq0
+returns c = let a = c.before.args in shifted_to_none a.w a.from (omega arith) c.if-rest-eq0.true
 
-add_result : tie.Need-overflow-add-result
+add_result : tie.Need-overflow_add-result
 add_result c = omega (arith, c.lowest.ensures.within)
 
-returns_2 : tie.Need-returns-2
+returns_2 : tie.Need-returns
 returns_2 c =
     let a = c.before.before.args in
     shifted_to_lowest a.w a.from (omega arith) c.lowest.ensures

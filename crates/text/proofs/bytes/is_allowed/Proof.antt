@@ -5,13 +5,13 @@ use Rattle.spec.specs.Text.{allowed_byte}
 use Rattle.text.proofs.bytes.is_allowed.Statement.{statement}
 use Rattle.text.proofs.bytes.is_allowed.Tie as tie
 
-returns : tie.Need-returns
+returns : tie.Need-returns-then-is_name_byte
 unfolding allowed_byte
-returns c = rw (sym c.before.is-name-byte.ensures ∙ c.if1.true)
+returns c = rw (sym c.before.is_name_byte.ensures ∙ c.if-is_name_byte.true)
 
-returns_2 : tie.Need-returns-2
+returns_2 : tie.Need-returns
 unfolding allowed_byte
-returns_2 c = rw (sym c.before.before.is-name-byte.ensures ∙ c.before.if1.false) c.is-separator.ensures
+returns_2 c = rw (sym c.before.before.is_name_byte.ensures ∙ c.before.if-is_name_byte.false) c.is_separator.ensures
 
 pub is_allowed_spec : {M : Type 1} → statement M
 is_allowed_spec =

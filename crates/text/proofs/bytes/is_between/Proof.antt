@@ -3,11 +3,11 @@ use borrow.Author.Tests.{lt-leb, le-leb}
 use Rattle.text.proofs.bytes.is_between.Statement.{statement}
 use Rattle.text.proofs.bytes.is_between.Tie as tie
 
-returns : tie.Need-returns
-returns c = rw (lt-leb _ _ c.if1.true)
+returns : tie.Need-returns-then-b-low
+returns c = rw (lt-leb _ _ c.if-b-low.true)
 
-returns_2 : tie.Need-returns-2
-returns_2 c = rw (le-leb _ _ c.if1.false)
+returns_2 : tie.Need-returns
+returns_2 c = rw (le-leb _ _ c.if-b-low.false)
 
 pub is_between_spec : {M : Type 1} → statement M
 is_between_spec =

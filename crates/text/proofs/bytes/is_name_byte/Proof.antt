@@ -15,45 +15,45 @@ use Rattle.text.proofs.bytes.is_name_byte.Tie as tie
 abbrev other_name_byte : Bool → ℕ → Bool
 other_name_byte digit b = digit || eqb b (code "-") || eqb b (code ".") || eqb b (code "_")
 
-returns : tie.Need-returns
+returns : tie.Need-returns-then-is_between
 unfolding name_byte
-returns c = rw (sym c.before.is-between.ensures ∙ c.if1.true)
+returns c = rw (sym c.before.is_between.ensures ∙ c.if-is_between.true)
 
-returns_2 : tie.Need-returns-2
+returns_2 : tie.Need-returns-then-is_between-2
 unfolding name_byte
 returns_2 c =
     rw (
-      sym c.before.before.before.is-between.ensures ∙ c.before.before.if1.false,
-      sym c.before.is-between2.ensures ∙ c.if2.true,
+      sym c.before.before.before.is_between.ensures ∙ c.before.before.if-is_between.false,
+      sym c.before.is_between-2.ensures ∙ c.if-is_between-2.true,
     )
 
-past_letters : (c : tie.Else2)
+past_letters : (c : tie.Else-is_between-2)
     → let b = c.before.before.before.before.args.b in
     name_byte b ≡ other_name_byte (between (code "0") (code "9") b) b
 unfolding name_byte
 past_letters c =
     rw (
-      sym c.before.before.before.is-between.ensures ∙ c.before.before.if1.false,
-      sym c.before.is-between2.ensures ∙ c.if2.false,
+      sym c.before.before.before.is_between.ensures ∙ c.before.before.if-is_between.false,
+      sym c.before.is_between-2.ensures ∙ c.if-is_between-2.false,
     )
 
-returns_3 : tie.Need-returns-3
-returns_3 c = rw (past_letters c.before.before, sym c.before.is-between3.ensures ∙ c.if3.true)
+returns_3 : tie.Need-returns-then-is_between-3
+returns_3 c = rw (past_letters c.before.before, sym c.before.is_between-3.ensures ∙ c.if-is_between-3.true)
 
 -- a byte in none of the ranges
-past_ranges : (c : tie.Else3)
+past_ranges : (c : tie.Else-is_between-3)
     → let b = c.before.before.before.before.before.before.args.b in
     name_byte b ≡ other_name_byte false b
-past_ranges c = rw (past_letters c.before.before, sym c.before.is-between3.ensures ∙ c.if3.false)
+past_ranges c = rw (past_letters c.before.before, sym c.before.is_between-3.ensures ∙ c.if-is_between-3.false)
 
-returns_4 : tie.Need-returns-4
-returns_4 c = rw (past_ranges c.before, eq-eqb _ _ c.if4.true)
+returns_4 : tie.Need-returns-then-b-eq45
+returns_4 c = rw (past_ranges c.before, eq-eqb _ _ c.if-b-eq45.true)
 
-returns_5 : tie.Need-returns-5
-returns_5 c = rw (past_ranges c.before.before, ne_eqb _ _ c.before.if4.false, eq-eqb _ _ c.if5.true)
+returns_5 : tie.Need-returns-then-b-eq46
+returns_5 c = rw (past_ranges c.before.before, ne_eqb _ _ c.before.if-b-eq45.false, eq-eqb _ _ c.if-b-eq46.true)
 
-returns_6 : tie.Need-returns-6
-returns_6 c = rw (past_ranges c.before.before, ne_eqb _ _ c.before.if4.false, ne_eqb _ _ c.if5.false)
+returns_6 : tie.Need-returns
+returns_6 c = rw (past_ranges c.before.before, ne_eqb _ _ c.before.if-b-eq45.false, ne_eqb _ _ c.if-b-eq46.false)
 
 pub is_name_byte_spec : {M : Type 1} → statement M
 is_name_byte_spec =
