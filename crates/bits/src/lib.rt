@@ -3,6 +3,9 @@
 //
 // A contract says of each position whether the result has it, by `bit`, or equals a definition of
 // `specs/Counting.antt` on the word's bits. A position is a usize below WORD_BITS, as an index is.
+
+#![tactic(auto)]
+
 mod position;
 mod whole;
 

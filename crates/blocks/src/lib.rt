@@ -2,6 +2,9 @@
 //
 // A writer is lent a buffer, writes its bytes at the front and answers how many they are; past them the buffer keeps
 // its own bytes (`Written` of text). A writer that follows another is lent the rest from where that one ended.
+
+#![tactic(auto)]
+
 mod role_block;
 mod user_block;
 mod witness_block;

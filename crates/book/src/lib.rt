@@ -1,4 +1,7 @@
 // A role book written into a lent buffer, and written only where there is room for it.
+
+#![tactic(auto)]
+
 mod book;
 mod writing;
 

@@ -6,6 +6,9 @@
 // another part, and what stands in its place. With an empty part nothing is replaced. A group of sheets and books of
 // their own has in each case what is checked, the sheet, the book, and two empty fields. In a field a slash stands for
 // a line feed, and a backslash for a carriage return.
+
+#![tactic(auto)]
+
 mod build;
 mod fields;
 mod show;

@@ -2,6 +2,9 @@
 //
 // A writer is lent a buffer, writes its bytes at the front and answers how many they are; past them the buffer keeps
 // its own bytes (`Written` of text).
+
+#![tactic(auto)]
+
 mod counts;
 mod first_line;
 mod lines;

@@ -1,4 +1,7 @@
 // Rows of cells as text: written to a lent buffer, four at a time.
+
+#![tactic(auto)]
+
 mod fours;
 mod row;
 

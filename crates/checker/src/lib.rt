@@ -1,4 +1,7 @@
 // The checker: whether a book is right for a sheet, its counts, and what was read of it.
+
+#![tactic(auto)]
+
 mod checking;
 mod reading;
 

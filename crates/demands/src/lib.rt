@@ -1,1 +1,3 @@
 // Theorems only: the three demands, of the definitions.
+
+#![tactic(auto)]

@@ -1,4 +1,7 @@
 // Counts, budgets and numbers of searches read from decimal digits, with a cap.
+
+#![tactic(auto)]
+
 mod budget;
 mod digits;
 

@@ -1,4 +1,7 @@
 // Files, read whole into a lent buffer: by their names, or as the arguments of a program name them.
+
+#![tactic(auto)]
+
 ghost use Rattle.std.specs.Prelude.{◌≡◌, false};
 ghost use Rattle.io.specs.Counts.{IsPrefixLen};
 

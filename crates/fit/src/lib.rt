@@ -1,4 +1,7 @@
 // Which grants fit, over rows and columns of words.
+
+#![tactic(auto)]
+
 mod column;
 mod fit;
 

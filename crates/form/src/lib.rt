@@ -1,4 +1,7 @@
 // Lines of a book: the cells behind a name, read into a row of words.
+
+#![tactic(auto)]
+
 mod clear;
 mod line;
 

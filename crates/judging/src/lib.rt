@@ -1,5 +1,8 @@
 // What is judged of a book that has the form: its counts, its product and its witness, and the lowest number that
 // applies.
+
+#![tactic(auto)]
+
 mod agree;
 mod judgement;
 mod witness_lines;

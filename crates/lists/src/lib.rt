@@ -1,1 +1,3 @@
 // Laws of lists and placements only.
+
+#![tactic(auto)]

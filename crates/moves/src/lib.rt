@@ -9,6 +9,9 @@
 // A cursor, the classes of the placed grants and the best placement are the parts of a position, and stand for a
 // state of Machine in `spec` (`Parts`). The contracts say that a step moves that state as the machine does, and
 // says which of the three it was.
+
+#![tactic(auto)]
+
 mod choice;
 mod cursor;
 mod kinds;

@@ -1,4 +1,7 @@
 // Names as parts of the sheet itself: where they stand, one by its number, and the number of one.
+
+#![tactic(auto)]
+
 mod layout;
 mod lookup;
 

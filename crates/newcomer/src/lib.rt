@@ -1,4 +1,7 @@
 // A newcomer in an existing book: the book of the sheet with one user line more, in which nobody's roles have moved.
+
+#![tactic(auto)]
+
 mod call;
 mod evidence;
 mod longer_text;

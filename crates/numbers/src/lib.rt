@@ -1,4 +1,7 @@
 // The kinds of numbers, and every limit of the code.
+
+#![tactic(auto)]
+
 mod limits;
 mod numbers;
 

@@ -1,5 +1,8 @@
 // What the book program, the check program and the newcomer program print, for a sheet and its argument, a book or a
 // book and a line, in a lent buffer with every byte said; and what the long search prints of a session.
+
+#![tactic(auto)]
+
 mod lines;
 mod output;
 

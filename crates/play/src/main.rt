@@ -13,6 +13,9 @@
 // that is no call is answered by `?`, and so is a call whose file cannot be read: standard error says why. A script may
 // be of any length, a line of at most 8,192 bytes. A script is read byte by byte, so that a call is answered before the
 // next one is there.
+
+#![tactic(auto)]
+
 mod calls;
 mod input;
 mod say;

@@ -1,5 +1,8 @@
 // The library for other languages: a whole task in one call over bytes, and a session's calls. `rt staticlib porvuund`
 // writes its functions `porvuund_..` for Rust or C to link.
+
+#![tactic(auto)]
+
 mod calls;
 mod sessions;
 

@@ -1,4 +1,7 @@
 // Blocks 2 and 3 of a book, read into rows of words against the sheet that it is for.
+
+#![tactic(auto)]
+
 mod roles_block;
 mod users_block;
 

@@ -1,5 +1,8 @@
 // The judgement of a sheet cause by cause: the lowest number that applies; and two of its parts, by which further user
 // lines can be judged.
+
+#![tactic(auto)]
+
 mod body;
 mod fields;
 mod line;

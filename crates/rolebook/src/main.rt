@@ -1,6 +1,9 @@
 // Document 01's book program: prints the role book of the grant sheet on standard input, after a search whose budget
 // is the first argument (0 where there is none or it is no number from 0 to 4,294,967,295), or the number of the
 // refusal and a line feed. What it prints is `program_output` (spec, Program); what is here only reads and writes.
+
+#![tactic(auto)]
+
 use libc::{STDIN_FILENO, STDOUT_FILENO};
 use numbers::SHEET_LIMIT;
 use outputs::PROGRAM_BUFFER;

@@ -1,6 +1,9 @@
 // The checker as a program: `rolecheck SHEETFILE BOOKFILE` prints the book's roles and witness lines with a comma
 // between, or the number of the refusal, and a line feed. What it prints is `check_output` (outputs, CheckOutput);
 // what is here only reads and writes. Where a file cannot be read it prints nothing, and standard error says why.
+
+#![tactic(auto)]
+
 use files::read_argument;
 use libc::{STDERR_FILENO, STDOUT_FILENO};
 use numbers::{BOOK_LIMIT, SHEET_LIMIT};

@@ -2,6 +2,9 @@
 // with the line added, or the number of the refusal and a line feed. For `-` the line is read from standard input. What
 // it prints is `newcomer_output` (outputs, NewcomerOutput); what is here only reads and writes. Where a file cannot be
 // read it prints nothing, and standard error says why.
+
+#![tactic(auto)]
+
 ghost use Rattle.io.specs.Counts.{IsPrefixLen};
 
 use files::{FileRead, read_argument};

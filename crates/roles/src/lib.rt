@@ -1,5 +1,8 @@
 // Roles from a placement of the kernel: the classes of all grants, the roles by their lowest grant and their two
 // matrices.
+
+#![tactic(auto)]
+
 mod classes;
 mod limits;
 mod matrices;

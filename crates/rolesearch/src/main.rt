@@ -4,6 +4,9 @@
 // gained, roles, bound, state, steps a second. Then it prints the session's book, or the number of the refusal and a
 // line feed. What it prints is `long_search_output` (spec, LongSearch), which `long_search` puts into a buffer; what is
 // here only reads and writes.
+
+#![tactic(auto)]
+
 mod rounds;
 
 use libc::{STDIN_FILENO, STDOUT_FILENO};

@@ -10,6 +10,9 @@
 // What a position's words and bytes stand for is its `view`, a state of Machine in `spec`, and the contracts say that
 // a step, a run and a search move the view as the machine moves its state. Of a greater kernel a search makes no
 // step, and whoever has one keeps its best placement elsewhere.
+
+#![tactic(auto)]
+
 mod machine;
 
 pub use machine::{Position, Ran, Stepped};

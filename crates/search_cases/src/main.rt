@@ -4,6 +4,9 @@
 // how many of them placed, took back and closed, the searches, whether the machine is then finished, and the classes of
 // the best placement. Then, for both budgets, a line has whether the steps made one by one came to the same as the one
 // search, and were of the same kinds.
+
+#![tactic(auto)]
+
 mod crown;
 mod one_by_one;
 mod print;

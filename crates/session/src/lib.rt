@@ -6,6 +6,9 @@
 // `Reduces`, `Searches` and `Writes` of Calls in `spec`, which the sequence of demand 3 is made of; a sheet is lent to
 // be read only. A call asks only that the session came from these calls (`Sound`), which `fresh` establishes and each
 // call keeps.
+
+#![tactic(auto)]
+
 mod loading;
 mod readiness;
 mod reducing;

@@ -1,4 +1,7 @@
 // Reading a grant sheet in one pass: its refusal, where its names stand, and its cells as rows of words.
+
+#![tactic(auto)]
+
 mod first_line;
 mod kept;
 mod reading;

@@ -1,6 +1,9 @@
 // Runs the judgement of a sheet at its limits, on each number alone, on several at once and on damaged sheets. A line
 // of the output says what the sheet is, the number that was answered, and, where that is 0, the counts of the sheet
 // that was read. A table of cases has, for each, what the sheet is and the sheet, both ended by a semicolon.
+
+#![tactic(auto)]
+
 mod build;
 mod show;
 

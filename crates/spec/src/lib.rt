@@ -1,1 +1,3 @@
 // Definitions alone: what a reader must believe stands in specs/.
+
+#![tactic(auto)]

@@ -1,4 +1,7 @@
 // Steps over a text: bytes that are known, a name in whatever case, and a part up to a byte.
+
+#![tactic(auto)]
+
 mod name;
 mod step;
 

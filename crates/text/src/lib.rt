@@ -1,4 +1,7 @@
 // Bytes as text: which bytes there are, bytes compared, bytes written to the front of a lent buffer.
+
+#![tactic(auto)]
+
 mod bytes;
 mod put;
 mod same;

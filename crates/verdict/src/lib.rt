@@ -1,4 +1,7 @@
 // What a sweep does with one grant: removed as single, tied to the lowest that it dominates, or left.
+
+#![tactic(auto)]
+
 mod domination;
 mod inside;
 mod judgement;

@@ -1,4 +1,7 @@
 // The witness: the greedy choice from the kernel, and the singles.
+
+#![tactic(auto)]
+
 mod choice;
 mod counts;
 mod first;

@@ -1,4 +1,7 @@
 // Prints the book of the paper's sheet, and the book of a sheet without grants.
+
+#![tactic(auto)]
+
 ghost use Rattle.std.specs.Prelude.{◌≤◌};
 ghost use Rattle.spec.specs.Limits.{role_limit};
 ghost use Rattle.spec.specs.Sheet.{sheet_of};

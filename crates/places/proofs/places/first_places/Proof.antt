@@ -5,7 +5,7 @@ use lib.Seq.{length-take-le}
 use Rattle.places.proofs.places.first_places.Statement.{statement}
 use Rattle.places.proofs.places.first_places.Tie as tie
 
-slice_aggregate_result : tie.Need-slice-aggregate-result
+slice_aggregate_result : tie.Need-slice_bounds-result-end
 slice_aggregate_result c = sym (length-take-le c.before.args.n c.before.args.places.now c.before.requires)
 
 pub first_places_spec : {M : Type 1} → statement M

@@ -14,24 +14,24 @@ behind_the_comma : (c : tie.Start) → WrittenSoFar (comma ∷ []) c.args.field.
 behind_the_comma c =
     record { written = byte_written [] comma (omega arith) (nothing_written c.args.out.now); fits = c.requires }
 
-sub_put_bytes : tie.Need-overflow-sub-put-bytes
+sub_put_bytes : tie.Need-slice_bounds-put_bytes-count
 sub_put_bytes c = within_buffer (behind_the_comma c.before.before)
 
-part_put_bytes_start : tie.Need-slice-bounds-put-bytes-start
+part_put_bytes_start : tie.Need-slice_bounds-put_bytes-start
 part_put_bytes_start c = within_buffer (behind_the_comma c.before.before)
 
-put_bytes_requires : tie.Need-put-bytes-requires
+put_bytes_requires : tie.Need-put_bytes-requires
 put_bytes_requires c κs = room_behind (behind_the_comma c.before.before.before)
 
-same_length : tie.Need-same-length
+same_length : tie.Need-shape_of-out
 same_length c =
     let earlier = c.before.before.before.before.before.before in
-    then_same_length (behind_the_comma earlier) c.before.before.put-bytes.ensures
+    then_same_length (behind_the_comma earlier) c.before.before.put_bytes.ensures
 
 returns : tie.Need-returns
 returns c =
     let earlier = c.before.before.before.before.before.before in
-    then_written (behind_the_comma earlier) c.before.before.put-bytes.ensures
+    then_written (behind_the_comma earlier) c.before.before.put_bytes.ensures
 
 pub put_field_spec : {M : Type 1} → statement M
 put_field_spec =

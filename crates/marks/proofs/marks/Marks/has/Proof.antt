@@ -5,11 +5,11 @@ use Rattle.marks.specs.Laws.Mark.{marked_low, marked_high}
 use Rattle.marks.proofs.marks.Marks.has.Statement.{statement}
 use Rattle.marks.proofs.marks.Marks.has.Tie as tie
 
-returns : tie.Need-returns
-returns c = c.has.ensures ∙ sym (marked_low c.before.before.args.self c.before.if1.true)
+returns : tie.Need-returns-then-p-lt-WORD_BITS
+returns c = c.has.ensures ∙ sym (marked_low c.before.before.args.self c.before.if-p-lt-WORD_BITS.true)
 
-returns_2 : tie.Need-returns-2
-returns_2 c = c.has2.ensures ∙ sym (marked_high c.before.before.args.self c.before.if1.false)
+returns_2 : tie.Need-returns-else-p-lt-WORD_BITS
+returns_2 c = c.has-else-p-lt-WORD_BITS.ensures ∙ sym (marked_high c.before.before.args.self c.before.if-p-lt-WORD_BITS.false)
 
 pub has_spec : {M : Type 1} → statement M
 has_spec =
