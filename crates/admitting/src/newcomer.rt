@@ -13,7 +13,7 @@ use numbers::{CELL_WORDS, ROLE_LIMIT, ROLE_WORDS, RoleNo, UserNo};
 use product::row_after;
 
 // How many roles there are with the newcomer, or that there is no room for the new one.
-#[derive(Drop)]
+#[derive(Clone, Copy)]
 pub enum RolesAdmitted {
     Roles(usize),
     TooMany,

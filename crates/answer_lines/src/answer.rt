@@ -16,7 +16,7 @@ pub const ANSWER_BUFFER: usize = 192;
 
 // The answer of a call, or that a line is no call. A writing's and a newcomer's have the Adler-32 of the bytes that
 // were lent.
-#[derive(Drop)]
+#[derive(Clone, Copy)]
 pub enum Answer {
     NoCall,
     Loaded(LoadAnswer),

@@ -12,7 +12,7 @@ use standing::Standing;
 
 // A load's counts: users, permissions and grants.
 #[repr(C)]
-#[derive(Drop)]
+#[derive(Clone, Copy)]
 pub struct LoadAnswer {
     pub number: usize,
     pub users: usize,
@@ -22,7 +22,7 @@ pub struct LoadAnswer {
 
 // A reduction's counts: the kernel's size k and the witness's count w.
 #[repr(C)]
-#[derive(Drop)]
+#[derive(Clone, Copy)]
 pub struct ReduceAnswer {
     pub number: usize,
     pub kernel: usize,
@@ -30,14 +30,14 @@ pub struct ReduceAnswer {
 }
 
 // The state that a search names; a refused one names none.
-#[derive(Drop)]
+#[derive(Clone, Copy)]
 pub enum Named {
     Nothing,
     State(Standing),
 }
 
 // A search's steps, how many of them placed, took back and closed, its roles, bound and state.
-#[derive(Drop)]
+#[derive(Clone, Copy)]
 pub struct SearchAnswer {
     pub number: usize,
     pub steps: u32,
@@ -51,7 +51,7 @@ pub struct SearchAnswer {
 
 // A writing's byte count.
 #[repr(C)]
-#[derive(Drop)]
+#[derive(Clone, Copy)]
 pub struct WriteAnswer {
     pub number: usize,
     pub count: usize,

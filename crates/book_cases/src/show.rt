@@ -10,7 +10,7 @@ use libc::STDOUT_FILENO;
 const SPACE: usize = 132_000;
 
 // What a case damages: the book of document 01, its sheet, or nothing, where it has a sheet and a book of its own.
-#[derive(Drop)]
+#[derive(Clone, Copy)]
 pub enum Damages {
     Book,
     Sheet,

@@ -9,7 +9,7 @@ use standing::Standing;
 use text::put_bytes;
 
 // What block 1 says.
-#[derive(Drop)]
+#[derive(Clone, Copy)]
 pub struct Counts {
     pub roles: usize,
     pub bound: usize,

@@ -1,5 +1,5 @@
 // What writing a book answers: its byte count, or that the buffer is shorter than the book.
-#[derive(Drop)]
+#[derive(Clone, Copy)]
 pub enum Writing {
     Bytes(usize),
     TooShort,

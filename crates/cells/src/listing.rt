@@ -13,7 +13,7 @@ use numbers::{CELL_WORDS, CellNo, GRANT_LIMIT, PermissionNo, ROW_BITS, ROW_WORDS
 
 // Grants in order: the cell of each by its number, and how many there are.
 #[repr(C)]
-#[derive(Drop)]
+#[derive(Clone, Copy)]
 pub struct Kernel {
     pub cells: [u16; GRANT_LIMIT],
     pub size: usize,

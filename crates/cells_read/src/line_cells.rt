@@ -7,7 +7,7 @@ use crate::four_cells::fours_word;
 use text::COMMA;
 
 // Whether all cells stand there, and which of them are `1`. Where one does not stand there, the word is 0.
-#[derive(Drop)]
+#[derive(Clone, Copy)]
 pub struct CellsWord {
     pub good: bool,
     pub word: u64,

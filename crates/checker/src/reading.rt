@@ -20,7 +20,7 @@ use standing::Standing;
 use steps::Step;
 
 // What was found of a book: the checker's answer, and what blocks 1 and 4 say where its number is 0.
-#[derive(Drop)]
+#[derive(Clone, Copy)]
 pub struct BookRead {
     pub checked: Checked,
     pub counts: Counts,

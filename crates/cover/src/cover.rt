@@ -37,7 +37,7 @@ const CLASS_WORDS: usize = CLASS_LIMIT * ROW_WORDS;
 
 // A placement of the kernel: the class of each grant by its number, and how many classes there are.
 #[repr(C)]
-#[derive(Drop)]
+#[derive(Clone, Copy)]
 pub struct Placement {
     pub classes: [u8; GRANT_LIMIT],
     pub used: usize,

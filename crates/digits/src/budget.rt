@@ -10,7 +10,7 @@ use crate::digits::{CountRead, digits_of};
 const BUDGET_CAP: usize = 4_294_967_296;
 
 // What reading a budget finds: a number of that range, or none.
-#[derive(Drop)]
+#[derive(Clone, Copy)]
 pub enum BudgetRead {
     Number(u32),
     NoNumber,

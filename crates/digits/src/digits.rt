@@ -6,7 +6,7 @@ use numbers::COUNT_CAP;
 
 // What reading digits finds: the number that they say, or the cap where that is greater; or that other bytes stand
 // among them.
-#[derive(Drop)]
+#[derive(Clone, Copy)]
 pub enum CountRead {
     Count(usize),
     Off,

@@ -8,7 +8,7 @@ ghost use Rattle.io.specs.Counts.{IsPrefixLen};
 use libc::PATH_MAX;
 
 // Whether a file could be read, and how many of its bytes are at the front of the buffer.
-#[derive(Drop)]
+#[derive(Clone, Copy)]
 pub struct FileRead {
     pub readable: bool,
     pub count: usize,

@@ -17,7 +17,7 @@ use read_fields::Witness;
 // The answer: document 01's number, 0 where none applies, with the roles and the witness lines; a number above 0
 // comes with counts 0.
 #[repr(C)]
-#[derive(Drop)]
+#[derive(Clone, Copy)]
 pub struct Checked {
     pub number: usize,
     pub roles: usize,
@@ -25,7 +25,7 @@ pub struct Checked {
 }
 
 // What was read of blocks 1 and 2: what block 1 says, how many roles block 2 has, and where to go on.
-#[derive(Drop)]
+#[derive(Clone, Copy)]
 pub struct Front {
     pub counts: Counts,
     pub roles: usize,

@@ -7,7 +7,7 @@ ghost use Rattle.marks.specs.Marks.{mark_limit, marked};
 use bits::WORD_BITS;
 
 #[repr(C)]
-#[derive(Drop)]
+#[derive(Clone, Copy)]
 pub struct Marks {
     pub low: u64,
     pub high: u64,

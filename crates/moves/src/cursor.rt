@@ -5,7 +5,7 @@ use marks::Marks;
 // Depth d, next try t, classes in use, class count b of the best placement, finished or not, and which grants opened
 // a class.
 #[repr(C)]
-#[derive(Drop)]
+#[derive(Clone, Copy)]
 pub struct Cursor {
     pub depth: usize,
     pub next: usize,
@@ -16,14 +16,14 @@ pub struct Cursor {
 }
 
 // Where a step led, and which of the three it was.
-#[derive(Drop)]
+#[derive(Clone, Copy)]
 pub struct Step {
     pub cursor: Cursor,
     pub kind: StepKind,
 }
 
 // How many grants a kernel has, how many singles were removed, and how many grants are in the witness.
-#[derive(Drop)]
+#[derive(Clone, Copy)]
 pub struct Sizes {
     pub kernel: usize,
     pub singles: usize,

@@ -4,7 +4,7 @@ ghost use Rattle.spec.specs.Machine.{no_kinds, counted};
 ghost use Rattle.moves.specs.StepKinds.{count_end, kind_case, kinds_said};
 
 // A step placed one grant, took one back, or closed the search.
-#[derive(Drop)]
+#[derive(Clone, Copy)]
 pub enum StepKind {
     Placed,
     TookBack,
@@ -12,7 +12,7 @@ pub enum StepKind {
 }
 
 // How many of some steps placed, took back and closed.
-#[derive(Drop)]
+#[derive(Clone, Copy)]
 pub struct Kinds {
     pub placed: u32,
     pub taken_back: u32,

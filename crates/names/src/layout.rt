@@ -9,7 +9,7 @@ use numbers::{PermissionNo, UserNo};
 use places::Places;
 
 #[repr(C)]
-#[derive(Drop)]
+#[derive(Clone, Copy)]
 pub struct Layout {
     pub users: usize,
     pub permissions: usize,

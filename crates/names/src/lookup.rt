@@ -8,7 +8,7 @@ use places::{from_of, to_of};
 use text::same_name;
 
 // What looking for a name finds.
-#[derive(Drop)]
+#[derive(Clone, Copy)]
 pub enum Found {
     At(usize),
     Nothing,

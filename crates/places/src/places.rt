@@ -9,7 +9,7 @@ const PLACE_BASE: u64 = 4_294_967_296;
 
 // The places of the names, with room for as many names as there can be users.
 #[repr(C)]
-#[derive(Drop)]
+#[derive(Clone, Copy)]
 pub struct Places {
     pub at: [u64; USER_LIMIT],
 }

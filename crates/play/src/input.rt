@@ -7,7 +7,7 @@ use libc::STDIN_FILENO;
 pub const LINE_LIMIT: usize = 8_192;
 
 // What there is to read: a byte, or nothing more.
-#[derive(Drop)]
+#[derive(Clone, Copy)]
 enum Input {
     Byte(u8),
     End,
@@ -15,7 +15,7 @@ enum Input {
 
 // How many bytes a line has without its line feed, and whether there is no line any more. A line that is too long has
 // none.
-#[derive(Drop)]
+#[derive(Clone, Copy)]
 pub struct LineRead {
     pub ended: bool,
     pub count: usize,

@@ -22,7 +22,7 @@ fn first_blank(line: &[u8]) -> usize
 }
 
 // The call that the first word of a line names, where something stands behind it.
-#[derive(Drop)]
+#[derive(Clone, Copy)]
 enum Asked {
     Load,
     Search,

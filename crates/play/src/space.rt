@@ -9,7 +9,7 @@ use digits::BudgetRead;
 const SPACE_LIMIT: usize = 262_144;
 
 // How many bytes are asked for: a number, and no more than there are, or not.
-#[derive(Drop)]
+#[derive(Clone, Copy)]
 pub enum Length {
     Bytes(usize),
     Off,

@@ -15,7 +15,7 @@ use standing::Standing;
 
 // What a search answers, with a number for its state: 1 witnessed, 2 searched, 3 open, and 0 for none.
 #[repr(C)]
-#[derive(Drop)]
+#[derive(Clone, Copy)]
 pub struct SearchNumbers {
     pub number: usize,
     pub steps: u32,
@@ -29,7 +29,7 @@ pub struct SearchNumbers {
 
 // The session after a search, and what the search answers.
 #[repr(C)]
-#[derive(Drop)]
+#[derive(Clone, Copy)]
 pub struct SearchedNumbers {
     pub session: Session,
     pub answer: SearchNumbers,

@@ -15,7 +15,7 @@ use witness::Witness;
 
 // What was removed, the kernel in order, the witness, the first cover and the fit table.
 #[repr(C)]
-#[derive(Drop)]
+#[derive(Clone, Copy)]
 pub struct Prepared {
     pub reduced: Reduced,
     pub kernel: Kernel,

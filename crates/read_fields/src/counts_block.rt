@@ -8,21 +8,21 @@ use standing::Standing;
 use steps::{Step, expect, expect_byte, part_end};
 
 // What reading a count and the comma behind it finds: its number, and where to go on.
-#[derive(Drop)]
+#[derive(Clone, Copy)]
 pub enum CountField {
     Count(usize, usize),
     Off,
 }
 
 // What reading a state and the line feed behind it finds: the state, and where to go on.
-#[derive(Drop)]
+#[derive(Clone, Copy)]
 pub enum StandingField {
     State(Standing, usize),
     Off,
 }
 
 // What reading block 1 finds: what it says, its counts as `count_of` reads them, and where to go on.
-#[derive(Drop)]
+#[derive(Clone, Copy)]
 pub enum CountsRead {
     Counts(Counts, usize),
     Off,

@@ -13,35 +13,35 @@ use numbers::{PermissionNo, ROLE_LIMIT, UserNo};
 use steps::{Step, expect, part_end};
 
 // The grant that a witness line names.
-#[derive(Drop)]
+#[derive(Clone, Copy)]
 pub struct WitnessLine {
     pub user: UserNo,
     pub permission: PermissionNo,
 }
 
 // What reading a name and the byte behind it finds: its number, and where to go on.
-#[derive(Drop)]
+#[derive(Clone, Copy)]
 pub enum NameField {
     Name(usize, usize),
     Off,
 }
 
 // What reading a witness line finds: its grant, and where to go on.
-#[derive(Drop)]
+#[derive(Clone, Copy)]
 pub enum WitnessRead {
     Line(WitnessLine, usize),
     Off,
 }
 
 // The witness: how many lines it has, and the grants of as many of the first as there can be roles.
-#[derive(Drop)]
+#[derive(Clone, Copy)]
 pub struct Witness {
     pub lines: usize,
     pub first: [WitnessLine; ROLE_LIMIT],
 }
 
 // A witness that was read to the end of the book, where the book is of the form.
-#[derive(Drop)]
+#[derive(Clone, Copy)]
 pub struct WitnessesRead {
     pub of_form: bool,
     pub witness: Witness,

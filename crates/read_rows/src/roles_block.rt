@@ -17,7 +17,7 @@ use numbers::{ROLE_LIMIT, RoleNo};
 use steps::{Step, expect, expect_byte, expect_name};
 
 // What reading the lines of roles finds: how many there are, and where to go on.
-#[derive(Drop)]
+#[derive(Clone, Copy)]
 pub enum RolesRead {
     Roles(usize, usize),
     Off,

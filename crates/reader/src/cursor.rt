@@ -9,13 +9,13 @@ ghost use Rattle.text.specs.Line.{separator};
 use text::{COMMA, is_separator};
 
 // A place in a text.
-#[derive(Drop)]
+#[derive(Clone, Copy)]
 pub struct Cursor {
     pub at: usize,
 }
 
 // A field that was read: where it starts and ends, whether it is the last of its line, and where to go on.
-#[derive(Drop)]
+#[derive(Clone, Copy)]
 pub struct FieldRead {
     pub from: usize,
     pub to: usize,
@@ -24,7 +24,7 @@ pub struct FieldRead {
 }
 
 // A sheet's bytes, not copied, and the place from which they are read on.
-#[derive(Drop)]
+#[derive(Clone, Copy)]
 pub struct Reader<'a> {
     pub sheet: &'a [u8],
     pub at: usize,

@@ -18,7 +18,7 @@ use verdict::{Verdict, has_grants, insides, judge};
 // The cells of the kernel, and the removals in order: the cell of each, and its partner's, which is its own where it
 // was removed as single.
 #[repr(C)]
-#[derive(Drop)]
+#[derive(Clone, Copy)]
 pub struct Reduced {
     pub left: [u64; CELL_WORDS],
     pub removed: [u16; GRANT_LIMIT],

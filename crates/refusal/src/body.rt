@@ -9,7 +9,7 @@ use spelling::name_length;
 
 // How many lines there are, whether each name is as long as a name, whether each line has as many fields as asked
 // after its name, whether each of those is `0` or `1`, and how many are `1`.
-#[derive(Drop)]
+#[derive(Clone, Copy)]
 pub struct Body {
     pub users: usize,
     pub names: bool,

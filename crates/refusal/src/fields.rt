@@ -8,7 +8,7 @@ use spelling::name_length;
 use text::same_bytes;
 
 // How many fields there are, whether each is as long as a name, whether each is `0` or `1`, and how many are `1`.
-#[derive(Drop)]
+#[derive(Clone, Copy)]
 pub struct Cells {
     pub count: usize,
     pub names: bool,

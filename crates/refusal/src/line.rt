@@ -6,7 +6,7 @@ use crate::fields::Cells;
 use reader::Cursor;
 
 // A line that was read: where its first field ends, what the other fields say, and where the next line starts.
-#[derive(Drop)]
+#[derive(Clone, Copy)]
 pub struct LineRead {
     pub to: usize,
     pub cells: Cells,

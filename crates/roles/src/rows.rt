@@ -17,7 +17,7 @@ use cells::{permission_of, user_of};
 use numbers::{CELL_LIMIT, CELL_WORDS, CellNo, ROLE_WORDS, ROW_BITS, ROW_WORDS, RoleNo};
 
 // Who has which role, what each role gives, and how many roles there are.
-#[derive(Drop)]
+#[derive(Clone, Copy)]
 pub struct RoleMatrices {
     pub has: [u64; CELL_WORDS],
     pub gives: [u64; ROLE_WORDS],

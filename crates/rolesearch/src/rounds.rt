@@ -23,7 +23,7 @@ const ROUND_BUDGET: u32 = 100_000_000;
 const TICKS: u64 = 1_000_000;
 
 // Where some searches led, how many there were, and the steps of all of them.
-#[derive(Drop)]
+#[derive(Clone, Copy)]
 struct Rounds {
     session: Session,
     searches: u32,

@@ -13,7 +13,7 @@ use numbers::{KERNEL_LIMIT, TABLE_WORDS};
 // for a state is said by `PositionStands`; whoever makes one otherwise than by `start` and the steps from there has
 // to show it.
 #[repr(C)]
-#[derive(Drop)]
+#[derive(Clone, Copy)]
 pub struct Position {
     pub cursor: Cursor,
     pub classes: [u8; KERNEL_LIMIT],
@@ -21,14 +21,14 @@ pub struct Position {
 }
 
 // Where one step led, and which of the three it was.
-#[derive(Drop)]
+#[derive(Clone, Copy)]
 pub struct Stepped {
     pub position: Position,
     pub kind: StepKind,
 }
 
 // Where some steps led, how many they were, and how many of each kind.
-#[derive(Drop)]
+#[derive(Clone, Copy)]
 pub struct Ran {
     pub position: Position,
     pub steps: u32,

@@ -28,7 +28,7 @@ pub use searching::Searched;
 // those of nothing. The fields are the session's own: what it stands for is its `view`, and which values come from the
 // calls is said by `Sound`.
 #[repr(C)]
-#[derive(Drop)]
+#[derive(Clone, Copy)]
 pub struct Session {
     loaded: bool,
     reduced: bool,

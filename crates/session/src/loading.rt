@@ -15,7 +15,7 @@ use search::Position;
 
 // The session after a load, and what the load answers.
 #[repr(C)]
-#[derive(Drop)]
+#[derive(Clone, Copy)]
 pub struct Loaded {
     pub session: Session,
     pub answer: LoadAnswer,

@@ -12,7 +12,7 @@ use search::Position;
 
 // The session after a reduction, and what the reduction answers.
 #[repr(C)]
-#[derive(Drop)]
+#[derive(Clone, Copy)]
 pub struct Reduced {
     pub session: Session,
     pub answer: ReduceAnswer,

@@ -10,7 +10,7 @@ use answers::SearchAnswer;
 use moves::Sizes;
 
 // The session after a search, and what the search answers.
-#[derive(Drop)]
+#[derive(Clone, Copy)]
 pub struct Searched {
     pub session: Session,
     pub answer: SearchAnswer,

@@ -10,14 +10,14 @@ use spelling::is_user;
 use text::{COMMA, LINE_FEED, stands_at};
 
 // How many names the line has, and where the next line starts.
-#[derive(Drop)]
+#[derive(Clone, Copy)]
 pub struct FirstLine {
     pub permissions: usize,
     pub next: usize,
 }
 
 // What the first line is read as: such a line with some names and no more than there can be permissions, or not.
-#[derive(Drop)]
+#[derive(Clone, Copy)]
 pub enum FirstLineRead {
     Line(FirstLine),
     NoLine,

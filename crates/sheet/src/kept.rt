@@ -11,7 +11,7 @@ use buckets::repeated_in;
 use numbers::{CELL_WORDS, GRANT_LIMIT, SHEET_LIMIT, USER_LIMIT};
 
 // The counts of a sheet.
-#[derive(Drop)]
+#[derive(Clone, Copy)]
 pub struct Counts {
     pub users: usize,
     pub permissions: usize,
@@ -19,7 +19,7 @@ pub struct Counts {
 }
 
 // What a sheet's lines are read as: such as the rules ask for, within all limits, or not.
-#[derive(Drop)]
+#[derive(Clone, Copy)]
 pub enum LinesRead {
     Lines(Counts),
     NoLines,

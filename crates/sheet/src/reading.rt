@@ -14,7 +14,7 @@ use places::Places;
 use refusal::judge;
 
 // What a sheet's bytes were read as. Where the number is not 0, the layout is that of nothing and no cell is set.
-#[derive(Drop)]
+#[derive(Clone, Copy)]
 pub struct SheetRead {
     pub number: usize,
     pub layout: Layout,

@@ -6,7 +6,7 @@ use reader::Cursor;
 use spelling::{Kind, all_of, name_length};
 
 // What a field is read as: a name, by where it ends, or no name.
-#[derive(Drop)]
+#[derive(Clone, Copy)]
 pub enum NameRead {
     Name(usize),
     NoName,

@@ -10,14 +10,14 @@ use steps::Step;
 use text::{LINE_FEED, stands_at};
 
 // Where the name of such a line ends, and where the next line starts.
-#[derive(Drop)]
+#[derive(Clone, Copy)]
 pub struct UserLine {
     pub to: usize,
     pub next: usize,
 }
 
 // What is read at a place: such a line, or none.
-#[derive(Drop)]
+#[derive(Clone, Copy)]
 pub enum UserLineRead {
     Line(UserLine),
     NoLine,

@@ -10,14 +10,14 @@ use numbers::{CELL_WORDS, ROW_WORDS, USER_LIMIT};
 use places::place_of;
 
 // How many lines there are, and how many of their cells are `1`.
-#[derive(Drop)]
+#[derive(Clone, Copy)]
 pub struct UserLines {
     pub users: usize,
     pub grants: usize,
 }
 
 // What the lines are read as: all are lines of users and no more than there can be users, or not.
-#[derive(Drop)]
+#[derive(Clone, Copy)]
 pub enum UserLinesRead {
     Lines(UserLines),
     NoLines,

@@ -9,7 +9,7 @@ use numbers::NAME_LIMIT;
 use text::{is_allowed, is_name_byte, same_bytes};
 
 // A kind of bytes: those that a sheet may have, or those of names.
-#[derive(Drop)]
+#[derive(Clone, Copy)]
 pub enum Kind {
     Sheet,
     Name,

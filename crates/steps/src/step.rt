@@ -4,7 +4,7 @@ ghost use Rattle.steps.specs.Steps.{Expects};
 ghost use Rattle.steps.specs.Ended.{PartEnd};
 
 // What reading at a place answers: where to go on, or that the text is not of the form there.
-#[derive(Drop)]
+#[derive(Clone, Copy)]
 pub enum Step {
     On(usize),
     Off,

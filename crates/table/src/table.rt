@@ -33,7 +33,7 @@ fn cells_from(size: usize, from: usize) -> usize
 }
 
 // Some cells: those whose users hold a permission, or those whose permissions a user holds.
-#[derive(Drop)]
+#[derive(Clone, Copy)]
 pub enum Line {
     Column(PermissionNo),
     Row(UserNo),
@@ -106,7 +106,7 @@ fn columns<'a>(
 }
 
 // A user, and the cells whose permissions the user holds, in two words.
-#[derive(Drop)]
+#[derive(Clone, Copy)]
 struct HolderCells {
     user: UserNo,
     low: u64,

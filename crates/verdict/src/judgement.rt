@@ -19,14 +19,14 @@ use fit::{COLUMN_WORDS, PLACE_WORDS, partners_in_column};
 use numbers::{CELL_WORDS, CellNo, ROW_WORDS, UserNo};
 
 // The cell that a grant is tied to, if there is one.
-#[derive(Drop)]
+#[derive(Clone, Copy)]
 pub enum Found {
     At(CellNo),
     Nothing,
 }
 
 // A grant stays, or is removed as single or tied to another.
-#[derive(Drop)]
+#[derive(Clone, Copy)]
 pub enum Verdict {
     Stays,
     Single,

@@ -15,7 +15,7 @@ use fit::fitting;
 use numbers::{CELL_LIMIT, CELL_WORDS, CellNo, ROW_WORDS};
 
 // A grant by its cell, and how many remaining grants fit it, itself among them: none at all where there is no grant.
-#[derive(Drop)]
+#[derive(Clone, Copy)]
 pub struct Choice {
     pub cell: CellNo,
     pub partners: usize,

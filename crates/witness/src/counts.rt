@@ -44,7 +44,7 @@ fn take_off_in_row(counts: &mut [u16; CELL_LIMIT], v: UserNo, own: &[u64; ROW_WO
 }
 
 // Some grants of a user: the permissions, as the words of the row.
-#[derive(Drop)]
+#[derive(Clone, Copy)]
 pub struct SomeGrants {
     pub user: UserNo,
     pub words: [u64; ROW_WORDS],

@@ -77,7 +77,7 @@ pub fn single_cells<'a>(
 
 // The witness: its grants by their cells, and w.
 #[repr(C)]
-#[derive(Drop)]
+#[derive(Clone, Copy)]
 pub struct Witness {
     pub cells: [u64; CELL_WORDS],
     pub count: usize,
