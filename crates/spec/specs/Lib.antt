@@ -49,5 +49,3 @@ pub mod Demands
 pub mod Admitted
 -- document 02, [7]: one person moves one role
 pub mod OneChange
--- "Around the edges": the paper's cases, computed
-pub mod Cases
