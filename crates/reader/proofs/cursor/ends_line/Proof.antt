@@ -4,8 +4,8 @@ use lib.ListN.{get_or-eq_default}
 use Rattle.reader.proofs.cursor.ends_line.Statement.{statement}
 use Rattle.reader.proofs.cursor.ends_line.Tie as tie
 
-returns_2 : tie.Need-returns-2
-returns_2 c = rw (get_or-eq_default c.before.args.s.now 0 c.if1.false)
+returns_2 : tie.Need-returns-else-to-s
+returns_2 c = rw (get_or-eq_default c.args.s.now 0 c.if-to-s.false)
 
 pub ends_line_spec : {M : Type 1} → statement M
 ends_line_spec =

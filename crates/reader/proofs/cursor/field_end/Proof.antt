@@ -10,40 +10,40 @@ use Rattle.text.specs.Line.{separator}
 use Rattle.reader.proofs.cursor.field_end.Statement.{statement}
 use Rattle.reader.proofs.cursor.field_end.Tie as tie
 
-abbrev invariant_loop : tie.invariant-loop
+abbrev invariant_loop : tie.invariant-loop-i
 invariant_loop s at i₀ i = i + span separator (drop i s) ≡ at + span separator (drop at s)
 
-abbrev decreases_loop : tie.decreases-loop
+abbrev decreases_loop : tie.decreases-loop-i
 decreases_loop s at i₀ i = length s - i
 
-loop_holds : tie.Need-loop-init invariant_loop decreases_loop
+loop_holds : tie.Need-loop-i-init invariant_loop decreases_loop
 loop_holds c = refl
 
-returns : tie.Need-returns invariant_loop decreases_loop
+returns : tie.Need-returns-then-is_separator invariant_loop decreases_loop
 returns c =
     let at_loop = c.before.before.before.before in
     let start = at_loop.before.before in
-    let i = at_loop.loop.i in
+    let i = at_loop.loop-i.i in
     let s = start.args.s.now in
-    let stops = sym c.before.is-separator.ensures ∙ c.if1.true in
-    omega (arith, rw (span_drop separator s i 0 (omega arith), stops) at at_loop.loop.invariant)
+    let stops = sym c.is_separator.ensures ∙ c.if-is_separator.true in
+    omega (arith, rw (span_drop separator s i 0 (omega arith), stops) at at_loop.loop-i.invariant)
 
-loop_again : tie.Need-loop-preserved invariant_loop decreases_loop
+loop_again : tie.Need-loop-i-preserved invariant_loop decreases_loop
 loop_again c =
     let at_loop = c.before.before.before.before in
     let start = at_loop.before.before in
-    let i = at_loop.loop.i in
+    let i = at_loop.loop-i.i in
     let s = start.args.s.now in
-    let goes_on = sym c.before.is-separator.ensures ∙ c.if1.false in
+    let goes_on = sym c.is_separator.ensures ∙ c.if-is_separator.false in
     rw add-one
-    (omega (arith, rw (span_drop separator s i 0 (omega arith), goes_on) at at_loop.loop.invariant))
+    (omega (arith, rw (span_drop separator s i 0 (omega arith), goes_on) at at_loop.loop-i.invariant))
 
-returns_2 : tie.Need-returns-2 invariant_loop decreases_loop
+returns_2 : tie.Need-returns invariant_loop decreases_loop
 returns_2 c =
-    let i = c.before.loop.i in
-    let s = c.before.before.before.args.s.now in
+    let i = c.loop-i.i in
+    let s = c.args.s.now in
     let past : length s ≤ i = omega arith in
-    omega (arith, rw (drop_of_length-le s past) at c.before.loop.invariant)
+    omega (arith, rw (drop_of_length-le s past) at c.loop-i.invariant)
 
 pub field_end_spec : {M : Type 1} → statement M
 field_end_spec =
