@@ -3,9 +3,20 @@
 #![tactic(auto)]
 
 ghost use Rattle.std.specs.Prelude.{◌≡◌, false};
+ghost use Rattle.std.specs.Io.{ReadsAtMost};
 ghost use Rattle.io.specs.Counts.{IsPrefixLen};
 
-use libc::PATH_MAX;
+use std::env::Env;
+use std::fs::File;
+use std::io::{Error, ErrorKind, Read, Result};
+use std::rt::Files;
+use std::str;
+
+// The descriptor of standard error.
+const STANDARD_ERROR: i32 = 2;
+
+// The bytes of a path, at most.
+const PATH_LIMIT: usize = 4_096;
 
 // Whether a file could be read, and how many of its bytes are at the front of the buffer.
 #[derive(Clone, Copy)]
@@ -20,38 +31,66 @@ const UNREADABLE: FileRead = FileRead {
     count: 0,
 };
 
+// Reads until the buffer is full, the file ends or a read fails, and answers how many bytes it put at the front.
+fn read_full<F: Read>(file: &mut F, buf: &mut [u8]) -> usize
+    ensures { IsPrefixLen result buf.new }
+{
+    let mut done = 0;
+    while done < buf.len() {
+        let Ok(n) = file.read(&mut buf[done..]) else {
+            break;
+        };
+        if n == 0 {
+            break;
+        }
+        done += n;
+    }
+    done
+}
+
+// Reads the file of this name: an error where it cannot be opened, or where the first read fails.
+fn try_read(rt: &impl Files, path: &[u8], buf: &mut [u8]) -> Result<usize>
+    ensures { ReadsAtMost result buf.new }
+{
+    let Ok(name) = str::from_utf8(path) else {
+        return Err(Error::from(ErrorKind::InvalidInput));
+    };
+    let mut file = File::open(rt, name)?;
+    let first = file.read(buf)?;
+    let rest = read_full(&mut file, &mut buf[first..]);
+    Ok(first + rest)
+}
+
+// Writes a line to standard error: a path, and why it cannot be read.
+fn fail(rt: &impl Eprint, path: &[u8], error: &Error) {
+    io::write_all(STANDARD_ERROR, path);
+    let _said = eprintln!(rt; ": {error}");
+}
+
 // Reads the file of this name to its end, or until the buffer is full. A folder can be opened, and fails at the first
 // read. Standard error says why a file cannot be read. What a file has is no value that the contract could name: it
 // says the range of the count.
-pub fn read_file(path: &[u8], buf: &mut [u8]) -> FileRead
+pub fn read_file<R: Files + Eprint>(rt: &R, path: &[u8], buf: &mut [u8]) -> FileRead
     ensures prefix_len { IsPrefixLen result.count buf.new }
     ensures count_value { result.readable ≡ false → result.count ≡ 0 }
 {
-    let fd = os::open_read(path);
-    if fd < 0 {
-        os::fail(path);
-        return UNREADABLE;
-    }
-    let got = libc::read(fd, buf);
-    if got < 0 {
-        os::fail(path);
-        libc::close(fd);
-        return UNREADABLE;
-    }
-    let first = io::count(got, buf);
-    let rest = io::read_full(fd, &mut buf[first..]);
-    libc::close(fd);
-    FileRead {
-        readable: true,
-        count: first + rest,
+    match try_read(rt, path, buf) {
+        Ok(count) => FileRead {
+            readable: true,
+            count,
+        },
+        Err(error) => {
+            fail(rt, path, &error);
+            UNREADABLE
+        }
     }
 }
 
 // Reads the file that an argument names.
-pub fn read_argument(i: usize, buf: &mut [u8]) -> FileRead
+pub fn read_argument<R: Files + Env + Eprint>(rt: &R, i: usize, buf: &mut [u8]) -> FileRead
     ensures { IsPrefixLen result.count buf.new }
 {
-    let mut path = [0u8; PATH_MAX];
-    let length = os::arg(i, &mut path);
-    read_file(&path[..length], buf)
+    let mut path = [0u8; PATH_LIMIT];
+    let length = rt.arg(i, &mut path).unwrap_or(0);
+    read_file(rt, &path[..length], buf)
 }
