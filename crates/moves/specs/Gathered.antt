@@ -1,7 +1,7 @@
 -- The members of each class, in a table that has a word of each class for the first grants, then for the others. One
 -- grant put in or taken out changes one bit, so that the table goes with the classes of the first grants when the next
 -- one is placed or the latest taken back.
-use Rattle.std.specs.Prelude.{ℕ, zero, suc, ◌+◌, ◌*◌, ◌/◌, ◌%◌, ◌≤◌, ◌<◌, ◌≡◌, refl, ◌⊎◌, Bool, true, false, ◌&&◌, cond, List, eqb, ltb, length, get_or, set, replicate}
+use Rattle.std.specs.Prelude.{ℕ, zero, suc, ◌+◌, ◌*◌, ◌/◌, ◌%◌, ◌≤◌, ◌<◌, ◌≡◌, refl, Bool, true, false, ◌&&◌, cond, List, eqb, ltb, length, get_or, set, replicate}
 use Rattle.std.proofs.Common.{sym, ◌∙◌, ⊎_elim, arith, eqb-true, eq-eqb, lt-ltb, le-ltb, length-set, get_or-set_same, get_or-set_other}
 use Rattle.std.proofs.Math.Bool.{So, and-true, and-false}
 use Rattle.std.proofs.lemmas.Bool.{eqb-false}

@@ -1,5 +1,5 @@
 // The search's own position moved forward: the small struct of depth, next try and best count is lent to one thin
-// step function. Both functions are proved by hand, and all that they do is what `moved` does.
+// step function. All that both functions do is what `moved` does.
 ghost use Rattle.moves.specs.Lent.{step_to, Ready, Moved};
 
 use crate::cursor::{Cursor, Sizes, Step};

@@ -7,15 +7,15 @@ use Rattle.marks.specs.Laws.Mark.{put_in, taken_out}
 use Rattle.moves.proofs.members.changed.Statement.{statement}
 use Rattle.moves.proofs.members.changed.Tie as tie
 
-returns : tie.Need-returns
+returns : tie.Need-returns-then-put
 returns c q =
-    let a = c.before.before.args in
-    c.with.ensures q ∙ rw c.before.if1.true (put_in (bit a.word q) (eqb q a.p))
+    let a = c.args in
+    c.with.ensures q ∙ rw c.if-put.true (put_in (bit a.word q) (eqb q a.p))
 
-returns_2 : tie.Need-returns-2
+returns_2 : tie.Need-returns-else-put
 returns_2 c q =
-    let a = c.before.before.args in
-    c.without.ensures q ∙ rw c.before.if1.false (taken_out (bit a.word q) (eqb q a.p))
+    let a = c.args in
+    c.without.ensures q ∙ rw c.if-put.false (taken_out (bit a.word q) (eqb q a.p))
 
 pub changed_spec : {M : Type 1} → statement M
 changed_spec =

@@ -8,14 +8,14 @@ use Rattle.bits.specs.Truth.{same_truth}
 use Rattle.moves.proofs.moves.reaches.Statement.{statement}
 use Rattle.moves.proofs.moves.reaches.Tie as tie
 
-returns : tie.Need-returns
+returns : tie.Need-returns-then-sizes-count
 returns c =
-    let a = c.before.before.args in
+    let a = c.args in
     sym (ne_eqb (a.count + a.sizes.singles) a.sizes.witness (λ e. omega arith))
 
-returns_2 : tie.Need-returns-2
+returns_2 : tie.Need-returns
 returns_2 c =
-    let a = c.before.before.before.before.args in
+    let a = c.args in
     let s = a.sizes in
     same_truth (eqb (s.witness - a.count) s.singles) (eqb (a.count + s.singles) s.witness)
     (λ e. eq-eqb (a.count + s.singles) s.witness (omega (arith, eqb-true (s.witness - a.count) s.singles e)))

@@ -37,18 +37,18 @@ as_placed at class in_use opened e marks =
       opened = marks;
     }
 
-returns : tie.Need-returns
+returns : tie.Need-returns-then-class-self
 returns c =
-    let a = c.before.before.before.before.args in
-    as_placed a.self a.class (a.class + 1) c.with.result (omega arith) (λ i. c.with.ensures i
-    ∙ rw (eq-eqb a.class a.self.used c.before.if1.true) (put_in (marked a.self.opened i)
+    let a = c.args in
+    as_placed a.self a.class (a.class + 1) c.with-after.result (omega arith) (λ i. c.with-after.ensures i
+    ∙ rw (eq-eqb a.class a.self.used c.if-class-self.true) (put_in (marked a.self.opened i)
     (eqb i a.self.depth)))
 
-returns_2 : tie.Need-returns-2
+returns_2 : tie.Need-returns
 returns_2 c =
-    let a = c.before.before.before.before.args in
-    as_placed a.self a.class a.self.used c.without.result (omega arith) (λ i. c.without.ensures i
-    ∙ rw (ne_eqb a.class a.self.used c.before.if1.false) (taken_out (marked a.self.opened i)
+    let a = c.args in
+    as_placed a.self a.class a.self.used c.without-after.result (omega arith) (λ i. c.without-after.ensures i
+    ∙ rw (ne_eqb a.class a.self.used c.if-class-self.false) (taken_out (marked a.self.opened i)
     (eqb i a.self.depth)))
 
 pub placed_spec : {M : Type 1} → statement M

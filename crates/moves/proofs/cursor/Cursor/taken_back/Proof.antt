@@ -6,11 +6,11 @@ use borrow.Author.Rules.{rules}
 use Rattle.moves.proofs.cursor.Cursor.taken_back.Statement.{statement}
 use Rattle.moves.proofs.cursor.Cursor.taken_back.Tie as tie
 
-returns : tie.Need-returns
-returns c = rw (sym c.before.before.has.ensures ∙ c.before.if1.true)
+returns : tie.Need-returns-then-has
+returns c = rw (sym c.has.ensures ∙ c.if-has.true)
 
-returns_2 : tie.Need-returns-2
-returns_2 c = rw (sym c.before.has.ensures ∙ c.if1.false, sub-zero)
+returns_2 : tie.Need-returns
+returns_2 c = rw (sym c.has.ensures ∙ c.if-has.false, sub-zero)
 
 pub taken_back_spec : {M : Type 1} → statement M
 taken_back_spec =

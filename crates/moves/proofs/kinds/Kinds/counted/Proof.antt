@@ -4,14 +4,14 @@ use native.Mathlib.Numerals.{add-one}
 use Rattle.moves.proofs.kinds.Kinds.counted.Statement.{statement}
 use Rattle.moves.proofs.kinds.Kinds.counted.Tie as tie
 
-returns : tie.Need-returns
-returns c = rw (c.before.enum_told.given.1, add-one)
+returns : tie.Need-returns-in-Placed
+returns c = rw (c.in-Placed.is, add-one)
 
-returns_2 : tie.Need-returns-2
-returns_2 c = rw (c.before.enum-told2.given.1, add-one)
+returns_2 : tie.Need-returns-in-TookBack
+returns_2 c = rw (c.in-TookBack.is, add-one)
 
-returns_3 : tie.Need-returns-3
-returns_3 c = rw (c.before.enum-told3.given.1, add-one)
+returns_3 : tie.Need-returns-in-Closed
+returns_3 c = rw (c.in-Closed.is, add-one)
 
 pub counted_spec : {M : Type 1} → statement M
 counted_spec =
