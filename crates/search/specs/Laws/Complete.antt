@@ -150,7 +150,7 @@ both_step kernel st e h = (sound_step kernel st h.0, passed_step kernel st h.0 h
 pub passed_search : (kernel : Kernel) (budget : ℕ) (st : State) → SoundState kernel st → Passed kernel st
     → Passed kernel (search kernel budget st).state
 passed_search kernel budget st s p =
-    search_keeps kernel (λ later. SoundState kernel later × Passed kernel later) (both_step kernel) budget st (s, p) .1
+    (search_keeps kernel (λ later. SoundState kernel later × Passed kernel later) (both_step kernel) budget st (s, p)).1
 
 -- ---- what a finished machine says
 

@@ -4,7 +4,7 @@ use Rattle.search.proofs.machine.Position.start.Statement.{statement}
 use Rattle.search.proofs.machine.Position.start.Tie as tie
 
 returns : tie.Need-returns
-returns c = rw (c.of.ensures, c.before.reaches.ensures)
+returns c = rw (c.of.ensures, c.reaches.ensures)
 
 pub start_spec : {M : Type 1} → statement M
 start_spec =
