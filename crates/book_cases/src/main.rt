@@ -15,15 +15,17 @@ mod show;
 mod texts;
 
 use fields::end_fields;
-use libc::STDIN_FILENO;
 use show::{Damages, show_cases, show_long, show_long_sheet};
+
+// The descriptor of standard input.
+const STANDARD_INPUT: i32 = 0;
 
 // Room for the cases.
 const SPACE: usize = 32_768;
 
 fn main() {
     let mut space = [0u8; SPACE];
-    let n = io::read_full(STDIN_FILENO, &mut space);
+    let n = io::read_full(STANDARD_INPUT, &mut space);
     end_fields(&mut space);
     show_all(&space[..n]);
 }

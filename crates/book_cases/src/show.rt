@@ -4,7 +4,9 @@ ghost use Rattle.std.specs.Prelude.{◌≤◌, length};
 use crate::build::{damaged, put, put_times};
 use crate::fields::{field_behind, field_end};
 use crate::texts::{BOOK, SHEET};
-use libc::STDOUT_FILENO;
+
+// The descriptor of standard output.
+const STANDARD_OUTPUT: i32 = 1;
 
 // Room for a book above the limit.
 const SPACE: usize = 132_000;
@@ -20,23 +22,23 @@ pub enum Damages {
 // Writes what is checked, and the number, the roles and the witness lines that are answered.
 pub fn show<'a>(what: &'a [u8], sheet: &'a [u8], book: &'a [u8]) {
     let answer = checker::check(sheet, book);
-    io::write_all(STDOUT_FILENO, what);
+    io::write_all(STANDARD_OUTPUT, what);
     figure(b": ", answer.number);
     figure(b" ", answer.roles);
     figure(b" ", answer.witness_lines);
-    io::write_all(STDOUT_FILENO, b"\n");
+    io::write_all(STANDARD_OUTPUT, b"\n");
 }
 
 // Writes a word and a number.
 fn figure(word: &[u8], n: usize) {
-    io::write_all(STDOUT_FILENO, word);
-    io::print_decimal(STDOUT_FILENO, n as u64);
+    io::write_all(STANDARD_OUTPUT, word);
+    io::print_decimal(STANDARD_OUTPUT, n as u64);
 }
 
 // The buffer was too short, or what was to be damaged is not there.
 fn unmade(what: &[u8]) {
-    io::write_all(STDOUT_FILENO, what);
-    io::write_all(STDOUT_FILENO, b": not made\n");
+    io::write_all(STANDARD_OUTPUT, what);
+    io::write_all(STANDARD_OUTPUT, b": not made\n");
 }
 
 // Checks the book at the front of a buffer, and says so where none was made.

@@ -6,7 +6,7 @@ ghost use Rattle.std.specs.Prelude.{◌≡◌, false};
 ghost use Rattle.std.specs.Io.{ReadsAtMost};
 ghost use Rattle.io.specs.Counts.{IsPrefixLen};
 
-use std::env::Env;
+use std::env::{Env, FillError};
 use std::fs::File;
 use std::io::{Error, ErrorKind, Read, Result};
 use std::rt::Files;
@@ -84,6 +84,12 @@ pub fn read_file<R: Files + Eprint>(rt: &R, path: &[u8], buf: &mut [u8]) -> File
             UNREADABLE
         }
     }
+}
+
+// Whether there is an argument of this number. The program's own name is number 0.
+pub fn is_given(rt: &impl Env, i: usize) -> bool {
+    let mut first = [0u8; 1];
+    !matches!(rt.arg(i, &mut first), Err(FillError::NotPresent))
 }
 
 // Reads the file that an argument names.

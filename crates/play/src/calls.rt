@@ -8,6 +8,7 @@ use answer_lines::{Answer, admitted, written};
 use digits::BudgetRead;
 use numbers::{BOOK_LIMIT, SHEET_LIMIT};
 use session::Session;
+use std::rt::Files;
 
 // One byte more than a sheet and a book have, by which longer ones are known. A line of as many bytes as the sheet's
 // buffer is too long for every sheet.
@@ -15,12 +16,12 @@ const SHEET_BUFFER: usize = SHEET_LIMIT + 1;
 
 const BOOK_BUFFER: usize = BOOK_LIMIT + 1;
 
-pub fn load(session: Session, path: &[u8]) -> Session
+pub fn load<R: Files + Eprint>(rt: &R, session: Session, path: &[u8]) -> Session
     requires { Sound session }
     ensures { Sound result }
 {
     let mut text = [0u8; SHEET_BUFFER];
-    let read = files::read_file(path, &mut text);
+    let read = files::read_file(rt, path, &mut text);
     if !read.readable {
         say(Answer::NoCall);
         return session;
@@ -77,11 +78,11 @@ pub fn write(session: Session, word: &[u8]) -> Session
     session
 }
 
-pub fn check<'a>(sheet_path: &'a [u8], book_path: &'a [u8]) {
+pub fn check<'a, R: Files + Eprint>(rt: &R, sheet_path: &'a [u8], book_path: &'a [u8]) {
     let mut sheet = [0u8; SHEET_BUFFER];
-    let first = files::read_file(sheet_path, &mut sheet);
+    let first = files::read_file(rt, sheet_path, &mut sheet);
     let mut book = [0u8; BOOK_BUFFER];
-    let second = files::read_file(book_path, &mut book);
+    let second = files::read_file(rt, book_path, &mut book);
     if !first.readable || !second.readable {
         say(Answer::NoCall);
         return;
@@ -97,17 +98,23 @@ fn admit_into<'a>(sheet: &'a [u8], book: &'a [u8], line: &'a [u8], lent: &mut [u
     say(admitted(answer, lent));
 }
 
-pub fn admit<'a>(sheet_path: &'a [u8], book_path: &'a [u8], line_path: &'a [u8], word: &'a [u8]) {
+pub fn admit<'a, R: Files + Eprint>(
+    rt: &R,
+    sheet_path: &'a [u8],
+    book_path: &'a [u8],
+    line_path: &'a [u8],
+    word: &'a [u8],
+) {
     let Length::Bytes(length) = length_of(word) else {
         say(Answer::NoCall);
         return;
     };
     let mut sheet = [0u8; SHEET_BUFFER];
-    let first = files::read_file(sheet_path, &mut sheet);
+    let first = files::read_file(rt, sheet_path, &mut sheet);
     let mut book = [0u8; BOOK_BUFFER];
-    let second = files::read_file(book_path, &mut book);
+    let second = files::read_file(rt, book_path, &mut book);
     let mut line = [0u8; SHEET_BUFFER];
-    let third = files::read_file(line_path, &mut line);
+    let third = files::read_file(rt, line_path, &mut line);
     if !first.readable || !second.readable || !third.readable {
         say(Answer::NoCall);
         return;

@@ -1,7 +1,8 @@
 // Standard input, line by line.
 ghost use Rattle.io.specs.Counts.{IsPrefixLen};
 
-use libc::STDIN_FILENO;
+// The descriptor of standard input.
+const STANDARD_INPUT: i32 = 0;
 
 // The bytes of a line with its line feed, at most.
 pub const LINE_LIMIT: usize = 8_192;
@@ -24,7 +25,7 @@ pub struct LineRead {
 // The next byte.
 fn next_byte() -> Input {
     let mut one = [0u8; 1];
-    if io::read_full(STDIN_FILENO, &mut one) == 0 {
+    if io::read_full(STANDARD_INPUT, &mut one) == 0 {
         return Input::End;
     }
     Input::Byte(one[0])

@@ -27,7 +27,7 @@ use script::answer;
 use session::Session;
 
 // A proved loop ends, and nothing says that a script does: no run counts all its turns.
-fn main() {
+fn main(rt: HostRuntime) {
     let mut session = Session::fresh();
     let mut line = [0u8; LINE_LIMIT];
     let mut turns = u64::MAX;
@@ -37,7 +37,7 @@ fn main() {
             return;
         }
         let count = read.count;
-        session = answer(session, &line[..count]);
+        session = answer(&rt, session, &line[..count]);
         turns -= 1;
     }
 }

@@ -6,6 +6,7 @@ use crate::calls;
 use crate::say::say;
 use answer_lines::Answer;
 use session::Session;
+use std::rt::Files;
 
 // Where the first blank of a line stands, or where the line ends.
 fn first_blank(line: &[u8]) -> usize
@@ -52,18 +53,18 @@ fn asked_by(word: &[u8]) -> Asked {
 }
 
 // Checks the two files that are named.
-fn check_files(names: &[u8]) {
+fn check_files<R: Files + Eprint>(rt: &R, names: &[u8]) {
     let end = first_blank(names);
     if end == names.len() {
         say(Answer::NoCall);
         return;
     }
     let from = end + 1;
-    calls::check(&names[..end], &names[from..]);
+    calls::check(rt, &names[..end], &names[from..]);
 }
 
 // Puts a newcomer in the book of a sheet: a book, a line and a length are named.
-fn admit_to<'a>(sheet: &'a [u8], words: &'a [u8]) {
+fn admit_to<'a, R: Files + Eprint>(rt: &R, sheet: &'a [u8], words: &'a [u8]) {
     let book = first_blank(words);
     if book == words.len() {
         say(Answer::NoCall);
@@ -76,22 +77,28 @@ fn admit_to<'a>(sheet: &'a [u8], words: &'a [u8]) {
         return;
     }
     let last = line + 1;
-    calls::admit(sheet, &words[..book], &words[second..line], &words[last..]);
+    calls::admit(
+        rt,
+        sheet,
+        &words[..book],
+        &words[second..line],
+        &words[last..],
+    );
 }
 
 // Puts a newcomer in a book: a sheet is named before all that.
-fn admit_files(words: &[u8]) {
+fn admit_files<R: Files + Eprint>(rt: &R, words: &[u8]) {
     let end = first_blank(words);
     if end == words.len() {
         say(Answer::NoCall);
         return;
     }
     let from = end + 1;
-    admit_to(&words[..end], &words[from..]);
+    admit_to(rt, &words[..end], &words[from..]);
 }
 
 // Makes the call that a line asks for, and answers it. A reduction is asked for by its word alone.
-pub fn answer(session: Session, line: &[u8]) -> Session
+pub fn answer<R: Files + Eprint>(rt: &R, session: Session, line: &[u8]) -> Session
     requires { Sound session }
     ensures { Sound result }
 {
@@ -105,15 +112,15 @@ pub fn answer(session: Session, line: &[u8]) -> Session
     }
     let from = end + 1;
     match asked_by(&line[..end]) {
-        Asked::Load => calls::load(session, &line[from..]),
+        Asked::Load => calls::load(rt, session, &line[from..]),
         Asked::Search => calls::search(session, &line[from..]),
         Asked::Write => calls::write(session, &line[from..]),
         Asked::Check => {
-            check_files(&line[from..]);
+            check_files(rt, &line[from..]);
             session
         }
         Asked::Newcomer => {
-            admit_files(&line[from..]);
+            admit_files(rt, &line[from..]);
             session
         }
         Asked::Nothing => {

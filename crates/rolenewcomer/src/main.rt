@@ -7,9 +7,17 @@
 
 ghost use Rattle.io.specs.Counts.{IsPrefixLen};
 
-use files::{FileRead, read_argument};
-use libc::{STDERR_FILENO, STDIN_FILENO, STDOUT_FILENO};
+use files::{FileRead, is_given, read_argument};
 use numbers::{BOOK_LIMIT, SHEET_LIMIT};
+use std::env::Env;
+use std::rt::Files;
+
+// The descriptors of standard input, standard output and standard error.
+const STANDARD_INPUT: i32 = 0;
+
+const STANDARD_OUTPUT: i32 = 1;
+
+const STANDARD_ERROR: i32 = 2;
 
 // One byte more than a sheet and a book have, by which longer ones are known. A line that is as long as the sheet's
 // buffer is too long for every sheet.
@@ -18,33 +26,33 @@ const SHEET_BUFFER: usize = SHEET_LIMIT + 1;
 const BOOK_BUFFER: usize = BOOK_LIMIT + 1;
 
 // Whether an argument is `-`.
-fn is_dash(i: usize) -> bool {
+fn is_dash(rt: &impl Env, i: usize) -> bool {
     let mut word = [0u8; 2];
-    let length = os::arg(i, &mut word);
+    let length = rt.arg(i, &mut word).unwrap_or(0);
     length == 1 && word[0] == b'-'
 }
 
 // Reads the line: the file that the last argument names, or standard input.
-fn read_line(buf: &mut [u8]) -> FileRead
+fn read_line<R: Files + Env + Eprint>(rt: &R, buf: &mut [u8]) -> FileRead
     ensures { IsPrefixLen result.count buf.new }
 {
-    if is_dash(3) {
+    if is_dash(rt, 3) {
         return FileRead {
             readable: true,
-            count: io::read_full(STDIN_FILENO, buf),
+            count: io::read_full(STANDARD_INPUT, buf),
         };
     }
-    read_argument(3, buf)
+    read_argument(rt, 3, buf)
 }
 
 // Prints the answer for the two files and the line.
-fn print_answer() {
+fn print_answer<R: Files + Env + Eprint>(rt: &R) {
     let mut sheet = [0u8; SHEET_BUFFER];
-    let first = read_argument(1, &mut sheet);
+    let first = read_argument(rt, 1, &mut sheet);
     let mut book = [0u8; BOOK_BUFFER];
-    let second = read_argument(2, &mut book);
+    let second = read_argument(rt, 2, &mut book);
     let mut line = [0u8; SHEET_BUFFER];
-    let third = read_line(&mut line);
+    let third = read_line(rt, &mut line);
     if !first.readable || !second.readable || !third.readable {
         return;
     }
@@ -58,15 +66,15 @@ fn print_answer() {
         &line[..line_length],
         &mut out,
     );
-    io::write_all(STDOUT_FILENO, &out[..count]);
+    io::write_all(STANDARD_OUTPUT, &out[..count]);
 }
 
-fn main() {
-    if os::arg_count() == 4 {
-        print_answer();
+fn main(rt: HostRuntime) {
+    if is_given(&rt, 3) && !is_given(&rt, 4) {
+        print_answer(&rt);
     } else {
         io::write_all(
-            STDERR_FILENO,
+            STANDARD_ERROR,
             b"use: rolenewcomer SHEETFILE BOOKFILE LINEFILE, - for standard input\n",
         );
     }

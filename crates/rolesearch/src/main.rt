@@ -9,9 +9,14 @@
 
 mod rounds;
 
-use libc::{STDIN_FILENO, STDOUT_FILENO};
 use numbers::{BOOK_LIMIT, SHEET_LIMIT};
 use rounds::long_search;
+use std::env::Env;
+
+// The descriptors of standard input and output.
+const STANDARD_INPUT: i32 = 0;
+
+const STANDARD_OUTPUT: i32 = 1;
 
 // One byte more than a sheet has, by which a longer one is known.
 const INPUT_LIMIT: usize = SHEET_LIMIT + 1;
@@ -19,12 +24,12 @@ const INPUT_LIMIT: usize = SHEET_LIMIT + 1;
 // The system hands no program a longer argument.
 const ARGUMENT_LIMIT: usize = 131_072;
 
-fn main() {
+fn main(rt: HostRuntime) {
     let mut input = [0u8; INPUT_LIMIT];
-    let length = io::read_full(STDIN_FILENO, &mut input);
+    let length = io::read_full(STANDARD_INPUT, &mut input);
     let mut argument = [0u8; ARGUMENT_LIMIT];
-    let word = os::arg(1, &mut argument);
+    let word = rt.arg(1, &mut argument).unwrap_or(0);
     let mut out = [0u8; BOOK_LIMIT];
-    let count = long_search(&input[..length], &argument[..word], &mut out);
-    io::write_all(STDOUT_FILENO, &out[..count]);
+    let count = long_search(&rt, &input[..length], &argument[..word], &mut out);
+    io::write_all(STANDARD_OUTPUT, &out[..count]);
 }

@@ -9,12 +9,16 @@ ghost use Rattle.rolesearch.specs.Rounds.{RoundsMade, steps_a_second};
 
 use answers::{Named, SearchAnswer};
 use digits::rounds_of;
-use libc::STDERR_FILENO;
 use numbers::BOOK_LIMIT;
 use outputs::{put_number_line, session_output};
 use progress::{PROGRESS_BUFFER, put_progress};
 use session::Session;
 use standing::Standing;
+use std::io::Result;
+use std::time::{CpuClock, Duration};
+
+// The descriptor of standard error.
+const STANDARD_ERROR: i32 = 2;
 
 // The budget of each search.
 const ROUND_BUDGET: u32 = 100_000_000;
@@ -45,11 +49,11 @@ fn is_open(named: Named) -> bool
 }
 
 // A time of the processor's clock, in ticks; 0 where it could not be read.
-fn ticks(time: i64) -> u64 {
-    if time < 0 {
-        return 0;
+fn ticks(time: Result<Duration>) -> u64 {
+    match time {
+        Ok(used) => u64::try_from(used.as_micros()).unwrap_or(0),
+        Err(_) => 0,
     }
-    time as u64
 }
 
 // Steps a second, of steps that were made between two times of the processor's clock: 0 where it did not move.
@@ -66,11 +70,11 @@ fn speed(steps: u32, began: u64, ended: u64) -> usize
 fn report(so_far: usize, answer: SearchAnswer, speed: usize) {
     let mut line = [0u8; PROGRESS_BUFFER];
     let count = put_progress(&mut line, so_far, answer, speed);
-    io::write_all(STDERR_FILENO, &line[..count]);
+    io::write_all(STANDARD_ERROR, &line[..count]);
 }
 
 // As many searches as the rounds, or up to the first that does not answer `open` if fewer, with a line after each.
-fn search_rounds(from: Session, rounds: u32) -> Rounds
+fn search_rounds<R: CpuClock>(rt: &R, from: Session, rounds: u32) -> Rounds
     requires { Sound from }
     ensures rounds_made { RoundsMade round_budget rounds (view from) (view result.session) result.searches result.so_far }
     ensures sound { Sound result.session }
@@ -81,9 +85,9 @@ fn search_rounds(from: Session, rounds: u32) -> Rounds
     let mut goes_on = true;
     while searches < rounds && goes_on {
         searches += 1;
-        let began = ticks(libc::clock());
+        let began = ticks(rt.process_cpu_time());
         let searched = session.search(ROUND_BUDGET);
-        let ended = ticks(libc::clock());
+        let ended = ticks(rt.process_cpu_time());
         session = searched.session;
         let answer = searched.answer;
         so_far += answer.steps as usize;
@@ -100,7 +104,12 @@ fn search_rounds(from: Session, rounds: u32) -> Rounds
 
 // Puts what the long search prints for a sheet and its argument at the front of the buffer: the book, or the number of
 // the refusal and a line feed. Without an argument the word is empty.
-pub fn long_search<'a>(sheet: &'a [u8], word: &'a [u8], out: &mut [u8; BOOK_LIMIT]) -> usize
+pub fn long_search<'a, R: CpuClock>(
+    rt: &R,
+    sheet: &'a [u8],
+    word: &'a [u8],
+    out: &mut [u8; BOOK_LIMIT],
+) -> usize
     ensures { Written (long_search_output sheet.now (word.now ∷ [])) out.old
         out.new result }
 {
@@ -112,7 +121,7 @@ pub fn long_search<'a>(sheet: &'a [u8], word: &'a [u8], out: &mut [u8; BOOK_LIMI
     let read = loaded.session;
     let reduced = read.reduce();
     let start = reduced.session;
-    let made = search_rounds(start, rounds_of(word));
+    let made = search_rounds(rt, start, rounds_of(word));
     let session = made.session;
     session_output(session, out)
 }

@@ -1,10 +1,12 @@
 // Writing to standard output.
-use libc::STDOUT_FILENO;
+
+// The descriptor of standard output.
+const STANDARD_OUTPUT: i32 = 1;
 
 pub fn text(s: &[u8]) {
-    io::write_all(STDOUT_FILENO, s);
+    io::write_all(STANDARD_OUTPUT, s);
 }
 
 pub fn number(n: usize) {
-    io::print_decimal(STDOUT_FILENO, n as u64);
+    io::print_decimal(STANDARD_OUTPUT, n as u64);
 }

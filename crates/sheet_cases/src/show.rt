@@ -2,9 +2,11 @@
 ghost use Rattle.std.specs.Prelude.{◌<◌, ◌≤◌, length};
 
 use crate::build::build;
-use libc::STDOUT_FILENO;
 use numbers::{CELL_WORDS, SHEET_LIMIT};
 use sheet::SheetRead;
+
+// The descriptor of standard output.
+const STANDARD_OUTPUT: i32 = 1;
 
 // Room for a sheet above the limit.
 const SPACE: usize = SHEET_LIMIT + 1;
@@ -54,13 +56,13 @@ fn next_part(table: &[u8], at: usize) -> usize
 
 // Writes what a sheet is, the number that is answered for it, and its counts where it is accepted.
 pub fn show<'a>(label: &'a [u8], s: &'a [u8]) {
-    io::write_all(STDOUT_FILENO, label);
+    io::write_all(STANDARD_OUTPUT, label);
     let read = sheet::read(s);
     figure(b": ", read.number);
     if read.number == 0 {
         counts(read);
     }
-    io::write_all(STDOUT_FILENO, b"\n");
+    io::write_all(STANDARD_OUTPUT, b"\n");
 }
 
 // Writes the counts of an accepted sheet, and how many bits its rows have.
@@ -83,6 +85,6 @@ fn set_bits(words: &[u64; CELL_WORDS]) -> usize {
 
 // Writes a word and a number.
 fn figure(word: &[u8], n: usize) {
-    io::write_all(STDOUT_FILENO, word);
-    io::print_decimal(STDOUT_FILENO, n as u64);
+    io::write_all(STANDARD_OUTPUT, word);
+    io::print_decimal(STANDARD_OUTPUT, n as u64);
 }

@@ -8,9 +8,11 @@ ghost use Rattle.spec.specs.Sheet.{sheet_of};
 ghost use Rattle.book_lines.specs.RowsSaid.{CellsWithin};
 
 use book_lines::{Counts, Writing};
-use libc::STDOUT_FILENO;
 use numbers::{CELL_WORDS, ROLE_WORDS, ROW_BITS, ROW_WORDS};
 use standing::Standing;
+
+// The descriptor of standard output.
+const STANDARD_OUTPUT: i32 = 1;
 
 // Prints the book of a sheet, from its two matrices, the cells of its witness and its counts.
 fn print<'a>(
@@ -32,7 +34,7 @@ fn print<'a>(
     let Writing::Bytes(n) = written else {
         return;
     };
-    io::write_all(STDOUT_FILENO, &out[..n]);
+    io::write_all(STANDARD_OUTPUT, &out[..n]);
 }
 
 // The paper's sheet: ann and cy share `rec` and `id`, bo and cy share `id` and `map`. Its witness is the cells of ann
@@ -71,6 +73,6 @@ fn without_grants() {
 
 fn main() {
     worked();
-    io::write_all(STDOUT_FILENO, b"----\n");
+    io::write_all(STANDARD_OUTPUT, b"----\n");
     without_grants();
 }
