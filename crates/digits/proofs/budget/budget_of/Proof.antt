@@ -5,17 +5,17 @@ use Rattle.digits.specs.BudgetRead.{budget_said, budget_is_said}
 use Rattle.digits.proofs.budget.budget_of.Statement.{statement}
 use Rattle.digits.proofs.budget.budget_of.Tie as tie
 
-returns : tie.Need-returns
+returns : tie.Need-returns-in-Number
 returns c =
-    let read = c.before.before.before in
-    ap budget_said (sym c.before.n.given.1 ∙ read.read-budget.ensures)
-    ∙ budget_is_said read.before.before.args.word.now
+    let read = c.before in
+    ap budget_said (sym c.in-Number.is ∙ read.read_budget.ensures)
+    ∙ budget_is_said read.args.word.now
 
-returns_2 : tie.Need-returns-2
+returns_2 : tie.Need-returns-in-NoNumber
 returns_2 c =
-    let read = c.before.before in
-    ap budget_said (sym c.enum_told.given.1 ∙ read.read-budget.ensures)
-    ∙ budget_is_said read.before.before.args.word.now
+    let read = c.before in
+    ap budget_said (sym c.in-NoNumber.is ∙ read.read_budget.ensures)
+    ∙ budget_is_said read.args.word.now
 
 pub budget_of_spec : {M : Type 1} → statement M
 budget_of_spec =

@@ -7,31 +7,31 @@ use Rattle.digits.specs.BudgetRead.{budget_cap, budget_within, no_digits, as_dig
 use Rattle.digits.proofs.budget.read_budget.Statement.{statement}
 use Rattle.digits.proofs.budget.read_budget.Tie as tie
 
-returns : tie.Need-returns
-returns c = sym (no_digits c.before.before.args.word.now c.if1.true)
+returns : tie.Need-returns-then-word-eq0
+returns c = sym (no_digits c.args.word.now c.if-word-eq0.true)
 
-returns_2 : tie.Need-returns-2
+returns_2 : tie.Need-returns-in_default
 unfolding budget_cap
 returns_2 c =
-    let read = c.before.before in
-    ap budget_within (sym c.enum_told.given.1 ∙ read.digits_of.ensures)
-    ∙ sym (as_digits_say read.before.before.before.args.word.now read.before.if1.false)
+    let read = c.before in
+    ap budget_within (sym c.in_default.is ∙ read.digits_of.ensures)
+    ∙ sym (as_digits_say read.args.word.now read.if-word-eq0.false)
 
-returns_3 : tie.Need-returns-3
+returns_3 : tie.Need-returns-then-n-lt-BUDGET_CAP
 unfolding budget_cap
 returns_3 c =
-    let read = c.before.before.before.before in
-    rw (lt-ltb _ _ c.if2.true) at
-    (ap budget_within (sym c.before.before.n.given.1 ∙ read.digits_of.ensures)
-    ∙ sym (as_digits_say read.before.before.before.args.word.now read.before.if1.false))
+    let read = c.before.before in
+    rw (lt-ltb _ _ c.if-n-lt-BUDGET_CAP.true) at
+    (ap budget_within (sym c.in-Count.is ∙ read.digits_of.ensures)
+    ∙ sym (as_digits_say read.args.word.now read.if-word-eq0.false))
 
-returns_4 : tie.Need-returns-4
+returns_4 : tie.Need-returns-else-n-lt-BUDGET_CAP
 unfolding budget_cap
 returns_4 c =
-    let read = c.before.before.before.before in
-    rw (le-ltb _ _ c.if2.false) at
-    (ap budget_within (sym c.before.before.n.given.1 ∙ read.digits_of.ensures)
-    ∙ sym (as_digits_say read.before.before.before.args.word.now read.before.if1.false))
+    let read = c.before.before in
+    rw (le-ltb _ _ c.if-n-lt-BUDGET_CAP.false) at
+    (ap budget_within (sym c.in-Count.is ∙ read.digits_of.ensures)
+    ∙ sym (as_digits_say read.args.word.now read.if-word-eq0.false))
 
 pub read_budget_spec : {M : Type 1} → statement M
 read_budget_spec =

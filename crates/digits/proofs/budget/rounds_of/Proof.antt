@@ -6,16 +6,16 @@ use Rattle.digits.specs.BudgetRead.{usual_where_none, rounds_are_the_budget}
 use Rattle.digits.proofs.budget.rounds_of.Statement.{statement}
 use Rattle.digits.proofs.budget.rounds_of.Tie as tie
 
-returns : tie.Need-returns
+returns : tie.Need-returns-then-n-eq0
 unfolding usual_rounds
 returns c =
-    let budget = c.before.budget_of.ensures in
-    usual_where_none c.before.before.before.args.word.now (sym budget ∙ c.if1.true)
+    let budget = c.budget_of-n.ensures in
+    usual_where_none c.args.word.now (sym budget ∙ c.if-n-eq0.true)
 
-returns_2 : tie.Need-returns-2
+returns_2 : tie.Need-returns-else-n-eq0
 returns_2 c =
-    let budget = c.before.budget_of.ensures in
-    budget ∙ rounds_are_the_budget c.before.before.before.args.word.now (λ z. c.if1.false (budget ∙ z))
+    let budget = c.budget_of-n.ensures in
+    budget ∙ rounds_are_the_budget c.args.word.now (λ z. c.if-n-eq0.false (budget ∙ z))
 
 pub rounds_of_spec : {M : Type 1} → statement M
 rounds_of_spec =

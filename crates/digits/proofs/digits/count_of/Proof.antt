@@ -5,26 +5,26 @@ use Rattle.digits.specs.Capped.{count_cap, no_digits, count_zero, leading_zero, 
 use Rattle.digits.proofs.digits.count_of.Statement.{statement}
 use Rattle.digits.proofs.digits.count_of.Tie as tie
 
-returns : tie.Need-returns
-returns c = sym (no_digits c.before.before.args.field.now c.if1.true)
+returns : tie.Need-returns-then-field-eq0
+returns c = sym (no_digits c.args.field.now c.if-field-eq0.true)
 
-returns_2 : tie.Need-returns-2
+returns_2 : tie.Need-returns-then-field-ne48
 unfolding count_cap
 returns_2 c =
     let start = c.before.before.before.before.before in
-    c.digits_of.ensures ∙ sym (no_leading_zero start.args.field.now c.before.before.before.if1.false
-    c.before.if2.true)
+    c.digits_of.ensures ∙ sym (no_leading_zero start.args.field.now c.if-field-eq0.false
+    c.if-field-ne48.true)
 
-returns_3 : tie.Need-returns-3
+returns_3 : tie.Need-returns-then-field-eq1
 returns_3 c =
     let start = c.before.before.before.before.before in
-    sym (count_zero start.args.field.now c.if3.true c.before.if2.false)
+    sym (count_zero start.args.field.now c.if-field-eq1.true c.if-field-ne48.false)
 
-returns_4 : tie.Need-returns-4
+returns_4 : tie.Need-returns
 returns_4 c =
     let start = c.before.before.before.before.before in
-    sym (leading_zero start.args.field.now c.if3.false c.before.if2.false
-    c.before.before.before.if1.false)
+    sym (leading_zero start.args.field.now c.if-field-eq1.false c.if-field-ne48.false
+    c.if-field-eq0.false)
 
 pub count_of_spec : {M : Type 1} → statement M
 count_of_spec =

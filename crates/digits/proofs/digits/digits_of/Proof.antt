@@ -12,67 +12,67 @@ use Rattle.digits.specs.declared.digits.CountRead.TheVariants.{Count}
 use Rattle.digits.proofs.digits.digits_of.Statement.{statement}
 use Rattle.digits.proofs.digits.digits_of.Tie as tie
 
-abbrev invariant_loop : tie.invariant-loop
+abbrev invariant_loop : tie.invariant-loop-i
 invariant_loop field cap n₀ i₀ n i =
     (i ≤ length field) × (n ≤ cap) × (digits_read cap n (drop i field) ≡ digits_read cap 0 field)
 
-abbrev decreases_loop : tie.decreases-loop
+abbrev decreases_loop : tie.decreases-loop-i
 decreases_loop field cap n₀ i₀ n i = length field - i
 
-loop_holds : tie.Need-loop-init invariant_loop decreases_loop
+loop_holds : tie.Need-loop-i-init invariant_loop decreases_loop
 loop_holds c = (omega arith, omega arith, refl)
 
-returns : tie.Need-returns invariant_loop decreases_loop
+returns : tie.Need-returns-then-b-lt48 invariant_loop decreases_loop
 returns c =
     let at_loop = c.before.before.before in
     let start = at_loop.before.before in
     let s = start.args.field.now in
-    let i = at_loop.loop.i in
+    let i = at_loop.loop-i.i in
     sym
-    (sym at_loop.loop.invariant.2
-    ∙ digits_off_at start.args.cap at_loop.loop.n s i c.before.before.loop-test.true
-    (λ t. omega (arith, between_low 48 57 (get_or s i 0) t, c.if1.true)))
+    (sym at_loop.loop-i.invariant.2
+    ∙ digits_off_at start.args.cap at_loop.loop-i.n s i c.loop-i-test.true
+    (λ t. omega (arith, between_low 48 57 (get_or s i 0) t, c.if-b-lt48.true)))
 
-returns_2 : tie.Need-returns-2 invariant_loop decreases_loop
+returns_2 : tie.Need-returns-then-b-gt57 invariant_loop decreases_loop
 returns_2 c =
     let at_loop = c.before.before.before.before in
     let start = at_loop.before.before in
     let s = start.args.field.now in
-    let i = at_loop.loop.i in
+    let i = at_loop.loop-i.i in
     sym
-    (sym at_loop.loop.invariant.2
-    ∙ digits_off_at start.args.cap at_loop.loop.n s i c.before.before.before.loop-test.true
-    (λ t. omega (arith, between_high 48 57 (get_or s i 0) t, c.if2.true)))
+    (sym at_loop.loop-i.invariant.2
+    ∙ digits_off_at start.args.cap at_loop.loop-i.n s i c.loop-i-test.true
+    (λ t. omega (arith, between_high 48 57 (get_or s i 0) t, c.if-b-gt57.true)))
 
-with_digit_requires : tie.Need-with-digit-requires invariant_loop decreases_loop
+with_digit_requires : tie.Need-with_digit-n-requires invariant_loop decreases_loop
 with_digit_requires c κs =
     let at_loop = c.before.before.before.before in
-    (at_loop.loop.invariant.1, at_loop.before.before.requires, c.before.if1.false)
+    (at_loop.loop-i.invariant.1, at_loop.requires, c.if-b-lt48.false)
 
-loop_again : tie.Need-loop-preserved invariant_loop decreases_loop
+loop_again : tie.Need-loop-i-preserved invariant_loop decreases_loop
 loop_again c =
     let at_loop_test = c.before.before.before.before in
     let at_loop = at_loop_test.before in
     let start = at_loop.before.before in
-    let i = at_loop.loop.i in
+    let i = at_loop.loop-i.i in
     let s = start.args.field.now in
-    let digit : So (is_digit (get_or s i 0)) = between_intro 48 57 (get_or s i 0) c.before.before.if1.false
-    c.before.if2.false in (
-      omega (arith, at_loop_test.loop-test.true),
-      omega (arith, c.with-digit.ensures),
-      rw c.with-digit.ensures
-          (sym (digits_next_at start.args.cap at_loop.loop.n s i at_loop_test.loop-test.true digit)
-          ∙ at_loop.loop.invariant.2),
+    let digit : So (is_digit (get_or s i 0)) = between_intro 48 57 (get_or s i 0) c.if-b-lt48.false
+    c.if-b-gt57.false in (
+      omega (arith, at_loop_test.loop-i-test.true),
+      omega (arith, c.with_digit-n.ensures),
+      rw c.with_digit-n.ensures
+          (sym (digits_next_at start.args.cap at_loop.loop-i.n s i at_loop_test.loop-i-test.true digit)
+          ∙ at_loop.loop-i.invariant.2),
     )
 
-returns_3 : tie.Need-returns-3 invariant_loop decreases_loop
+returns_3 : tie.Need-returns invariant_loop decreases_loop
 returns_3 c =
-    let s = c.before.before.before.args.field.now in
-    let n = c.before.loop.n in
-    let whole : length s ≤ c.before.loop.i = c.loop-test.false in
-    let said : Count n ≡ digits_read c.before.before.before.args.cap n [] = ap Count
-    (let h = c.before.loop.invariant.1 in omega arith) in
-    said ∙ rw (drop_of_length-le s whole) at c.before.loop.invariant.2
+    let s = c.args.field.now in
+    let n = c.loop-i.n in
+    let whole : length s ≤ c.loop-i.i = c.loop-i-test.false in
+    let said : Count n ≡ digits_read c.args.cap n [] = ap Count
+    (let h = c.loop-i.invariant.1 in omega arith) in
+    said ∙ rw (drop_of_length-le s whole) at c.loop-i.invariant.2
 
 pub digits_of_spec : {M : Type 1} → statement M
 digits_of_spec =
