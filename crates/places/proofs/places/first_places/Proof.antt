@@ -6,7 +6,7 @@ use Rattle.places.proofs.places.first_places.Statement.{statement}
 use Rattle.places.proofs.places.first_places.Tie as tie
 
 slice_aggregate_result : tie.Need-slice_bounds-result-end
-slice_aggregate_result c = sym (length-take-le c.before.args.n c.before.args.places.now c.before.requires)
+slice_aggregate_result c = sym (length-take-le c.args.n c.args.places.now c.requires)
 
 pub first_places_spec : {M : Type 1} → statement M
 first_places_spec =
