@@ -7,15 +7,15 @@ use Rattle.cells.specs.Laws.KernelFit.{unheld_past}
 use Rattle.cells.proofs.listing.holds.Statement.{statement}
 use Rattle.cells.proofs.listing.holds.Tie as tie
 
-returns : tie.Need-returns
+returns : tie.Need-returns-then-i-rows
 unfolding row_words
 returns c = c.has.ensures
 
-returns_2 : tie.Need-returns-2
+returns_2 : tie.Need-returns-else-i-rows
 unfolding row_words
 returns_2 c =
-    let a = c.before.before.before.args in
-    sym (unheld_past a.rows.now a.u.0 a.p.0 c.if1.false)
+    let a = c.args in
+    sym (unheld_past a.rows.now a.u.0 a.p.0 c.if-i-rows.false)
 
 pub holds_spec : {M : Type 1} → statement M
 unfolding row_words

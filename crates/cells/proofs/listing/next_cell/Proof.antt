@@ -12,45 +12,45 @@ use Rattle.cell_rows.specs.Rows.{row_words, row_bits}
 use Rattle.cells.proofs.listing.next_cell.Statement.{statement}
 use Rattle.cells.proofs.listing.next_cell.Tie as tie
 
-abbrev invariant_loop : tie.invariant-loop
+abbrev invariant_loop : tie.invariant-loop-n
 invariant_loop words users n₀ n = (n₀ ≤ n) × (n ≤ users * row_bits) × Skipped (marked words) n₀ n
 
-abbrev decreases_loop : tie.decreases-loop
+abbrev decreases_loop : tie.decreases-loop-n
 decreases_loop words users n₀ n = users * row_bits - n
 
-loop_holds : tie.Need-loop-init invariant_loop decreases_loop
+loop_holds : tie.Need-loop-n-init invariant_loop decreases_loop
 loop_holds c = (omega arith, omega arith, λ i k l. absurd (omega arith))
 
-returns : tie.Need-returns invariant_loop decreases_loop
+returns : tie.Need-returns-then-p-lt-WORD_BITS invariant_loop decreases_loop
 unfolding row_bits row_words
 returns c =
     let at_loop = c.before.before.before.before in
     let start = at_loop.before in
     let a = start.args in
-    let at = at_loop.loop in
-    found_in_word a.words.now a.from.0 at.n c.before.lowest-from.result
-    c.before.lowest-from.ensures (a.users * row_bits)
-    at.invariant.0 (omega arith) c.if1.true at.invariant.2
+    let at = at_loop.loop-n in
+    found_in_word a.words.now a.from.0 at.n c.lowest_from-p.result
+    c.lowest_from-p.ensures (a.users * row_bits)
+    at.invariant.0 (omega arith) c.if-p-lt-WORD_BITS.true at.invariant.2
 
-loop_again : tie.Need-loop-preserved invariant_loop decreases_loop
+loop_again : tie.Need-loop-n-preserved invariant_loop decreases_loop
 unfolding row_bits row_words
 loop_again c =
     let at_loop = c.before.before.before.before in
     let start = at_loop.before in
     let a = start.args in
-    let at = at_loop.loop in
-    let next = c.before.lowest-from.ensures in
-    let end : at.n / word_bits * word_bits + c.before.lowest-from.result ≡ (at.n / word_bits + 1) * word_bits =
+    let at = at_loop.loop-n in
+    let next = c.lowest_from-p.ensures in
+    let end : at.n / word_bits * word_bits + c.lowest_from-p.result ≡ (at.n / word_bits + 1) * word_bits =
     omega (arith, next.not_past) in (
       omega arith,
       omega arith,
-      rw end at (passed_word a.words.now a.from.0 at.n c.before.lowest-from.result next at.invariant.2),
+      rw end at (passed_word a.words.now a.from.0 at.n c.lowest_from-p.result next at.invariant.2),
     )
 
-returns_2 : tie.Need-returns-2 invariant_loop decreases_loop
+returns_2 : tie.Need-returns invariant_loop decreases_loop
 unfolding row_bits row_words
 returns_2 c =
-    let at = c.before.loop in
+    let at = c.loop-n in
     record { not_before = at.invariant.0; not_past = at.invariant.1; skipped = at.invariant.2; passes = λ l. absurd (omega arith) }
 
 pub next_cell_spec : {M : Type 1} → statement M

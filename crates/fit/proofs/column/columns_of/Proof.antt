@@ -10,34 +10,34 @@ use Rattle.fit.specs.ColumnsMade.{PutInBelow, none_put_in, next_put_in, columns_
 use Rattle.fit.proofs.column.columns_of.Statement.{statement}
 use Rattle.fit.proofs.column.columns_of.Tie as tie
 
-abbrev invariant_loop : tie.invariant-loop
+abbrev invariant_loop : tie.invariant-loop-u
 invariant_loop rows columns₀ u₀ columns u =
     (u ≤ user_limit) × (length columns ≡ row_bits * column_words) × PutInBelow rows u columns
 
-abbrev decreases_loop : tie.decreases-loop
+abbrev decreases_loop : tie.decreases-loop-u
 decreases_loop rows columns₀ u₀ columns u = user_limit - u
 
-loop_holds : tie.Need-loop-init invariant_loop decreases_loop
+loop_holds : tie.Need-loop-u-init invariant_loop decreases_loop
 unfolding user_limit row_words row_bits
 loop_holds c = (omega arith, refl, none_put_in _ (row_bits * column_words))
 
-put_row_requires : tie.Need-put-row-requires invariant_loop decreases_loop
+put_row_requires : tie.Need-put_row-requires invariant_loop decreases_loop
 unfolding user_limit row_words
-put_row_requires c κs = (omega arith, c.before.before.loop.invariant.1)
+put_row_requires c κs = (omega arith, c.loop-u.invariant.1)
 
-loop_again : tie.Need-loop-preserved invariant_loop decreases_loop
+loop_again : tie.Need-loop-u-preserved invariant_loop decreases_loop
 unfolding user_limit row_words row_bits
 loop_again c =
-    let at = c.before.before.before.loop in (
+    let at = c.loop-u in (
       omega arith,
-      c.put-row.ensures.sized ∙ at.invariant.1,
-      next_put_in _ at.u _ _ at.invariant.2 c.put-row.ensures,
+      c.put_row.ensures.sized ∙ at.invariant.1,
+      next_put_in _ at.u _ _ at.invariant.2 c.put_row.ensures,
     )
 
 returns : tie.Need-returns invariant_loop decreases_loop
 unfolding user_limit row_words
 returns c =
-    let at = c.before.loop in
+    let at = c.loop-u in
     let end : at.u ≡ user_limit = omega arith in
     columns_made _ at.columns at.invariant.1 (rw end at at.invariant.2)
 

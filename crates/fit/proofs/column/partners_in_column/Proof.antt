@@ -23,23 +23,23 @@ use Rattle.fit.specs.Laws.Column.{
 use Rattle.fit.proofs.column.partners_in_column.Statement.{statement}
 use Rattle.fit.proofs.column.partners_in_column.Tie as tie
 
-abbrev invariant_loop : tie.invariant-loop
+abbrev invariant_loop : tie.invariant-loop-j
 invariant_loop rows columns left it most p n₀ j₀ n j =
     (j ≤ column_words) × CountedBelow most (column_sum rows left it.0 (it.0 % row_bits) (j * word_bits)) n
 
-abbrev decreases_loop : tie.decreases-loop
+abbrev decreases_loop : tie.decreases-loop-j
 decreases_loop rows columns left it most p n₀ j₀ n j = column_words - j
 
-loop_holds : tie.Need-loop-init invariant_loop decreases_loop
+loop_holds : tie.Need-loop-j-init invariant_loop decreases_loop
 unfolding sum_below
 loop_holds c = (omega arith, record { below = λ l. refl; not_more = omega arith })
 
-partners_among_requires : tie.Need-partners-among-requires invariant_loop decreases_loop
+partners_among_requires : tie.Need-partners_among-n-requires invariant_loop decreases_loop
 unfolding user_limit row_words row_bits
 partners_among_requires c κs =
     let start = c.before.before.before.before in
     let a = start.args in
-    let at = c.before.before.loop in
+    let at = c.loop-j in
     omega (
       arith,
       at.invariant.1.not_more,
@@ -47,40 +47,40 @@ partners_among_requires c κs =
           (held_in a.rows.now (a.it.0 % row_bits)) (λ i. i),
     )
 
-loop_less : tie.Need-loop-smaller invariant_loop decreases_loop
+loop_less : tie.Need-loop-j-smaller invariant_loop decreases_loop
 unfolding user_limit row_words
 loop_less c = omega arith
 
-loop_again : tie.Need-loop-preserved invariant_loop decreases_loop
+loop_again : tie.Need-loop-j-preserved invariant_loop decreases_loop
 unfolding user_limit row_words row_bits
 loop_again c =
     let start = c.before.before.before.before.before in
     let a = start.args in
-    let at = c.before.before.before.loop in (
+    let at = c.loop-j in (
       omega arith,
       rw (column_next_word a.rows.now a.left.now a.it.0 a.columns.now start.requires.1
           (a.it.0 % row_bits) at.j
           (mod-lt a.it.0 row_bits_pos) (omega arith))
-          (counted_on _ at.invariant.1 c.partners-among.ensures),
+          (counted_on _ at.invariant.1 c.partners_among-n.ensures),
     )
 
-returns : tie.Need-returns invariant_loop decreases_loop
+returns : tie.Need-returns-then-most-n invariant_loop decreases_loop
 unfolding user_limit row_words
 returns c =
-    let a = c.before.before.before.before.args in
-    let at = c.before.before.loop in
+    let a = c.args in
+    let at = c.loop-j in
     let end : at.j ≡ column_words = omega arith in
     rw (← column_counts_all a.rows.now a.left.now a.it.0)
-    (cut_at (rw end at at.invariant.1) c.if1.true)
+    (cut_at (rw end at at.invariant.1) c.if-most-n.true)
 
-returns_2 : tie.Need-returns-2 invariant_loop decreases_loop
+returns_2 : tie.Need-returns invariant_loop decreases_loop
 unfolding user_limit row_words
 returns_2 c =
-    let a = c.before.before.before.before.args in
-    let at = c.before.before.loop in
+    let a = c.args in
+    let at = c.loop-j in
     let end : at.j ≡ column_words = omega arith in
     rw (← column_counts_all a.rows.now a.left.now a.it.0)
-    (not_cut (rw end at at.invariant.1) c.if1.false)
+    (not_cut (rw end at at.invariant.1) c.if-most-n.false)
 
 pub partners_in_column_spec : {M : Type 1} → statement M
 partners_in_column_spec =

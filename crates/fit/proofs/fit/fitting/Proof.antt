@@ -14,25 +14,25 @@ use Rattle.cells.specs.Laws.CellPlace.{fit_by_word}
 use Rattle.fit.proofs.fit.fitting.Statement.{statement}
 use Rattle.fit.proofs.fit.fitting.Tie as tie
 
-returns : tie.Need-returns
+returns : tie.Need-returns-then-has
 unfolding row_bits row_words
 returns c =
     let start = c.before.before.before.before in
     let a = start.args in
     record {
       bits = λ q l.
-          sym (fit_by_word a.rows.now a.it.0 a.i q l ∙ rw (sym c.before.before.has.ensures
-          ∙ c.before.if1.true) (and-true _));
+          sym (fit_by_word a.rows.now a.it.0 a.i q l ∙ rw (sym c.has.ensures
+          ∙ c.if-has.true) (and-true _));
     }
 
-returns_2 : tie.Need-returns-2
+returns_2 : tie.Need-returns-else-has
 unfolding row_bits row_words
 returns_2 c =
-    let a = c.before.before.before.args in
+    let a = c.args in
     record {
       bits = λ q l.
           sym (fit_by_word a.rows.now a.it.0 a.i q l
-          ∙ rw (sym c.before.has.ensures ∙ c.if1.false)
+          ∙ rw (sym c.has.ensures ∙ c.if-has.false)
           (and-false (bit (get_or a.rows.now (a.it.0 / row_bits * row_words + a.i % row_words) 0) q)
           ∙ sym (bit_of_zero q)));
     }
