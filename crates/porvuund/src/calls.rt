@@ -12,8 +12,7 @@ use session::Session;
 
 // The book of a sheet, after one search within the budget, at the front of the buffer: answered as a writing is. A
 // refusal leaves every byte of the buffer.
-#[unsafe(no_mangle)]
-pub extern "C" fn porvuund_book(sheet: &[u8], budget: u32, out: &mut [u8]) -> WriteAnswer
+pub fn porvuund_book(sheet: &[u8], budget: u32, out: &mut [u8]) -> WriteAnswer
     ensures { Books sheet.now budget out.old (write_said result) out.new }
 {
     let fresh = Session::fresh();
@@ -31,8 +30,7 @@ pub extern "C" fn porvuund_book(sheet: &[u8], budget: u32, out: &mut [u8]) -> Wr
 }
 
 // Whether a book is right for a sheet.
-#[unsafe(no_mangle)]
-pub extern "C" fn porvuund_check<'a>(sheet: &'a [u8], book: &'a [u8]) -> Checked
+pub fn porvuund_check<'a>(sheet: &'a [u8], book: &'a [u8]) -> Checked
     ensures { Checks sheet.now book.now (answer_of result) }
 {
     checker::check(sheet, book)
@@ -40,15 +38,14 @@ pub extern "C" fn porvuund_check<'a>(sheet: &'a [u8], book: &'a [u8]) -> Checked
 
 // The book of a sheet with a user line added, from a book of the sheet, at the front of the buffer: answered as a
 // writing is. A refusal leaves every byte of the buffer.
-#[unsafe(no_mangle)]
-pub extern "C" fn porvuund_newcomer<'a>(
+pub fn porvuund_newcomer<'a>(
     sheet: &'a [u8],
     book: &'a [u8],
     line: &'a [u8],
     out: &mut [u8],
 ) -> WriteAnswer
     ensures { Admits (record {
-      sheet = sheet.entry.now;
+      sheet = sheet.now;
       book = book.now;
       line = line.now;
     }) out.old (write_said result) out.new }

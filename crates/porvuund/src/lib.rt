@@ -1,5 +1,5 @@
-// The library for other languages: a whole task in one call over bytes, and a session's calls. `rt staticlib porvuund`
-// writes its functions `porvuund_..` for Rust or C to link.
+// The library for other languages: a whole task in one call over bytes, and a session's calls. `porvuund_c` exports its
+// functions `porvuund_..` for Rust or C to link.
 
 #![tactic(auto)]
 

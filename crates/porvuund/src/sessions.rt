@@ -49,16 +49,14 @@ fn number_of(named: Named) -> u32
     }
 }
 
-#[unsafe(no_mangle)]
-pub extern "C" fn porvuund_fresh() -> Session
+pub fn porvuund_fresh() -> Session
     ensures result_value { view result ≡ fresh }
     ensures sound { Sound result }
 {
     Session::fresh()
 }
 
-#[unsafe(no_mangle)]
-pub extern "C" fn porvuund_load(session: Session, sheet: &[u8]) -> Loaded
+pub fn porvuund_load(session: Session, sheet: &[u8]) -> Loaded
     requires { Sound session }
     ensures loads { Loads (view session) sheet.now (load_said result.answer) (view result.session) }
     ensures sound { Sound result.session }
@@ -67,8 +65,7 @@ pub extern "C" fn porvuund_load(session: Session, sheet: &[u8]) -> Loaded
     session.load(sheet)
 }
 
-#[unsafe(no_mangle)]
-pub extern "C" fn porvuund_reduce(session: Session) -> Reduced
+pub fn porvuund_reduce(session: Session) -> Reduced
     requires { Sound session }
     ensures reduces { Reduces (view session) (reduce_said result.answer) (view result.session) }
     ensures sound { Sound result.session }
@@ -78,8 +75,7 @@ pub extern "C" fn porvuund_reduce(session: Session) -> Reduced
     session.reduce()
 }
 
-#[unsafe(no_mangle)]
-pub extern "C" fn porvuund_search(session: Session, budget: u32) -> SearchedNumbers
+pub fn porvuund_search(session: Session, budget: u32) -> SearchedNumbers
     requires { Sound session }
     ensures searches_as { SearchesAs (view session) budget result.answer (view result.session) }
     ensures sound { Sound result.session }
@@ -104,8 +100,7 @@ pub extern "C" fn porvuund_search(session: Session, budget: u32) -> SearchedNumb
     }
 }
 
-#[unsafe(no_mangle)]
-pub extern "C" fn porvuund_write(session: Session, out: &mut [u8]) -> WriteAnswer
+pub fn porvuund_write(session: Session, out: &mut [u8]) -> WriteAnswer
     requires { Sound session }
     ensures { Writes (view session) out.old (write_said result) out.new (view session) }
 {
