@@ -2,11 +2,11 @@
 use Rattle.cell_text.proofs.row.cell_byte.Statement.{statement}
 use Rattle.cell_text.proofs.row.cell_byte.Tie as tie
 
-returns : tie.Need-returns
-returns c = rw c.if1.true
+returns : tie.Need-returns-then-cell
+returns c = rw c.if-cell.true
 
-returns_2 : tie.Need-returns-2
-returns_2 c = rw c.if1.false
+returns_2 : tie.Need-returns-else-cell
+returns_2 c = rw c.if-cell.false
 
 pub cell_byte_spec : {M : Type 1} → statement M
 cell_byte_spec =

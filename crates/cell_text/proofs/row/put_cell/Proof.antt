@@ -7,19 +7,19 @@ use Rattle.cell_text.specs.Laws.CellsWritten.{cell_field_length, cell_written}
 use Rattle.cell_text.proofs.row.put_cell.Statement.{statement}
 use Rattle.cell_text.proofs.row.put_cell.Tie as tie
 
-slice_write_out_2 : tie.Need-slice-write-out-2
+slice_write_out_2 : tie.Need-bounds-out-1
 slice_write_out_2 c =
     omega (
       arith,
-      cell_field_length c.before.before.args.cell,
-      length-set c.before.before.args.out.now 0
+      cell_field_length c.args.cell,
+      length-set c.args.out.now 0
           comma,
     )
 
 returns : tie.Need-returns
 returns c =
-    cell_written c.before.before.args.cell c.cell_byte.result c.before.before.args.out.now
-    c.before.before.requires c.cell_byte.ensures
+    cell_written c.args.cell c.cell_byte.result c.args.out.now
+    c.requires c.cell_byte.ensures
 
 pub put_cell_spec : {M : Type 1} → statement M
 put_cell_spec =
