@@ -7,33 +7,33 @@ use Rattle.spec.specs.Limits.{search_limit}
 use Rattle.kept.proofs.classes.best_of.Statement.{statement}
 use Rattle.kept.proofs.classes.best_of.Tie as tie
 
-above : (c : tie.Then1) → search_limit < c.before.args.size
+above : (c : tie.Then-size-gt-KERNEL_LIMIT) → search_limit < c.args.size
 unfolding search_limit
-above c = c.if1.true
+above c = c.if-size-gt-KERNEL_LIMIT.true
 
-within : (c : tie.Else1) → c.before.args.size ≤ search_limit
+within : (c : tie.Else-size-gt-KERNEL_LIMIT) → c.args.size ≤ search_limit
 unfolding search_limit
-within c = c.if1.false
+within c = c.if-size-gt-KERNEL_LIMIT.false
 
-slice_aggregate_result : tie.Need-slice-aggregate-result
+slice_aggregate_result : tie.Need-slice_bounds-result-end
 slice_aggregate_result c =
-    let start = c.before.before in
+    let start = c.before in
     let a = start.args in
-    sym (length-take-le a.size a.first.now (rw (lt-ltb search_limit a.size (above c.before)) at
+    sym (length-take-le a.size a.first.now (rw (lt-ltb search_limit a.size (above c)) at
     start.requires))
 
-returns : tie.Need-returns
-returns c = rw (lt-ltb search_limit _ (above c.before))
+returns : tie.Need-returns-then-size-gt-KERNEL_LIMIT
+returns c = rw (lt-ltb search_limit _ (above c))
 
-slice_aggregate_result_2 : tie.Need-slice-aggregate-result-2
+slice_aggregate_result_2 : tie.Need-slice_bounds-result-end-2
 slice_aggregate_result_2 c =
-    let start = c.before.before in
+    let start = c.before in
     let a = start.args in
-    sym (length-take-le a.size a.best.now (rw (le-ltb search_limit a.size (within c.before)) at
+    sym (length-take-le a.size a.best.now (rw (le-ltb search_limit a.size (within c)) at
     start.requires))
 
-returns_2 : tie.Need-returns-2
-returns_2 c = rw (le-ltb search_limit _ (within c.before))
+returns_2 : tie.Need-returns
+returns_2 c = rw (le-ltb search_limit _ (within c))
 
 pub best_of_spec : {M : Type 1} → statement M
 best_of_spec =

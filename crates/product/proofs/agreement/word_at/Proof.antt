@@ -5,11 +5,11 @@ use Rattle.cell_rows.specs.Rows.{row_words}
 use Rattle.product.proofs.agreement.word_at.Statement.{statement}
 use Rattle.product.proofs.agreement.word_at.Tie as tie
 
-mul_result : tie.Need-overflow-mul-result
+mul_result : tie.Need-offset_bounds-row-k
 unfolding row_words
 mul_result c = omega arith
 
-element_copy_out_result : tie.Need-element-copy-out-result
+element_copy_out_result : tie.Need-bounds-row-k
 unfolding row_words
 element_copy_out_result c = omega arith
 
