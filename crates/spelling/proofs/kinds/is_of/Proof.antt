@@ -3,11 +3,11 @@ use borrow.Author.Rules.{rules}
 use Rattle.spelling.proofs.kinds.is_of.Statement.{statement}
 use Rattle.spelling.proofs.kinds.is_of.Tie as tie
 
-returns : tie.Need-returns
-returns c = rw c.before.enum_told.given.1 c.is-allowed.ensures
+returns : tie.Need-returns-in-Sheet
+returns c = rw c.in-Sheet.is c.is_allowed.ensures
 
-returns_2 : tie.Need-returns-2
-returns_2 c = rw c.before.enum-told2.given.1 c.is-name-byte.ensures
+returns_2 : tie.Need-returns-in-Name
+returns_2 c = rw c.in-Name.is c.is_name_byte.ensures
 
 pub is_of_spec : {M : Type 1} → statement M
 is_of_spec =

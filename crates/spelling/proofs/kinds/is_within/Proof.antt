@@ -3,11 +3,11 @@ use borrow.Author.Tests.{lt-leb, le-leb}
 use Rattle.spelling.proofs.kinds.is_within.Statement.{statement}
 use Rattle.spelling.proofs.kinds.is_within.Tie as tie
 
-returns : tie.Need-returns
-returns c = rw (lt-leb _ _ c.if1.true)
+returns : tie.Need-returns-then-n-low
+returns c = rw (lt-leb _ _ c.if-n-low.true)
 
-returns_2 : tie.Need-returns-2
-returns_2 c = rw (le-leb _ _ c.if1.false)
+returns_2 : tie.Need-returns
+returns_2 c = rw (le-leb _ _ c.if-n-low.false)
 
 pub is_within_spec : {M : Type 1} → statement M
 is_within_spec =

@@ -6,7 +6,7 @@ use Rattle.spelling.proofs.kinds.name_length.Tie as tie
 
 returns : tie.Need-returns
 unfolding has_name_length
-returns c = c.is_Within.ensures
+returns c = c.is_within.ensures
 
 pub name_length_spec : {M : Type 1} → statement M
 name_length_spec =

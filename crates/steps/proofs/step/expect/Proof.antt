@@ -12,56 +12,56 @@ use Rattle.steps.specs.Laws.Step.{expects_next, misses_byte, misses_at_end}
 use Rattle.steps.proofs.step.expect.Statement.{statement}
 use Rattle.steps.proofs.step.expect.Tie as tie
 
-abbrev invariant_loop : tie.invariant-loop
+abbrev invariant_loop : tie.invariant-loop-i
 invariant_loop text at word i₀ i =
     (i ≤ length word)
     × (at + i ≤ length text)
     × ((r : Step) → Expects text (at + i) (drop i word) r → Expects text at word r)
 
-abbrev decreases_loop : tie.decreases-loop
+abbrev decreases_loop : tie.decreases-loop-i
 decreases_loop text at word i₀ i = length word - i
 
-loop_holds : tie.Need-loop-init invariant_loop decreases_loop
+loop_holds : tie.Need-loop-i-init invariant_loop decreases_loop
 loop_holds c =
     let a = c.args in
     (omega arith, omega (arith, c.requires), λ r e. rw (add-zero a.at) at e)
 
-returns : tie.Need-returns invariant_loop decreases_loop
+returns : tie.Need-returns-then-text-at invariant_loop decreases_loop
 returns c =
-    let a = c.before.before.before.args in
-    let i = c.before.before.loop.i in
-    c.before.before.loop.invariant.2 Off
-    (rw (drop-cons a.word.now i 0 (omega arith)) (misses_at_end a.text.now (a.at + i) _ _ c.if1.true))
+    let a = c.args in
+    let i = c.loop-i.i in
+    c.loop-i.invariant.2 Off
+    (rw (drop-cons a.word.now i 0 (omega arith)) (misses_at_end a.text.now (a.at + i) _ _ c.if-text-at.true))
 
-returns_2 : tie.Need-returns-2 invariant_loop decreases_loop
+returns_2 : tie.Need-returns-then-text-at-2 invariant_loop decreases_loop
 returns_2 c =
     let at_loop = c.before.before.before.before.before in
     let start = at_loop.before in
     let a = start.args in
-    let i = at_loop.loop.i in
-    at_loop.loop.invariant.2 Off
+    let i = at_loop.loop-i.i in
+    at_loop.loop-i.invariant.2 Off
     (rw (drop-cons a.word.now i 0 (omega arith)) (misses_byte a.text.now (a.at + i) _ _ (omega arith)
-    c.if2.true))
+    c.if-text-at-2.true))
 
-loop_again : tie.Need-loop-preserved invariant_loop decreases_loop
+loop_again : tie.Need-loop-i-preserved invariant_loop decreases_loop
 loop_again c =
     let at_loop = c.before.before.before.before.before in
     let start = at_loop.before in
     let a = start.args in
-    let i = at_loop.loop.i in (
+    let i = at_loop.loop-i.i in (
       omega arith,
       omega arith,
       λ r e.
-          at_loop.loop.invariant.2 r
-          (expects_next a.text.now a.word.now a.at i (omega arith) (omega arith) c.if2.false r e),
+          at_loop.loop-i.invariant.2 r
+          (expects_next a.text.now a.word.now a.at i (omega arith) (omega arith) c.if-text-at-2.false r e),
     )
 
-returns_3 : tie.Need-returns-3 invariant_loop decreases_loop
+returns_3 : tie.Need-returns invariant_loop decreases_loop
 returns_3 c =
-    let a = c.before.before.args in
-    let i = c.before.loop.i in
+    let a = c.args in
+    let i = c.loop-i.i in
     let whole : length a.word.now ≤ i = omega arith in
-    c.before.loop.invariant.2 (On (a.at + i))
+    c.loop-i.invariant.2 (On (a.at + i))
     (rw (drop_of_length-le a.word.now whole) (stands_nothing a.text.now (a.at + i) (omega arith)))
 
 pub expect_spec : {M : Type 1} → statement M

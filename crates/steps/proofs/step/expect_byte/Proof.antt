@@ -7,18 +7,18 @@ use Rattle.steps.specs.Laws.Step.{misses_byte, misses_at_end}
 use Rattle.steps.proofs.step.expect_byte.Statement.{statement}
 use Rattle.steps.proofs.step.expect_byte.Tie as tie
 
-returns : tie.Need-returns
-returns c = let a = c.before.args in misses_at_end a.text.now a.at a.b [] c.if1.true
+returns : tie.Need-returns-then-text-at
+returns c = let a = c.args in misses_at_end a.text.now a.at a.b [] c.if-text-at.true
 
-returns_2 : tie.Need-returns-2
+returns_2 : tie.Need-returns-then-text-at-2
 returns_2 c =
-    let a = c.before.before.before.args in
-    misses_byte a.text.now a.at a.b [] (search rules) c.if2.true
+    let a = c.args in
+    misses_byte a.text.now a.at a.b [] (search rules) c.if-text-at-2.true
 
-returns_3 : tie.Need-returns-3
+returns_3 : tie.Need-returns
 returns_3 c =
-    let a = c.before.before.before.args in
-    rw (add-one a.at) (stands_byte a.text.now a.at a.b (search rules) c.if2.false)
+    let a = c.args in
+    rw (add-one a.at) (stands_byte a.text.now a.at a.b (search rules) c.if-text-at-2.false)
 
 pub expect_byte_spec : {M : Type 1} → statement M
 expect_byte_spec =
