@@ -28,20 +28,20 @@ abbrev claims : ℕ → lts.Claims
 claims t = (asked_below t, decimal_length.Post)
 
 module _ (t : ℕ) where
-  returns : lts.Need-returns (claims t) (given_at t) decimal_length.Post
+  returns : lts.Need-returns-then-n-lt10 (claims t) (given_at t) decimal_length.Post
   returns c = record { counted = sym (one_digit c.before.args.n (omega arith)); small = omega arith }
 
-  requires : lts.Need-decimal-length-requires (claims t) (given_at t) decimal_length.Post
+  requires : lts.Need-decimal_length-requires (claims t) (given_at t) decimal_length.Post
   requires c κs = (omega arith, tt)
 
-  add_result : lts.Need-overflow-add-result (claims t) (given_at t) decimal_length.Post
+  add_result : lts.Need-overflow_add-result (claims t) (given_at t) decimal_length.Post
   add_result c = omega (arith, c.decimal_length.ensures.small)
 
-  returns_2 : lts.Need-returns-2 (claims t) (given_at t) decimal_length.Post
+  returns_2 : lts.Need-returns (claims t) (given_at t) decimal_length.Post
   returns_2 c = one_digit_more c.before.before.args.n c.before.before.ranges.n.fits (omega arith)
       c.decimal_length.ensures
 
-pub +decimal-length-spec : {M : Type 1} → statement M
-+decimal-length-spec =
+pub +decimal_length_spec : {M : Type 1} → statement M
++decimal_length_spec =
     close μ
     λ t. lts.spec (claims t) (given_at t) decimal_length.Post (returns t) (requires t) (add_result t) (returns_2 t)

@@ -30,54 +30,53 @@ abbrev claims : ℕ → lts.Claims
 claims t = (digit-of-reads.Asked, digit-of-reads.Learnt, asked_below t, put-decimal.Post)
 
 module _ (t : ℕ) where
-  digit_of_requires : lts.Need-digit-of-requires (claims t) (given_at t) put-decimal.Post
+  digit_of_requires : lts.Need-digit_of-requires (claims t) (given_at t) put-decimal.Post
   digit_of_requires c κs = omega arith
 
-  slice_write_out : lts.Need-slice-write-out (claims t) (given_at t) put-decimal.Post
-  slice_write_out c = omega (arith, one_digit c.before.before.before.args.n (omega arith))
+  slice_write_out : lts.Need-bounds-out-0 (claims t) (given_at t) put-decimal.Post
+  slice_write_out c = omega (arith, one_digit c.args.n (omega arith))
 
-  same_length : lts.Need-same-length (claims t) (given_at t) put-decimal.Post
+  same_length : lts.Need-shape_of-out-then-n-lt10 (claims t) (given_at t) put-decimal.Post
   same_length c = search rules
 
-  returns : lts.Need-returns (claims t) (given_at t) put-decimal.Post
+  returns : lts.Need-returns-then-n-lt10 (claims t) (given_at t) put-decimal.Post
   returns c =
-      let a = c.before.before.before in
-      first_digit_written a.args.n c.digit-of.result a.args.out.now (omega arith)
-      (omega (arith, one_digit a.args.n (omega arith))) c.digit-of.ensures
+      first_digit_written c.args.n c.digit_of.result c.args.out.now (omega arith)
+      (omega (arith, one_digit c.args.n (omega arith))) c.digit_of.ensures
 
-  put_decimal_requires : lts.Need-put-decimal-requires (claims t) (given_at t) put-decimal.Post
+  put_decimal_requires : lts.Need-put_decimal-at-requires (claims t) (given_at t) put-decimal.Post
   put_decimal_requires c κs =
-      let n = c.before.before.before.args.n in
+      let n = c.args.n in
       (omega arith, omega (arith, digit_more n (omega arith)))
 
-  digit_of_requires_2 : lts.Need-digit-of-requires-2 (claims t) (given_at t) put-decimal.Post
+  digit_of_requires_2 : lts.Need-digit_of-requires-2 (claims t) (given_at t) put-decimal.Post
   digit_of_requires_2 c κs = omega arith
 
   -- after the call for the tenth
-  room : (c : lts.After-digit-of2 (claims t) (given_at t) put-decimal.Post)
-      → c.before.before.before.put-decimal.result < length
-      c.before.before.before.before.before.before.before.args.out.now
+  room : (c : lts.After-digit_of-2 (claims t) (given_at t) put-decimal.Post)
+      → c.put_decimal-at.result < length
+      c.args.out.now
   room c =
-      let n = c.before.before.before.before.before.before.before.args.n in
-      omega (arith, digit_more n (omega arith), c.before.before.before.put-decimal.ensures.counted)
+      let n = c.args.n in
+      omega (arith, digit_more n (omega arith), c.put_decimal-at.ensures.counted)
 
-  slice_write_out_2 : lts.Need-slice-write-out-2 (claims t) (given_at t) put-decimal.Post
-  slice_write_out_2 c = omega (arith, room c, c.before.before.before.put-decimal.auto.0)
+  slice_write_out_2 : lts.Need-bounds-out-at (claims t) (given_at t) put-decimal.Post
+  slice_write_out_2 c = omega (arith, room c, c.put_decimal-at.auto.out)
 
-  add_result : lts.Need-overflow-add-result (claims t) (given_at t) put-decimal.Post
+  add_result : lts.Need-overflow_add-result (claims t) (given_at t) put-decimal.Post
   add_result c = omega (arith, room c)
 
-  same_length_2 : lts.Need-same-length-2 (claims t) (given_at t) put-decimal.Post
+  same_length_2 : lts.Need-shape_of-out (claims t) (given_at t) put-decimal.Post
   same_length_2 c = search rules
 
-  returns_2 : lts.Need-returns-2 (claims t) (given_at t) put-decimal.Post
+  returns_2 : lts.Need-returns (claims t) (given_at t) put-decimal.Post
   returns_2 c =
-      let n = c.before.before.before.before.before.before.before.args.n in
-      last_digit_written n c.digit-of2.result (omega arith) (room c) c.digit-of2.ensures
-      c.before.before.before.put-decimal.ensures
+      let n = c.args.n in
+      last_digit_written n c.digit_of-2.result (omega arith) (room c) c.digit_of-2.ensures
+      c.put_decimal-at.ensures
 
-pub +put-decimal-spec : {M : Type 1} → statement M
-+put-decimal-spec = close μ λ t. lts.spec (claims t) (given_at t) put-decimal.Post
+pub +put_decimal_spec : {M : Type 1} → statement M
++put_decimal_spec = close μ λ t. lts.spec (claims t) (given_at t) put-decimal.Post
     (digit_of_requires t)
     (slice_write_out t)
     (same_length t)

@@ -20,42 +20,42 @@ number s = decimal s.args.n
 fits : (s : tie.Start) → length (mark s ++ number s) ≤ length s.args.out.now
 fits s = s.requires
 
-abbrev start : tie.After-put-bytes → tie.Start
+abbrev start : tie.After-put_bytes-at → tie.Start
 start c = c.before.before.before.before
 
-behind_mark : (c : tie.After-put-bytes)
-    → WrittenSoFar (mark (start c)) (number (start c)) (start c).args.out.now c.put-bytes.new.0
-    c.put-bytes.result
-behind_mark c = record { written = c.put-bytes.ensures; fits = fits (start c) }
+behind_mark : (c : tie.After-put_bytes-at)
+    → WrittenSoFar (mark (start c)) (number (start c)) (start c).args.out.now c.put_bytes-at.new.out
+    c.put_bytes-at.result
+behind_mark c = record { written = c.put_bytes-at.ensures; fits = fits (start c) }
 
-put_bytes_requires : tie.Need-put-bytes-requires
+put_bytes_requires : tie.Need-put_bytes-at-requires
 put_bytes_requires c κs =
     let s = c.before.before.before in
     front_fits (mark s) (number s) (fits s)
 
-sub_put_decimal : tie.Need-overflow-sub-put-decimal
+sub_put_decimal : tie.Need-slice_bounds-put_decimal-count
 sub_put_decimal c = within_buffer (behind_mark c.before.before)
 
-part_put_decimal_start : tie.Need-slice-bounds-put-decimal-start
+part_put_decimal_start : tie.Need-slice_bounds-put_decimal-start
 part_put_decimal_start c = within_buffer (behind_mark c.before.before)
 
-put_decimal_requires : tie.Need-put-decimal-requires
+put_decimal_requires : tie.Need-put_decimal-requires
 put_decimal_requires c κs = room_behind (behind_mark c.before.before.before)
 
-add_result : tie.Need-overflow-add-result
+add_result : tie.Need-overflow_add-result
 add_result c =
     let earlier = c.before.before.before.before.before.before in
-    omega (arith, end_within (behind_mark earlier) c.before.before.put-decimal.ensures)
+    omega (arith, end_within (behind_mark earlier) c.put_decimal.ensures)
 
-same_length : tie.Need-same-length
+same_length : tie.Need-shape_of-out
 same_length c =
     let earlier = c.before.before.before.before.before.before in
-    then_same_length (behind_mark earlier) c.before.before.put-decimal.ensures
+    then_same_length (behind_mark earlier) c.put_decimal.ensures
 
 returns : tie.Need-returns
 returns c =
     let earlier = c.before.before.before.before.before.before in
-    then_written (behind_mark earlier) c.before.before.put-decimal.ensures
+    then_written (behind_mark earlier) c.put_decimal.ensures
 
 pub put_counted_spec : {M : Type 1} → statement M
 put_counted_spec =
