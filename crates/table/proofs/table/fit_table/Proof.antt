@@ -15,10 +15,10 @@ sized c = search rules
 counted : (c : tie.Start) → length (take c.args.grants.size c.args.grants.cells) ≡ c.args.grants.size
 counted c = length-take-le _ _ (rw (sized c) c.requires.few)
 
-array_share_prefix_cells : tie.Need-array-share-prefix-cells
-array_share_prefix_cells c = rw (sized c.before.before) c.before.before.requires.few
+array_share_prefix_cells : tie.Need-slice_bounds-cells-end
+array_share_prefix_cells c = rw (sized c.before.before) c.requires.few
 
-slice_aggregate_table_of : tie.Need-slice-aggregate-table-of
+slice_aggregate_table_of : tie.Need-slice_bounds-table_of-end-2
 slice_aggregate_table_of c = sym (counted c.before.before.before)
 
 returns : tie.Need-returns

@@ -5,10 +5,10 @@ use Rattle.table.specs.TableHeld.{same_user}
 use Rattle.table.proofs.table.held_again.Statement.{statement}
 use Rattle.table.proofs.table.held_again.Tie as tie
 
-returns : tie.Need-returns
+returns : tie.Need-returns-then-last-user_of
 returns c =
     let found = c.before.before.before in
-    same_user found.before.before.before.requires (c.if1.true ∙ found.user-of.ensures)
+    same_user found.requires (c.if-last-user_of.true ∙ found.user_of.ensures)
 
 pub held_again_spec : {M : Type 1} → statement M
 held_again_spec =

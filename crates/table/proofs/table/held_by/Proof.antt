@@ -6,21 +6,21 @@ use Rattle.table.specs.TableWords.{table_row}
 use Rattle.table.proofs.table.held_by.Statement.{statement}
 use Rattle.table.proofs.table.held_by.Tie as tie
 
-line_word_requires : tie.Need-line-word-requires
+line_word_requires : tie.Need-line_word-low-requires
 unfolding table_row row_bits row_words
-line_word_requires c κs = (omega arith, omega (arith, c.user-of.ensures))
+line_word_requires c κs = (omega arith, omega (arith, c.user_of-user.ensures))
 
-line_word_requires_2 : tie.Need-line-word-requires-2
+line_word_requires_2 : tie.Need-line_word-high-requires
 unfolding table_row row_bits row_words
-line_word_requires_2 c κs = (omega arith, omega (arith, c.before.user-of.ensures))
+line_word_requires_2 c κs = (omega arith, omega (arith, c.user_of-user.ensures))
 
 returns : tie.Need-returns
 returns c =
-    let user = c.before.before.user-of.ensures in
+    let user = c.user_of-user.ensures in
     record {
       owner = user;
-      low = rw user at c.before.line_word.ensures;
-      high = rw user at c.line-word2.ensures;
+      low = rw user at c.line_word-low.ensures;
+      high = rw user at c.line_word-high.ensures;
     }
 
 pub held_by_spec : {M : Type 1} → statement M

@@ -8,26 +8,26 @@ use Rattle.table.proofs.table.on_line.Tie as tie
 holds_requires : tie.Need-holds-requires
 unfolding row_bits row_words
 holds_requires c κs =
-    let at_line = c.before.before in
-    let within = rw at_line.line.given.1 at at_line.before.before.before.requires in
-    omega (arith, c.user-of.ensures)
+    let at_line = c.before in
+    let within = rw at_line.in-Column.is at at_line.requires in
+    omega (arith, c.user_of.ensures)
 
-holds_requires_2 : tie.Need-holds-requires-2
+holds_requires_2 : tie.Need-holds-requires-in-Row
 unfolding row_bits row_words
 holds_requires_2 c κs =
-    let at_line = c.before.before in
-    let within = rw at_line.line2.given.1 at at_line.before.before.before.requires in
-    omega (arith, c.permission-of.ensures)
+    let at_line = c.before in
+    let within = rw at_line.in-Row.is at at_line.requires in
+    omega (arith, c.permission_of.ensures)
 
-returns : tie.Need-returns
+returns : tie.Need-returns-in-Column
 returns c =
-    let at_line = c.before.before.before in
-    rw at_line.line.given.1 (rw c.before.user-of.ensures at c.holds.ensures)
+    let at_line = c.before.before in
+    rw at_line.in-Column.is (rw c.user_of.ensures at c.holds.ensures)
 
-returns_2 : tie.Need-returns-2
+returns_2 : tie.Need-returns-in-Row
 returns_2 c =
-    let at_line = c.before.before.before in
-    rw at_line.line2.given.1 (rw c.before.permission-of.ensures at c.holds2.ensures)
+    let at_line = c.before.before in
+    rw at_line.in-Row.is (rw c.permission_of.ensures at c.holds-in-Row.ensures)
 
 pub on_line_spec : {M : Type 1} → statement M
 on_line_spec =
