@@ -4,7 +4,7 @@ use Rattle.names.proofs.lookup.part_at.Statement.{statement}
 use Rattle.names.proofs.lookup.part_at.Tie as tie
 
 returns : tie.Need-returns
-returns c = rw (← c.before.before.from_of.ensures, ← c.before.to_of.ensures)
+returns c = rw (← c.from_of-start.ensures, ← c.to_of-end.ensures)
 
 pub part_at_spec : {M : Type 1} → statement M
 part_at_spec =

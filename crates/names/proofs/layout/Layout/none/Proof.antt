@@ -3,7 +3,7 @@ use Rattle.names.proofs.layout.Layout.none.Statement.{statement}
 use Rattle.names.proofs.layout.Layout.none.Tie as tie
 
 returns : tie.Need-returns
-returns c = rw c.none.ensures
+returns c = rw c.none-places.ensures
 
 pub none_spec : {M : Type 1} → statement M
 none_spec =
