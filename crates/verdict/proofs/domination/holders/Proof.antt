@@ -7,16 +7,16 @@ use Rattle.verdict.specs.Laws.Misfit.{whole_word_holds, cut_word_holds}
 use Rattle.verdict.proofs.domination.holders.Statement.{statement}
 use Rattle.verdict.proofs.domination.holders.Tie as tie
 
-returns : tie.Need-returns
+returns : tie.Need-returns-then-count-ge-WORD_BITS
 unfolding user_limit
 returns c =
-    let a = c.before.before.before.args in
+    let a = c.args in
     whole_word_holds a.columns.now a.users a.p.0 a.j (omega arith)
 
-returns_2 : tie.Need-returns-2
+returns_2 : tie.Need-returns
 unfolding user_limit
 returns_2 c = λ q l.
-    let a = c.before.before.before.before.args in
+    let a = c.args in
     cut_word_holds a.columns.now a.users a.p.0 a.j c.full.result c.full.ensures q
 
 pub holders_spec : {M : Type 1} → statement M

@@ -14,41 +14,41 @@ use Rattle.verdict.specs.Laws.Inside.{cells_in_word, no_cells_in_words}
 use Rattle.verdict.proofs.inside.has_grants.Statement.{statement}
 use Rattle.verdict.proofs.inside.has_grants.Tie as tie
 
-abbrev invariant_loop : tie.invariant-loop
+abbrev invariant_loop : tie.invariant-loop-d
 invariant_loop left x d₀ d =
     (d ≤ row_words) × ((e : ℕ) → e < d → some_below word_bits (bit (get_or left (x.0 * row_words + e) 0)) ≡ false)
 
-abbrev decreases_loop : tie.decreases-loop
+abbrev decreases_loop : tie.decreases-loop-d
 decreases_loop left x d₀ d = row_words - d
 
-loop_holds : tie.Need-loop-init invariant_loop decreases_loop
+loop_holds : tie.Need-loop-d-init invariant_loop decreases_loop
 loop_holds c = (omega arith, λ e l. absurd (omega arith))
 
-returns : tie.Need-returns invariant_loop decreases_loop
+returns : tie.Need-returns-then-has_any invariant_loop decreases_loop
 unfolding row_words
 returns c =
     let at_loop = c.before.before.before.before.before in
-    let a = at_loop.before.args in
-    sym (cells_in_word a.left.now a.x.0 at_loop.loop.d (omega arith)
-    (sym c.before.has-any.ensures ∙ c.if1.true))
+    let a = at_loop.args in
+    sym (cells_in_word a.left.now a.x.0 at_loop.loop-d.d (omega arith)
+    (sym c.has_any.ensures ∙ c.if-has_any.true))
 
-loop_again : tie.Need-loop-preserved invariant_loop decreases_loop
+loop_again : tie.Need-loop-d-preserved invariant_loop decreases_loop
 unfolding row_words
 loop_again c =
     let at_loop = c.before.before.before.before.before in (
       omega arith,
-      λ e l. ⊎_elim (λ (k : e < at_loop.loop.d). at_loop.loop.invariant.1 e k)
-          (λ (k : at_loop.loop.d ≤ e). let same : e ≡ at_loop.loop.d = omega arith in
-          rw same (sym c.before.has-any.ensures ∙ c.if1.false))
-          (below_or_from e at_loop.loop.d),
+      λ e l. ⊎_elim (λ (k : e < at_loop.loop-d.d). at_loop.loop-d.invariant.1 e k)
+          (λ (k : at_loop.loop-d.d ≤ e). let same : e ≡ at_loop.loop-d.d = omega arith in
+          rw same (sym c.has_any.ensures ∙ c.if-has_any.false))
+          (below_or_from e at_loop.loop-d.d),
     )
 
-returns_2 : tie.Need-returns-2 invariant_loop decreases_loop
+returns_2 : tie.Need-returns invariant_loop decreases_loop
 unfolding row_words
 returns_2 c =
-    let a = c.before.before.args in
-    let end : c.before.loop.d ≡ row_words = omega arith in
-    sym (no_cells_in_words a.left.now a.x.0 (rw end at c.before.loop.invariant.1))
+    let a = c.args in
+    let end : c.loop-d.d ≡ row_words = omega arith in
+    sym (no_cells_in_words a.left.now a.x.0 (rw end at c.loop-d.invariant.1))
 
 pub has_grants_spec : {M : Type 1} → statement M
 unfolding user_limit row_words

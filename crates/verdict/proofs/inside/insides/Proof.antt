@@ -11,36 +11,36 @@ use Rattle.verdict.specs.Insides.{may_tie}
 use Rattle.verdict.proofs.inside.insides.Statement.{statement}
 use Rattle.verdict.proofs.inside.insides.Tie as tie
 
-abbrev invariant_loop : tie.invariant-loop
+abbrev invariant_loop : tie.invariant-loop-j
 invariant_loop rows columns left v words₀ j₀ words j =
     (j ≤ column_words) × (length words ≡ column_words) × MadeWords (may_tie rows left v.0) j words
 
-abbrev decreases_loop : tie.decreases-loop
+abbrev decreases_loop : tie.decreases-loop-j
 decreases_loop rows columns left v words₀ j₀ words j = column_words - j
 
-loop_holds : tie.Need-loop-init invariant_loop decreases_loop
+loop_holds : tie.Need-loop-j-init invariant_loop decreases_loop
 unfolding user_limit
 loop_holds c = (omega arith, refl, none_made _ column_words)
 
-inside_among_requires : tie.Need-inside-among-requires invariant_loop decreases_loop
+inside_among_requires : tie.Need-inside_among-requires invariant_loop decreases_loop
 unfolding user_limit
 inside_among_requires c κs =
     let s = c.before.before in
     (s.requires.0, omega arith, s.requires.1, s.requires.2)
 
-loop_again : tie.Need-loop-preserved invariant_loop decreases_loop
+loop_again : tie.Need-loop-j-preserved invariant_loop decreases_loop
 unfolding user_limit
 loop_again c =
-    let at = c.before.before.loop in (
+    let at = c.loop-j in (
       omega arith,
       simp length-set at.invariant.1,
-      one_made _ at.j at.words _ at.invariant.2 (omega arith) c.inside-among.ensures,
+      one_made _ at.j at.words _ at.invariant.2 (omega arith) c.inside_among.ensures,
     )
 
 returns : tie.Need-returns invariant_loop decreases_loop
 unfolding user_limit
 returns c =
-    let at = c.before.loop in
+    let at = c.loop-j in
     let end : at.j ≡ column_words = omega arith in
     rw (end, whole_columns) at (all_made _ at.j at.words at.invariant.2)
 

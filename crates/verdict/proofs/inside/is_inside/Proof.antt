@@ -5,14 +5,14 @@ use borrow.Author.Tests.{not-true, not-false}
 use Rattle.verdict.proofs.inside.is_inside.Statement.{statement}
 use Rattle.verdict.proofs.inside.is_inside.Tie as tie
 
-returns : tie.Need-returns
+returns : tie.Need-returns-then-not-has_grants
 returns c =
-    let has = c.before.has-grants in rw (sym has.ensures ∙ not-true has.result c.if1.true)
+    let has = c.has_grants in rw (sym has.ensures ∙ not-true has.result c.if-not-has_grants.true-raw)
 
-returns_2 : tie.Need-returns-2
+returns_2 : tie.Need-returns
 returns_2 c =
-    let has = c.before.before.has-grants in
-    c.in_row.ensures ∙ rw (sym has.ensures ∙ not-false has.result c.before.if1.false)
+    let has = c.has_grants in
+    c.in_row.ensures ∙ rw (sym has.ensures ∙ not-false has.result c.if-not-has_grants.false-raw)
 
 pub is_inside_spec : {M : Type 1} → statement M
 is_inside_spec =

@@ -12,10 +12,10 @@ use Rattle.fit.specs.Laws.FitWord.{marked_in_word}
 use Rattle.verdict.proofs.judgement.candidates.Statement.{statement}
 use Rattle.verdict.proofs.judgement.candidates.Tie as tie
 
-returns : tie.Need-returns
+returns : tie.Need-returns-then-i-at
 returns c q l =
-    let a = c.before.before.before.args in
-    let own = c.before.before.if1.true in
+    let a = c.args in
+    let own = c.if-i-at.true in
     rw (
       marked_in_word a.left.now a.i q l,
       same_truth _ _ (λ e. eq-eqb q (a.it.0 % word_bits) (omega (
@@ -28,12 +28,12 @@ returns c q l =
     )
     (c.without.ensures q)
 
-returns_2 : tie.Need-returns-2
+returns_2 : tie.Need-returns-else-i-at
 returns_2 c q l =
-    let a = c.before.before.args in
+    let a = c.args in
     rw (
       marked_in_word a.left.now a.i q l,
-      ne_eqb (a.i * word_bits + q) a.it.0 (λ e. c.before.if1.false (omega (arith, e, l))),
+      ne_eqb (a.i * word_bits + q) a.it.0 (λ e. c.if-i-at.false (omega (arith, e, l))),
     )
     (sym (and-true _))
 

@@ -6,8 +6,8 @@ use Rattle.verdict.proofs.judgement.is_one.Tie as tie
 
 returns : tie.Need-returns
 returns c =
-    one_position c.before.args.w c.without-lowest.result c.before.requires c.before.ranges.w.fits
-    c.without-lowest.ensures
+    one_position c.args.w c.without_lowest.result c.requires c.ranges.w.fits
+    c.without_lowest.ensures
 
 pub is_one_spec : {M : Type 1} → statement M
 is_one_spec =

@@ -15,20 +15,20 @@ use Rattle.verdict.specs.Laws.Single.{one_of_two, alone_in_word}
 use Rattle.verdict.proofs.judgement.is_single.Statement.{statement}
 use Rattle.verdict.proofs.judgement.is_single.Tie as tie
 
-is_one_requires : tie.Need-is-one-requires
-is_one_requires c κs = some_bit_pos _ _ c.before.requires.1
+is_one_requires : tie.Need-is_one-requires
+is_one_requires c κs = some_bit_pos _ _ c.requires.1
 
-returns : tie.Need-returns
+returns : tie.Need-returns-then-not-is_one
 returns c =
     let s = c.before.before.before in
     sym (ne_eqb _ 1 (λ one. not_both
     (eq-eqb _ 1 (alone_in_word s.requires.2 s.args.it.0 s.requires.0 s.requires.1 one))
-    (sym c.before.is_one.ensures ∙ not-true c.before.is_one.result c.if1.true)))
+    (sym c.is_one.ensures ∙ not-true c.is_one.result c.if-not-is_one.true-raw)))
 
-returns_2 : tie.Need-returns-2
+returns_2 : tie.Need-returns
 returns_2 c =
-    let a = c.before.before.before.before.args in
-    ap (λ n. eqb n 1) c.partners-in-column.ensures
+    let a = c.args in
+    ap (λ n. eqb n 1) c.partners_in_column.ensures
     ∙ one_of_two (count_below cell_limit (near a.rows.now a.left.now a.it.0))
 
 pub is_single_spec : {M : Type 1} → statement M

@@ -18,30 +18,30 @@ use Rattle.verdict.specs.Laws.ReductionVerdict.{single_found, tie_found, no_tie_
 use Rattle.verdict.proofs.judgement.judge.Statement.{statement}
 use Rattle.verdict.proofs.judgement.judge.Tie as tie
 
-is_single_requires : tie.Need-is-single-requires
+is_single_requires : tie.Need-is_single-requires
 is_single_requires c κs =
     let given = c.requires.0 in
     (lt_of_lt_of_le given.within (cells_within given.shows.few_users), given.set, given.part, c.requires.1)
 
 -- what the test says of the grants that fit
-fitting_count : (c : tie.After-is-single) (sheet : Sheet) → Shown c.before.args.rows.now
-    c.before.args.users sheet
-    → c.is_single.result ≡ eqb (length (filter (fits sheet (grant_of c.before.args.it.0))
-    (cell_grants sheet c.before.args.left.now))) 1
+fitting_count : (c : tie.After-is_single) (sheet : Sheet) → Shown c.args.rows.now
+    c.args.users sheet
+    → c.is_single.result ≡ eqb (length (filter (fits sheet (grant_of c.args.it.0))
+    (cell_grants sheet c.args.left.now))) 1
 fitting_count c sheet shown =
-    let given = c.before.requires.0 in
+    let given = c.requires.0 in
     c.is_single.ensures
     ∙ ap (λ n. eqb n 1)
-    (near_count_all shown given.part c.before.args.it.0 (cells_within given.shows.few_users))
+    (near_count_all shown given.part c.args.it.0 (cells_within given.shows.few_users))
 
-returns : tie.Need-returns
+returns : tie.Need-returns-then-is_single
 returns c =
-    let given = c.before.before.requires.0 in
+    let given = c.requires.0 in
     record {
       named = tt;
       right = λ sheet shown.
           single_found shown given.part given.within given.set refl
-          (eqb-true _ 1 (sym (fitting_count c.before sheet shown) ∙ c.if1.true));
+          (eqb-true _ 1 (sym (fitting_count c.before sheet shown) ∙ c.if-is_single.true));
     }
 
 tie_requires : tie.Need-tie-requires
@@ -55,29 +55,29 @@ tie_requires c κs =
       s.requires.0.set,
     )
 
-returns_2 : tie.Need-returns-2
+returns_2 : tie.Need-returns-in-At
 returns_2 c =
-    let judged = c.before.before.before.before in
-    let given = judged.before.before.requires.0 in
-    let a = judged.before.before.args in
-    let low : LowestIn _ 0 _ _ = rw c.before.other.given.1 at c.before.before.before.tie.ensures in
+    let judged = c.before.before in
+    let given = judged.requires.0 in
+    let a = judged.args in
+    let low : LowestIn _ 0 _ _ = rw c.in-At.is at c.tie.ensures in
     record {
       named = (low.within, tie_is_other a.rows.now a.left.now a.users a.it.0 low);
       right = λ sheet shown.
           tie_found shown given.part given.within given.set refl
-          (eqb-false _ 1 (sym (fitting_count judged.before sheet shown) ∙ judged.if1.false)) low;
+          (eqb-false _ 1 (sym (fitting_count judged.before sheet shown) ∙ judged.if-is_single.false)) low;
     }
 
-returns_3 : tie.Need-returns-3
+returns_3 : tie.Need-returns-in-Nothing
 returns_3 c =
-    let judged = c.before.before.before in
-    let given = judged.before.before.requires.0 in
+    let judged = c.before.before in
+    let given = judged.requires.0 in
     record {
       named = tt;
       right = λ sheet shown.
           no_tie_found shown given.part given.within given.set refl
-          (eqb-false _ 1 (sym (fitting_count judged.before sheet shown) ∙ judged.if1.false))
-          (rw c.enum_told.given.1 at c.before.before.tie.ensures);
+          (eqb-false _ 1 (sym (fitting_count judged.before sheet shown) ∙ judged.if-is_single.false))
+          (rw c.in-Nothing.is at c.tie.ensures);
     }
 
 pub judge_spec : {M : Type 1} → statement M

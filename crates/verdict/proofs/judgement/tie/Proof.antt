@@ -17,35 +17,35 @@ use Rattle.verdict.specs.Laws.TieWalk.{none_at_first, before_within}
 use Rattle.verdict.proofs.judgement.tie.Statement.{statement}
 use Rattle.verdict.proofs.judgement.tie.Tie as tie
 
-abbrev invariant_loop : tie.invariant-loop
+abbrev invariant_loop : tie.invariant-loop-j
 invariant_loop rows columns inside left users it j₀ j =
     (j ≤ column_words) × NoneIn (tie_at rows left users it.0) 0 (users_before users j * row_bits)
 
-abbrev decreases_loop : tie.decreases-loop
+abbrev decreases_loop : tie.decreases-loop-j
 decreases_loop rows columns inside left users it j₀ j = users - j * word_bits
 
-loop_holds : tie.Need-loop-init invariant_loop decreases_loop
+loop_holds : tie.Need-loop-j-init invariant_loop decreases_loop
 loop_holds c = (omega arith, none_at_first c.args.users)
 
-returns : tie.Need-returns invariant_loop decreases_loop
+returns : tie.Need-returns-in-At invariant_loop decreases_loop
 returns c =
     lowest_with_more (before_within _ _)
-    (none_then_lowest zero-le c.before.before.before.before.before.loop.invariant.1
-    (rw c.before.found.given.1 at c.before.before.before.tie-among.ensures))
+    (none_then_lowest zero-le c.loop-j.invariant.1
+    (rw c.in-At.is at c.tie_among-found.ensures))
 
-loop_again : tie.Need-loop-preserved invariant_loop decreases_loop
+loop_again : tie.Need-loop-j-preserved invariant_loop decreases_loop
 unfolding user_limit
 loop_again c =
-    let at_loop = c.before.before.before.before in (
+    let at_loop = c.before.before.before in (
       omega arith,
-      none_then_none at_loop.loop.invariant.1 (rw c.enum_told.given.1 at
-          c.before.before.tie-among.ensures),
+      none_then_none at_loop.loop-j.invariant.1 (rw c.in_default.is at
+          c.tie_among-found.ensures),
     )
 
-returns_2 : tie.Need-returns-2 invariant_loop decreases_loop
+returns_2 : tie.Need-returns invariant_loop decreases_loop
 returns_2 c =
-    let at = c.before.loop in
-    let users = c.before.before.args.users in
+    let at = c.loop-j in
+    let users = c.args.users in
     let end : users_before users at.j ≡ users = omega arith in
     rw (end, rows_cells users) at at.invariant.1
 

@@ -19,93 +19,93 @@ use Rattle.verdict.specs.Laws.TieWalk.{NoneAt, lowest_in_column, none_in_column}
 use Rattle.verdict.proofs.judgement.tie_among.Statement.{statement}
 use Rattle.verdict.proofs.judgement.tie_among.Tie as tie
 
-abbrev invariant_loop : tie.invariant-loop
+abbrev invariant_loop : tie.invariant-loop-w
 invariant_loop rows columns inside left users it j w₀ w = Walk w₀ (NoneAt (tie_at rows left users it.0) users j) w
 
-abbrev decreases_loop : tie.decreases-loop
+abbrev decreases_loop : tie.decreases-loop-w
 decreases_loop rows columns inside left users it j w₀ w = w
 
 holders_requires : tie.Need-holders-requires invariant_loop decreases_loop
 unfolding row_words row_bits
-holders_requires c κs = omega (arith, c.permission-of.ensures)
+holders_requires c κs = omega (arith, c.permission_of.ensures)
 
-mul_w : tie.Need-overflow-mul-w invariant_loop decreases_loop
+mul_w : tie.Need-offset_bounds-inside-j invariant_loop decreases_loop
 mul_w c = omega arith
 
-element_copy_out_w : tie.Need-element-copy-out-w invariant_loop decreases_loop
+element_copy_out_w : tie.Need-bounds-inside-j invariant_loop decreases_loop
 unfolding user_limit
 element_copy_out_w c = omega arith
 
 -- who holds the permission, as the rows say
 held_by : (c : tie.After-holders invariant_loop decreases_loop) →
     let s = c.before.before in HoldersWord s.args.rows.now s.args.users
-    c.before.permission-of.result.0 s.args.j c.holders.result
+    c.permission_of.result.0 s.args.j c.holders.result
 unfolding row_words row_bits
 held_by c =
     let s = c.before.before in
-    holders_word s.requires.4 s.requires.0 (omega (arith, c.before.permission-of.ensures)) s.requires.2
+    holders_word s.requires.4 s.requires.0 (omega (arith, c.permission_of.ensures)) s.requires.2
     c.holders.ensures
 
-loop_holds : tie.Need-loop-init invariant_loop decreases_loop
+loop_holds : tie.Need-loop-w-init invariant_loop decreases_loop
 loop_holds c =
     let at_permission = c.before.before in
     let s = at_permission.before in
     let a = s.args in
-    let held = c.before.holders.result in
+    let held = c.holders.result in
     let word = get_or a.inside.now a.j 0 in
     insides_untried a.rows.now a.left.now a.users a.it.0 s.requires.3 a.j held (bit_and held word)
     a.inside.now s.requires.0
-    (rw at_permission.permission-of.ensures at (held_by c.before))
+    (rw at_permission.permission_of.ensures at (held_by c.before.before))
     s.requires.5 s.requires.6 (bit_of_and held word)
 
-add_x : tie.Need-overflow-add-x invariant_loop decreases_loop
+add_x : tie.Need-overflow_add-x invariant_loop decreases_loop
 add_x c = omega (arith, c.lowest.ensures.within)
 
 -- the user to be tried is one of the users
 within : (c : tie.After-lowest invariant_loop decreases_loop) →
-    let a = c.before.before.before.before.before.before.args in a.j * word_bits + c.lowest.result < a.users
+    let a = c.args in a.j * word_bits + c.lowest.result < a.users
 within c =
     let at_holders = c.before.before.before.before in
     let s = at_holders.before.before in
     let held = at_holders.holders.result in
     let word = get_or s.args.inside.now s.args.j 0 in
     let q = c.lowest.result in
-    holder_within (held_by at_holders) c.lowest.ensures.within
-    (and_left (bit held q) (bit word q) (sym (bit_of_and held word q) ∙ c.before.before.loop.invariant.kept q
+    holder_within (held_by at_holders.before) c.lowest.ensures.within
+    (and_left (bit held q) (bit word q) (sym (bit_of_and held word q) ∙ c.loop-w.invariant.kept q
     c.lowest.ensures.holds))
 
-tie_of_user_requires : tie.Need-tie-of-user-requires invariant_loop decreases_loop
+tie_of_user_requires : tie.Need-tie_of_user-found-requires invariant_loop decreases_loop
 tie_of_user_requires c κs =
     let s = c.before.before.before.before.before.before in
     (s.requires.0, s.requires.1, within c, s.requires.4)
 
-returns : tie.Need-returns invariant_loop decreases_loop
+returns : tie.Need-returns-in-At invariant_loop decreases_loop
 returns c =
-    let at_lowest = c.before.before.before.before in
+    let at_lowest = c.before.before in
     let at_loop = at_lowest.before.before in
     let s = at_loop.before.before.before.before in
     lowest_in_column (tie_at s.args.rows.now s.args.left.now s.args.users s.args.it.0)
     s.args.users s.args.j s.requires.2
-    at_loop.loop.invariant at_lowest.lowest.ensures (within at_lowest)
-    (rw c.before.found.given.1 at c.before.before.before.tie-of-user.ensures)
+    at_loop.loop-w.invariant at_lowest.lowest.ensures (within at_lowest)
+    (rw c.in-At.is at c.tie_of_user-found.ensures)
 
-loop_less : tie.Need-loop-smaller invariant_loop decreases_loop
-loop_less c = c.without-lowest.ensures.less
+loop_less : tie.Need-loop-w-smaller invariant_loop decreases_loop
+loop_less c = c.without_lowest-w.ensures.less
 
-loop_again : tie.Need-loop-preserved invariant_loop decreases_loop
+loop_again : tie.Need-loop-w-preserved invariant_loop decreases_loop
 loop_again c =
-    let at_lowest = c.before.before.before.before in
+    let at_lowest = c.before.before.before in
     let at_loop = at_lowest.before.before in
-    walk_next at_loop.loop.invariant at_lowest.lowest.ensures
-    (λ inside. rw c.before.enum_told.given.1 at c.before.before.before.tie-of-user.ensures)
-    c.without-lowest.ensures
+    walk_next at_loop.loop-w.invariant at_lowest.lowest.ensures
+    (λ inside. rw c.in_default.is at c.tie_of_user-found.ensures)
+    c.without_lowest-w.ensures
 
-returns_2 : tie.Need-returns-2 invariant_loop decreases_loop
+returns_2 : tie.Need-returns invariant_loop decreases_loop
 returns_2 c =
     let s = c.before.before.before.before.before in
     none_in_column (tie_at s.args.rows.now s.args.left.now s.args.users s.args.it.0)
     s.args.users s.args.j s.requires.2
-    (rw c.loop-test.false at c.before.loop.invariant)
+    (rw c.loop-w-test.false at c.loop-w.invariant)
 
 pub tie_among_spec : {M : Type 1} → statement M
 unfolding user_limit

@@ -14,70 +14,70 @@ use Rattle.verdict.specs.Laws.Candidate.{misfit_tried}
 use Rattle.verdict.proofs.judgement.tie_in.Statement.{statement}
 use Rattle.verdict.proofs.judgement.tie_in.Tie as tie
 
-abbrev invariant_loop : tie.invariant-loop
+abbrev invariant_loop : tie.invariant-loop-w
 invariant_loop rows columns left users it i w₀ w = Untried rows left users it.0 i w
 
-abbrev decreases_loop : tie.decreases-loop
+abbrev decreases_loop : tie.decreases-loop-w
 decreases_loop rows columns left users it i w₀ w = w
 
-loop_holds : tie.Need-loop-init invariant_loop decreases_loop
-loop_holds c = all_untried _ _ _ _ _ c.candidates.ensures
+loop_holds : tie.Need-loop-w-init invariant_loop decreases_loop
+loop_holds c = all_untried _ _ _ _ _ c.candidates-w.ensures
 
-misfit_requires : tie.Need-misfit-requires invariant_loop decreases_loop
+misfit_requires : tie.Need-misfit-x-requires invariant_loop decreases_loop
 unfolding row_words
 misfit_requires c κs =
-    let pre = c.before.before.before.before.requires in
+    let pre = c.requires in
     (pre.0, pre.1, omega (arith, c.lowest.ensures.within), pre.3)
 
-returns : tie.Need-returns invariant_loop decreases_loop
+returns : tie.Need-returns-then-x-users invariant_loop decreases_loop
 returns c =
     let at_loop = c.before.before.before.before in
     let start = at_loop.before.before in
     let a = start.args in
-    let low = c.before.before.lowest in
-    let all : c.before.misfit.result ≡ a.users = omega arith in
-    lowest_untried a.rows.now a.left.now a.users a.it.0 a.i at_loop.loop.invariant low.ensures
+    let low = c.lowest in
+    let all : c.misfit-x.result ≡ a.users = omega arith in
+    lowest_untried a.rows.now a.left.now a.users a.it.0 a.i at_loop.loop-w.invariant low.ensures
     (unless_misfit a.rows.now a.left.now a.it.0 (a.i * word_bits + low.result) a.users
-    (λ n. rw all at (c.before.misfit.ensures.skipped n zero-le)))
+    (λ n. rw all at (c.misfit-x.ensures.skipped n zero-le)))
 
 -- the user who was found fails the lowest candidate, and with it all others whose permissions the user holds
-failed : (c : tie.After-apart invariant_loop decreases_loop) →
+failed : (c : tie.After-apart-w invariant_loop decreases_loop) →
     let at_loop = c.before.before.before.before.before.before in
-    let a = at_loop.before.before.args in
-    (c.apart.result < at_loop.loop.w) × Untried a.rows.now a.left.now a.users a.it.0 a.i
-    c.apart.result
+    let a = at_loop.args in
+    (c.apart-w.result < at_loop.loop-w.w) × Untried a.rows.now a.left.now a.users a.it.0 a.i
+    c.apart-w.result
 unfolding row_words
 failed c =
     let at_lowest = c.before.before.before.before in
     let at_loop = at_lowest.before.before in
-    let a = at_loop.before.before.args in
-    let misfit = c.before.before.before.misfit in
+    let a = at_loop.args in
+    let misfit = c.misfit-x in
     let within : misfit.result < a.users = omega (
       arith,
-      c.before.before.if1.false,
+      c.if-x-users.false,
       misfit.ensures.not_past,
     ) in
     misfit_tried a.rows.now a.left.now a.users a.it.0 a.i _ at_lowest.lowest.ensures
-    (misfit.ensures.passes within) c.apart.ensures.1 within c.apart.ensures.0 at_loop.loop.invariant
+    (misfit.ensures.passes within) c.apart-w.ensures.1 within c.apart-w.ensures.0 at_loop.loop-w.invariant
 
-loop_less : tie.Need-loop-smaller invariant_loop decreases_loop
+loop_less : tie.Need-loop-w-smaller invariant_loop decreases_loop
 loop_less c = (failed c).0
 
-loop_again : tie.Need-loop-preserved invariant_loop decreases_loop
+loop_again : tie.Need-loop-w-preserved invariant_loop decreases_loop
 loop_again c = (failed c).1
 
-returns_2 : tie.Need-returns-2 invariant_loop decreases_loop
+returns_2 : tie.Need-returns invariant_loop decreases_loop
 returns_2 c =
-    let a = c.before.before.before.args in
+    let a = c.args in
     none_untried a.rows.now a.left.now a.users a.it.0 a.i
-    (rw c.loop-test.false at c.before.loop.invariant)
+    (rw c.loop-w-test.false at c.loop-w.invariant)
 
 pub tie_in_spec : {M : Type 1} → statement M
 unfolding user_limit row_words
 tie_in_spec =
     tie.close (tie.spec invariant_loop decreases_loop (λ c κs. search rules) loop_holds (λ c. omega arith) (λ c κs. omega arith)
     (λ c. omega (arith, c.lowest.ensures.within)) misfit_requires returns
-    (λ c. omega (arith, c.before.misfit.ensures.not_past))
-    (λ c. omega (arith, c.before.misfit.ensures.not_past))
-    (λ c. omega (arith, c.before.misfit.ensures.not_past))
-    (λ c. omega (arith, c.before.misfit.ensures.not_past)) (λ c κs. tt) loop_less loop_again returns_2)
+    (λ c. omega (arith, c.before.misfit-x.ensures.not_past))
+    (λ c. omega (arith, c.before.misfit-x.ensures.not_past))
+    (λ c. omega (arith, c.before.misfit-x.ensures.not_past))
+    (λ c. omega (arith, c.before.misfit-x.ensures.not_past)) (λ c κs. tt) loop_less loop_again returns_2)

@@ -12,37 +12,37 @@ use Rattle.verdict.specs.Laws.NearTie.{none_then_none, none_then_lowest, none_be
 use Rattle.verdict.proofs.judgement.tie_of_user.Statement.{statement}
 use Rattle.verdict.proofs.judgement.tie_of_user.Tie as tie
 
-abbrev invariant_loop : tie.invariant-loop
+abbrev invariant_loop : tie.invariant-loop-d
 invariant_loop rows columns left users it x d₀ d =
     (d ≤ row_words) × NoneIn (tie_at rows left users it.0) (x.0 * row_bits) ((x.0 * row_words + d) * word_bits)
 
-abbrev decreases_loop : tie.decreases-loop
+abbrev decreases_loop : tie.decreases-loop-d
 decreases_loop rows columns left users it x d₀ d = row_words - d
 
-loop_holds : tie.Need-loop-init invariant_loop decreases_loop
+loop_holds : tie.Need-loop-d-init invariant_loop decreases_loop
 unfolding row_bits
 loop_holds c = (omega arith, record { fails = λ m from to. absurd (omega arith) })
 
-returns : tie.Need-returns invariant_loop decreases_loop
+returns : tie.Need-returns-in-At invariant_loop decreases_loop
 unfolding row_words row_bits
 returns c =
     lowest_with_more (omega arith)
-    (none_then_lowest (omega arith) c.before.before.before.before.before.before.loop.invariant.1
-    (rw c.before.found.given.1 at c.before.before.before.tie-in.ensures))
+    (none_then_lowest (omega arith) c.loop-d.invariant.1
+    (rw c.in-At.is at c.tie_in-found.ensures))
 
-loop_again : tie.Need-loop-preserved invariant_loop decreases_loop
+loop_again : tie.Need-loop-d-preserved invariant_loop decreases_loop
 unfolding row_words
 loop_again c =
-    let at_loop = c.before.before.before.before.before in (
+    let at_loop = c.before.before.before.before in (
       omega arith,
-      none_before (omega arith) (none_then_none at_loop.loop.invariant.1
-          (rw c.enum_told.given.1 at c.before.before.tie-in.ensures)),
+      none_before (omega arith) (none_then_none at_loop.loop-d.invariant.1
+          (rw c.in_default.is at c.tie_in-found.ensures)),
     )
 
-returns_2 : tie.Need-returns-2 invariant_loop decreases_loop
+returns_2 : tie.Need-returns invariant_loop decreases_loop
 unfolding row_words row_bits
 returns_2 c =
-    let at = c.before.loop in
+    let at = c.loop-d in
     none_before (omega arith) at.invariant.1
 
 pub tie_of_user_spec : {M : Type 1} → statement M
