@@ -15,55 +15,55 @@ use Rattle.buckets.specs.Buckets.{bucket_words, meets_word, meets_bucket}
 use Rattle.buckets.proofs.buckets.meets_bucket.Statement.{statement}
 use Rattle.buckets.proofs.buckets.meets_bucket.Tie as tie
 
-abbrev invariant_loop : tie.invariant-loop
+abbrev invariant_loop : tie.invariant-loop-k
 invariant_loop s places table bucket words name k₀ k =
     (k ≤ words) × (meets_bucket s places table bucket k name ≡ false)
 
-abbrev decreases_loop : tie.decreases-loop
+abbrev decreases_loop : tie.decreases-loop-k
 decreases_loop s places table bucket words name k₀ k = words - k
 
-loop_holds : tie.Need-loop-init invariant_loop decreases_loop
+loop_holds : tie.Need-loop-k-init invariant_loop decreases_loop
 unfolding some_below
 loop_holds c = (omega arith, refl)
 
-meets_word_requires : tie.Need-meets-word-requires invariant_loop decreases_loop
+meets_word_requires : tie.Need-meets_word-requires invariant_loop decreases_loop
 meets_word_requires c κs p l s =
     let start = c.before.before.before.before.before.before in
-    start.requires.0.part start.args.bucket c.before.before.loop.k p (omega arith) l s
+    start.requires.0.part start.args.bucket c.loop-k.k p (omega arith) l s
 
 -- whether the word k has a name that is met
 abbrev met : Bytes → List ℕ → List ℕ → ℕ → Bytes → ℕ → Bool
 met text places table bucket name k =
     meets_word text places (get_or table (bucket * bucket_words + k) 0) (k * word_bits) name
 
-returns : tie.Need-returns invariant_loop decreases_loop
+returns : tie.Need-returns-then-meets_word invariant_loop decreases_loop
 returns c =
     let at_loop = c.before.before.before.before in
     let start = at_loop.before.before.before.before in
     let a = start.args in
-    let k = at_loop.loop.k in
+    let k = at_loop.loop-k.k in
     sym (some_below_intro a.words (met a.s.now a.places.now a.table.now
     a.bucket a.name.now) {i = k}
-    c.before.before.before.loop-test.true (sym c.before.meets_word.ensures ∙ c.if1.true))
+    c.loop-k-test.true (sym c.meets_word.ensures ∙ c.if-meets_word.true))
 
-loop_again : tie.Need-loop-preserved invariant_loop decreases_loop
+loop_again : tie.Need-loop-k-preserved invariant_loop decreases_loop
 loop_again c =
     let at_loop = c.before.before.before.before in
     let start = at_loop.before.before.before.before in
     let a = start.args in
-    let k = at_loop.loop.k in
+    let k = at_loop.loop-k.k in
     let test : ℕ → Bool = met a.s.now a.places.now a.table.now a.bucket
     a.name.now in (
       omega arith,
       some_below_step k test
-          ∙ or_fails (test k) (some_below k test) (sym c.before.meets_word.ensures ∙ c.if1.false)
-          at_loop.loop.invariant.1,
+          ∙ or_fails (test k) (some_below k test) (sym c.meets_word.ensures ∙ c.if-meets_word.false)
+          at_loop.loop-k.invariant.1,
     )
 
-returns_2 : tie.Need-returns-2 invariant_loop decreases_loop
+returns_2 : tie.Need-returns invariant_loop decreases_loop
 returns_2 c =
-    let all : c.before.loop.k ≡ c.before.before.before.before.before.args.words = omega arith in
-    sym (rw all at c.before.loop.invariant.1)
+    let all : c.loop-k.k ≡ c.args.words = omega arith in
+    sym (rw all at c.loop-k.invariant.1)
 
 pub meets_bucket_spec : {M : Type 1} → statement M
 meets_bucket_spec =
