@@ -1,8 +1,9 @@
 #!/usr/bin/env bash
-# Proves every crate, tries every must-fail edit, runs every program and compares its output, then runs the Rust tests,
-# which hold the proved programs and the proved library to the second implementation. What is tried has a line each.
-# The log ends with the seconds of each crate, the slowest ten, and the counts of all: 'N passed, M failed'. Exit status
-# 0 only if M is 0 and every part ran to its end.
+# Proves every crate, tries every must-fail edit, runs every program and compares its output (`rt ci`), then runs the Rust
+# tests, which hold the proved programs and the proved library to the second implementation. What is tried has a line
+# each. The log ends with the seconds of the parts, the functions and must-fail edits of each crate, and the counts of
+# all: 'N passed, M failed'. A must-fail edit that cannot be tried counts as failed. Exit status 0 only if M is 0 and every
+# part ran to its end.
 set -uo pipefail
 cd "$(dirname "$0")" || exit 2
 export PATH="$HOME/.cargo/bin:$PATH"
@@ -22,9 +23,16 @@ took() { # SINCE WHAT
     echo "gate: $2 ($((SECONDS - $1)) s)" | tee -a "$log/times"
 }
 
-# rt waits for all proofs or edits that it started together before it starts the next ones: with four of them no
-# processor of two is idle for long
-export RT_JOBS=${RT_JOBS:-4}
+# says how long each part took, and what passed and failed
+finish() {
+    took 0 "all of it" >/dev/null
+    bash .ci/times "$log/rattle" "$log/times"
+    echo "$passed passed, $failed failed"
+    [ "$failed" -eq 0 ]
+    exit
+}
+
+touch "$log/began"
 began=$SECONDS
 rt ci 2>&1 | tee "$log/rattle"
 status=$?
@@ -32,18 +40,28 @@ counts=$(tail -n 1 "$log/rattle" | sed -n 's/^\([0-9]*\) passed, \([0-9]*\) fail
 [ -n "$counts" ] || { counts='0 0'; [ "$status" -ne 0 ] || status=1; }
 # shellcheck disable=SC2086
 tally "$status" $counts
+# edits that cannot be applied, compiled or read fail nothing in `rt ci`
+bad=$(sed -n 's/^rt: ok; .*, \([0-9]*\) bad.*/\1/p' "$log/rattle")
+tally 0 0 "${bad:-0}"
 took "$began" "proofs, must-fail edits and programs"
 
 # what the programs tried that write a line for each case, and what came of it; play's cases are the calls of its script
 for program in sheet_cases search_cases book_cases; do
-    sed "s/^/$program: /" "target/log/$program.stdout"
+    sed "s/^/$program: /" "crates/$program/out/stdout"
 done
-paste -d '>' crates/play/stdin target/log/play.stdout | sed 's/^/play: /; s/>/ -> /'
+paste -d '>' crates/play/stdin crates/play/out/stdout | sed 's/^/play: /; s/>/ -> /'
 
-# rt ci leaves the programs
+# rt ci leaves the programs, each in its crate. Where one is missing, nothing that calls them is tried
+mkdir -p target/bin
+rm -f target/bin/*
 for program in rolebook rolesearch rolecheck rolenewcomer play; do
-    [ -x "target/bin/$program" ] || rt check "$program"
+    cp "crates/$program/out/$program" target/bin/ && continue
+    echo "the programs are not all there: the shell front and the Rust tests are left out"
+    tally 1 0 0
+    finish
 done
+# what the shell front asks: whether all are there, and no file is newer
+touch -r "$log/began" target/porvuund.built
 
 # the shell front for people: what it prints, and its exit status
 front() { # STATUS OUTPUT ARGUMENT..
@@ -127,7 +145,7 @@ took "$began" "the shell front"
 
 # the library is made from what rt ci proved, beside the tests that need none. Where it is missing the others fail
 library_began=$SECONDS
-rt staticlib porvuund >"$log/library" 2>&1 &
+bash library.sh proved >"$log/library" 2>&1 &
 library=$!
 
 # builds and runs the Rust tests of these crates, one crate after the other: each line names its crate
@@ -152,11 +170,9 @@ rust_tests() { # WHICH CRATE..
 }
 rust_tests "of Rust alone" trials programs baseline
 wait "$library"
+tally $? 0 0
 cat "$log/library"
 took "$library_began" "the library, beside them"
 rust_tests "of the proved programs and library" compare bench
 
-took 0 "all of it" >/dev/null
-bash .ci/times "$log/rattle" "$log/times"
-echo "$passed passed, $failed failed"
-[ "$failed" -eq 0 ]
+finish

@@ -1,5 +1,5 @@
-//! Finds the static library of the proved implementation, which `rt staticlib porvuund` leaves at the top of the
-//! repository. Nothing is built or tested without it.
+//! Finds the static library of the proved implementation, which `library.sh` at the top of the repository leaves there.
+//! Nothing is built or tested without it.
 
 use std::path::Path;
 
@@ -9,7 +9,7 @@ fn main() {
     println!("cargo::rerun-if-changed={}", library.display());
     assert!(
         library.is_file(),
-        "{} is missing: run `rt staticlib porvuund` at the top of the repository first",
+        "{} is missing: run `bash library.sh` at the top of the repository first",
         library.display()
     );
     println!("cargo::rustc-link-search=native={}", folder.display());

@@ -1,4 +1,4 @@
-//! The proved programs, as `rt ci` and `rt check` leave them in `target/bin` at the top of the repository.
+//! The proved programs, as the gate and the shell front leave them in `target/bin` at the top of the repository.
 
 use std::path::Path;
 
@@ -10,7 +10,7 @@ pub const NEWCOMER: &str = "rolenewcomer";
 /// What a program says on standard error and prints on standard output, given this input. It must be there.
 pub fn both(program: &str, arguments: &[&str], input: &[u8]) -> (String, String) {
     let path = Path::new(env!("CARGO_MANIFEST_DIR")).join("../../target/bin").join(program);
-    assert!(path.is_file(), "{} is missing: run `rt check {program}` first", path.display());
+    assert!(path.is_file(), "{} is missing: run `rt run` in crates/{program}, and copy out/{program}", path.display());
     said_and_printed(&path, arguments, input)
 }
 
