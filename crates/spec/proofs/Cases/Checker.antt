@@ -6,7 +6,6 @@ use Rattle.spec.specs.Vocabulary.{ℕ, ◌≡◌, Bool, true, false, List, [], �
 use Rattle.spec.specs.Vocabulary.{lowest_below, list_of}
 use Rattle.spec.specs.Limits.{permission_limit, role_limit}
 use Rattle.spec.specs.Text.{Bytes, ascii}
-use Rattle.spec.specs.Sheet.{Sheet}
 use Rattle.spec.specs.RoleSet.{cell_after}
 use Rattle.spec.specs.Book.{role_name}
 use Rattle.spec.specs.Form.{roles_form}

@@ -1,10 +1,9 @@
 -- "The sheet" and causes 1 to 9: which bytes are allowed, a sheet for each cause and its neighbours, and both sides of
 -- each limit, computed from the definitions.
 use Rattle.std.specs.Prelude.{refl}
-use Rattle.spec.specs.Vocabulary.{ℕ, suc, ◌≡◌, Bool, true, false, List, [], ◌∷◌, ◌++◌, map, length, replicate}
+use Rattle.spec.specs.Vocabulary.{ℕ, ◌≡◌, true, false, [], ◌∷◌, ◌++◌, map, replicate}
 use Rattle.spec.specs.Vocabulary.{filter, list_from, list_of}
-use Rattle.spec.specs.Limits.{sheet_limit, permission_limit, user_limit, name_limit, grant_limit}
-use Rattle.spec.specs.Text.{Bytes, ascii, allowed_byte, lower, same_name}
+use Rattle.spec.specs.Text.{ascii, allowed_byte, lower, same_name}
 use Rattle.spec.specs.Sheet.{Sheet}
 use Rattle.spec.specs.Refusal.{too_long, bad_first_line, bad_line_count, has_name_length, too_many_grants}
 use Rattle.spec.specs.Refusal.{refusal}
