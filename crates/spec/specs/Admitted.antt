@@ -1,6 +1,7 @@
 -- What request [6] of document 02 promises of a newcomer in an existing book. No test is involved but the checker
 -- itself, in `confirmed_by_check`: what the two sheets are is said by `Rules`, and what the two books say by `Right`.
-use Rattle.spec.specs.Vocabulary.{ℕ, suc, ◌≤◌, ◌<◌, ◌≡◌, ◌≢◌, ◌⊎◌, ◌↔◌, Bool, So, false, List, [], ◌∷◌, ◌++◌}
+use Rattle.std.specs.Prelude.{◌≤◌, ◌<◌, ◌≡◌, ◌≢◌, ◌⊎◌, ◌↔◌, ◌∷◌, ◌++◌}
+use Rattle.spec.specs.Vocabulary.{ℕ, suc, Bool, So, false, List, []}
 use Rattle.spec.specs.Vocabulary.{map, length, take}
 use Rattle.spec.specs.Text.{Bytes, line_text}
 use Rattle.spec.specs.Sheet.{Sheet, cell_text, permission_count, holds}

@@ -1,5 +1,6 @@
 -- "The book": what a book says, its four blocks and its bytes, and the book of a sheet in a state of its search.
-use Rattle.spec.specs.Vocabulary.{ℕ, suc, List, [], ◌∷◌, ◌++◌, map, length, get_or, joined, list_of}
+use Rattle.std.specs.Prelude.{◌∷◌, ◌++◌}
+use Rattle.spec.specs.Vocabulary.{ℕ, suc, List, [], map, length, get_or, joined, list_of}
 use Rattle.spec.specs.Text.{Bytes, Line, ascii, text_of}
 use Rattle.spec.specs.Sheet.{Sheet, Grant, user_name, permission_name, cell_text}
 use Rattle.spec.specs.Witness.{witness}

@@ -1,5 +1,6 @@
 -- The calls: what each answers, the session and the lent buffer after it, and what it promises.
-use Rattle.spec.specs.Vocabulary.{ℕ, ◌≡◌, cond, Option, none, some, ◌++◌, eqb, length, drop}
+use Rattle.std.specs.Prelude.{◌≡◌, ◌++◌}
+use Rattle.spec.specs.Vocabulary.{ℕ, cond, Option, none, some, eqb, length, drop}
 use Rattle.spec.specs.Text.{Bytes}
 use Rattle.spec.specs.Sheet.{Sheet, sheet_of, user_count, permission_count, grants}
 use Rattle.spec.specs.Reduction.{kernel_size}

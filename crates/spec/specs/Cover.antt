@@ -1,5 +1,6 @@
 -- "First cover": placements of grants into classes, three groupings of the kernel in grant order, and the first best.
-use Rattle.spec.specs.Vocabulary.{ℕ, zero, suc, max, Bool, true, ◌&&◌, cond, Option·getD, List, [], ◌∷◌, eqb}
+use Rattle.std.specs.Prelude.{◌&&◌, ◌∷◌}
+use Rattle.spec.specs.Vocabulary.{ℕ, zero, suc, max, Bool, true, cond, Option·getD, List, [], eqb}
 use Rattle.spec.specs.Vocabulary.{leb, length, get_or, lowest_below, implies}
 use Rattle.spec.specs.Sheet.{Sheet, Grant}
 use Rattle.spec.specs.Fit.{fits}

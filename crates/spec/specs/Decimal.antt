@@ -1,6 +1,7 @@
 -- "The book", its counts: decimal, and what a decimal count says.
-use Rattle.spec.specs.Vocabulary.{ℕ, zero, suc, ◌+◌, ◌-◌, ◌*◌, ◌/◌, ◌%◌, code, Bool, false, ◌&&◌, cond, [], ◌∷◌}
-use Rattle.spec.specs.Vocabulary.{◌++◌, eqb, ltb, empty, all}
+use Rattle.std.specs.Prelude.{◌+◌, ◌-◌, ◌*◌, ◌/◌, ◌%◌, ◌&&◌, ◌∷◌, ◌++◌}
+use Rattle.spec.specs.Vocabulary.{ℕ, zero, suc, code, Bool, false, cond, []}
+use Rattle.spec.specs.Vocabulary.{eqb, ltb, empty, all}
 use Rattle.spec.specs.Text.{Bytes, between}
 
 -- the digit of a number below ten

@@ -2,8 +2,9 @@
 -- `Admitted` as the papers have them, and not by the names that the tests and the machine use; so do 10, 16 and 11,
 -- which demand 3 owes by the calls before. The numbers of sheets and books stand once, in `Refusal`, those of a
 -- newcomer in `Newcomer`, 2·(1!+2!+..+k!)+1 in `Sequence`, and what equal names are in `Text`.
-use Rattle.spec.specs.Vocabulary.{ℕ, ◌+◌, ◌≤◌, ◌≡◌, ◌≢◌, ◌⊎◌, ◌↔◌, So, false, none, some, List, [], ◌∷◌}
-use Rattle.spec.specs.Vocabulary.{◌++◌, List-as-Memᴰ, length}
+use Rattle.std.specs.Prelude.{◌+◌, ◌≤◌, ◌≡◌, ◌≢◌, ◌⊎◌, ◌↔◌, ◌∷◌, ◌++◌}
+use Rattle.spec.specs.Vocabulary.{ℕ, So, false, none, some, List, []}
+use Rattle.spec.specs.Vocabulary.{List-as-Memᴰ, length}
 use Rattle.spec.specs.Text.{Bytes}
 use Rattle.spec.specs.Sheet.{Sheet, sheet_of}
 use Rattle.spec.specs.Rules.{Keeps}

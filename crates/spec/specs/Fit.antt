@@ -1,5 +1,6 @@
 -- "Fitting": grants that fit (adjacent in the edge dual).
-use Rattle.spec.specs.Vocabulary.{Bool, ◌&&◌, ◌||◌, not, List, any, filter}
+use Rattle.std.specs.Prelude.{◌&&◌, ◌||◌}
+use Rattle.spec.specs.Vocabulary.{Bool, not, List, any, filter}
 use Rattle.spec.specs.Sheet.{Sheet, Grant, holds, same_grant}
 
 -- grants (u, p) and (v, q) fit if u holds q and v holds p in the whole sheet

@@ -1,6 +1,7 @@
 -- "The checker", the form of a book for a sheet, line by line, and what a book of the form says. Names of users and
 -- permissions are compared by `same_name`, names of roles and words of the form by their bytes.
-use Rattle.spec.specs.Vocabulary.{ℕ, suc, Bool, false, ◌&&◌, ◌||◌, cond, Option·getD, List, [], ◌∷◌, map, tail}
+use Rattle.std.specs.Prelude.{◌&&◌, ◌||◌, ◌∷◌}
+use Rattle.spec.specs.Vocabulary.{ℕ, suc, Bool, false, cond, Option·getD, List, [], map, tail}
 use Rattle.spec.specs.Vocabulary.{eqb, leb, length, get_or, every_below, lowest_below, empty, any, all, same_by}
 use Rattle.spec.specs.Vocabulary.{list_of, parted_by}
 use Rattle.spec.specs.Limits.{role_limit}

@@ -2,8 +2,9 @@
 -- searches as the argument. It loads, reduces and searches again and again on one session; after each search a line on
 -- standard error says what request [5] of document 02 is for, whether it climbs or falls back. Then it prints the
 -- session's book, or a refusal number, on standard output.
-use Rattle.spec.specs.Vocabulary.{ℕ, zero, suc, ◌+◌, ◌-◌, Bool, true, false, ◌&&◌, not, cond, Option, none, some}
-use Rattle.spec.specs.Vocabulary.{List, [], ◌∷◌, ◌++◌, eqb, ltb, replicate}
+use Rattle.std.specs.Prelude.{◌+◌, ◌-◌, ◌&&◌, ◌∷◌, ◌++◌}
+use Rattle.spec.specs.Vocabulary.{ℕ, zero, suc, Bool, true, false, not, cond, Option, none, some}
+use Rattle.spec.specs.Vocabulary.{List, [], eqb, ltb, replicate}
 use Rattle.spec.specs.Limits.{round_budget, usual_rounds, book_limit}
 use Rattle.spec.specs.Text.{Bytes, ascii}
 use Rattle.spec.specs.Roles.{Standing, witnessed, searched, unsettled}

@@ -1,6 +1,7 @@
 -- "The search machine" over a kernel: where it stands, one step, and a search within a budget.
-use Rattle.spec.specs.Vocabulary.{ℕ, zero, suc, ◌+◌, max, Bool, true, ◌&&◌, cond, Option, none, some, List, []}
-use Rattle.spec.specs.Vocabulary.{◌∷◌, eqb, leb, ltb, length, lowest_below}
+use Rattle.std.specs.Prelude.{◌+◌, ◌&&◌, ◌∷◌}
+use Rattle.spec.specs.Vocabulary.{ℕ, zero, suc, max, Bool, true, cond, Option, none, some, List, []}
+use Rattle.spec.specs.Vocabulary.{eqb, leb, ltb, length, lowest_below}
 use Rattle.spec.specs.Limits.{search_limit}
 use Rattle.spec.specs.Cover.{used, joins}
 

@@ -1,6 +1,7 @@
 -- Request [6] of document 02: a newcomer in an existing book. Lent are a sheet, a book for it, one user line with its
 -- line feed, and a buffer for the new book; there is no session. The newcomer is the last user of the longer sheet.
-use Rattle.spec.specs.Vocabulary.{ℕ, suc, ◌≡◌, Bool, false, ◌&&◌, ◌||◌, not, cond, List, [], ◌∷◌, ◌++◌, eqb}
+use Rattle.std.specs.Prelude.{◌≡◌, ◌&&◌, ◌||◌, ◌∷◌, ◌++◌}
+use Rattle.spec.specs.Vocabulary.{ℕ, suc, Bool, false, not, cond, List, [], eqb}
 use Rattle.spec.specs.Vocabulary.{leb, ltb, length, drop, implies, every_below, empty, any}
 use Rattle.spec.specs.Limits.{user_limit, role_limit}
 use Rattle.spec.specs.Text.{Bytes, line_feed, lower, lines_of}

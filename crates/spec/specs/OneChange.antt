@@ -1,7 +1,8 @@
 -- Request [7] of document 02, one person moves one role: the smallest role count of a sheet; two sheets with the same
 -- names that differ only in one user's line, or only in one permission's column; what a book prints; and what is
 -- promised of all these. What smallest means is said over all role sets, with no search.
-use Rattle.spec.specs.Vocabulary.{ℕ, suc, ◌≤◌, ◌<◌, ◌≡◌, ◌≢◌, ◌⊎◌, false, some, List, ◌∷◌, ◌++◌, map}
+use Rattle.std.specs.Prelude.{◌≤◌, ◌<◌, ◌≡◌, ◌≢◌, ◌⊎◌, ◌∷◌, ◌++◌}
+use Rattle.spec.specs.Vocabulary.{ℕ, suc, false, some, List, map}
 use Rattle.spec.specs.Text.{Bytes, lowered, text_of}
 use Rattle.spec.specs.Sheet.{Sheet, sheet_of, user_count, permission_count, holds}
 use Rattle.spec.specs.Rules.{Keeps}

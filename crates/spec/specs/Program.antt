@@ -1,6 +1,7 @@
 -- "The book", the program: a sheet on standard input, the budget as its argument, the book or a refusal number on
 -- standard output.
-use Rattle.spec.specs.Vocabulary.{ℕ, Bool, ◌&&◌, not, cond, List, [], ◌∷◌, ◌++◌, eqb, leb, take, replicate}
+use Rattle.std.specs.Prelude.{◌&&◌, ◌∷◌, ◌++◌}
+use Rattle.spec.specs.Vocabulary.{ℕ, Bool, not, cond, List, [], eqb, leb, take, replicate}
 use Rattle.spec.specs.Vocabulary.{empty, all}
 use Rattle.spec.specs.Limits.{budget_limit, program_buffer}
 use Rattle.spec.specs.Text.{Bytes, line_feed}

@@ -1,5 +1,6 @@
 -- "Reduction": sweeps over the grants that remove singles and tie dominating grants, and what they leave.
-use Rattle.spec.specs.Vocabulary.{ℕ, zero, suc, Bool, ◌&&◌, not, cond, Option, none, some, List, [], ◌∷◌, eqb}
+use Rattle.std.specs.Prelude.{◌&&◌, ◌∷◌}
+use Rattle.spec.specs.Vocabulary.{ℕ, zero, suc, Bool, not, cond, Option, none, some, List, [], eqb}
 use Rattle.spec.specs.Vocabulary.{length, implies, empty, all, first}
 use Rattle.spec.specs.Sheet.{Sheet, Grant, same_grant, grants}
 use Rattle.spec.specs.Fit.{is_or_fits, without, partners}

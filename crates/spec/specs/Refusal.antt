@@ -1,7 +1,8 @@
 -- "Refused, and how": the causes of the paper's table and those of document 02, for each call a list in the order in
 -- which they are judged, and the first number that applies. Each cause looks at the whole text, whatever the others
 -- say.
-use Rattle.spec.specs.Vocabulary.{ℕ, suc, Bool, true, false, ◌&&◌, ◌||◌, not, Bool·beq, List, [], ◌∷◌, ◌++◌}
+use Rattle.std.specs.Prelude.{◌&&◌, ◌||◌, ◌∷◌, ◌++◌}
+use Rattle.spec.specs.Vocabulary.{ℕ, suc, Bool, true, false, not, Bool·beq, List, []}
 use Rattle.spec.specs.Vocabulary.{tail, eqb, ltb, length, every_below, empty, any, all, repeats}
 use Rattle.spec.specs.Limits.{sheet_limit, permission_limit, user_limit, name_limit, grant_limit, book_limit}
 use Rattle.spec.specs.Text.{Bytes, Line, ascii, same_bytes, between, last_byte, line_feed, allowed_byte}

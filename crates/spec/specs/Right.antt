@@ -1,6 +1,7 @@
 -- "The checker", what makes a book right, from what a book says to its bytes: no reading is involved, and none of the
 -- checker's tests. When names are equal is said by `lower`, as in the tests; the cases compute it for every byte.
-use Rattle.spec.specs.Vocabulary.{ℕ, ◌≤◌, ◌<◌, ◌≡◌, false, So, List, map, List-as-Memᴰ, length}
+use Rattle.std.specs.Prelude.{◌≤◌, ◌<◌, ◌≡◌}
+use Rattle.spec.specs.Vocabulary.{ℕ, false, So, List, map, List-as-Memᴰ, length}
 use Rattle.spec.specs.Text.{Bytes, lowered}
 use Rattle.spec.specs.Sheet.{Sheet, Grant, user_count, permission_count, held}
 use Rattle.spec.specs.Fit.{fits}

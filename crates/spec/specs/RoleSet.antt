@@ -1,6 +1,7 @@
 -- "Roles and state", a role set: any user-to-role and any role-to-permission matrix, with any number of roles ("The
 -- sequence of demand 3"), and their and/or product as source document 001 has it, role after role.
-use Rattle.spec.specs.Vocabulary.{ℕ, zero, suc, ◌<◌, ◌≡◌, Bool, false, ◌&&◌, ◌||◌, List, any, list_of}
+use Rattle.std.specs.Prelude.{◌<◌, ◌≡◌, ◌&&◌, ◌||◌}
+use Rattle.spec.specs.Vocabulary.{ℕ, zero, suc, Bool, false, List, any, list_of}
 use Rattle.spec.specs.Sheet.{Sheet, user_count, permission_count, holds}
 
 -- user u has role h; role h holds permission p. Users, permissions and roles are numbered from 0: role h is document

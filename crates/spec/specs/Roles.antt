@@ -1,5 +1,6 @@
 -- "Roles and state": the classes of all grants, the roles of a placement of the kernel, the state and the bound.
-use Rattle.spec.specs.Vocabulary.{ℕ, suc, Bool, ◌&&◌, cond, List, [], ◌∷◌, reverse, eqb, length, any}
+use Rattle.std.specs.Prelude.{◌&&◌, ◌∷◌}
+use Rattle.spec.specs.Vocabulary.{ℕ, suc, Bool, cond, List, [], reverse, eqb, length, any}
 use Rattle.spec.specs.Sheet.{Sheet, Grant, same_grant, grants}
 use Rattle.spec.specs.Reduction.{Removal, single, tied, Reduction, reduction, kernel, kernel_size, singles}
 use Rattle.spec.specs.Witness.{witness, witness_size}

@@ -1,6 +1,7 @@
 -- "The sheet", its rules, from what a sheet says to its bytes: no reading is involved, and of the tests only `name_byte`
 -- and, for equal names, `lower`, both of which the cases compute for every byte.
-use Rattle.spec.specs.Vocabulary.{ℕ, ◌≤◌, ◌<◌, ◌≡◌, ◌≢◌, Bool, So, List, [], ◌∷◌, map, List-as-Memᴰ, length, get_or}
+use Rattle.std.specs.Prelude.{◌≤◌, ◌<◌, ◌≡◌, ◌≢◌, ◌∷◌}
+use Rattle.spec.specs.Vocabulary.{ℕ, Bool, So, List, [], map, List-as-Memᴰ, length, get_or}
 use Rattle.spec.specs.Text.{Bytes, Line, ascii, name_byte, lowered, text_of}
 use Rattle.spec.specs.Sheet.{Sheet, cell_text, grants}
 

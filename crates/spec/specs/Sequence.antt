@@ -1,7 +1,8 @@
 -- "The sequence of demand 3": sequences of calls on one session from a fresh one, the last accepted load and whether
 -- its sheet was reduced since, the budgets given and those that are enough, what the searches answered, and the books
 -- brought out.
-use Rattle.spec.specs.Vocabulary.{ℕ, zero, suc, ◌+◌, ◌*◌, ◌≡◌, cond, Option, none, some, List, [], ◌∷◌, map, take}
+use Rattle.std.specs.Prelude.{◌+◌, ◌*◌, ◌≡◌, ◌∷◌}
+use Rattle.spec.specs.Vocabulary.{ℕ, zero, suc, cond, Option, none, some, List, [], map, take}
 use Rattle.spec.specs.Text.{Bytes}
 use Rattle.spec.specs.Sheet.{sheet_of}
 use Rattle.spec.specs.Machine.{State, Ran}

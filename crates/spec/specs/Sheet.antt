@@ -1,6 +1,7 @@
 -- "The sheet": what a sheet's bytes say: the users, the permissions, who holds what, and the grants in order. Users
 -- and permissions are numbered from 0 in sheet order.
-use Rattle.spec.specs.Vocabulary.{ℕ, suc, Bool, true, false, ◌&&◌, ◌||◌, List, [], ◌∷◌, ◌++◌, map, tail, eqb}
+use Rattle.std.specs.Prelude.{◌&&◌, ◌||◌, ◌∷◌, ◌++◌}
+use Rattle.spec.specs.Vocabulary.{ℕ, suc, Bool, true, false, List, [], map, tail, eqb}
 use Rattle.spec.specs.Vocabulary.{length, get_or, keep}
 use Rattle.spec.specs.Text.{Bytes, Line, ascii, same_bytes, lines_of}
 

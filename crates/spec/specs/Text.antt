@@ -1,5 +1,6 @@
 -- Bytes, names, lines and fields, read and written.
-use Rattle.spec.specs.Vocabulary.{ℕ, ◌+◌, ◌-◌, code, Bool, ◌&&◌, ◌||◌, cond, List, [], ◌∷◌, ◌++◌, map, eqb}
+use Rattle.std.specs.Prelude.{◌+◌, ◌-◌, ◌&&◌, ◌||◌, ◌∷◌, ◌++◌}
+use Rattle.spec.specs.Vocabulary.{ℕ, code, Bool, cond, List, [], map, eqb}
 use Rattle.spec.specs.Vocabulary.{leb, ended_by, parted_by, joined, concat, same_by}
 use Prim.Native.String.{String, [] as no-character, ◌∷◌ as ◌then◌}
 

@@ -1,5 +1,6 @@
 -- "Witness": the witness (independent set of grants), of which no two fit.
-use Rattle.spec.specs.Vocabulary.{ℕ, zero, suc, ◌||◌, not, Option, List, [], ◌∷◌, length, filter, least, if_found}
+use Rattle.std.specs.Prelude.{◌||◌, ◌∷◌}
+use Rattle.spec.specs.Vocabulary.{ℕ, zero, suc, not, Option, List, [], length, filter, least, if_found}
 use Rattle.spec.specs.Sheet.{Sheet, Grant, grants}
 use Rattle.spec.specs.Fit.{is_or_fits, among, partners}
 use Rattle.spec.specs.Reduction.{kernel, kernel_size, singles}

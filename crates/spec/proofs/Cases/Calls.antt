@@ -1,7 +1,7 @@
 -- Calls one after the other, refusals in their order, the lent buffer, the book program and the sequence, computed from
 -- the definitions.
-use Rattle.std.specs.Prelude.{refl}
-use Rattle.spec.specs.Vocabulary.{ℕ, ◌≡◌, true, false, none, some, List, [], ◌∷◌, ◌++◌, map, take, length}
+use Rattle.std.specs.Prelude.{refl, ◌≡◌, ◌∷◌, ◌++◌}
+use Rattle.spec.specs.Vocabulary.{ℕ, true, false, none, some, List, [], map, take, length}
 use Rattle.spec.specs.Vocabulary.{replicate, lowest_below}
 use Rattle.spec.specs.Limits.{budget_limit, program_buffer}
 use Rattle.spec.specs.Text.{Bytes, ascii}

@@ -1,8 +1,8 @@
 -- Good and damaged books at the checker, computed from the definitions: for each cause of 12 to 15, and each line of
 -- the form.
 use Prim.Native.String.{String}
-use Rattle.std.specs.Prelude.{refl}
-use Rattle.spec.specs.Vocabulary.{ℕ, ◌≡◌, Bool, true, false, List, [], ◌∷◌, ◌++◌, map, every_below}
+use Rattle.std.specs.Prelude.{refl, ◌≡◌, ◌∷◌, ◌++◌}
+use Rattle.spec.specs.Vocabulary.{ℕ, Bool, true, false, List, [], map, every_below}
 use Rattle.spec.specs.Vocabulary.{lowest_below, list_of}
 use Rattle.spec.specs.Limits.{permission_limit, role_limit}
 use Rattle.spec.specs.Text.{Bytes, ascii}

@@ -1,6 +1,6 @@
 -- "Around the edges": the paper's edge cases and the four slips to shut out, computed together from the definitions.
-use Rattle.spec.specs.Vocabulary.{ℕ, some, List, [], ◌∷◌, map, lowest_below}
-use Rattle.std.specs.Prelude.{◌≡◌, refl}
+use Rattle.spec.specs.Vocabulary.{ℕ, some, List, [], map, lowest_below}
+use Rattle.std.specs.Prelude.{◌≡◌, refl, ◌∷◌}
 use Rattle.spec.specs.Limits.{budget_limit, program_buffer}
 use Rattle.spec.specs.Text.{Bytes, ascii}
 use Rattle.spec.specs.Sheet.{Grant, sheet_of}

@@ -1,6 +1,6 @@
 -- The limits, beside the papers' numbers, and the numbers of the long search.
-use Rattle.spec.specs.Vocabulary.{[], ◌∷◌}
-use Rattle.std.specs.Prelude.{◌≡◌, refl}
+use Rattle.spec.specs.Vocabulary.{[]}
+use Rattle.std.specs.Prelude.{◌≡◌, refl, ◌∷◌}
 use Rattle.spec.specs.Limits.{sheet_limit, permission_limit, user_limit, name_limit, grant_limit, search_limit}
 use Rattle.spec.specs.Limits.{budget_limit, role_limit, book_limit, program_buffer, round_budget, usual_rounds}
 

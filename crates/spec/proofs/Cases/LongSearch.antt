@@ -1,8 +1,8 @@
 -- The long search, computed from the definitions: its argument, the depth gained, its lines and where it stops. The
 -- searches here have 50 steps instead of 100,000,000, on the sheet of four users whose search closes in step 125.
-use Rattle.spec.specs.Vocabulary.{ℕ, true, false, none, some, List, [], ◌∷◌, map}
+use Rattle.spec.specs.Vocabulary.{ℕ, true, false, none, some, List, [], map}
 use Rattle.spec.specs.Vocabulary.{lowest_below}
-use Rattle.std.specs.Prelude.{◌≡◌, refl}
+use Rattle.std.specs.Prelude.{◌≡◌, refl, ◌∷◌}
 use Rattle.spec.specs.Limits.{round_budget, usual_rounds, budget_limit}
 use Rattle.spec.specs.Text.{Bytes, ascii}
 use Rattle.spec.specs.Sheet.{sheet_of}

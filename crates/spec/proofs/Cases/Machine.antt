@@ -2,9 +2,9 @@
 -- grants. Step 14 finds a placement of five classes. In step 17 the eight grants placed use five classes, so that none
 -- is left, though the next grant fits class 2 and 2 + 1 is below the new count: a machine that holds only c + 1 below
 -- it, and not the classes in use, places there.
-use Rattle.spec.specs.Vocabulary.{ℕ, suc, ◌/◌, ◌%◌, Bool, true, false, ◌&&◌, not, cond, List, [], ◌∷◌, map, eqb}
+use Rattle.spec.specs.Vocabulary.{ℕ, suc, Bool, true, false, not, cond, List, [], map, eqb}
 use Rattle.spec.specs.Vocabulary.{ltb, get_or, lowest_below, any}
-use Rattle.std.specs.Prelude.{◌≡◌, refl}
+use Rattle.std.specs.Prelude.{◌≡◌, refl, ◌/◌, ◌%◌, ◌&&◌, ◌∷◌}
 use Rattle.spec.specs.Machine.{Kernel, State, Kinds, Ran, start, run, search, depth}
 
 -- with which of the kernel each grant fits

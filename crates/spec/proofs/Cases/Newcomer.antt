@@ -1,8 +1,8 @@
 -- Newcomers in books, computed from the definitions: the new books, byte for byte, the causes in their order, and of
 -- neighbours among them the one that is answered.
 use Prim.Native.String.{String}
-use Rattle.std.specs.Prelude.{refl}
-use Rattle.spec.specs.Vocabulary.{ℕ, ◌≡◌, Bool, true, false, [], ◌∷◌, ◌++◌, map, replicate, concat}
+use Rattle.std.specs.Prelude.{refl, ◌≡◌, ◌∷◌, ◌++◌}
+use Rattle.spec.specs.Vocabulary.{ℕ, Bool, true, false, [], map, replicate, concat}
 use Rattle.spec.specs.Vocabulary.{every_below, lowest_below, list_of}
 use Rattle.spec.specs.Limits.{user_limit, role_limit}
 use Rattle.spec.specs.Text.{Bytes, ascii}

@@ -2,9 +2,9 @@
 -- only in one user's line or only in one permission's column, and the role counts that their books print: one more, one
 -- fewer, as many; two books that one session brought out.
 use Rattle.std.proofs.Common.{arith, sym, ap, ◌∙◌, inl, inr}
-use Rattle.std.specs.Prelude.{refl}
+use Rattle.std.specs.Prelude.{refl, ◌≤◌, ◌<◌, ◌≡◌, ◌≢◌, ◌∷◌, ◌++◌}
 use Rattle.std.proofs.lemmas.Bool.{false≢true}
-use Rattle.spec.specs.Vocabulary.{ℕ, zero, suc, ◌≤◌, ◌<◌, ◌≡◌, ◌≢◌, Bool, true, false, List, [], ◌∷◌, ◌++◌, drop}
+use Rattle.spec.specs.Vocabulary.{ℕ, zero, suc, Bool, true, false, List, [], drop}
 use Rattle.spec.specs.Vocabulary.{length, get_or, replicate, every_below, lowest_below}
 use Rattle.spec.specs.Text.{Bytes, ascii, lower, text_of}
 use Rattle.spec.specs.Sheet.{sheet_of, holds}

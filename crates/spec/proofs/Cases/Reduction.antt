@@ -2,8 +2,8 @@
 -- definitions. One user with two ones: each grant dominates the other, and only the first may go. Two such users:
 -- (0,1) and (1,0) fit though (0,0) is gone. Three users each lacking only their own permission: each grant fits
 -- another and none dominates one. Names do not matter here.
-use Rattle.spec.specs.Vocabulary.{ℕ, Bool, true, false, List, [], ◌∷◌, map}
-use Rattle.std.specs.Prelude.{◌≡◌, refl}
+use Rattle.spec.specs.Vocabulary.{ℕ, Bool, true, false, List, [], map}
+use Rattle.std.specs.Prelude.{◌≡◌, refl, ◌∷◌}
 use Rattle.spec.specs.Text.{ascii}
 use Rattle.spec.specs.Sheet.{Sheet, Grant}
 use Rattle.spec.specs.Reduction.{Removal, single, tied, reduction}

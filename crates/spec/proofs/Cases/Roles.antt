@@ -1,8 +1,8 @@
 -- State, bound and roles on small sheets, computed from the definitions. Three users of whom the third holds all: the
 -- class opened first, by the single (1,2) put back first, has (1,1) as its lowest grant, and the other has (0,0); so
 -- the first becomes R2. Then the product of these roles, role after role.
-use Rattle.spec.specs.Vocabulary.{ℕ, suc, Bool, true, false, List, [], ◌∷◌, lowest_below, list_of}
-use Rattle.std.specs.Prelude.{◌≡◌, refl}
+use Rattle.spec.specs.Vocabulary.{ℕ, suc, Bool, true, false, List, [], lowest_below, list_of}
+use Rattle.std.specs.Prelude.{◌≡◌, refl, ◌∷◌}
 use Rattle.spec.specs.Text.{ascii}
 use Rattle.spec.specs.Sheet.{Sheet}
 use Rattle.spec.specs.Reduction.{reduction}

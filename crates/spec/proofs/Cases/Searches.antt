@@ -1,7 +1,7 @@
 -- What the searches of a sequence answered, added up, beside one search with all budgets given, computed from the
 -- definitions on the sheet whose search closes in step 45.
-use Rattle.std.specs.Prelude.{◌≡◌, refl}
-use Rattle.spec.specs.Vocabulary.{ℕ, some, List, [], ◌∷◌, ◌++◌, map, lowest_below}
+use Rattle.std.specs.Prelude.{◌≡◌, refl, ◌∷◌, ◌++◌}
+use Rattle.spec.specs.Vocabulary.{ℕ, some, List, [], map, lowest_below}
 use Rattle.spec.specs.Text.{Bytes, ascii}
 use Rattle.spec.specs.Sheet.{sheet_of}
 use Rattle.spec.specs.Machine.{Ran, depth, search}

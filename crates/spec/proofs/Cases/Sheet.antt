@@ -1,7 +1,7 @@
 -- "The sheet" and causes 1 to 9: which bytes are allowed, a sheet for each cause and its neighbours, and both sides of
 -- each limit, computed from the definitions.
-use Rattle.std.specs.Prelude.{refl}
-use Rattle.spec.specs.Vocabulary.{ℕ, ◌≡◌, true, false, [], ◌∷◌, ◌++◌, map, replicate}
+use Rattle.std.specs.Prelude.{refl, ◌≡◌, ◌∷◌, ◌++◌}
+use Rattle.spec.specs.Vocabulary.{ℕ, true, false, [], map, replicate}
 use Rattle.spec.specs.Vocabulary.{filter, list_from, list_of}
 use Rattle.spec.specs.Text.{ascii, allowed_byte, lower, same_name}
 use Rattle.spec.specs.Sheet.{Sheet}
