@@ -7,24 +7,24 @@ use Rattle.cell_text.specs.FourCells.{one_if_small}
 use Rattle.cells_read.proofs.four_cells.kept_cells.Statement.{statement}
 use Rattle.cells_read.proofs.four_cells.kept_cells.Tie as tie
 
-first_small : (c : tie.After-kept-at) → c.kept_at.result ≤ 2 ^ 8
-first_small c = rw c.kept_at.ensures (omega (arith, one_if_small (bit c.before.args.n 8)))
+first_small : (c : tie.After-kept_at-first) → c.kept_at-first.result ≤ 2 ^ 8
+first_small c = rw c.kept_at-first.ensures (omega (arith, one_if_small (bit c.args.n 8)))
 
-second_small : (c : tie.After-kept-at2) → c.kept-at2.result ≤ 2 ^ 24
-second_small c = rw c.kept-at2.ensures (omega (arith, one_if_small (bit c.before.before.args.n 24)))
+second_small : (c : tie.After-kept_at-second) → c.kept_at-second.result ≤ 2 ^ 24
+second_small c = rw c.kept_at-second.ensures (omega (arith, one_if_small (bit c.args.n 24)))
 
-third_small : (c : tie.After-kept-at3) → c.kept-at3.result ≤ 2 ^ 40
-third_small c = rw c.kept-at3.ensures (omega (arith, one_if_small (bit c.before.before.before.args.n 40)))
+third_small : (c : tie.After-kept_at-third) → c.kept_at-third.result ≤ 2 ^ 40
+third_small c = rw c.kept_at-third.ensures (omega (arith, one_if_small (bit c.args.n 40)))
 
-fourth_small : (c : tie.After-kept-at4) → c.kept-at4.result ≤ 2 ^ 56
+fourth_small : (c : tie.After-kept_at-fourth) → c.kept_at-fourth.result ≤ 2 ^ 56
 fourth_small c =
     let start = c.before.before.before.before in
-    rw c.kept-at4.ensures (omega (arith, one_if_small (bit start.args.n 56)))
+    rw c.kept_at-fourth.ensures (omega (arith, one_if_small (bit start.args.n 56)))
 
 -- the sum of the four
-sum_small : (c : tie.After-kept-at4)
-    → c.before.before.before.kept_at.result + c.before.before.kept-at2.result + c.before.kept-at3.result
-    + c.kept-at4.result < 2 ^ 64
+sum_small : (c : tie.After-kept_at-fourth)
+    → c.kept_at-first.result + c.kept_at-second.result + c.kept_at-third.result
+    + c.kept_at-fourth.result < 2 ^ 64
 sum_small c =
     omega (
       arith,
@@ -37,10 +37,10 @@ sum_small c =
 returns : tie.Need-returns
 returns c =
     rw (
-      c.before.before.before.kept_at.ensures,
-      c.before.before.kept-at2.ensures,
-      c.before.kept-at3.ensures,
-      c.kept-at4.ensures,
+      c.kept_at-first.ensures,
+      c.kept_at-second.ensures,
+      c.kept_at-third.ensures,
+      c.kept_at-fourth.ensures,
     )
 
 pub kept_cells_spec : {M : Type 1} → statement M
