@@ -18,64 +18,64 @@ few : grants ≤ search_limit
 unfolding search_limit
 few = omega arith
 
-abbrev invariant_loop : tie.invariant-loop
+abbrev invariant_loop : tie.invariant-loop-searches
 invariant_loop fit position₀ steps₀ placed₀ taken-back₀ closed₀ searches₀ position steps placed taken_back closed searches =
     PositionStands grants position
     × (placed + taken_back + closed ≡ steps)
     × (steps ≤ part * searches)
     × (searches ≤ most)
 
-abbrev decreases_loop : tie.decreases-loop
+abbrev decreases_loop : tie.decreases-loop-searches
 decreases_loop fit position₀ steps₀ placed₀ taken-back₀ closed₀ searches₀ position steps placed taken_back closed searches =
     most - searches
 
-loop_holds : tie.Need-loop-init invariant_loop decreases_loop
-loop_holds c = (c.start.ensures, omega arith, omega arith, omega arith)
+loop_holds : tie.Need-loop-searches-init invariant_loop decreases_loop
+loop_holds c = (c.start-position.ensures, omega arith, omega arith, omega arith)
 
-search_requires : tie.Need-search-requires invariant_loop decreases_loop
-search_requires c κs = λ l. c.before.before.before.loop.invariant.0
+search_requires : tie.Need-search-ran-requires invariant_loop decreases_loop
+search_requires c κs = λ l. c.loop-searches.invariant.0
 
-few_steps : (c : tie.After-search invariant_loop decreases_loop) → c.search.result.steps ≤ part
+few_steps : (c : tie.After-search-ran invariant_loop decreases_loop) → c.search-ran.result.steps ≤ part
 few_steps c =
     let at_loop = c.before.before.before.before in
     let start = at_loop.before.before in
     let fit = start.args.fit.now in
-    searched_steps_le (kernel_given fit sizes) part grants (view at_loop.loop.position grants)
-    c.search.result
-    c.search.ensures.0
+    searched_steps_le (kernel_given fit sizes) part grants (view at_loop.loop-searches.position grants)
+    c.search-ran.result
+    c.search-ran.ensures.0
 
-all_kinds : (c : tie.After-search invariant_loop decreases_loop)
-    → let ran = c.search.result in
+all_kinds : (c : tie.After-search-ran invariant_loop decreases_loop)
+    → let ran = c.search-ran.result in
     ran.kinds.placed + ran.kinds.taken_back + ran.kinds.closed ≡ ran.steps
 all_kinds c =
     let at_loop = c.before.before.before.before in
     let start = at_loop.before.before in
     let fit = start.args.fit.now in
-    searched_add_up (kernel_given fit sizes) part grants (view at_loop.loop.position grants) c.search.result
-    c.search.ensures.0
+    searched_add_up (kernel_given fit sizes) part grants (view at_loop.loop-searches.position grants) c.search-ran.result
+    c.search-ran.ensures.0
 
-add_steps : tie.Need-overflow-add-steps invariant_loop decreases_loop
+add_steps : tie.Need-overflow_add-steps invariant_loop decreases_loop
 add_steps c = omega (arith, few_steps c.before.before)
 
-add_placed : tie.Need-overflow-add-placed invariant_loop decreases_loop
+add_placed : tie.Need-overflow_add-placed invariant_loop decreases_loop
 add_placed c =
     let searched = c.before.before.before in
     omega (arith, few_steps searched, all_kinds searched)
 
-add_taken_back : tie.Need-overflow-add-taken-back invariant_loop decreases_loop
+add_taken_back : tie.Need-overflow_add-taken_back invariant_loop decreases_loop
 add_taken_back c =
     let searched = c.before.before.before.before in
     omega (arith, few_steps searched, all_kinds searched)
 
-add_closed : tie.Need-overflow-add-closed invariant_loop decreases_loop
+add_closed : tie.Need-overflow_add-closed invariant_loop decreases_loop
 add_closed c =
     let searched = c.before.before.before.before.before in
     omega (arith, few_steps searched, all_kinds searched)
 
-loop_again : tie.Need-loop-preserved invariant_loop decreases_loop
+loop_again : tie.Need-loop-searches-preserved invariant_loop decreases_loop
 loop_again c =
     let searched = c.before.before.before.before.before in (
-      searched.search.ensures.1.0 few,
+      searched.search-ran.ensures.1.0 few,
       omega (arith, all_kinds searched),
       omega (arith, few_steps searched),
       omega arith,

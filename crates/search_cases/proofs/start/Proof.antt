@@ -14,7 +14,7 @@ few = omega arith
 
 returns : tie.Need-returns
 returns c =
-    rw c.start.ensures (started_stands c.before.by_user.result users sizes c.before.by_user.ensures
+    rw c.start.ensures (started_stands c.by_user.result users sizes c.by_user.ensures
     few)
 
 pub start_spec : {M : Type 1} → statement M

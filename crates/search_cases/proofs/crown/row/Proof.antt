@@ -5,10 +5,10 @@ use Rattle.search_cases.specs.Crown.{grants}
 use Rattle.search_cases.proofs.crown.row.Statement.{statement}
 use Rattle.search_cases.proofs.crown.row.Tie as tie
 
-abbrev invariant_loop : tie.invariant-loop
+abbrev invariant_loop : tie.invariant-loop-h
 invariant_loop g word₀ h₀ word h = h ≤ grants
 
-abbrev decreases_loop : tie.decreases-loop
+abbrev decreases_loop : tie.decreases-loop-h
 decreases_loop g word₀ h₀ word h = grants - h
 
 pub row_spec : {M : Type 1} → statement M

@@ -5,10 +5,10 @@ use Rattle.search_cases.specs.Crown.{grants}
 use Rattle.search_cases.proofs.crown.table.Statement.{statement}
 use Rattle.search_cases.proofs.crown.table.Tie as tie
 
-abbrev invariant_loop : tie.invariant-loop
+abbrev invariant_loop : tie.invariant-loop-g
 invariant_loop words₀ g₀ words g = g ≤ grants
 
-abbrev decreases_loop : tie.decreases-loop
+abbrev decreases_loop : tie.decreases-loop-g
 decreases_loop words₀ g₀ words g = grants - g
 
 pub table_spec : {M : Type 1} → statement M

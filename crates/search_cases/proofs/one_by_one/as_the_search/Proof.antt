@@ -16,17 +16,17 @@ unfolding search_limit
 few = omega arith
 
 same_requires : tie.Need-same-requires
-same_requires c κs = c.before.search.ensures.1.0 few
+same_requires c κs = c.search-searched.ensures.1.0 few
 
 returns : tie.Need-returns
 returns c =
     let stepped = c.before in
     let searched = stepped.before in
-    let a = searched.before.args in
+    let a = searched.args in
     let kernel = kernel_given a.fit.now sizes in
     c.same.ensures.when
-    (searched.search.ensures.0 ∙ search_within kernel a.budget (view a.from grants) few
-    ∙ sym stepped.steps-from.ensures)
+    (searched.search-searched.ensures.0 ∙ search_within kernel a.budget (view a.from grants) few
+    ∙ sym stepped.steps_from.ensures)
 
 pub as_the_search_spec : {M : Type 1} → statement M
 as_the_search_spec =
