@@ -41,8 +41,8 @@ fn put_role_line(out: &mut [u8], gives: &[u64], role: RoleNo, permissions: usize
 fn put_role_lines(out: &mut [u8], gives: &[u64], roles: usize, permissions: usize) -> usize
     requires roles_le_row_bits { (roles ≤ row_bits) × (permissions ≤ row_bits) × (roles * row_words ≤ length gives.now) }
     requires r_in_bounds { length (listed roles (λ r. line_text (role_line gives.now permissions r))) ≤ length out.old }
-    ensures* { λ r. ⌜ Written (listed roles (λ r. line_text (role_line gives.now permissions r)))
-        out.old out.new r ⌝ }
+    ensures { Written (listed roles (λ r. line_text (role_line gives.now permissions r)))
+        out.old out.new result }
 {
     let mut at = 0;
     let mut i = 0;

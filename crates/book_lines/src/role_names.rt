@@ -23,7 +23,7 @@ pub fn put_role_name(out: &mut [u8], role: RoleNo) -> usize
 // Writes the names of so many roles, a comma before each.
 pub fn put_role_fields(out: &mut [u8], roles: usize) -> usize
     requires { (roles ≤ row_bits) × (length (listed roles (λ r. behind_comma (role_name r))) ≤ length out.old) }
-    ensures* { λ r. ⌜ Written (listed roles (λ r. behind_comma (role_name r))) out.old out.new r ⌝ }
+    ensures { Written (listed roles (λ r. behind_comma (role_name r))) out.old out.new result }
 {
     let mut at = 0;
     let mut i = 0;
