@@ -1,0 +1,2 @@
+-- What is shown of the contracts of the library's calls together.
+pub mod Contracts
