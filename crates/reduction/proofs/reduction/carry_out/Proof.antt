@@ -7,25 +7,25 @@ use Rattle.reduction.proofs.reduction.carry_out.Tie as tie
 remove_requires : tie.Need-remove-requires
 remove_requires c κs =
     let at_single = c.before.before.before in
-    rw at_single.enum-told2.given.1 at at_single.before.before.requires
+    rw at_single.in-Single.is at at_single.requires
 
-remove_requires_2 : tie.Need-remove-requires-2
+remove_requires_2 : tie.Need-remove-requires-in-Tied
 remove_requires_2 c κs =
-    let at_tied = c.before.before.before.before in
-    rw at_tied.verdict.given.1 at at_tied.before.before.requires
+    let at_tied = c.before.before.before in
+    rw at_tied.in-Tied.is at at_tied.requires
 
-returns : tie.Need-returns
-returns c = rw c.enum_told.given.1 refl
+returns : tie.Need-returns-in-Stays
+returns c = rw c.in-Stays.is refl
 
-returns_2 : tie.Need-returns-2
+returns_2 : tie.Need-returns-in-Single
 returns_2 c =
     let at_single = c.before.before.before.before in
-    rw at_single.enum-told2.given.1 c.remove.ensures
+    rw at_single.in-Single.is c.remove.ensures
 
-returns_3 : tie.Need-returns-3
+returns_3 : tie.Need-returns-in-Tied
 returns_3 c =
-    let at_tied = c.before.before.before.before.before in
-    rw at_tied.verdict.given.1 c.remove2.ensures
+    let at_tied = c.before.before.before.before in
+    rw at_tied.in-Tied.is c.remove-in-Tied.ensures
 
 pub carry_out_spec : {M : Type 1} → statement M
 carry_out_spec =

@@ -11,53 +11,53 @@ use Rattle.reduction.specs.Laws.ReductionSettle.{Settling, pending_at_first, set
 use Rattle.reduction.proofs.reduction.reduce.Statement.{statement}
 use Rattle.reduction.proofs.reduction.reduce.Tie as tie
 
-abbrev invariant_loop : tie.invariant-loop
+abbrev invariant_loop : tie.invariant-loop-count
 invariant_loop rows columns users left₀ removed₀ partner₀ count₀ left removed partner count =
     Settling rows users (work_of left removed partner count)
 
-abbrev decreases_loop : tie.decreases-loop
+abbrev decreases_loop : tie.decreases-loop-count
 decreases_loop rows columns users left₀ removed₀ partner₀ count₀ left removed partner count = grant_limit - count
 
-loop_holds : tie.Need-loop-init invariant_loop decreases_loop
+loop_holds : tie.Need-loop-count-init invariant_loop decreases_loop
 unfolding grant_limit
 loop_holds c =
     record {
-      ready = shows_ready c.before.requires.0;
+      ready = shows_ready c.requires.0;
       pending = λ sheet shown. pending_at_first shown (replicate grant_limit 0) (replicate grant_limit 0);
     }
 
-sweep_requires : tie.Need-sweep-requires invariant_loop decreases_loop
+sweep_requires : tie.Need-sweep-count-requires invariant_loop decreases_loop
 sweep_requires c κs =
     let at_loop = c.before.before.before in
-    (at_loop.loop.invariant.ready, at_loop.before.before.requires.1)
+    (at_loop.loop-count.invariant.ready, at_loop.requires.1)
 
-loop_less : tie.Need-loop-smaller invariant_loop decreases_loop
+loop_less : tie.Need-loop-count-smaller invariant_loop decreases_loop
 loop_less c =
     let at_loop = c.before.before.before.before.before in
     omega (
       arith,
-      c.if1.false,
-      visited_grows c.before.sweep.ensures,
-      (visited_ready at_loop.loop.invariant.ready c.before.sweep.ensures).room,
+      c.if-count-before.false,
+      visited_grows c.sweep-count.ensures,
+      (visited_ready at_loop.loop-count.invariant.ready c.sweep-count.ensures).room,
     )
 
-loop_again : tie.Need-loop-preserved invariant_loop decreases_loop
+loop_again : tie.Need-loop-count-preserved invariant_loop decreases_loop
 loop_again c =
     let at_loop = c.before.before.before.before.before in
-    settling_next at_loop.loop.invariant c.before.sweep.ensures c.if1.false
+    settling_next at_loop.loop-count.invariant c.sweep-count.ensures c.if-count-before.false
 
-count_singles_requires : tie.Need-count-singles-requires invariant_loop decreases_loop
+count_singles_requires : tie.Need-count_singles-singles-requires invariant_loop decreases_loop
 count_singles_requires c κs =
     let swept = c.before.before.before in
     let at_loop = swept.before.before.before.before in
-    omega (arith, (visited_ready at_loop.loop.invariant.ready swept.sweep.ensures).room)
+    omega (arith, (visited_ready at_loop.loop-count.invariant.ready swept.sweep-count.ensures).room)
 
 returns : tie.Need-returns invariant_loop decreases_loop
 returns c =
     let end = c.before.before.before in
     let at_loop = end.before.before.before.before.before in
-    settled_reduced (settling_done at_loop.loop.invariant end.before.sweep.ensures end.if1.true)
-    c.count-singles.ensures
+    settled_reduced (settling_done at_loop.loop-count.invariant end.sweep-count.ensures end.if-count-before.true)
+    c.count_singles-singles.ensures
 
 pub reduce_spec : {M : Type 1} → statement M
 reduce_spec =

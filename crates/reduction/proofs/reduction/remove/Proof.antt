@@ -14,11 +14,11 @@ use Rattle.reduction.proofs.reduction.remove.Tie as tie
 returns : tie.Need-returns
 unfolding user_limit row_words
 returns c =
-    let a = c.before.before.before.args in
-    let given = c.before.before.before.requires in
+    let a = c.args in
+    let given = c.requires in
     record {
-      left = bit_cleared a.left.now a.it.0 c.before.without.result given.set
-          c.before.without.ensures;
+      left = bit_cleared a.left.now a.it.0 c.without.result given.set
+          c.without.ensures;
       one_more = refl;
       removed_length = length-set a.removed.now a.count a.it.0;
       partner_length = length-set a.partner.now a.count a.other.0;

@@ -5,7 +5,6 @@
 use Prim.Native.Nat.{ℕ, ◌+◌, ◌*◌, ◌-◌, ◌/◌, ◌≤◌, ◌<◌}
 use native.Mathlib.Omega.{arith}
 use mathlib.Core.Path.{◌≡◌, sym, ap, ◌∙◌}
-use mathlib.Core.Logic.{⊎_elim}
 use mathlib.Core.Bool.{So}
 use lib.Arith.{digits_lt, digits_div}
 use lib.ListN.{get_or}
@@ -23,182 +22,160 @@ use Rattle.reduction.specs.Laws.ReductionSweep.{Sweeping, sweeping_at_first, swe
 use Rattle.reduction.specs.Laws.ReductionSweep.{SweepingUser, user_at_first, user_next_word, user_done}
 use Rattle.reduction.specs.Laws.ReductionSweep.{Swept, swept_none, swept_no_cells}
 use Rattle.reduction.proofs.reduction.sweep.Statement.{statement}
+use Rattle.reduction.proofs.reduction.sweep.Lts.{then-has_grants+else-loop-d-test, else-has_grants}
 use Rattle.reduction.proofs.reduction.sweep.Tie as tie
 
 -- within a word
-abbrev invariant_loop3 : tie.invariant-loop3
+abbrev invariant_loop3 : tie.invariant-loop-w
 invariant_loop3 rows columns left₀ removed₀ partner₀ users count count₀ u inside d i w₀ left removed partner count' w =
     Sweeping rows users i (word_cells i (get_or left₀ i 0)) (work_of left₀ removed₀ partner₀ count₀)
     (work_of left removed partner count') w
     × Insides rows left u inside
 
-abbrev decreases_loop3 : tie.decreases-loop3
+abbrev decreases_loop3 : tie.decreases-loop-w
 decreases_loop3 rows columns left₀ removed₀ partner₀ users count count₀ u inside d i w₀ left removed partner count' w = w
 
 -- from word to word
-abbrev invariant_loop2 : tie.invariant-loop2
+abbrev invariant_loop2 : tie.invariant-loop-d
 invariant_loop2 rows columns left₀ removed₀ partner₀ users count count₀ u inside d₀ left removed partner count' d =
     (d ≤ row_words) × SweepingUser rows users u inside (work_of left₀ removed₀ partner₀ count₀)
     (work_of left removed partner count') d
 
-abbrev decreases_loop2 : tie.decreases-loop2
+abbrev decreases_loop2 : tie.decreases-loop-d
 decreases_loop2 rows columns left₀ removed₀ partner₀ users count count₀ u inside d₀ left removed partner count' d =
     row_words - d
 
 -- from user to user
-abbrev invariant_loop : tie.invariant-loop
+abbrev invariant_loop : tie.invariant-loop-u
 invariant_loop rows columns left₀ removed₀ partner₀ users count count₀ u₀ left removed partner count' u =
     (u ≤ users) × Swept rows users (u * row_words) (work_of left₀ removed₀ partner₀ count)
     (work_of left removed partner count')
 
-abbrev decreases_loop : tie.decreases-loop
+abbrev decreases_loop : tie.decreases-loop-u
 decreases_loop rows columns left₀ removed₀ partner₀ users count count₀ u₀ left removed partner count' u = users - u
 
-loop_holds : tie.Need-loop-init invariant_loop3 decreases_loop3 invariant_loop2 decreases_loop2 invariant_loop decreases_loop
+loop_holds : tie.Need-loop-u-init invariant_loop3 decreases_loop3 invariant_loop2 decreases_loop2 invariant_loop decreases_loop
 unfolding row_words
 loop_holds c = (omega arith, swept_none c.requires.0)
 
-has_grants_requires : tie.Need-has-grants-requires invariant_loop3 decreases_loop3 invariant_loop2 decreases_loop2 invariant_loop decreases_loop
-has_grants_requires c κs = omega (arith, c.before.before.before.requires.0.shows.few_users)
+has_grants_requires : tie.Need-has_grants-requires invariant_loop3 decreases_loop3 invariant_loop2 decreases_loop2 invariant_loop decreases_loop
+has_grants_requires c κs = omega (arith, c.requires.0.shows.few_users)
 
-insides_requires : tie.Need-insides-requires invariant_loop3 decreases_loop3 invariant_loop2 decreases_loop2 invariant_loop decreases_loop
+insides_requires : tie.Need-insides-inside-requires invariant_loop3 decreases_loop3 invariant_loop2 decreases_loop2 invariant_loop decreases_loop
 insides_requires c κs =
-    let at_loop = c.before.before.before.before.before in
-    let s = at_loop.before in (
-      omega (arith, s.requires.0.shows.few_users),
-      (visited_ready s.requires.0 at_loop.loop.invariant.1).part,
-      s.requires.1,
-    )
+    (omega (arith, c.requires.0.shows.few_users), (visited_ready c.requires.0 c.loop-u.invariant.1).part, c.requires.1)
 
-loop2_holds : tie.Need-loop2-init invariant_loop3 decreases_loop3 invariant_loop2 decreases_loop2 invariant_loop decreases_loop
+loop2_holds : tie.Need-loop-d-init invariant_loop3 decreases_loop3 invariant_loop2 decreases_loop2 invariant_loop decreases_loop
 loop2_holds c =
-    let at_loop = c.before.before.before.before.before.before in
-    let ready = visited_ready at_loop.before.requires.0 at_loop.loop.invariant.1 in (
+    let ready = visited_ready c.requires.0 c.loop-u.invariant.1 in (
       omega arith,
-      user_at_first ready (insides_found at_loop.loop.u c.insides.result ready.part
-          (omega (arith, ready.shows.few_users)) c.insides.ensures),
+      user_at_first ready (insides_found c.loop-u.u c.insides-inside.result ready.part
+          (omega (arith, ready.shows.few_users)) c.insides-inside.ensures),
     )
 
--- from a word back to its user
-abbrev user : tie.In-loop2 invariant_loop3 decreases_loop3 invariant_loop2 decreases_loop2 invariant_loop decreases_loop
-    → tie.In-loop invariant_loop3 decreases_loop3 invariant_loop2 decreases_loop2 invariant_loop decreases_loop
-user c = let found = c.before.before in found.before.before.before.before.before
-
--- there are not too many users
-few_users : (c : tie.In-loop2 invariant_loop3 decreases_loop3 invariant_loop2 decreases_loop2 invariant_loop decreases_loop)
-    → (user c).before.before.args.users ≤ user_limit
-few_users c = (user c).before.before.requires.0.shows.few_users
-
-loop3_holds : tie.Need-loop3-init invariant_loop3 decreases_loop3 invariant_loop2 decreases_loop2 invariant_loop decreases_loop
+loop3_holds : tie.Need-loop-w-init invariant_loop3 decreases_loop3 invariant_loop2 decreases_loop2 invariant_loop decreases_loop
 loop3_holds c =
-    let at = c.before.before.loop2.invariant.1 in (sweeping_at_first at.ready, at.insides)
-
--- from the position found back to its word
-abbrev word : tie.After-lowest invariant_loop3 decreases_loop3 invariant_loop2 decreases_loop2 invariant_loop decreases_loop
-    → tie.In-loop2 invariant_loop3 decreases_loop3 invariant_loop2 decreases_loop2 invariant_loop decreases_loop
-word c = let at_loop3 = c.before.before in at_loop3.before.before
+    let at = c.loop-d.invariant.1 in (sweeping_at_first at.ready, at.insides)
 
 -- the cell at the position found
 abbrev cell_of : tie.After-lowest invariant_loop3 decreases_loop3 invariant_loop2 decreases_loop2 invariant_loop decreases_loop → ℕ
 cell_of c =
-    ((user (word c)).before.loop.u * row_words + (word c).before.loop2.d) * word_bits + c.lowest.result
+    (c.loop-u.u * row_words + c.loop-d.d) * word_bits + c.lowest.result
 
 -- it is one of these users' cells, and of the user's, and remains
 below : (c : tie.After-lowest invariant_loop3 decreases_loop3 invariant_loop2 decreases_loop2 invariant_loop decreases_loop)
-    → cell_of c < cells_of (user (word c)).before.before.args.users
+    → cell_of c < cells_of c.args.users
 unfolding row_words
 below c = digits_lt (omega arith) c.lowest.ensures.within
 
 of_user : (c : tie.After-lowest invariant_loop3 decreases_loop3 invariant_loop2 decreases_loop2 invariant_loop decreases_loop)
-    → cell_of c / row_bits ≡ (user (word c)).before.loop.u
+    → cell_of c / row_bits ≡ c.loop-u.u
 unfolding row_words
 of_user c =
-    let u = (user (word c)).before.loop.u in
-    let d = (word c).before.loop2.d in
+    let u = c.loop-u.u in
+    let d = c.loop-d.d in
     user_of_cell (cell_of c) ∙ ap (λ i. i / row_words) (digits_div (u * row_words + d) c.lowest.ensures.within)
     ∙ digits_div u (omega arith)
 
 remains : (c : tie.After-lowest invariant_loop3 decreases_loop3 invariant_loop2 decreases_loop2 invariant_loop decreases_loop)
-    → So (marked c.before.before.loop3.left (cell_of c))
+    → So (marked c.loop-w.left (cell_of c))
 unfolding row_words
 remains c =
-    c.before.before.loop3.invariant.0.set c.lowest.result c.lowest.ensures.within c.lowest.ensures.holds
+    c.loop-w.invariant.0.set c.lowest.result c.lowest.ensures.within c.lowest.ensures.holds
 
-judge_requires : tie.Need-judge-requires invariant_loop3 decreases_loop3 invariant_loop2 decreases_loop2 invariant_loop decreases_loop
+judge_requires : tie.Need-judge-verdict-requires invariant_loop3 decreases_loop3 invariant_loop2 decreases_loop2 invariant_loop decreases_loop
 unfolding row_words
 judge_requires c κs =
-    let found = c.before.before in
-    let at = found.before.before.loop3.invariant in (
+    let found = c.before in
+    let at = c.loop-w.invariant in (
       record {
         shows = at.0.ready.shows;
         part = at.0.ready.part;
         within = below found;
         set = remains found;
       },
-      (user (word found)).before.before.pre.1,
+      c.requires.1,
       rw (of_user found) at.1,
     )
 
-carry_out_requires : tie.Need-carry-out-requires invariant_loop3 decreases_loop3 invariant_loop2 decreases_loop2 invariant_loop decreases_loop
+carry_out_requires : tie.Need-carry_out-count-requires invariant_loop3 decreases_loop3 invariant_loop2 decreases_loop2 invariant_loop decreases_loop
 unfolding row_words
 carry_out_requires c κs =
     let judged = c.before.before.before in
-    let found = judged.before.before.before in
-    carriable found.before.before.loop3.invariant.0.ready (below found) (remains found) judged.judge.result
-    judged.judge.ensures
+    let found = judged.before.before in
+    carriable c.loop-w.invariant.0.ready (below found) (remains found) c.judge-verdict.result c.judge-verdict.ensures
 
-loop3_less : tie.Need-loop3-smaller invariant_loop3 decreases_loop3 invariant_loop2 decreases_loop2 invariant_loop decreases_loop
-loop3_less c = c.without-lowest.ensures.less
+loop3_less : tie.Need-loop-w-smaller invariant_loop3 decreases_loop3 invariant_loop2 decreases_loop2 invariant_loop decreases_loop
+loop3_less c = c.without_lowest-w.ensures.less
 
-loop3_again : tie.Need-loop3-preserved invariant_loop3 decreases_loop3 invariant_loop2 decreases_loop2 invariant_loop decreases_loop
+loop3_again : tie.Need-loop-w-preserved invariant_loop3 decreases_loop3 invariant_loop2 decreases_loop2 invariant_loop decreases_loop
 unfolding row_words
 loop3_again c =
     let judged = c.before.before.before.before.before in
-    let found = judged.before.before.before in
-    let at = found.before.before.loop3.invariant in
-    let low = found.lowest.ensures in
-    let seen = visited at.0.ready (below found) (remains found) judged.judge.result judged.judge.ensures
-    c.before.carry_out.ensures in
-    (sweeping_next at.0 low seen c.without-lowest.ensures, insides_kept (of_user found) at.1 seen)
+    let found = judged.before.before in
+    let at = c.loop-w.invariant in
+    let low = c.lowest.ensures in
+    let seen = visited at.0.ready (below found) (remains found) c.judge-verdict.result c.judge-verdict.ensures
+    c.carry_out-count.ensures in
+    (sweeping_next at.0 low seen c.without_lowest-w.ensures, insides_kept (of_user found) at.1 seen)
 
-loop2_again : tie.Need-loop2-preserved invariant_loop3 decreases_loop3 invariant_loop2 decreases_loop2 invariant_loop decreases_loop
+loop2_again : tie.Need-loop-d-preserved invariant_loop3 decreases_loop3 invariant_loop2 decreases_loop2 invariant_loop decreases_loop
 unfolding row_words
 loop2_again c =
-    let at = c.before.loop3.invariant in (
+    let at = c.loop-w.invariant in (
       omega arith,
-      user_next_word c.before.before.before.before.loop2.invariant.1
-          (sweeping_done (rw c.loop3-test.false at at.0)) at.1,
+      user_next_word c.loop-d.invariant.1
+          (sweeping_done (rw c.loop-w-test.false at at.0)) at.1,
     )
 
 -- the user had grants left, or none
-loop_again : tie.Need-loop-preserved invariant_loop3 decreases_loop3 invariant_loop2 decreases_loop2 invariant_loop decreases_loop
+loop_again : tie.Need-loop-u-preserved invariant_loop3 decreases_loop3 invariant_loop2 decreases_loop2 invariant_loop decreases_loop
 unfolding row_words
 loop_again c =
-    let tested = c.before in
-    let at_loop = tested.before.before.before in
-    let at = at_loop.loop in
-    let ready = visited_ready at_loop.before.requires.0 at.invariant.1 in (
+    let at = c.loop-u in
+    let ready = visited_ready c.requires.0 at.invariant.1 in (
       omega arith,
-      ⊎_elim
-          (λ w. rw (w.5, w.6, w.7, w.8) (user_done w.3.inv.0 (omega arith) w.3.inv.1 at.invariant.1))
-          (λ w. rw (w.1, w.2, w.3, w.4) (swept_no_cells at.u ready at.invariant.1
-          (sym tested.has-grants.ensures ∙ w.0.left)))
-          c.if1.branch,
+      elim c.if-has_grants.branch [
+        | then-has_grants+else-loop-d-test w ↦ rw (w.left-is, w.removed-is, w.partner-is, w.count-is)
+            (user_done w.loop-d.invariant.0 (omega arith) w.loop-d.invariant.1 at.invariant.1)
+        | else-has_grants w ↦ rw (w.left-is, w.removed-is, w.partner-is, w.count-is)
+            (swept_no_cells at.u ready at.invariant.1 (sym c.has_grants.ensures ∙ w.if-has_grants.false))
+      ],
     )
 
 returns : tie.Need-returns invariant_loop3 decreases_loop3 invariant_loop2 decreases_loop2 invariant_loop decreases_loop
 returns c =
-    let at = c.before.loop in
-    let end : at.u ≡ c.before.before.args.users = omega arith in
+    let at = c.loop-u in
+    let end : at.u ≡ c.args.users = omega arith in
     rw end at at.invariant.1
 
 pub sweep_spec : {M : Type 1} → statement M
 unfolding user_limit row_words
 sweep_spec =
     tie.close (tie.spec invariant_loop3 decreases_loop3 invariant_loop2 decreases_loop2 invariant_loop decreases_loop loop_holds has_grants_requires
-    insides_requires loop2_holds (λ c. omega (arith, few_users c)) (λ c. omega (arith, few_users c))
-    (λ c. omega (arith, few_users c)) (λ c. omega (arith, few_users c)) loop3_holds
-    (λ c. omega (arith, few_users c.before.before.before)) (λ c κs. omega arith)
-    (λ c. omega (arith, few_users (word c), c.lowest.ensures.within)) judge_requires carry_out_requires
+    insides_requires loop2_holds (λ c. omega (arith, c.requires.0.shows.few_users)) (λ c. omega (arith, c.requires.0.shows.few_users))
+    (λ c. omega (arith, c.requires.0.shows.few_users)) (λ c. omega (arith, c.requires.0.shows.few_users)) loop3_holds
+    (λ c. omega (arith, c.requires.0.shows.few_users)) (λ c κs. omega arith)
+    (λ c. omega (arith, c.requires.0.shows.few_users, c.lowest.ensures.within)) judge_requires carry_out_requires
     (λ c κs. omega arith) loop3_less loop3_again (λ c. omega arith) (λ c. omega arith) loop2_again (λ c. omega arith)
     (λ c. omega arith) loop_again returns)
