@@ -3,18 +3,18 @@ use borrow.Author.Tests.{eq-eqb, ne_eqb}
 use Rattle.standing.proofs.standing.standing_of.Statement.{statement}
 use Rattle.standing.proofs.standing.standing_of.Tie as tie
 
-returns : tie.Need-returns
-returns c = rw (eq-eqb c.before.args.roles c.before.args.w c.if1.true)
+returns : tie.Need-returns-then-roles-w
+returns c = rw (eq-eqb c.args.roles c.args.w c.if-roles-w.true)
 
-returns_2 : tie.Need-returns-2
+returns_2 : tie.Need-returns-then-finished
 returns_2 c =
-    let a = c.before.before.args in
-    rw (ne_eqb a.roles a.w c.before.if1.false, c.if2.true)
+    let a = c.args in
+    rw (ne_eqb a.roles a.w c.if-roles-w.false, c.if-finished.true)
 
-returns_3 : tie.Need-returns-3
+returns_3 : tie.Need-returns
 returns_3 c =
-    let a = c.before.before.args in
-    rw (ne_eqb a.roles a.w c.before.if1.false, c.if2.false)
+    let a = c.args in
+    rw (ne_eqb a.roles a.w c.if-roles-w.false, c.if-finished.false)
 
 pub standing_of_spec : {M : Type 1} → statement M
 standing_of_spec =
