@@ -5,13 +5,13 @@ use Rattle.spec.specs.Limits.{permission_limit}
 use Rattle.refusal.proofs.refusal.good_first_line.Statement.{statement}
 use Rattle.refusal.proofs.refusal.good_first_line.Tie as tie
 
-returns : tie.Need-returns
+returns : tie.Need-returns-then-is_user
 unfolding permission_limit
 returns c =
-    rw (sym c.before.before.is-user.ensures ∙ c.before.if1.true) c.is_Within.ensures
+    rw (sym c.is_user.ensures ∙ c.if-is_user.true) c.is_within.ensures
 
-returns_2 : tie.Need-returns-2
-returns_2 c = rw (sym c.before.is-user.ensures ∙ c.if1.false)
+returns_2 : tie.Need-returns
+returns_2 c = rw (sym c.is_user.ensures ∙ c.if-is_user.false)
 
 pub good_first_line_spec : {M : Type 1} → statement M
 good_first_line_spec =

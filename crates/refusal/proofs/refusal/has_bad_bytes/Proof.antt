@@ -6,19 +6,19 @@ use Rattle.text.specs.Laws.LastByte.{no_bytes_bad, some_bytes_bad}
 use Rattle.refusal.proofs.refusal.has_bad_bytes.Statement.{statement}
 use Rattle.refusal.proofs.refusal.has_bad_bytes.Tie as tie
 
-returns : tie.Need-returns
-returns c = sym (no_bytes_bad c.before.before.args.s.now c.if1.true)
+returns : tie.Need-returns-then-s-eq0
+returns c = sym (no_bytes_bad c.args.s.now c.if-s-eq0.true)
 
-returns_2 : tie.Need-returns-2
+returns_2 : tie.Need-returns-then-s-last-ne-LINE_FEED
 returns_2 c =
     let start = c.before.before.before.before in
-    rw (some_bytes_bad start.args.s.now c.before.before.if1.false, ne_eqb _ _ c.if2.true)
+    rw (some_bytes_bad start.args.s.now c.if-s-eq0.false, ne_eqb _ _ c.if-s-last-ne-LINE_FEED.true)
 
-returns_3 : tie.Need-returns-3
+returns_3 : tie.Need-returns
 returns_3 c =
     rw (
-      some_bytes_bad c.before.before.before.before.before.args.s.now c.before.before.before.if1.false,
-      eq-eqb _ _ c.before.if2.false,
+      some_bytes_bad c.args.s.now c.if-s-eq0.false,
+      eq-eqb _ _ c.if-s-last-ne-LINE_FEED.false,
       c.all_of.ensures,
     )
 

@@ -37,28 +37,28 @@ few c = (
 )
 
 -- their places are noted, one for each
-users_placed : (c : tie.After-user-places)
+users_placed : (c : tie.After-user_places-user_places)
     → let start = c.before.before in
-    NamesPlaced start.args.s.now (take start.args.users c.user-places.result) (users start)
+    NamesPlaced start.args.s.now (take start.args.users c.user_places-user_places.result) (users start)
 unfolding user_limit
 users_placed c =
     let start = c.before.before in
-    first_placed start.args.users start.args.s.now c.user-places.result (users start)
-    (rw start.requires.1.0 c.user-places.ensures.names) (user_total start)
+    first_placed start.args.users start.args.s.now c.user_places-user_places.result (users start)
+    (rw start.requires.1.0 c.user_places-user_places.ensures.names) (user_total start)
     (omega (arith, user_total start, (few start).0))
 
-permissions_placed : (c : tie.After-permission-places)
+permissions_placed : (c : tie.After-permission_places-permission_places)
     → let start = c.before.before.before.before.before.before in
-    NamesPlaced start.args.s.now (take start.args.head.cells.count c.permission-places.result)
+    NamesPlaced start.args.s.now (take start.args.head.cells.count c.permission_places-permission_places.result)
     (permissions start)
 unfolding user_limit
 permissions_placed c =
     let start = c.before.before.before.before.before.before in
-    first_placed start.args.head.cells.count start.args.s.now c.permission-places.result
-    (permissions start) (rw (permission_total start) c.permission-places.ensures) (permission_total start)
+    first_placed start.args.head.cells.count start.args.s.now c.permission_places-permission_places.result
+    (permissions start) (rw (permission_total start) c.permission_places-permission_places.ensures) (permission_total start)
     (omega (arith, permission_total start, (few start).1))
 
-user_places_requires : tie.Need-user-places-requires
+user_places_requires : tie.Need-user_places-user_places-requires
 unfolding sheet_limit
 user_places_requires c κs =
     let start = c.before in (
@@ -67,66 +67,66 @@ user_places_requires c κs =
       omega (arith, start.requires.1.1.2),
     )
 
-array_share_prefix_user_places : tie.Need-array-share-prefix-user-places
+array_share_prefix_user_places : tie.Need-slice_bounds-user_places-end
 unfolding user_limit
-array_share_prefix_user_places c = omega (arith, c.before.before.requires.1.1.0)
+array_share_prefix_user_places c = omega (arith, c.requires.1.1.0)
 
-slice_aggregate_repeated_in : tie.Need-slice-aggregate-repeated-in
+slice_aggregate_repeated_in : tie.Need-slice_bounds-repeated_in-end
 unfolding user_limit
-slice_aggregate_repeated_in c = simp length-take (omega (arith, c.before.before.before.requires.1.1.0))
+slice_aggregate_repeated_in c = simp length-take (omega (arith, c.requires.1.1.0))
 
-repeated_in_requires : tie.Need-repeated-in-requires
+repeated_in_requires : tie.Need-repeated_in-requires
 repeated_in_requires c κs =
     let start = c.before.before.before in
-    placed_inside start.args.s.now (take start.args.users c.before.user-places.result) (users start)
+    placed_inside start.args.s.now (take start.args.users c.user_places-user_places.result) (users start)
     (users_placed c.before) (few start).0
 
 -- whether a user's name stands twice
-users_judged : (c : tie.After-repeated-in)
+users_judged : (c : tie.After-repeated_in)
     → let start = c.before.before.before.before in
-    c.repeated-in.result ≡ repeats same_name (users start)
+    c.repeated_in.result ≡ repeats same_name (users start)
 users_judged c =
     let start = c.before.before.before.before in
-    c.repeated-in.ensures
+    c.repeated_in.ensures
     ∙ ap (repeats same_name) (placed_names start.args.s.now
-    (take start.args.users c.before.before.user-places.result) (users start)
+    (take start.args.users c.user_places-user_places.result) (users start)
     (users_placed c.before.before))
 
-returns : tie.Need-returns
-returns c = rw (sym (users_judged c.before) ∙ c.if1.true)
+returns : tie.Need-returns-then-repeated_in
+returns c = rw (sym (users_judged c.before) ∙ c.if-repeated_in.true)
 
-permission_places_requires : tie.Need-permission-places-requires
+permission_places_requires : tie.Need-permission_places-permission_places-requires
 unfolding sheet_limit
 permission_places_requires c κs =
     let start = c.before.before.before.before.before in ((few start).1, omega (arith, start.requires.1.1.2))
 
-array_share_prefix_permission_places : tie.Need-array-share-prefix-permission-places
+array_share_prefix_permission_places : tie.Need-slice_bounds-permission_places-end
 unfolding permission_limit
 array_share_prefix_permission_places c =
     let start = c.before.before.before.before.before.before in
     omega (arith, start.requires.1.1.1)
 
-slice_aggregate_repeated_in_2 : tie.Need-slice-aggregate-repeated-in-2
+slice_aggregate_repeated_in_2 : tie.Need-slice_bounds-repeated_in-end-2
 unfolding permission_limit
 slice_aggregate_repeated_in_2 c =
     let start = c.before.before.before.before.before.before.before in
     simp length-take (omega (arith, start.requires.1.1.1))
 
-repeated_in_requires_2 : tie.Need-repeated-in-requires-2
+repeated_in_requires_2 : tie.Need-repeated_in-requires-2
 repeated_in_requires_2 c κs =
     let start = c.before.before.before.before.before.before.before in
     placed_inside start.args.s.now
-    (take start.args.head.cells.count c.before.permission-places.result) (permissions start)
+    (take start.args.head.cells.count c.permission_places-permission_places.result) (permissions start)
     (permissions_placed c.before) (few start).1
 
-returns_2 : tie.Need-returns-2
+returns_2 : tie.Need-returns
 returns_2 c =
     let noted = c.before.before in
     let start = noted.before.before.before.before.before.before in
-    rw (sym (users_judged noted.before.before) ∙ noted.before.if1.false)
-    (c.repeated-in2.ensures
+    rw (sym (users_judged noted.before.before) ∙ noted.if-repeated_in.false)
+    (c.repeated_in-2.ensures
     ∙ ap (repeats same_name) (placed_names start.args.s.now
-    (take start.args.head.cells.count noted.permission-places.result) (permissions start)
+    (take start.args.head.cells.count noted.permission_places-permission_places.result) (permissions start)
     (permissions_placed noted)))
 
 pub has_name_twice_spec : {M : Type 1} → statement M

@@ -6,9 +6,9 @@ use Rattle.refusal.proofs.body.Body.with.Tie as tie
 returns : tie.Need-returns
 returns c =
     rw (
-      c.before.before.both3.ensures,
-      c.before.before.before.both2.ensures,
-      c.before.before.before.before.before.both.ensures,
+      c.both-3.ensures,
+      c.both-2.ensures,
+      c.both.ensures,
     )
 
 pub with_spec : {M : Type 1} → statement M
