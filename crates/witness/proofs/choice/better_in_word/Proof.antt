@@ -12,31 +12,31 @@ use Rattle.witness.specs.WitnessWalk.{Walked, InWord, word_starts, word_goes_on,
 use Rattle.witness.proofs.choice.better_in_word.Statement.{statement}
 use Rattle.witness.proofs.choice.better_in_word.Tie as tie
 
-abbrev invariant_loop : tie.invariant-loop
+abbrev invariant_loop : tie.invariant-loop-w
 invariant_loop left counts i from it₀ w₀ it w =
     (rows : List ℕ) (users : ℕ) → users ≤ user_limit → i < users * row_words → Counted rows left users counts
     → Walked rows left users it₀ (i * word_bits) → InWord rows left users i w it
 
-abbrev decreases_loop : tie.decreases-loop
+abbrev decreases_loop : tie.decreases-loop-w
 decreases_loop left counts i from it₀ w₀ it w = w
 
-loop_holds : tie.Need-loop-init invariant_loop decreases_loop
+loop_holds : tie.Need-loop-w-init invariant_loop decreases_loop
 loop_holds c rows users few inside counted walked = word_starts _ _ _ _ _ walked
 
-loop_less : tie.Need-loop-smaller invariant_loop decreases_loop
-loop_less c = c.without-lowest.ensures.less
+loop_less : tie.Need-loop-w-smaller invariant_loop decreases_loop
+loop_less c = c.without_lowest-w.ensures.less
 
-loop_again : tie.Need-loop-preserved invariant_loop decreases_loop
+loop_again : tie.Need-loop-w-preserved invariant_loop decreases_loop
 loop_again c rows users few inside counted walked =
     let at_loop = c.before.before.before.before.before in
-    let at = at_loop.loop in
-    rw c.before.better.ensures
+    let at = at_loop.loop-w in
+    rw c.better-it.ensures
     (word_goes_on _ _ _ _ at.it (at.invariant rows users few inside counted walked)
-    c.before.before.before.lowest.ensures c.without-lowest.ensures few inside _ counted)
+    c.lowest.ensures c.without_lowest-w.ensures few inside _ counted)
 
 returns : tie.Need-returns invariant_loop decreases_loop
 returns c rows users few inside counted walked =
-    word_ends _ _ _ _ _ (rw c.loop-test.false at (c.before.loop.invariant rows users few inside counted walked))
+    word_ends _ _ _ _ _ (rw c.loop-w-test.false at (c.loop-w.invariant rows users few inside counted walked))
 
 pub better_in_word_spec : {M : Type 1} → statement M
 unfolding user_limit row_words

@@ -13,36 +13,36 @@ use Rattle.cells.specs.Laws.MadeCells.{MadeWords, none_made, one_made, all_made}
 use Rattle.witness.proofs.choice.dropped.Statement.{statement}
 use Rattle.witness.proofs.choice.dropped.Tie as tie
 
-abbrev invariant_loop : tie.invariant-loop
+abbrev invariant_loop : tie.invariant-loop-i
 invariant_loop rows left users it words₀ i₀ words i =
     (i ≤ users * row_words) × (length words ≡ cell_words) × MadeWords (left_over rows left it.0) i words
 
-abbrev decreases_loop : tie.decreases-loop
+abbrev decreases_loop : tie.decreases-loop-i
 decreases_loop rows left users it words₀ i₀ words i = users * row_words - i
 
-loop_holds : tie.Need-loop-init invariant_loop decreases_loop
+loop_holds : tie.Need-loop-i-init invariant_loop decreases_loop
 unfolding user_limit row_words
 loop_holds c = (omega arith, refl, none_made _ cell_words)
 
-loop_again : tie.Need-loop-preserved invariant_loop decreases_loop
+loop_again : tie.Need-loop-i-preserved invariant_loop decreases_loop
 unfolding row_words
 loop_again c =
     let at_loop = c.before.before.before.before in
     let start = at_loop.before in
     let a = start.args in
-    let at = at_loop.loop in (
+    let at = at_loop.loop-i in (
       omega arith,
       simp length-set at.invariant.1,
       one_made _ at.i at.words _ at.invariant.2 (omega arith)
-          (left_over_word a.rows.now a.left.now a.it.0 at.i _ _ c.before.fitting.ensures
+          (left_over_word a.rows.now a.left.now a.it.0 at.i _ _ c.fitting.ensures
           c.apart.ensures.1),
     )
 
 returns : tie.Need-returns invariant_loop decreases_loop
 unfolding row_words
 returns c =
-    let a = c.before.before.args in
-    let at = c.before.loop in
+    let a = c.args in
+    let at = c.loop-i in
     let end : at.i ≡ a.users * row_words = omega arith in
     rw end at (all_made _ at.i at.words at.invariant.2)
 

@@ -10,31 +10,31 @@ use Rattle.witness.specs.WitnessWalk.{Walked, walk_starts, walk_ends}
 use Rattle.witness.proofs.choice.fewest.Statement.{statement}
 use Rattle.witness.proofs.choice.fewest.Tie as tie
 
-abbrev invariant_loop : tie.invariant-loop
+abbrev invariant_loop : tie.invariant-loop-i
 invariant_loop left counts users best₀ i₀ best i =
     (i ≤ users * row_words) × ((rows : List ℕ) → Counted rows left users counts → Walked rows left users best
     (i * word_bits))
 
-abbrev decreases_loop : tie.decreases-loop
+abbrev decreases_loop : tie.decreases-loop-i
 decreases_loop left counts users best₀ i₀ best i = users * row_words - i
 
-loop_holds : tie.Need-loop-init invariant_loop decreases_loop
+loop_holds : tie.Need-loop-i-init invariant_loop decreases_loop
 loop_holds c = (omega arith, λ rows counted. walk_starts _ _ _)
 
-loop_again : tie.Need-loop-preserved invariant_loop decreases_loop
+loop_again : tie.Need-loop-i-preserved invariant_loop decreases_loop
 unfolding row_words
 loop_again c =
     let start = c.before.before.before in
-    let at = c.before.before.loop in (
+    let at = c.loop-i in (
       omega arith,
-      λ rows counted. c.better-in-word.ensures rows start.args.users start.requires (omega arith)
+      λ rows counted. c.better_in_word-best.ensures rows start.args.users start.requires (omega arith)
           counted (at.invariant.1 rows counted),
     )
 
 returns : tie.Need-returns invariant_loop decreases_loop
 unfolding row_bits row_words
 returns c rows counted =
-    let at = c.before.loop in
+    let at = c.loop-i in
     walk_ends _ _ _ at.best (at.i * word_bits) (at.invariant.1 rows counted) (omega (arith, at.invariant.0))
 
 pub fewest_spec : {M : Type 1} → statement M

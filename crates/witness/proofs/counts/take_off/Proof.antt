@@ -17,69 +17,69 @@ use Rattle.witness.specs.Laws.FitCounts.{next_users_changed}
 use Rattle.witness.proofs.counts.take_off.Statement.{statement}
 use Rattle.witness.proofs.counts.take_off.Tie as tie
 
-abbrev invariant_loop : tie.invariant-loop
+abbrev invariant_loop : tie.invariant-loop-j
 invariant_loop counts₀ rows columns left these words j₀ counts j =
     (j ≤ column_words) × TakenOff (of_users_below left (j * word_bits)) (fit_count rows these.user.0
     these.words) counts₀ counts
 
-abbrev decreases_loop : tie.decreases-loop
+abbrev decreases_loop : tie.decreases-loop-j
 decreases_loop counts₀ rows columns left these words j₀ counts j = column_words - j
 
 sized : (c : tie.Start invariant_loop decreases_loop) → length c.args.these.words ≡ row_words
 unfolding row_words
 sized c = search rules
 
-returns : tie.Need-returns invariant_loop decreases_loop
+returns : tie.Need-returns-then-not-has_any invariant_loop decreases_loop
 returns c =
-    let a = c.before.before.before.before.args in
+    let a = c.args in
     no_grants_changed a.rows.now a.left.now a.these.user.0 a.these.words user_limit
-    a.counts.now (sym c.before.has-any.ensures ∙ not_fails _ c.if1.true)
+    a.counts.now (sym c.has_any.ensures ∙ not_fails _ c.if-not-has_any.true-raw)
 
-loop_holds : tie.Need-loop-init invariant_loop decreases_loop
+loop_holds : tie.Need-loop-j-init invariant_loop decreases_loop
 loop_holds c =
-    let a = c.before.before.before.before.args in
+    let a = c.args in
     (omega arith, none_changed_yet a.rows.now a.left.now a.these.user.0 a.these.words _)
 
-union_of_row_requires : tie.Need-union-of-row-requires invariant_loop decreases_loop
+union_of_row_requires : tie.Need-union_of_row-some-requires invariant_loop decreases_loop
 unfolding user_limit
 union_of_row_requires c κs =
     let at_loop = c.before.before in
     let start = at_loop.before.before.before.before.before in
     omega (arith, sized start)
 
-take_off_for_users_requires : tie.Need-take-off-for-users-requires invariant_loop decreases_loop
+take_off_for_users_requires : tie.Need-take_off_for_users-requires invariant_loop decreases_loop
 unfolding user_limit
 take_off_for_users_requires c κs =
     let at_loop = c.before.before.before.before in
     let start = at_loop.before.before.before.before.before in
-    let at = at_loop.loop in (
+    let at = at_loop.loop-j in (
       start.requires.0,
       omega arith,
       at.invariant.1.sized ∙ start.requires.2,
       λ n p.
-          let some = c.before.union-of-row.result in
+          let some = c.union_of_row-some.result in
           let here = column_to_come start.args.left.now at.j some n (omega arith) p in
           rw (not_changed at.invariant.1 n here.0) (start.requires.3 n here.1),
     )
 
-loop_again : tie.Need-loop-preserved invariant_loop decreases_loop
+loop_again : tie.Need-loop-j-preserved invariant_loop decreases_loop
 unfolding user_limit
 loop_again c =
     let at_loop = c.before.before.before.before.before in
     let start = at_loop.before.before.before.before.before in
     let a = start.args in
-    let at = at_loop.loop in
-    let found = c.before.before.union-of-row in (
+    let at = at_loop.loop-j in
+    let found = c.union_of_row-some in (
       omega arith,
       next_users_changed a.rows.now a.left.now a.these.user.0 a.these.words at.j
           found.result a.columns.now _ at.counts _ start.requires.1 (omega arith) found.ensures
-          at.invariant.1 c.take-off-for-users.ensures,
+          at.invariant.1 c.take_off_for_users.ensures,
     )
 
-returns_2 : tie.Need-returns-2 invariant_loop decreases_loop
+returns_2 : tie.Need-returns invariant_loop decreases_loop
 unfolding user_limit
 returns_2 c =
-    let at = c.before.loop in
+    let at = c.loop-j in
     let end : at.j * word_bits ≡ user_limit = omega arith in
     rw end at at.invariant.1
 

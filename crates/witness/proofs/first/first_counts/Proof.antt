@@ -8,33 +8,33 @@ use Rattle.witness.specs.Laws.FirstCounts.{Gathered, gathering_starts, gathering
 use Rattle.witness.proofs.first.first_counts.Statement.{statement}
 use Rattle.witness.proofs.first.first_counts.Tie as tie
 
-abbrev invariant_loop : tie.invariant-loop
+abbrev invariant_loop : tie.invariant-loop-v
 invariant_loop rows columns left users counts₀ v₀ counts v = (v ≤ user_limit) × Gathered rows left users v counts
 
-abbrev decreases_loop : tie.decreases-loop
+abbrev decreases_loop : tie.decreases-loop-v
 decreases_loop rows columns left users counts₀ v₀ counts v = user_limit - v
 
-loop_holds : tie.Need-loop-init invariant_loop decreases_loop
+loop_holds : tie.Need-loop-v-init invariant_loop decreases_loop
 unfolding user_limit row_words
 loop_holds c = (omega arith, gathering_starts _ _ _)
 
-count_user_requires : tie.Need-count-user-requires invariant_loop decreases_loop
+count_user_requires : tie.Need-count_user-requires invariant_loop decreases_loop
 unfolding user_limit
 count_user_requires c κs =
     let at_loop = c.before.before in
     let start = at_loop.before in
-    (start.requires.0, omega arith, start.requires.1, at_loop.loop.invariant.1.sized)
+    (start.requires.0, omega arith, start.requires.1, at_loop.loop-v.invariant.1.sized)
 
-loop_again : tie.Need-loop-preserved invariant_loop decreases_loop
+loop_again : tie.Need-loop-v-preserved invariant_loop decreases_loop
 unfolding user_limit
 loop_again c =
-    let at = c.before.before.before.loop in
-    (omega arith, gathering_goes_on _ _ _ at.v at.counts _ at.invariant.1 c.count-user.ensures)
+    let at = c.loop-v in
+    (omega arith, gathering_goes_on _ _ _ at.v at.counts _ at.invariant.1 c.count_user.ensures)
 
 returns : tie.Need-returns invariant_loop decreases_loop
 unfolding user_limit
 returns c =
-    let at = c.before.loop in
+    let at = c.loop-v in
     let end : at.v ≡ user_limit = omega arith in
     gathering_ends _ _ _ _ (rw end at at.invariant.1)
 

@@ -12,30 +12,30 @@ use Rattle.witness.specs.Laws.FirstCounts.{word_sum_le, gathered_le, gathered_ne
 use Rattle.witness.proofs.first.sum_in_column.Statement.{statement}
 use Rattle.witness.proofs.first.sum_in_column.Tie as tie
 
-abbrev invariant_loop : tie.invariant-loop
+abbrev invariant_loop : tie.invariant-loop-j
 invariant_loop columns shares p sum₀ j₀ sum j =
     (j ≤ column_words) × (sum ≡ gathered_below columns shares p.0 (j * word_bits))
 
-abbrev decreases_loop : tie.decreases-loop
+abbrev decreases_loop : tie.decreases-loop-j
 decreases_loop columns shares p sum₀ j₀ sum j = column_words - j
 
-loop_holds : tie.Need-loop-init invariant_loop decreases_loop
+loop_holds : tie.Need-loop-j-init invariant_loop decreases_loop
 unfolding sum_below
 loop_holds c = (omega arith, refl)
 
-sum_in_word_requires : tie.Need-sum-in-word-requires invariant_loop decreases_loop
+sum_in_word_requires : tie.Need-sum_in_word-sum-requires invariant_loop decreases_loop
 unfolding user_limit
-sum_in_word_requires c κs = (omega arith, c.before.before.before.before.requires.1)
+sum_in_word_requires c κs = (omega arith, c.requires.1)
 
-add_sum : tie.Need-overflow-add-sum invariant_loop decreases_loop
+add_sum : tie.Need-overflow_add-sum invariant_loop decreases_loop
 unfolding user_limit row_bits row_words
 add_sum c =
     let at_loop = c.before.before.before.before in
     let start = at_loop.before in
     let a = start.args in
-    let at = at_loop.loop in
-    let few : c.sum-in-word.result ≤ word_bits * row_bits =
-    rw c.sum-in-word.ensures (word_sum_le a.shares.now start.requires.1 at.j _) in
+    let at = at_loop.loop-j in
+    let few : c.sum_in_word-sum.result ≤ word_bits * row_bits =
+    rw c.sum_in_word-sum.ensures (word_sum_le a.shares.now start.requires.1 at.j _) in
     omega (
       arith,
       few,
@@ -43,17 +43,17 @@ add_sum c =
       gathered_le a.shares.now start.requires.1 a.columns.now a.p.0 (at.j * word_bits),
     )
 
-loop_again : tie.Need-loop-preserved invariant_loop decreases_loop
+loop_again : tie.Need-loop-j-preserved invariant_loop decreases_loop
 unfolding user_limit
 loop_again c =
     let at_loop = c.before.before.before.before in
-    let a = at_loop.before.args in
-    let at = at_loop.loop in (
+    let a = at_loop.args in
+    let at = at_loop.loop-j in (
       omega arith,
       omega (
         arith,
         at.invariant.1,
-        c.sum-in-word.ensures,
+        c.sum_in_word-sum.ensures,
         gathered_next_word a.columns.now a.shares.now a.p.0 at.j,
       ),
     )
@@ -61,7 +61,7 @@ loop_again c =
 returns : tie.Need-returns invariant_loop decreases_loop
 unfolding user_limit
 returns c =
-    let at = c.before.loop in
+    let at = c.loop-j in
     let end : at.j * word_bits ≡ user_limit = omega arith in
     rw end at at.invariant.1
 

@@ -11,14 +11,14 @@ use Rattle.witness.specs.Laws.FirstCounts.{word_sum_le}
 use Rattle.witness.proofs.first.sum_in_word.Statement.{statement}
 use Rattle.witness.proofs.first.sum_in_word.Tie as tie
 
-abbrev invariant_loop : tie.invariant-loop
+abbrev invariant_loop : tie.invariant-loop-w
 invariant_loop shares j word from sum₀ w₀ sum w =
     sum + word_sum (λ q. get_or shares (j * word_bits + q) 0) w ≡ word_sum (λ q. get_or shares (j * word_bits + q) 0) word
 
-abbrev decreases_loop : tie.decreases-loop
+abbrev decreases_loop : tie.decreases-loop-w
 decreases_loop shares j word from sum₀ w₀ sum w = w
 
-add_sum_2 : tie.Need-overflow-add-sum-2 invariant_loop decreases_loop
+add_sum_2 : tie.Need-overflow_add-sum-in-loop-w invariant_loop decreases_loop
 unfolding row_bits row_words
 add_sum_2 c =
     let at_loop = c.before.before.before in
@@ -26,29 +26,29 @@ add_sum_2 c =
     let a = start.args in
     omega (
       arith,
-      at_loop.loop.invariant,
+      at_loop.loop-w.invariant,
       word_sum_le a.shares.now start.requires.1 a.j a.word,
-      start.requires.1 (a.j * word_bits + c.before.lowest.result),
+      start.requires.1 (a.j * word_bits + c.lowest.result),
     )
 
-loop_less : tie.Need-loop-smaller invariant_loop decreases_loop
-loop_less c = c.without-lowest.ensures.less
+loop_less : tie.Need-loop-w-smaller invariant_loop decreases_loop
+loop_less c = c.without_lowest-w.ensures.less
 
-loop_again : tie.Need-loop-preserved invariant_loop decreases_loop
+loop_again : tie.Need-loop-w-preserved invariant_loop decreases_loop
 loop_again c =
     let at_loop = c.before.before.before.before in
-    let a = at_loop.before.args in
+    let a = at_loop.args in
     omega (
       arith,
-      at_loop.loop.invariant,
-      word_sum_dropped (λ q. get_or a.shares.now (a.j * word_bits + q) 0) c.before.before.lowest.ensures
-          c.without-lowest.ensures,
+      at_loop.loop-w.invariant,
+      word_sum_dropped (λ q. get_or a.shares.now (a.j * word_bits + q) 0) c.lowest.ensures
+          c.without_lowest-w.ensures,
     )
 
 returns : tie.Need-returns invariant_loop decreases_loop
 returns c =
-    let a = c.before.before.args in
-    let all = rw c.loop-test.false at c.before.loop.invariant in
+    let a = c.args in
+    let all = rw c.loop-w-test.false at c.loop-w.invariant in
     omega (arith, all, word_sum_of_none (λ q. get_or a.shares.now (a.j * word_bits + q) 0))
 
 pub sum_in_word_spec : {M : Type 1} → statement M

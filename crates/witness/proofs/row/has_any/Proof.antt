@@ -13,35 +13,35 @@ use Rattle.cell_rows.specs.Rows.{row_words}
 use Rattle.witness.proofs.row.has_any.Statement.{statement}
 use Rattle.witness.proofs.row.has_any.Tie as tie
 
-abbrev invariant_loop : tie.invariant-loop
+abbrev invariant_loop : tie.invariant-loop-k
 invariant_loop row k₀ k = (k ≤ row_words) × (some_below k (λ i. not (eqb (get_or row i 0) 0)) ≡ false)
 
-abbrev decreases_loop : tie.decreases-loop
+abbrev decreases_loop : tie.decreases-loop-k
 decreases_loop row k₀ k = row_words - k
 
-loop_holds : tie.Need-loop-init invariant_loop decreases_loop
+loop_holds : tie.Need-loop-k-init invariant_loop decreases_loop
 unfolding some_below row_words
 loop_holds c = (omega arith, refl)
 
-returns : tie.Need-returns invariant_loop decreases_loop
+returns : tie.Need-returns-then-row-k-ne0 invariant_loop decreases_loop
 unfolding row_words
 returns c =
-    let at = c.before.before.before.loop in
-    let row = c.before.before.before.before.args.row.now in
+    let at = c.loop-k in
+    let row = c.args.row.now in
     sym (some_below_intro row_words (λ i. not (eqb (get_or row i 0) 0)) {i = at.k} (omega arith)
-    (rw (ne_eqb _ _ c.if1.true)))
+    (rw (ne_eqb _ _ c.if-row-k-ne0.true)))
 
-loop_again : tie.Need-loop-preserved invariant_loop decreases_loop
+loop_again : tie.Need-loop-k-preserved invariant_loop decreases_loop
 unfolding row_words
 loop_again c =
-    let at = c.before.before.before.loop in
-    let row = c.before.before.before.before.args.row.now in
-    (omega arith, some_below_step at.k (λ i. not (eqb (get_or row i 0) 0)) ∙ rw c.if1.false at.invariant.1)
+    let at = c.loop-k in
+    let row = c.args.row.now in
+    (omega arith, some_below_step at.k (λ i. not (eqb (get_or row i 0) 0)) ∙ rw c.if-row-k-ne0.false at.invariant.1)
 
-returns_2 : tie.Need-returns-2 invariant_loop decreases_loop
+returns_2 : tie.Need-returns invariant_loop decreases_loop
 unfolding row_words
 returns_2 c =
-    let at = c.before.loop in
+    let at = c.loop-k in
     let end : at.k ≡ row_words = omega arith in
     sym (rw end at at.invariant.1)
 

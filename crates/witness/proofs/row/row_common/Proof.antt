@@ -12,24 +12,24 @@ use Rattle.witness.specs.Laws.Row.{cell_in_word}
 use Rattle.witness.proofs.row.row_common.Statement.{statement}
 use Rattle.witness.proofs.row.row_common.Tie as tie
 
-abbrev invariant_loop : tie.invariant-loop
+abbrev invariant_loop : tie.invariant-loop-k
 invariant_loop words u others v row₀ k₀ row k =
     (k ≤ row_words) × (length row ≡ row_words)
     × MadeWords (λ p. cell words u.0 p && cell others v.0 p) k row
 
-abbrev decreases_loop : tie.decreases-loop
+abbrev decreases_loop : tie.decreases-loop-k
 decreases_loop words u others v row₀ k₀ row k = row_words - k
 
-loop_holds : tie.Need-loop-init invariant_loop decreases_loop
+loop_holds : tie.Need-loop-k-init invariant_loop decreases_loop
 unfolding row_words
 loop_holds c = (omega arith, refl, none_made _ row_words)
 
-loop_again : tie.Need-loop-preserved invariant_loop decreases_loop
+loop_again : tie.Need-loop-k-preserved invariant_loop decreases_loop
 unfolding row_words
 loop_again c =
     let at_loop = c.before.before.before.before.before in
-    let a = at_loop.before.args in
-    let at = at_loop.loop in (
+    let a = at_loop.args in
+    let at = at_loop.loop-k in (
       omega arith,
       simp length-set at.invariant.1,
       one_made _ at.k at.row _ at.invariant.2 (omega arith)
@@ -40,7 +40,7 @@ loop_again c =
 returns : tie.Need-returns invariant_loop decreases_loop
 unfolding row_bits row_words
 returns c =
-    let at = c.before.loop in
+    let at = c.loop-k in
     let end : at.k ≡ row_words = omega arith in
     rw end at (all_made _ at.k at.row at.invariant.2)
 

@@ -14,40 +14,40 @@ use Rattle.witness.specs.Laws.Row.{shared_word}
 use Rattle.witness.proofs.row.shared_by.Statement.{statement}
 use Rattle.witness.proofs.row.shared_by.Tie as tie
 
-abbrev invariant_loop : tie.invariant-loop
+abbrev invariant_loop : tie.invariant-loop-k
 invariant_loop rows row v n₀ k₀ n k =
     (k ≤ row_words) × (n ≡ count_below (k * word_bits) (λ p. marked row p && cell rows v.0 p))
 
-abbrev decreases_loop : tie.decreases-loop
+abbrev decreases_loop : tie.decreases-loop-k
 decreases_loop rows row v n₀ k₀ n k = row_words - k
 
-loop_holds : tie.Need-loop-init invariant_loop decreases_loop
+loop_holds : tie.Need-loop-k-init invariant_loop decreases_loop
 unfolding count_below row_words
 loop_holds c = (omega arith, refl)
 
-add_n : tie.Need-overflow-add-n invariant_loop decreases_loop
+add_n : tie.Need-overflow_add-n invariant_loop decreases_loop
 unfolding row_words
 add_n c =
-    let at = c.before.before.before.before.before.loop in
-    let few : c.count.result ≤ word_bits = rw c.count.ensures (count_below_le word_bits _) in
+    let at = c.loop-k in
+    let few : c.count-n.result ≤ word_bits = rw c.count-n.ensures (count_below_le word_bits _) in
     let so_far : at.n ≤ at.k * word_bits = rw at.invariant.1 (count_below_le (at.k * word_bits) _) in
     omega (arith, few, so_far)
 
-loop_again : tie.Need-loop-preserved invariant_loop decreases_loop
+loop_again : tie.Need-loop-k-preserved invariant_loop decreases_loop
 unfolding row_words
 loop_again c =
-    let a = c.before.before.before.before.before.before.args in
-    let at = c.before.before.before.before.before.loop in (
+    let a = c.args in
+    let at = c.loop-k in (
       omega arith,
       rw (count_next_word (λ p. marked a.row.now p && cell a.rows.now a.v.0 p) at.k _
           (shared_word a.rows.now a.row.now a.v.0 at.k))
-          (omega (arith, at.invariant.1, c.count.ensures)),
+          (omega (arith, at.invariant.1, c.count-n.ensures)),
     )
 
 returns : tie.Need-returns invariant_loop decreases_loop
 unfolding row_bits row_words
 returns c =
-    let at = c.before.loop in
+    let at = c.loop-k in
     let end : at.k ≡ row_words = omega arith in
     rw end at at.invariant.1
 

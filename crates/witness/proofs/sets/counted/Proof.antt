@@ -13,34 +13,34 @@ use Rattle.fit.specs.Laws.FitWord.{marked_in_word, count_next_word}
 use Rattle.witness.proofs.sets.counted.Statement.{statement}
 use Rattle.witness.proofs.sets.counted.Tie as tie
 
-abbrev invariant_loop : tie.invariant-loop
+abbrev invariant_loop : tie.invariant-loop-i
 invariant_loop words users n₀ i₀ n i = (i ≤ users * row_words) × (n ≡ count_below (i * word_bits) (marked words))
 
-abbrev decreases_loop : tie.decreases-loop
+abbrev decreases_loop : tie.decreases-loop-i
 decreases_loop words users n₀ i₀ n i = users * row_words - i
 
-add_n : tie.Need-overflow-add-n invariant_loop decreases_loop
+add_n : tie.Need-overflow_add-n invariant_loop decreases_loop
 unfolding user_limit
 add_n c =
-    let at = c.before.before.before.loop in
-    let few : c.count.result ≤ word_bits = rw c.count.ensures (count_below_le word_bits _) in
-    omega (arith, count_below_le (at.i * word_bits) (marked c.before.before.before.before.args.words.now))
+    let at = c.loop-i in
+    let few : c.count-n.result ≤ word_bits = rw c.count-n.ensures (count_below_le word_bits _) in
+    omega (arith, count_below_le (at.i * word_bits) (marked c.args.words.now))
 
-loop_again : tie.Need-loop-preserved invariant_loop decreases_loop
+loop_again : tie.Need-loop-i-preserved invariant_loop decreases_loop
 unfolding row_words
 loop_again c =
-    let a = c.before.before.before.before.args in
-    let at = c.before.before.before.loop in (
+    let a = c.args in
+    let at = c.loop-i in (
       omega arith,
       rw (count_next_word (marked a.words.now) at.i _ (λ q l. sym (marked_in_word a.words.now at.i q l)))
-          (omega (arith, at.invariant.1, c.count.ensures)),
+          (omega (arith, at.invariant.1, c.count-n.ensures)),
     )
 
 returns : tie.Need-returns invariant_loop decreases_loop
 unfolding row_words
 returns c =
-    let at = c.before.loop in
-    let end : at.i ≡ c.before.before.args.users * row_words = omega arith in
+    let at = c.loop-i in
+    let end : at.i ≡ c.args.users * row_words = omega arith in
     rw end at at.invariant.1
 
 pub counted_spec : {M : Type 1} → statement M

@@ -7,7 +7,7 @@ use Rattle.witness.proofs.sets.put_cell.Statement.{statement}
 use Rattle.witness.proofs.sets.put_cell.Tie as tie
 
 returns : tie.Need-returns
-returns c = (c.mark.ensures.size ∙ c.before.before.requires.1, c.mark.ensures.shows)
+returns c = (c.mark.ensures.size ∙ c.requires.1, c.mark.ensures.shows)
 
 pub put_cell_spec : {M : Type 1} → statement M
 unfolding user_limit row_words

@@ -17,13 +17,13 @@ sized c = search rules
 choose_requires : tie.Need-choose-requires
 choose_requires c κs = let start = c.before in (start.requires.1.few_users, start.requires.0, sized start)
 
-counted_requires : tie.Need-counted-requires
-counted_requires c κs = c.before.before.before.requires.1.few_users
+counted_requires : tie.Need-counted-count-requires
+counted_requires c κs = c.requires.1.few_users
 
 returns : tie.Need-returns
 returns c sheet shown reduced =
-    let chosen_cells = c.before.before.choose.ensures sheet shown reduced.kernel_part in
-    witnessed shown reduced chosen_cells c.counted.result c.counted.ensures
+    let chosen_cells = c.choose.ensures sheet shown reduced.kernel_part in
+    witnessed shown reduced chosen_cells c.counted-count.result c.counted-count.ensures
 
 pub witness_of_spec : {M : Type 1} → statement M
 witness_of_spec =
