@@ -74,7 +74,7 @@ fn report(so_far: usize, answer: SearchAnswer, speed: usize) {
 }
 
 // As many searches as the rounds, or up to the first that does not answer `open` if fewer, with a line after each.
-fn search_rounds<R: CpuClock>(rt: &R, from: Session, rounds: u32) -> Rounds
+fn search_rounds(rt: &HostRuntime, from: Session, rounds: u32) -> Rounds
     requires { Sound from }
     ensures rounds_made { RoundsMade round_budget rounds (view from) (view result.session) result.searches result.so_far }
     ensures sound { Sound result.session }
@@ -104,8 +104,8 @@ fn search_rounds<R: CpuClock>(rt: &R, from: Session, rounds: u32) -> Rounds
 
 // Puts what the long search prints for a sheet and its argument at the front of the buffer: the book, or the number of
 // the refusal and a line feed. Without an argument the word is empty.
-pub fn long_search<'a, R: CpuClock>(
-    rt: &R,
+pub fn long_search<'a>(
+    rt: &HostRuntime,
     sheet: &'a [u8],
     word: &'a [u8],
     out: &mut [u8; BOOK_LIMIT],
