@@ -5,14 +5,14 @@ use mathlib.Core.Path.{◌≡◌}
 use Rattle.cover.proofs.cover.allowed_next.Statement.{statement}
 use Rattle.cover.proofs.cover.allowed_next.Tie as tie
 
-returns : tie.Need-returns
+returns : tie.Need-returns-then-latest-next
 returns c so_far =
-    let a = c.before.before.before.before.args in
+    let a = c.args in
     let same : a.latest.0 ≡ a.next.0 = omega arith in
     rw same at so_far
 
-returns_2 : tie.Need-returns-2
-returns_2 c so_far = c.allowed-to.ensures
+returns_2 : tie.Need-returns-else-latest-next
+returns_2 c so_far = c.allowed_to.ensures
 
 pub allowed_next_spec : {M : Type 1} → statement M
 allowed_next_spec =

@@ -8,29 +8,29 @@ use Rattle.cover.specs.CoverAllowed.{AllowedSoFar, none_allowed, one_allowed, al
 use Rattle.cover.proofs.cover.allowed_to.Statement.{statement}
 use Rattle.cover.proofs.cover.allowed_to.Tie as tie
 
-abbrev invariant_loop : tie.invariant-loop
+abbrev invariant_loop : tie.invariant-loop-c
 invariant_loop rows asked user most allowed₀ c₀ allowed c =
     (c ≤ most) × (length allowed ≡ row_words) × AllowedSoFar rows asked user.0 c allowed
 
-abbrev decreases_loop : tie.decreases-loop
+abbrev decreases_loop : tie.decreases-loop-c
 decreases_loop rows asked user most allowed₀ c₀ allowed c = most - c
 
-loop_holds : tie.Need-loop-init invariant_loop decreases_loop
+loop_holds : tie.Need-loop-c-init invariant_loop decreases_loop
 unfolding row_words
 loop_holds c = (omega arith, refl, none_allowed _ _ _ row_words refl)
 
-put_if_requires : tie.Need-put-if-requires invariant_loop decreases_loop
+put_if_requires : tie.Need-put_if-requires invariant_loop decreases_loop
 unfolding row_bits row_words
-put_if_requires c κs = (omega arith, c.before.before.before.loop.invariant.1)
+put_if_requires c κs = (omega arith, c.loop-c.invariant.1)
 
-loop_again : tie.Need-loop-preserved invariant_loop decreases_loop
+loop_again : tie.Need-loop-c-preserved invariant_loop decreases_loop
 unfolding row_bits row_words
 loop_again c =
     let at_loop = c.before.before.before.before in
-    let at = at_loop.loop in (
+    let at = at_loop.loop-c in (
       omega arith,
       c.put_if.ensures.size ∙ at.invariant.1,
-      one_allowed _ _ _ at.allowed _ at.c at.invariant.2 (rw c.before.before.holds_asked.ensures at
+      one_allowed _ _ _ at.allowed _ at.c at.invariant.2 (rw c.holds_asked-yes.ensures at
           c.put_if.ensures),
     )
 
@@ -38,8 +38,8 @@ returns : tie.Need-returns invariant_loop decreases_loop
 unfolding row_bits row_words
 returns c =
     let start = c.before.before.before in
-    let e : c.before.loop.c ≡ start.args.most = omega arith in
-    rw e at (allowed_all c.before.loop.invariant.2 (omega arith))
+    let e : c.loop-c.c ≡ start.args.most = omega arith in
+    rw e at (allowed_all c.loop-c.invariant.2 (omega arith))
 
 pub allowed_to_spec : {M : Type 1} → statement M
 unfolding row_bits row_words

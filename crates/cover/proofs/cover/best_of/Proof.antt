@@ -5,17 +5,17 @@ use Rattle.cover.specs.Laws.CoverArray.{held_cells, best_of_cells}
 use Rattle.cover.proofs.cover.best_of.Statement.{statement}
 use Rattle.cover.proofs.cover.best_of.Tie as tie
 
-grouped_by_fit_requires : tie.Need-grouped-by-fit-requires
-grouped_by_fit_requires c κs = (c.before.before.before.requires, c.grouped-by-permission.ensures.0)
+grouped_by_fit_requires : tie.Need-grouped_by_fit-fit-requires
+grouped_by_fit_requires c κs = (c.requires, c.grouped_by_permission-permission.ensures.0)
 
 returns : tie.Need-returns
 returns c =
-    let cells = c.before.before.before.before.before.args.cells.now in
-    let by_fit = c.before.grouped-by-fit.ensures in
-    let by_permission = c.before.before.grouped-by-permission.ensures in (
+    let cells = c.args.cells.now in
+    let by_fit = c.grouped_by_fit-fit.ensures in
+    let by_permission = c.grouped_by_permission-permission.ensures in (
       λ users sheet shown e. rw (best_of_cells shown cells e) at
-          (c.with-fewer.ensures.0 _ _ _ (by_fit.0 (held_cells shown cells e)) by_permission.1),
-      c.with-fewer.ensures.1 _ by_fit.1 by_permission.2,
+          (c.with_fewer.ensures.0 _ _ _ (by_fit.0 (held_cells shown cells e)) by_permission.1),
+      c.with_fewer.ensures.1 _ by_fit.1 by_permission.2,
     )
 
 pub best_of_spec : {M : Type 1} → statement M

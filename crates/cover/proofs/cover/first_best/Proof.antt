@@ -17,22 +17,22 @@ sized c = search rules
 counted : (c : tie.Start) → length (take c.args.grants.size c.args.grants.cells) ≡ c.args.grants.size
 counted c = length-take-le _ _ (rw (sized c) c.requires.few)
 
-returns : tie.Need-returns
+returns : tie.Need-returns-then-size-eq0
 unfolding grant_limit
-returns c = (λ users sheet shown e. none_to_place sheet _ (rw c.if1.true at e), zeros_blank _ grant_limit)
+returns c = (λ users sheet shown e. none_to_place sheet _ (rw c.if-size-eq0.true at e), zeros_blank _ grant_limit)
 
-array_share_prefix_cells : tie.Need-array-share-prefix-cells
-array_share_prefix_cells c = rw (sized c.before.before.before) c.before.before.before.requires.few
+array_share_prefix_cells : tie.Need-slice_bounds-cells-end
+array_share_prefix_cells c = rw (sized c.before.before.before) c.requires.few
 
-slice_aggregate_best_of : tie.Need-slice-aggregate-best-of
+slice_aggregate_best_of : tie.Need-slice_bounds-best_of-end-2
 slice_aggregate_best_of c = sym (counted c.before.before.before.before)
 
-best_of_requires : tie.Need-best-of-requires
+best_of_requires : tie.Need-best_of-requires
 best_of_requires c κs =
     let still_start = c.before.before.before.before in
     rw (counted still_start) still_start.requires.few
 
-returns_2 : tie.Need-returns-2
+returns_2 : tie.Need-returns
 returns_2 c =
     let start = c.before.before.before.before.before in
     let grants = start.args.grants in (

@@ -19,18 +19,18 @@ use Rattle.cover.specs.Laws.CoverFit.{FitSoFar, none_fitted, next_user, more_cla
 use Rattle.cover.proofs.cover.grouped_by_fit.Statement.{statement}
 use Rattle.cover.proofs.cover.grouped_by_fit.Tie as tie
 
-abbrev invariant_loop : tie.invariant-loop
+abbrev invariant_loop : tie.invariant-loop-d
 invariant_loop rows cells most asked₀ lacked₀ classes₀ allowed₀ latest₀ count₀ d₀ asked lacked classes allowed latest count
     d =
     (d ≤ length cells) × (length classes ≡ grant_limit) × (length asked ≡ class_words) × (length lacked ≡ class_words)
     × (HeldCells rows cells → FitSoFar rows cells classes d count asked lacked latest.0 allowed most)
     × BlankFrom d classes
 
-abbrev decreases_loop : tie.decreases-loop
+abbrev decreases_loop : tie.decreases-loop-d
 decreases_loop rows cells most asked₀ lacked₀ classes₀ allowed₀ latest₀ count₀ d₀ asked lacked classes allowed latest count d =
     length cells - d
 
-loop_holds : tie.Need-loop-init invariant_loop decreases_loop
+loop_holds : tie.Need-loop-d-init invariant_loop decreases_loop
 unfolding grant_limit row_bits row_words
 loop_holds c = (
   omega arith,
@@ -42,66 +42,66 @@ loop_holds c = (
 )
 
 -- a cell of 16 bits is a number
-cast_at : tie.Need-overflow-cast-at invariant_loop decreases_loop
-cast_at c = omega (arith, c.shared-slice-known3.given c.before.before.loop.d)
+cast_at : tie.Need-overflow_cast-at invariant_loop decreases_loop
+cast_at c = omega (arith, c.shared_slice_known-in-loop-d-1.given c.loop-d.d)
 
 -- the user of a cell of 16 bits has its room
-user_below : (c : tie.After-user-of invariant_loop decreases_loop) → c.user-of.result.0 < user_room
+user_below : (c : tie.After-user_of-user invariant_loop decreases_loop) → c.user_of-user.result.0 < user_room
 user_below c =
     let still_start = c.before.before.before.before.before.before in
-    let d = c.before.before.before.loop.d in
-    rw c.user-of.ensures
-    (user_has_room (get_or still_start.args.cells.now d 0) (omega (arith, c.before.shared-slice-known3.given d)))
+    let d = c.loop-d.d in
+    rw c.user_of-user.ensures
+    (user_has_room (get_or still_start.args.cells.now d 0) (omega (arith, c.shared_slice_known-in-loop-d-1.given d)))
 
-allowed_next_requires : tie.Need-allowed-next-requires invariant_loop decreases_loop
+allowed_next_requires : tie.Need-allowed_next-allowed-requires invariant_loop decreases_loop
 allowed_next_requires c κs =
     let still_start = c.before.before.before.before.before.before.before.before in
     (user_below c.before.before, still_start.requires.1)
 
-class_for_requires : tie.Need-class-for-requires invariant_loop decreases_loop
-class_for_requires c κs = rw c.before.before.before.before.permission-of.ensures (mod-lt _ row_bits_pos)
+class_for_requires : tie.Need-class_for-c-requires invariant_loop decreases_loop
+class_for_requires c κs = rw c.permission_of-permission.ensures (mod-lt _ row_bits_pos)
 
 -- from the class found back to the turn of the loop, and to the start
-abbrev turn : tie.After-class-for invariant_loop decreases_loop → tie.In-loop invariant_loop decreases_loop
+abbrev turn : tie.After-class_for-c invariant_loop decreases_loop → tie.In-loop-d invariant_loop decreases_loop
 turn c = c.before.before.before.before.before.before.before.before
 
-abbrev start : tie.After-class-for invariant_loop decreases_loop → tie.Start invariant_loop decreases_loop
+abbrev start : tie.After-class_for-c invariant_loop decreases_loop → tie.Start invariant_loop decreases_loop
 start c = (turn c).before.before.before.before
 
 -- the class of the next grant has its place
-inside : (c : tie.In-loop invariant_loop decreases_loop) → c.before.loop.d < length c.before.loop.classes
-inside c = omega (arith, c.before.loop.invariant.1)
+inside : (c : tie.In-loop-d invariant_loop decreases_loop) → c.loop-d.d < length c.loop-d.classes
+inside c = omega (arith, c.loop-d.invariant.1)
 
 -- as many classes as there is room for
-few : (c : tie.After-class-for invariant_loop decreases_loop) → (start c).args.most ≤ row_bits
+few : (c : tie.After-class_for-c invariant_loop decreases_loop) → (start c).args.most ≤ row_bits
 few c = (start c).requires.1
 
 -- what is known of the first grants, with the user of the next
-fitted : (c : tie.After-class-for invariant_loop decreases_loop) →
+fitted : (c : tie.After-class_for-c invariant_loop decreases_loop) →
     let a = (start c).args in
-    let l = (turn c).before.loop in
+    let l = (turn c).loop-d in
     HeldCells a.rows.now a.cells.now
     → FitSoFar a.rows.now a.cells.now l.classes l.d l.count l.asked l.lacked
     (user_at_cell a.cells.now l.d)
-    c.before.before.before.allowed-next.result a.most
+    c.allowed_next-allowed.result a.most
 fitted c held =
     let at_user_of = c.before.before.before.before.before.before in
-    let user = at_user_of.user-of.ensures in
-    next_user (rw user at c.before.before.before.allowed-next.ensures) ((turn c).before.loop.invariant.4 held)
+    let user = at_user_of.user_of-user.ensures in
+    next_user (rw user at c.allowed_next-allowed.ensures) ((turn c).loop-d.invariant.4 held)
 
 -- the class found is the lowest free one for its permission
-found : (c : tie.After-class-for invariant_loop decreases_loop) →
+found : (c : tie.After-class_for-c invariant_loop decreases_loop) →
     let a = (start c).args in
-    let l = (turn c).before.loop in
-    NextFrom (free c.before.before.before.allowed-next.result l.lacked
-    (permission_at_cell a.cells.now l.d)) 0 row_bits c.class-for.result
-found c = rw c.before.before.before.before.before.permission-of.ensures at c.class-for.ensures
+    let l = (turn c).loop-d in
+    NextFrom (free c.allowed_next-allowed.result l.lacked
+    (permission_at_cell a.cells.now l.d)) 0 row_bits c.class_for-c.result
+found c = rw c.permission_of-permission.ensures at c.class_for-c.ensures
 
-add_used : tie.Need-overflow-add-used invariant_loop decreases_loop
+add_used : tie.Need-overflow_add-used invariant_loop decreases_loop
 unfolding row_bits row_words
-add_used c = omega (arith, c.before.class-for.ensures.not_past)
+add_used c = omega (arith, c.class_for-c.ensures.not_past)
 
-returns : tie.Need-returns invariant_loop decreases_loop
+returns : tie.Need-returns-then-c-most invariant_loop decreases_loop
 returns c =
     let found_class = c.before in
     let n = length (start found_class).args.cells.now in (
@@ -110,57 +110,57 @@ returns c =
         more_classes (few found_class) (fitted found_class held) (found found_class) n
             (omega arith) (omega arith),
       ),
-      later_blank (omega arith) (turn found_class).before.loop.invariant.5,
+      later_blank (omega arith) (turn found_class).loop-d.invariant.5,
     )
 
 -- the class found has its place
-small : (c : tie.Else1 invariant_loop decreases_loop) → c.before.class-for.result < row_bits
+small : (c : tie.Else-c-most invariant_loop decreases_loop) → c.class_for-c.result < row_bits
 small c = omega (arith, few c.before)
 
-add_asked_requires : tie.Need-add-asked-requires invariant_loop decreases_loop
+add_asked_requires : tie.Need-add_asked-requires invariant_loop decreases_loop
 add_asked_requires c κs =
     let found_class = c.before.before in (
       (
         small c.before,
-        rw found_class.before.before.before.before.before.permission-of.ensures
+        rw found_class.permission_of-permission.ensures
             (mod-lt _ row_bits_pos),
       ),
-      (turn found_class).before.loop.invariant.2,
+      (turn found_class).loop-d.invariant.2,
     )
 
-add_lacked_requires : tie.Need-add-lacked-requires invariant_loop decreases_loop
+add_lacked_requires : tie.Need-add_lacked-requires invariant_loop decreases_loop
 add_lacked_requires c κs =
     let found_class = c.before.before.before.before in (
       (
         small c.before.before.before,
         user_below found_class.before.before.before.before.before.before,
       ),
-      (turn found_class).before.loop.invariant.3,
+      (turn found_class).loop-d.invariant.3,
     )
 
-loop_again : tie.Need-loop-preserved invariant_loop decreases_loop
+loop_again : tie.Need-loop-d-preserved invariant_loop decreases_loop
 loop_again c =
     let found_class = c.before.before.before.before.before.before in
-    let l = (turn found_class).before.loop in
+    let l = (turn found_class).loop-d in
     let room = inside (turn found_class) in
-    let user = found_class.before.before.before.before.before.before.user-of.ensures in
-    let permission = found_class.before.before.before.before.before.permission-of.ensures in (
+    let user = found_class.user_of-user.ensures in
+    let permission = found_class.permission_of-permission.ensures in (
       omega arith,
-      length-set l.classes l.d _ ∙ l.inv.1,
-      c.before.before.before.add-asked.ensures.size ∙ l.inv.2,
-      c.before.add-lacked.ensures.size ∙ l.inv.3,
-      λ held. rw (c.counted.ensures, user)
+      length-set l.classes l.d _ ∙ l.invariant.1,
+      c.add_asked.ensures.size ∙ l.invariant.2,
+      c.add_lacked.ensures.size ∙ l.invariant.3,
+      λ held. rw (c.counted-count.ensures, user)
           (one_fitted (few found_class) (fitted found_class held) (found found_class)
-          (omega (arith, c.before.before.before.before.before.if1.false))
-          held _ _ (omega arith) room (rw permission at c.before.before.before.add-asked.ensures)
-          (rw user at c.before.add-lacked.ensures)),
-      set_blank _ l.inv.5,
+          (omega (arith, c.if-c-most.false))
+          held _ _ (omega arith) room (rw permission at c.add_asked.ensures)
+          (rw user at c.add_lacked.ensures)),
+      set_blank _ l.invariant.5,
     )
 
-returns_2 : tie.Need-returns-2 invariant_loop decreases_loop
+returns_2 : tie.Need-returns invariant_loop decreases_loop
 returns_2 c =
-    let e : c.before.loop.d ≡ length c.before.before.before.before.args.cells.now = omega arith in
-    (λ held. inl (rw e at (c.before.loop.invariant.4 held).placed), rw e at c.before.loop.invariant.5)
+    let e : c.loop-d.d ≡ length c.args.cells.now = omega arith in
+    (λ held. inl (rw e at (c.loop-d.invariant.4 held).placed), rw e at c.loop-d.invariant.5)
 
 pub grouped_by_fit_spec : {M : Type 1} → statement M
 unfolding row_bits row_words grant_limit

@@ -14,58 +14,58 @@ use Rattle.cover.specs.CoverKeys.{Keyed, none_keyed, keyed_count_below, class_fr
 use Rattle.cover.proofs.cover.grouped_by_permission.Statement.{statement}
 use Rattle.cover.proofs.cover.grouped_by_permission.Tie as tie
 
-abbrev invariant_loop : tie.invariant-loop
+abbrev invariant_loop : tie.invariant-loop-d
 invariant_loop cells table₀ classes₀ count₀ d₀ table classes count d =
     (d ≤ length cells) × Keyed (permission_at_cell cells) d row_bits row_bits table classes count
 
-abbrev decreases_loop : tie.decreases-loop
+abbrev decreases_loop : tie.decreases-loop-d
 decreases_loop cells table₀ classes₀ count₀ d₀ table classes count d = length cells - d
 
-loop_holds : tie.Need-loop-init invariant_loop decreases_loop
+loop_holds : tie.Need-loop-d-init invariant_loop decreases_loop
 unfolding grant_limit row_bits row_words
 loop_holds c =
-    (omega arith, none_keyed (permission_at_cell c.before.args.cells.now) grant_limit row_bits row_bits refl)
+    (omega arith, none_keyed (permission_at_cell c.args.cells.now) grant_limit row_bits row_bits refl)
 
 -- a cell of 16 bits is a number
-cast_at : tie.Need-overflow-cast-at invariant_loop decreases_loop
-cast_at c = omega (arith, c.shared-slice-known2.given c.before.before.loop.d)
+cast_at : tie.Need-overflow_cast-at invariant_loop decreases_loop
+cast_at c = omega (arith, c.shared_slice_known-in-loop-d-1.given c.loop-d.d)
 
 -- the permission has its place in the table
-below : (c : tie.After-permission-of invariant_loop decreases_loop) → c.permission-of.result.0 < row_bits
-below c = rw c.permission-of.ensures (mod-lt _ row_bits_pos)
+below : (c : tie.After-permission_of-permission invariant_loop decreases_loop) → c.permission_of-permission.result.0 < row_bits
+below c = rw c.permission_of-permission.ensures (mod-lt _ row_bits_pos)
 
 -- there are no more classes than permissions
-few : (c : tie.In-loop invariant_loop decreases_loop) → c.before.loop.count ≤ row_bits
-few c = keyed_count_below c.before.loop.invariant.1 (λ i l. mod-lt _ row_bits_pos)
+few : (c : tie.In-loop-d invariant_loop decreases_loop) → c.loop-d.count ≤ row_bits
+few c = keyed_count_below c.loop-d.invariant.1 (λ i l. mod-lt _ row_bits_pos)
 
-class_of_permission_requires : tie.Need-class-of-permission-requires invariant_loop decreases_loop
+class_of_permission_requires : tie.Need-class_of_permission-c-requires invariant_loop decreases_loop
 unfolding row_bits row_words
 class_of_permission_requires c κs = (omega (arith, few c.before.before.before), below c.before)
 
-array_write_table : tie.Need-array-write-table invariant_loop decreases_loop
+array_write_table : tie.Need-bounds-table-p invariant_loop decreases_loop
 unfolding row_bits row_words
 array_write_table c = omega (arith, below c.before.before)
 
-loop_again : tie.Need-loop-preserved invariant_loop decreases_loop
+loop_again : tie.Need-loop-d-preserved invariant_loop decreases_loop
 loop_again c =
     let in_loop = c.before.before.before.before.before in
-    let key = c.before.before.before.permission-of.ensures in
-    let keyed = in_loop.before.loop.invariant.1 in
-    let room : in_loop.before.loop.d < grant_limit = omega arith in
+    let key = c.permission_of-permission.ensures in
+    let keyed = in_loop.loop-d.invariant.1 in
+    let room : in_loop.loop-d.d < grant_limit = omega arith in
     let inside = rw key at (below c.before.before.before) in
-    let next = rw key at c.before.class-of-permission.ensures ∙ class_from_is_next keyed room
+    let next = rw key at c.class_of_permission-c.ensures ∙ class_from_is_next keyed room
     inside (few in_loop) in (
       omega arith,
-      rw (c.counted.ensures, key) (one_keyed keyed room inside (few in_loop)
-          c.before.class-of-permission.result next),
+      rw (c.counted-count.ensures, key) (one_keyed keyed room inside (few in_loop)
+          c.class_of_permission-c.result next),
     )
 
 returns : tie.Need-returns invariant_loop decreases_loop
 returns c =
-    let e : c.before.loop.d ≡ length c.before.before.before.args.cells.now = omega arith in (
-      keyed_count_below c.before.loop.invariant.1 (λ i l. mod-lt _ row_bits_pos),
-      rw e at c.before.loop.invariant.1.placed,
-      rw e at c.before.loop.invariant.1.past,
+    let e : c.loop-d.d ≡ length c.args.cells.now = omega arith in (
+      keyed_count_below c.loop-d.invariant.1 (λ i l. mod-lt _ row_bits_pos),
+      rw e at c.loop-d.invariant.1.placed,
+      rw e at c.loop-d.invariant.1.past,
     )
 
 pub grouped_by_permission_spec : {M : Type 1} → statement M

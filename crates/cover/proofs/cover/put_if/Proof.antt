@@ -8,15 +8,15 @@ use Rattle.cell_rows.specs.Laws.PositionSet.{cell_added}
 use Rattle.cover.proofs.cover.put_if.Statement.{statement}
 use Rattle.cover.proofs.cover.put_if.Tie as tie
 
-returns : tie.Need-returns
+returns : tie.Need-returns-then-yes
 returns c =
     let start = c.before.before.before in
     let first_row : 0 * row_bits + start.args.c ≡ start.args.c = omega arith in
-    rw c.before.before.if1.true
+    rw c.if-yes.true
     (cell_added _ _ 0 start.args.c start.requires.0 (rw first_row c.mark.ensures))
 
-returns_2 : tie.Need-returns-2
-returns_2 c = rw c.if1.false (cell_kept _ 0 _)
+returns_2 : tie.Need-returns-else-yes
+returns_2 c = rw c.if-yes.false (cell_kept _ 0 _)
 
 pub put_if_spec : {M : Type 1} → statement M
 unfolding row_bits row_words

@@ -5,8 +5,8 @@ use lib.ListN.{get_or-eq_default}
 use Rattle.cover.proofs.cover.word_at.Statement.{statement}
 use Rattle.cover.proofs.cover.word_at.Tie as tie
 
-returns_2 : tie.Need-returns-2
-returns_2 c = sym (get_or-eq_default c.before.args.rows.now 0 c.if1.false)
+returns_2 : tie.Need-returns-else-i-rows
+returns_2 c = sym (get_or-eq_default c.args.rows.now 0 c.if-i-rows.false)
 
 pub word_at_spec : {M : Type 1} → statement M
 word_at_spec =
