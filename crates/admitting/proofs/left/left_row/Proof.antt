@@ -11,35 +11,35 @@ use Rattle.admitting.specs.Laws.Left.{left_word}
 use Rattle.admitting.proofs.left.left_row.Statement.{statement}
 use Rattle.admitting.proofs.left.left_row.Tie as tie
 
-abbrev invariant_loop : tie.invariant-loop
+abbrev invariant_loop : tie.invariant-loop-k
 invariant_loop rows user taken left₀ k₀ left k =
     (k ≤ row_words) × (length left ≡ row_words) × MadeWords (not_taken rows user.0 taken) k left
 
-abbrev decreases_loop : tie.decreases-loop
+abbrev decreases_loop : tie.decreases-loop-k
 decreases_loop rows user taken left₀ k₀ left k = row_words - k
 
-loop_holds : tie.Need-loop-init invariant_loop decreases_loop
+loop_holds : tie.Need-loop-k-init invariant_loop decreases_loop
 unfolding row_words
 loop_holds c = (omega arith, refl, none_made _ row_words)
 
-loop_again : tie.Need-loop-preserved invariant_loop decreases_loop
+loop_again : tie.Need-loop-k-preserved invariant_loop decreases_loop
 unfolding row_words
 loop_again c =
     let at_loop = c.before.before.before.before.before in
-    let a = at_loop.before.args in
-    let inv = at_loop.loop.invariant in (
+    let a = at_loop.args in
+    let inv = at_loop.loop-k.invariant in (
       omega arith,
-      length-set at_loop.loop.left at_loop.loop.k c.apart.result ∙ inv.1,
-      one_made _ at_loop.loop.k at_loop.loop.left c.apart.result inv.2 (rw inv.1 (omega arith))
-          (left_word a.rows.now a.user.0 a.taken.now at_loop.loop.k c.apart.result
+      length-set at_loop.loop-k.left at_loop.loop-k.k c.apart.result ∙ inv.1,
+      one_made _ at_loop.loop-k.k at_loop.loop-k.left c.apart.result inv.2 (rw inv.1 (omega arith))
+          (left_word a.rows.now a.user.0 a.taken.now at_loop.loop-k.k c.apart.result
           c.apart.ensures.1),
     )
 
 returns : tie.Need-returns invariant_loop decreases_loop
 unfolding row_words row_bits
 returns c =
-    let all : c.before.loop.k ≡ row_words = omega arith in
-    all_made _ row_words _ (rw all at c.before.loop.invariant.2)
+    let all : c.loop-k.k ≡ row_words = omega arith in
+    all_made _ row_words _ (rw all at c.loop-k.invariant.2)
 
 pub left_row_spec : {M : Type 1} → statement M
 unfolding user_limit row_words
