@@ -13,47 +13,47 @@ use Rattle.roles.specs.Laws.CellClass.{kernel_grant_written}
 use Rattle.roles.proofs.classes.place_kernel.Statement.{statement}
 use Rattle.roles.proofs.classes.place_kernel.Tie as tie
 
-abbrev invariant_loop : tie.invariant-loop
+abbrev invariant_loop : tie.invariant-loop-i
 invariant_loop class₀ kernel placed i₀ class i = (i ≤ length kernel) × ClassAt class (paired_in kernel placed i)
 
-abbrev decreases_loop : tie.decreases-loop
+abbrev decreases_loop : tie.decreases-loop-i
 decreases_loop class₀ kernel placed i₀ class i = length kernel - i
 
 -- the next grant of the kernel is a cell
-cell_below : (c : tie.In-loop invariant_loop decreases_loop)
-    → get_or c.before.before.before.before.args.kernel.now c.before.loop.i 0 < cell_limit
-cell_below c = c.before.before.before.before.requires.1.below c.before.loop.i c.loop-test.true
+cell_below : (c : tie.In-loop-i invariant_loop decreases_loop)
+    → get_or c.args.kernel.now c.loop-i.i 0 < cell_limit
+cell_below c = c.requires.1.below c.loop-i.i c.loop-i-test.true
 
-loop_holds : tie.Need-loop-init invariant_loop decreases_loop
-loop_holds c = (omega arith, c.before.before.requires.2)
+loop_holds : tie.Need-loop-i-init invariant_loop decreases_loop
+loop_holds c = (omega arith, c.requires.2)
 
-cast_cell : tie.Need-overflow-cast-cell invariant_loop decreases_loop
+cast_cell : tie.Need-overflow_cast-cell invariant_loop decreases_loop
 unfolding user_limit row_words
 cast_cell c = omega (arith, cell_below c.before)
 
-mul_class : tie.Need-overflow-mul-class invariant_loop decreases_loop
+mul_class : tie.Need-offset_bounds-class-cell invariant_loop decreases_loop
 unfolding user_limit row_words
 mul_class c = omega (arith, cell_below c.before.before.before)
 
-element_write_class : tie.Need-element-write-class invariant_loop decreases_loop
+element_write_class : tie.Need-bounds-class-cell invariant_loop decreases_loop
 unfolding user_limit row_words
-element_write_class c = omega (arith, cell_below c.before.before.before)
+element_write_class c = omega (arith, cell_below c.before.before.before.before)
 
-loop_again : tie.Need-loop-preserved invariant_loop decreases_loop
+loop_again : tie.Need-loop-i-preserved invariant_loop decreases_loop
 loop_again c =
     let in_loop = c.before.before.before in
-    let a = in_loop.before.before.before.before.args in
-    let loop = in_loop.before.loop in (
+    let a = in_loop.args in
+    let loop = in_loop.loop-i in (
       omega arith,
-      rw c.wide.ensures (kernel_grant_written a.kernel.now a.placed.now loop.i (cell_below in_loop)
+      rw c.wide.ensures (kernel_grant_written a.kernel.now a.placed.now loop.i (cell_below in_loop.before)
           loop.invariant.1),
     )
 
 returns : tie.Need-returns invariant_loop decreases_loop
 returns c =
     let start = c.before.before.before.before in
-    let e : c.before.loop.i ≡ length start.args.kernel.now = omega arith in
-    rw e at c.before.loop.invariant.1
+    let e : c.loop-i.i ≡ length start.args.kernel.now = omega arith in
+    rw e at c.loop-i.invariant.1
 
 pub place_kernel_spec : {M : Type 1} → statement M
 place_kernel_spec =

@@ -11,10 +11,10 @@ use Rattle.roles.specs.Laws.RolesInput.{roles_only}
 use Rattle.roles.proofs.matrices.roles_of.Statement.{statement}
 use Rattle.roles.proofs.matrices.roles_of.Tie as tie
 
-all_classes_requires : tie.Need-all-classes-requires
+all_classes_requires : tie.Need-all_classes-requires
 unfolding user_limit row_words
 all_classes_requires c κs =
-    let b = c.before.before.before.before.before.requires.belongs in (
+    let b = c.requires.belongs in (
       (b.each_placed, kernel_below b, no_classes cell_limit refl),
       (
         (b.placement_held.in_use ∙ ap used (sym b.placement_held.so_far), b.few_classes),
@@ -22,17 +22,17 @@ all_classes_requires c κs =
       ),
     )
 
-role_rows_requires : tie.Need-role-rows-requires
+role_rows_requires : tie.Need-role_rows-requires
 role_rows_requires c κs =
     let classes = c.before in
-    let b = classes.before.before.before.before.before.before.requires.belongs in
-    (b.few_users, classed_rows b classes.all-classes.ensures)
+    let b = classes.requires.belongs in
+    (b.few_users, classed_rows b classes.all_classes.ensures)
 
 returns : tie.Need-returns
 returns c =
     let classes = c.before.before in
-    let given = classes.before.before.before.before.before.before.requires.belongs in
-    let at = classes.all-classes.ensures in (
+    let given = classes.requires.belongs in
+    let at = classes.all_classes.ensures in (
       λ sheet placement b. roles_shown b at c.role_rows.ensures,
       roles_only given at c.role_rows.ensures,
     )

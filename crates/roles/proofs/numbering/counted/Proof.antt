@@ -5,9 +5,9 @@ use Rattle.cell_rows.specs.Rows.{row_words, row_bits}
 use Rattle.roles.proofs.numbering.counted.Statement.{statement}
 use Rattle.roles.proofs.numbering.counted.Tie as tie
 
-add_next : tie.Need-overflow-add-next
+add_next : tie.Need-overflow_add-next
 unfolding row_bits row_words
-add_next c = omega (arith, c.before.requires)
+add_next c = omega (arith, c.requires)
 
 pub counted_spec : {M : Type 1} → statement M
 counted_spec =

@@ -11,19 +11,19 @@ use Rattle.roles.specs.RoleNumbers.{no_role}
 use Rattle.roles.proofs.numbering.role_for.Statement.{statement}
 use Rattle.roles.proofs.numbering.role_for.Tie as tie
 
-returns : tie.Need-returns
+returns : tie.Need-returns-then-known-ne-NO_ROLE
 unfolding grant_limit
 returns c =
-    let a = c.before.before.before.args in (
-      rw (c.role.ensures, ne_eqb (get_or a.table.now a.class 0) no_role c.before.if1.true),
+    let a = c.args in (
+      rw (c.role.ensures, ne_eqb (get_or a.table.now a.class 0) no_role c.if-known-ne-NO_ROLE.true),
       rw c.role.ensures (sym (set-get_or a.table.now a.class 0)),
     )
 
-returns_2 : tie.Need-returns-2
+returns_2 : tie.Need-returns
 unfolding grant_limit
 returns_2 c =
-    let a = c.before.before.args in
-    (rw (eq-eqb (get_or a.table.now a.class 0) no_role c.if1.false), refl)
+    let a = c.args in
+    (rw (eq-eqb (get_or a.table.now a.class 0) no_role c.if-known-ne-NO_ROLE.false), refl)
 
 pub role_for_spec : {M : Type 1} → statement M
 unfolding grant_limit

@@ -15,9 +15,9 @@ returns c =
     let has_marked = c.before.before in
     let found = has_marked.before.before in
     let start = found.before.before in (
-      cell_added _ _ _ _ start.requires.3 (rw found.before.user-of.ensures at has_marked.mark.ensures),
+      cell_added _ _ _ _ start.requires.3 (rw found.user_of-user.ensures at has_marked.mark.ensures),
       cell_added _ _ _ _ (permission_below start.args.cell.0)
-          (rw found.permission-of.ensures at c.mark2.ensures),
+          (rw found.permission_of-permission.ensures at c.mark-2.ensures),
     )
 
 pub put_in_role_spec : {M : Type 1} → statement M

@@ -13,91 +13,78 @@ use Rattle.roles.specs.Laws.RoleWalk.{cell_below, few_here, role_here}
 use Rattle.roles.proofs.rows.word_roles.Statement.{statement}
 use Rattle.roles.proofs.rows.word_roles.Tie as tie
 
-abbrev invariant_loop : tie.invariant-loop
+abbrev invariant_loop : tie.invariant-loop-left
 invariant_loop table₀ has₀ gives₀ count rows class i known₀ left₀ table has gives known left =
     WordTo rows class i left table has gives known
 
-abbrev decreases_loop : tie.decreases-loop
+abbrev decreases_loop : tie.decreases-loop-left
 decreases_loop table₀ has₀ gives₀ count rows class i known₀ left₀ table has gives known left = left
 
--- where it began
-abbrev start : tie.At-loop invariant_loop decreases_loop → tie.Start invariant_loop decreases_loop
-start c = c.before.before
-
-loop_holds : tie.Need-loop-init invariant_loop decreases_loop
-loop_holds c = word_starts c.before.requires.1
+loop_holds : tie.Need-loop-left-init invariant_loop decreases_loop
+loop_holds c = word_starts c.requires.1
 
 -- the next grant is a cell, its class stands in the table, and there are few roles so far
-below : (c : tie.After-lowest invariant_loop decreases_loop) → (start c.before.before).args.i * word_bits + c.lowest.result
+below : (c : tie.After-lowest invariant_loop decreases_loop) → c.args.i * word_bits + c.lowest.result
     < cell_limit
 below c =
-    let pre = (start c.before.before).pre.0 in
-    cell_below c.before.before.loop.invariant c.lowest.ensures pre.0 pre.1
+    let pre = c.requires.0 in
+    cell_below c.loop-left.invariant c.lowest.ensures pre.0 pre.1
 
 class_below : (c : tie.After-lowest invariant_loop decreases_loop)
-    → get_or (start c.before.before).args.class.now ((start c.before.before).args.i * word_bits
+    → get_or c.args.class.now (c.args.i * word_bits
     + c.lowest.result) 0 < class_limit
-class_below c = (start c.before.before).pre.0.1.in_table _ (below c)
+class_below c = c.requires.0.1.in_table _ (below c)
 
-add_cell : tie.Need-overflow-add-cell invariant_loop decreases_loop
+add_cell : tie.Need-overflow_add-cell invariant_loop decreases_loop
 unfolding user_limit row_words
 add_cell c = omega (arith, below c)
 
-mul_of_class : tie.Need-overflow-mul-of-class invariant_loop decreases_loop
+mul_of_class : tie.Need-offset_bounds-class-cell invariant_loop decreases_loop
 unfolding user_limit row_words
 mul_of_class c = omega (arith, below c)
 
-element_copy_out_of_class : tie.Need-element-copy-out-of-class invariant_loop decreases_loop
+element_copy_out_of_class : tie.Need-bounds-class-cell invariant_loop decreases_loop
 unfolding user_limit row_words
-element_copy_out_of_class c = omega (arith, below c)
+element_copy_out_of_class c = omega (arith, below c.before)
 
-cast_of_class : tie.Need-overflow-cast-of-class invariant_loop decreases_loop
+cast_of_class : tie.Need-overflow_cast-of_class invariant_loop decreases_loop
 unfolding grant_limit
-cast_of_class c = omega (arith, class_below c.before)
+cast_of_class c = omega (arith, class_below c.before.before)
 
-role_for_requires : tie.Need-role-for-requires invariant_loop decreases_loop
+role_for_requires : tie.Need-role_for-role-requires invariant_loop decreases_loop
 role_for_requires c κs =
-    let found = c.before.before in
-    let at_loop = found.before.before in
-    let pre = (start at_loop).requires.0 in
-    (few_here at_loop.loop.invariant found.lowest.ensures pre.0 pre.1, class_below found)
+    let pre = c.requires.0 in
+    (few_here c.loop-left.invariant c.lowest.ensures pre.0 pre.1, class_below c.before.before.before)
 
 -- the role is a column of a row
-column : (c : tie.After-role-for invariant_loop decreases_loop) → c.role-for.result.0 < row_bits
+column : (c : tie.After-role_for-role invariant_loop decreases_loop) → c.role_for-role.result.0 < row_bits
 column c =
-    let found = c.before.before.before in
-    let at_loop = found.before.before in
-    let pre = (start at_loop).requires.0 in
-    role_here at_loop.loop.invariant found.lowest.ensures pre.0 pre.1 c.role-for.ensures.0
+    let pre = c.requires.0 in
+    role_here c.loop-left.invariant c.lowest.ensures pre.0 pre.1 c.role_for-role.ensures.0
 
-put_in_role_requires : tie.Need-put-in-role-requires invariant_loop decreases_loop
+put_in_role_requires : tie.Need-put_in_role-requires invariant_loop decreases_loop
 put_in_role_requires c κs =
     let numbered = c.before.before in
-    let found = numbered.before.before.before in
-    let so_far = found.before.before.loop.invariant.so_far in
-    (so_far.has_wide, so_far.gives_wide, below found, column numbered)
+    let so_far = c.loop-left.invariant.so_far in
+    (so_far.has_wide, so_far.gives_wide, below numbered.before.before.before.before, column numbered)
 
-counted_requires : tie.Need-counted-requires invariant_loop decreases_loop
+counted_requires : tie.Need-counted-known-requires invariant_loop decreases_loop
 counted_requires c κs = column c.before.before.before
 
-loop_again : tie.Need-loop-preserved invariant_loop decreases_loop
+loop_again : tie.Need-loop-left-preserved invariant_loop decreases_loop
 loop_again c =
-    let given = c.before.before in
-    let numbered = given.before.before.before in
-    let found = numbered.before.before.before in
-    let at_loop = found.before.before in
-    let pre = (start at_loop).requires.0 in
-    rw (numbered.role-for.ensures.1, c.before.counted.ensures)
-    (word_next at_loop.loop.invariant found.lowest.ensures pre.0 pre.1 numbered.role-for.ensures.0
-    c.without-lowest.ensures given.put-in-role.ensures.0 given.put-in-role.ensures.1)
+    let pre = c.requires.0 in
+    rw (c.role_for-role.ensures.1, c.counted-known.ensures)
+    (word_next c.loop-left.invariant c.lowest.ensures pre.0 pre.1 c.role_for-role.ensures.0
+    c.without_lowest-left.ensures c.put_in_role.ensures.0 c.put_in_role.ensures.1)
 
 returns : tie.Need-returns invariant_loop decreases_loop
-returns c = word_ends c.before.loop.invariant c.loop-test.false
+returns c = word_ends c.loop-left.invariant c.loop-left-test.false
 
 pub word_roles_spec : {M : Type 1} → statement M
 unfolding user_limit row_words
 word_roles_spec =
     tie.close (tie.spec invariant_loop decreases_loop (λ c. omega arith) (λ c. omega arith) loop_holds (λ c. omega arith)
     (λ c κs. omega arith) add_cell mul_of_class element_copy_out_of_class cast_of_class role_for_requires
-    put_in_role_requires counted_requires (λ c κs. omega arith) (λ c. c.without-lowest.ensures.less) loop_again
+    put_in_role_requires counted_requires (λ c κs. omega arith) (λ c. c.without_lowest-left.ensures.less) loop_again
     returns)
