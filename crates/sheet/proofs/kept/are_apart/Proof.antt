@@ -5,12 +5,12 @@ use mathlib.Core.Bool.{not}
 use Rattle.sheet.proofs.kept.are_apart.Statement.{statement}
 use Rattle.sheet.proofs.kept.are_apart.Tie as tie
 
-returns : tie.Need-returns
-returns c = rw (sym c.before.repeated-in.ensures ∙ c.if1.true)
+returns : tie.Need-returns-then-repeated_in
+returns c = rw (sym c.repeated_in.ensures ∙ c.if-repeated_in.true)
 
-returns_2 : tie.Need-returns-2
+returns_2 : tie.Need-returns
 returns_2 c =
-    rw (sym c.before.before.repeated-in.ensures ∙ c.before.if1.false) (ap not c.repeated-in2.ensures)
+    rw (sym c.repeated_in.ensures ∙ c.if-repeated_in.false) (ap not c.repeated_in-2.ensures)
 
 pub are_apart_spec : {M : Type 1} → statement M
 are_apart_spec =

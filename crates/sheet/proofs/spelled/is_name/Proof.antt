@@ -4,11 +4,11 @@ use mathlib.Core.Path.{sym, ◌∙◌}
 use Rattle.sheet.proofs.spelled.is_name.Statement.{statement}
 use Rattle.sheet.proofs.spelled.is_name.Tie as tie
 
-returns : tie.Need-returns
-returns c = rw (sym c.before.before.name-length.ensures ∙ c.before.if1.true) c.all_of.ensures
+returns : tie.Need-returns-then-name_length
+returns c = rw (sym c.name_length.ensures ∙ c.if-name_length.true) c.all_of.ensures
 
-returns_2 : tie.Need-returns-2
-returns_2 c = rw (sym c.before.name-length.ensures ∙ c.if1.false)
+returns_2 : tie.Need-returns-else-name_length
+returns_2 c = rw (sym c.name_length.ensures ∙ c.if-name_length.false)
 
 pub is_name_spec : {M : Type 1} → statement M
 is_name_spec =

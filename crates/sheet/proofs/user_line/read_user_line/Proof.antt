@@ -21,18 +21,18 @@ use Rattle.sheet.specs.declared.spelled.NameRead.TheVariants.{Name}
 use Rattle.sheet.proofs.user_line.read_user_line.Statement.{statement}
 use Rattle.sheet.proofs.user_line.read_user_line.Tie as tie
 
-abbrev start : tie.After-known-told → tie.Start
-start c = c.before.before.before.before.before.before
+abbrev start : tie.In-Name → tie.Start
+start c = c.before.before.before.before
 
-abbrev end : tie.After-known-told → ℕ
-end c = c.before.to.given.0.0
+abbrev end : tie.In-Name → ℕ
+end c = c.in-Name.to
 
 -- past the first test a name is read
-named : (c : tie.After-known-told) → Name (end c) ≡ name_read (start c).args.s.now (start c).args.at
-named c = sym c.before.to.given.1 ∙ c.before.before.before.read_name.ensures
+named : (c : tie.In-Name) → Name (end c) ≡ name_read (start c).args.s.now (start c).args.at
+named c = sym c.in-Name.is ∙ c.read_name.ensures
 
 -- which ends where that of any such line does
-ends : (c : tie.After-known-told) (name : Bytes) (ones : ℕ → Bool) (rest : Bytes)
+ends : (c : tie.In-Name) (name : Bytes) (ones : ℕ → Bool) (rest : Bytes)
     → Spells (start c).args.s.now (start c).args.at (start c).args.width name ones rest
     → end c ≡ (start c).args.at + length name
 ends c name ones rest line =
@@ -42,64 +42,64 @@ ends c name ones rest line =
     cc
 
 -- past the second the cells stand behind it
-abbrev reading : tie.After-known-told2 → tie.After-read-cells
-reading c = c.before.before.before.before.before
+abbrev reading : tie.In-On → tie.After-read_cells
+reading c = c.before.before.before
 
-abbrev told : tie.After-known-told2 → tie.After-known-told
+abbrev told : tie.In-On → tie.In-Name
 told c = (reading c).before.before
 
 -- what reading the cells says of an answer
-abbrev CellsOf : tie.After-read-cells → Step → Type 0
+abbrev CellsOf : tie.After-read_cells → Step → Type 0
 CellsOf c r =
     let named = c.before.before in
     let args = (start named).args in
-    CellsRead args.s.now (end named) args.row args.width args.rows.now c.read-cells.new.1.1.0 r
+    CellsRead args.s.now (end named) args.row args.width args.rows.now c.read_cells.new.rows r
 
-cells : (c : tie.After-known-told2) → CellsOf (reading c) (On c.before.end.given.0.0)
-cells c = subst (λ (r : Step). CellsOf (reading c) r) c.before.end.given.1 (reading c).read-cells.ensures
+cells : (c : tie.In-On) → CellsOf (reading c) (On c.in-On.end)
+cells c = subst (λ (r : Step). CellsOf (reading c) r) c.in-On.is (reading c).read_cells.ensures
 
-returns : tie.Need-returns
+returns : tie.Need-returns-in_default
 returns c name ones rest line =
-    let args = c.before.before.before.before.before.args in
+    let args = c.args in
     read_or_not (name_read args.s.now args.at) (args.at + length name)
-    (sym c.enum_told.given.1 ∙ c.before.before.read_name.ensures)
+    (sym c.in_default.is ∙ c.read_name.ensures)
     (line_name_found args.s.now args.at args.width name ones rest line)
 
-read_cells_requires : tie.Need-read-cells-requires
+read_cells_requires : tie.Need-read_cells-requires
 read_cells_requires c κs =
     let call = start c.before in (
-      (name_stands call.args.s.now call.args.at (end c.before) call.pre.0 (named c.before)).within,
-      call.pre.1,
-      call.pre.2,
-      call.pre.3,
+      (name_stands call.args.s.now call.args.at (end c.before) call.requires.0 (named c.before)).within,
+      call.requires.1,
+      call.requires.2,
+      call.requires.3,
     )
 
-returns_2 : tie.Need-returns-2
+returns_2 : tie.Need-returns-in_default-read_cells
 returns_2 c name ones rest line =
-    let read = c.before.before.before.before in
+    let read = c.before.before.before in
     let named = read.before.before in
     let args = (start named).args in
-    let none = subst (λ (r : Step). CellsOf read r) c.enum-told2.given.1 read.read-cells.ensures in
+    let none = subst (λ (r : Step). CellsOf read r) c.in_default-read_cells.is read.read_cells.ensures in
     cells_found args.s.now args.at args.width name ones rest line (end named)
     (ends named name ones rest line) (none.0 ones)
 
-returns_3 : tie.Need-returns-3
+returns_3 : tie.Need-returns-then-not-stands_at
 returns_3 c name ones rest line =
     let read = c.before.before in
     let args = (start (told read)).args in
     not_both
     (rw (cells_end (cells read), ends (told read) name ones rest line)
     (line_feed_found args.s.now args.at args.width name ones rest line))
-    (sym c.before.stands_at.ensures ∙ not-true _ c.if1.true)
+    (sym c.stands_at.ensures ∙ not-true _ c.if-not-stands_at.true-raw)
 
-add_t14 : tie.Need-overflow-add-t14
+add_t14 : tie.Need-overflow_add-result
 add_t14 c = omega (arith, (cells c.before.before).reads.within)
 
-returns_4 : tie.Need-returns-4
+returns_4 : tie.Need-returns
 returns_4 c =
     let read = c.before.before in
     line_stands (start (told read)).requires.0 (named (told read)) (cells read)
-    (sym c.before.stands_at.ensures ∙ not-false _ c.if1.false)
+    (sym c.stands_at.ensures ∙ not-false _ c.if-not-stands_at.false-raw)
 
 pub read_user_line_spec : {M : Type 1} → statement M
 read_user_line_spec =
