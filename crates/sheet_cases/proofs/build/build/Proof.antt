@@ -6,10 +6,10 @@ use native.Mathlib.Omega.{arith}
 use Rattle.sheet_cases.proofs.build.build.Statement.{statement}
 use Rattle.sheet_cases.proofs.build.build.Tie as tie
 
-abbrev invariant_loop : tie.invariant-loop
+abbrev invariant_loop : tie.invariant-loop-u
 invariant_loop out₀ users permissions grants longer at₀ left₀ u₀ out at left u = (length out ≡ length out₀) × (u ≤ users)
 
-abbrev decreases_loop : tie.decreases-loop
+abbrev decreases_loop : tie.decreases-loop-u
 decreases_loop out₀ users permissions grants longer at₀ left₀ u₀ out at left u = users - u
 
 pub build_spec : {M : Type 1} → statement M

@@ -6,10 +6,10 @@ use native.Mathlib.Omega.{arith}
 use Rattle.sheet_cases.proofs.build.put_head.Statement.{statement}
 use Rattle.sheet_cases.proofs.build.put_head.Tie as tie
 
-abbrev invariant_loop : tie.invariant-loop
+abbrev invariant_loop : tie.invariant-loop-p
 invariant_loop out₀ permissions at₀ p₀ out at p = (length out ≡ length out₀) × (p ≤ permissions)
 
-abbrev decreases_loop : tie.decreases-loop
+abbrev decreases_loop : tie.decreases-loop-p
 decreases_loop out₀ permissions at₀ p₀ out at p = permissions - p
 
 pub put_head_spec : {M : Type 1} → statement M

@@ -6,10 +6,10 @@ use native.Mathlib.Omega.{arith}
 use Rattle.sheet_cases.proofs.build.put_user.Statement.{statement}
 use Rattle.sheet_cases.proofs.build.put_user.Tie as tie
 
-abbrev invariant_loop : tie.invariant-loop
+abbrev invariant_loop : tie.invariant-loop-p
 invariant_loop out₀ at u permissions ones to₀ p₀ out to p = (length out ≡ length out₀) × (p ≤ permissions)
 
-abbrev decreases_loop : tie.decreases-loop
+abbrev decreases_loop : tie.decreases-loop-p
 decreases_loop out₀ at u permissions ones to₀ p₀ out to p = permissions - p
 
 pub put_user_spec : {M : Type 1} → statement M

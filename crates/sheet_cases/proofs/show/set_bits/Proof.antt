@@ -9,21 +9,21 @@ use Rattle.cell_rows.specs.CellPlaces.{cell_words}
 use Rattle.sheet_cases.proofs.show.set_bits.Statement.{statement}
 use Rattle.sheet_cases.proofs.show.set_bits.Tie as tie
 
-abbrev invariant_loop : tie.invariant-loop
+abbrev invariant_loop : tie.invariant-loop-i
 invariant_loop words total₀ i₀ total i = (i ≤ cell_words) × (total ≤ word_bits * i)
 
-abbrev decreases_loop : tie.decreases-loop
+abbrev decreases_loop : tie.decreases-loop-i
 decreases_loop words total₀ i₀ total i = cell_words - i
 
 -- a word has at most as many bits as positions
-few : (c : tie.After-count invariant_loop decreases_loop) → c.count.result ≤ word_bits
-few c = rw c.count.ensures (count_below_le word_bits (bit _))
+few : (c : tie.After-count-total invariant_loop decreases_loop) → c.count-total.result ≤ word_bits
+few c = rw c.count-total.ensures (count_below_le word_bits (bit _))
 
-add_total : tie.Need-overflow-add-total invariant_loop decreases_loop
+add_total : tie.Need-overflow_add-total invariant_loop decreases_loop
 unfolding user_limit row_words
 add_total c = omega (arith, few c)
 
-loop_again : tie.Need-loop-preserved invariant_loop decreases_loop
+loop_again : tie.Need-loop-i-preserved invariant_loop decreases_loop
 unfolding user_limit row_words
 loop_again c = omega (arith, few c)
 
