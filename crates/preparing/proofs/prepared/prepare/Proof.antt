@@ -10,75 +10,62 @@ use Rattle.preparing.specs.Laws.Preparing.{kernel_placed, reduced_to, reduced_ro
 use Rattle.preparing.proofs.prepared.prepare.Statement.{statement}
 use Rattle.preparing.proofs.prepared.prepare.Tie as tie
 
-room : (c : tie.After-listed) → length c.listed.result.cells ≡ grant_limit
+room : (c : tie.After-listed-kernel) → length c.listed-kernel.result.cells ≡ grant_limit
 unfolding grant_limit
 room c = search rules
 
-first_room : (c : tie.After-first-best) → length c.first_best.result.classes ≡ grant_limit
+first_room : (c : tie.After-first_best-first) → length c.first_best-first.result.classes ≡ grant_limit
 unfolding grant_limit
 first_room c = search rules
 
-reduce_requires : tie.Need-reduce-requires
+reduce_requires : tie.Need-reduce-reduced-requires
 reduce_requires c κs =
-    let at_columns = c.before in
-    let given = at_columns.before.requires in
-    (given, at_columns.columns_of.ensures)
+    (c.requires, c.columns_of-columns.ensures)
 
-listed_requires : tie.Need-listed-requires
+listed_requires : tie.Need-listed-kernel-requires
 listed_requires c κs =
-    let at_reduce = c.before.before in
-    let given = at_reduce.before.before.before.requires in
-    (given.few_users, kernel_roomy at_reduce.reduce.ensures given.shown given.few_grants)
+    let given = c.requires in
+    (given.few_users, kernel_roomy c.reduce-reduced.ensures given.shown given.few_grants)
 
 -- the listed cells are those of the kernel
-of_kernel : (c : tie.After-listed)
-    → let start = c.before.before.before.before.before.before in
-    KernelListed start.args.rows.now c.listed.result.cells c.listed.result.size
+of_kernel : (c : tie.After-listed-kernel)
+    → KernelListed c.args.rows.now c.listed-kernel.result.cells c.listed-kernel.result.size
 of_kernel c =
-    let at_reduce = c.before.before.before in
-    let given = at_reduce.before.before.before.requires in
-    kernel_listed at_reduce.reduce.ensures given.shown given.few_grants c.listed.ensures
+    let given = c.requires in
+    kernel_listed c.reduce-reduced.ensures given.shown given.few_grants c.listed-kernel.ensures
 
-witness_of_requires : tie.Need-witness-of-requires
+witness_of_requires : tie.Need-witness_of-witness-requires
 witness_of_requires c κs =
-    let at_singles = c.before.before.before in
-    let at_reduce = at_singles.before.before.before.before.before.before.before in
-    let given = at_reduce.before.before.before.requires in (
-      at_reduce.before.before.columns_of.ensures,
-      reduced_rows given at_reduce.reduce.ensures at_singles.single_cells.ensures,
-    )
+    (c.columns_of-columns.ensures, reduced_rows c.requires c.reduce-reduced.ensures c.single_cells-singles.ensures)
 
-first_best_requires : tie.Need-first-best-requires
+first_best_requires : tie.Need-first_best-first-requires
 first_best_requires c κs =
-    of_kernel c.before.before.before.before.before.before.before.before
+    of_kernel c.before.before.before.before.before.before
 
-fit_table_requires : tie.Need-fit-table-requires
+fit_table_requires : tie.Need-fit_table-table-requires
 fit_table_requires c κs =
-    of_kernel c.before.before.before.before.before.before.before.before.before
+    of_kernel c.before.before.before.before.before.before.before
 
 returns : tie.Need-returns
 returns c = λ sheet here few.
-    let at_witness = c.before.before in
-    let at_singles = at_witness.before.before.before.before in
-    let at_Listed = at_singles.before.before.before.before in
-    let at_reduce = at_Listed.before.before.before in
-    let users = at_reduce.before.before.before.args.users in
-    let from = at_reduce.reduce.ensures in
-    let listed = at_Listed.listed.ensures in
+    let at_listed = c.before.before.before.before.before.before.before.before in
+    let users = c.args.users in
+    let from = c.reduce-reduced.ensures in
+    let listed = c.listed-kernel.ensures in
     let cells = kernel_cells from here few listed in
     record {
       shown = here;
       reduced = from;
       listed = listed;
-      room = room at_Listed;
-      kernel_size = kernel_counted from here few listed (room at_Listed);
-      witness = at_witness.witness-of.ensures sheet here
-          (reduced_to from here few at_singles.single_cells.ensures);
-      first = kernel_placed from here few listed (room at_Listed) (c.before.first_best.ensures.0 users
+      room = room at_listed;
+      kernel_size = kernel_counted from here few listed (room at_listed);
+      witness = c.witness_of-witness.ensures sheet here
+          (reduced_to from here few c.single_cells-singles.ensures);
+      first = kernel_placed from here few listed (room at_listed) (c.first_best-first.ensures.0 users
           sheet here cells);
       first_room = first_room c.before;
-      first_past = c.before.first_best.ensures.1;
-      table = c.fit-table.ensures users sheet here cells;
+      first_past = c.first_best-first.ensures.1;
+      table = c.fit_table-table.ensures users sheet here cells;
     }
 
 pub prepare_spec : {M : Type 1} → statement M
