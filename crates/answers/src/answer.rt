@@ -118,7 +118,7 @@ impl SearchAnswer {
           number = 0;
           steps = steps;
           placed = kinds.placed;
-          taken-back = kinds.taken_back;
+          taken_back = kinds.taken_back;
           closed = kinds.closed;
           roles = counts.roles;
           bound = counts.bound;
