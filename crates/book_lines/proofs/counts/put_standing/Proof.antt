@@ -12,38 +12,32 @@ use Rattle.book_lines.proofs.counts.put_standing.Tie as tie
 abbrev text : StandingValue → Bytes
 text standing = standing_text (standing_case standing)
 
-put_bytes_requires : tie.Need-put-bytes-requires
+put_bytes_requires : tie.Need-put_bytes-requires
 put_bytes_requires c κs =
-    let start = c.before.before.before.before.before in
-    fits_as (ap text c.before.before.enum_told.given.1) start.requires
+    fits_as (ap text c.in-Witnessed.is) c.requires
 
-put_bytes_requires_2 : tie.Need-put-bytes-requires-2
+put_bytes_requires_2 : tie.Need-put_bytes-requires-in-Searched
 put_bytes_requires_2 c κs =
-    let start = c.before.before.before.before.before in
-    fits_as (ap text c.before.before.enum-told2.given.1) start.requires
+    fits_as (ap text c.in-Searched.is) c.requires
 
-put_bytes_requires_3 : tie.Need-put-bytes-requires-3
+put_bytes_requires_3 : tie.Need-put_bytes-requires-in-Open
 put_bytes_requires_3 c κs =
-    let start = c.before.before.before.before.before in
-    fits_as (ap text c.before.before.enum-told3.given.1) start.requires
+    fits_as (ap text c.in-Open.is) c.requires
 
-returns : tie.Need-returns
+returns : tie.Need-returns-in-Witnessed
 returns c =
-    let at_enum_told = c.before.before.before.before.before in
-    written_as (sym (ap text at_enum_told.enum_told.given.1)) c.before.before.put-bytes.ensures
+    written_as (sym (ap text c.in-Witnessed.is)) c.put_bytes.ensures
 
-returns_2 : tie.Need-returns-2
+returns_2 : tie.Need-returns-in-Searched
 returns_2 c =
-    let at_enum_told2 = c.before.before.before.before.before in
-    written_as (sym (ap text at_enum_told2.enum-told2.given.1)) c.before.before.put-bytes2.ensures
+    written_as (sym (ap text c.in-Searched.is)) c.put_bytes-in-Searched.ensures
 
-returns_3 : tie.Need-returns-3
+returns_3 : tie.Need-returns-in-Open
 returns_3 c =
-    let at_enum_told3 = c.before.before.before.before.before in
-    written_as (sym (ap text at_enum_told3.enum-told3.given.1)) c.before.before.put-bytes3.ensures
+    written_as (sym (ap text c.in-Open.is)) c.put_bytes-in-Open.ensures
 
 pub put_standing_spec : {M : Type 1} → statement M
 put_standing_spec =
-    tie.close (tie.spec (λ c. search rules) (λ c. search rules) put_bytes_requires (λ c. search rules)
-    (λ c. search rules) put_bytes_requires_2 (λ c. search rules) (λ c. search rules) put_bytes_requires_3
+    tie.close (tie.spec (λ c. search rules) put_bytes_requires (λ c. search rules)
+    put_bytes_requires_2 (λ c. search rules) put_bytes_requires_3
     (λ c. search rules) returns (λ c. search rules) returns_2 (λ c. search rules) returns_3)

@@ -7,24 +7,21 @@ use Rattle.book_lines.specs.Laws.FirstLine.{user_there, some_feed, permissions_t
 use Rattle.book_lines.proofs.first_line.permissions_line.Statement.{statement}
 use Rattle.book_lines.proofs.first_line.permissions_line.Tie as tie
 
-part_end_requires : tie.Need-part-end-requires
+part_end_requires : tie.Need-part_end-requires
 part_end_requires c κs = let start = c.before in user_there start.args.sheet.now start.requires
 
-returns : tie.Need-returns
+returns : tie.Need-returns-in_default
 returns c =
-    let told = c.before in
-    let start = told.before.before.before.before in
-    absurd (some_feed start.args.sheet.now start.requires (rw told.enum_told.given.1 at
-    told.before.before.part-end.ensures))
+    absurd (some_feed c.args.sheet.now c.requires (rw c.in_default.is at c.part_end.ensures))
 
 -- the call, from where the first line has been read
-abbrev call : tie.After-known-told → tie.Start
-call c = c.before.before.before.before.before
+abbrev call : tie.In-On → tie.Start
+call c = c.before.before.before
 
-feed : (c : tie.After-known-told) → Ended (call c).args.sheet.now 4 line_feed c.before.end.given.0.0
-feed c = rw c.before.end.given.1 at c.before.before.before.part-end.ensures
+feed : (c : tie.In-On) → Ended (call c).args.sheet.now 4 line_feed c.in-On.end
+feed c = rw c.in-On.is at c.part_end.ensures
 
-returns_2 : tie.Need-returns-2
+returns_2 : tie.Need-returns
 returns_2 c =
     let read = c.before in
     permissions_there (call read).args.sheet.now (call read).requires (feed read)

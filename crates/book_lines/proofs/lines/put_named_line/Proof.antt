@@ -22,22 +22,22 @@ room : (s : tie.Start) → LineRoom (name s) (fields s) s.args.out.now
 room s = record { fits = s.requires.1 }
 
 -- the line behind its name, and behind its cells
-abbrev start : tie.After-put-bytes → tie.Start
+abbrev start : tie.After-put_bytes-cells → tie.Start
 start c = c.before.before.before.before.before
 
-behind_first : (c : tie.After-put-bytes)
-    → WrittenSoFar (name (start c)) (fields (start c)) (start c).args.out.now c.put-bytes.new.0
-    c.put-bytes.result
-behind_first c = behind_name (room (start c)) c.put-bytes.ensures
+behind_first : (c : tie.After-put_bytes-cells)
+    → WrittenSoFar (name (start c)) (fields (start c)) (start c).args.out.now c.put_bytes-cells.new.out
+    c.put_bytes-cells.result
+behind_first c = behind_name (room (start c)) c.put_bytes-cells.ensures
 
-behind_second : (c : tie.After-put-cells)
+behind_second : (c : tie.After-put_cells)
     → let a = c.before.before.before.before in
     WrittenSoFar (name (start a) ++ fields (start a)) line_end (start a).args.out.now
-    (with_rest a.put-bytes.result a.put-bytes.new.0 c.put-cells.new.0)
-    (a.put-bytes.result + c.put-cells.result)
+    (with_rest a.put_bytes-cells.result a.put_bytes-cells.new.out c.put_cells.new.out)
+    (a.put_bytes-cells.result + c.put_cells.result)
 behind_second c =
     let a = c.before.before.before.before in
-    behind_fields (room (start a)) a.put-bytes.ensures c.put-cells.ensures
+    behind_fields (room (start a)) a.put_bytes-cells.ensures c.put_cells.ensures
 
 pub put_named_line_spec : {M : Type 1} → statement M
 put_named_line_spec =

@@ -21,22 +21,22 @@ room : (s : tie.Start) → LineRoom (name s) (fields s) s.args.out.now
 room s = record { fits = s.requires }
 
 -- the line behind its name, and behind its fields
-abbrev start : tie.After-put-bytes → tie.Start
+abbrev start : tie.After-put_bytes-field → tie.Start
 start c = c.before.before.before.before.before
 
-behind_first : (c : tie.After-put-bytes)
-    → WrittenSoFar (name (start c)) (fields (start c)) (start c).args.out.now c.put-bytes.new.0
-    c.put-bytes.result
-behind_first c = behind_name (room (start c)) c.put-bytes.ensures
+behind_first : (c : tie.After-put_bytes-field)
+    → WrittenSoFar (name (start c)) (fields (start c)) (start c).args.out.now c.put_bytes-field.new.out
+    c.put_bytes-field.result
+behind_first c = behind_name (room (start c)) c.put_bytes-field.ensures
 
-behind_second : (c : tie.After-put-field)
+behind_second : (c : tie.After-put_field)
     → let a = c.before.before.before.before in
     WrittenSoFar (name (start a) ++ fields (start a)) line_end (start a).args.out.now
-    (with_rest a.put-bytes.result a.put-bytes.new.0 c.put-field.new.0)
-    (a.put-bytes.result + c.put-field.result)
+    (with_rest a.put_bytes-field.result a.put_bytes-field.new.out c.put_field.new.out)
+    (a.put_bytes-field.result + c.put_field.result)
 behind_second c =
     let a = c.before.before.before.before in
-    behind_fields (room (start a)) a.put-bytes.ensures c.put-field.ensures
+    behind_fields (room (start a)) a.put_bytes-field.ensures c.put_field.ensures
 
 pub put_pair_line_spec : {M : Type 1} → statement M
 put_pair_line_spec =

@@ -8,18 +8,16 @@ use Rattle.text.specs.Written.{fits_as, written_as}
 use Rattle.book_lines.proofs.role_names.put_role_name.Statement.{statement}
 use Rattle.book_lines.proofs.role_names.put_role_name.Tie as tie
 
-put_counted_requires : tie.Need-put-counted-requires
+put_counted_requires : tie.Need-put_counted-requires
 put_counted_requires c κs =
-    let s = c.before.before.before.before in
-    fits_as (role_name_parts s.args.role.0) s.requires.1
+    fits_as (role_name_parts c.args.role.0) c.requires.1
 
 returns : tie.Need-returns
 returns c =
-    let start = c.before.before.before.before.before.before.before in
-    written_as (sym (role_name_parts start.args.role.0))
-    c.before.before.put-counted.ensures
+    written_as (sym (role_name_parts c.args.role.0))
+    c.put_counted.ensures
 
 pub put_role_name_spec : {M : Type 1} → statement M
 unfolding row_bits row_words
 put_role_name_spec =
-    tie.close (tie.spec (λ c. search rules) (λ c. omega arith) put_counted_requires (λ c. search rules) returns)
+    tie.close (tie.spec (λ c. omega arith) put_counted_requires (λ c. search rules) returns)
