@@ -54,5 +54,6 @@ returns c = listing_ends c.loop-i.invariant c.loop-i-test.false
 pub put_role_fields_spec : {M : Type 1} → statement M
 unfolding row_bits row_words
 put_role_fields_spec =
-    tie.close (tie.spec invariant_loop decreases_loop loop_holds sub_put_counted part_put_counted_start (λ c. search rules) (λ c. omega arith) put_counted_requires add_at (λ c. omega arith) (λ c. omega arith)
+    tie.close (tie.spec invariant_loop decreases_loop loop_holds sub_put_counted part_put_counted_start
+    (λ c. search rules) (λ c. omega arith) put_counted_requires add_at (λ c. omega arith) (λ c. omega arith)
     loop_again same_length returns)

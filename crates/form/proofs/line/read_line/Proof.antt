@@ -7,41 +7,41 @@ use Rattle.form.proofs.line.read_line.Statement.{statement}
 use Rattle.form.proofs.line.read_line.Tie as tie
 
 -- the call, from where the cells have been read
-abbrev call : tie.After-known-told → tie.Start
-call c = c.before.before.before.before.before.before.before.before.before
+abbrev call : tie.In-On → tie.Start
+call c = c.before.before.before.before.before.before.before
 
-returns : tie.Need-returns
+returns : tie.Need-returns-in_default
 returns c =
     let told = c.before.before.before.before in
-    let at_read_cells = told.before.before.before.before in
+    let at_read_cells = told.before.before.before in
     let start = at_read_cells.before.before.before.before in
-    let none = rw told.enum_told.given.1 at at_read_cells.read-cells.ensures in (
+    let none = rw told.in_default.is at at_read_cells.read_cells.ensures in (
       no_cells start.args.count none.0,
-      cleared_after none.1 c.before.before.clear-row.ensures,
+      cleared_after none.1 c.clear_row.ensures,
     )
 
-cells : (c : tie.After-known-told)
+cells : (c : tie.In-On)
     → let start = call c in
     RowRead start.args.book.now start.args.at start.args.row start.args.count
-    start.args.rows.now c.before.before.before.before.before.read-cells.new.1.1.0
-    c.before.end.given.0.0
-cells c = rw c.before.end.given.1 at c.before.before.before.before.before.read-cells.ensures
+    start.args.rows.now c.read_cells.new.rows
+    c.in-On.end
+cells c = rw c.in-On.is at c.read_cells.ensures
 
-expect_byte_requires : tie.Need-expect-byte-requires
+expect_byte_requires : tie.Need-expect_byte-requires
 expect_byte_requires c κs = (cells c).reads.within
 
-returns_2 : tie.Need-returns-2
+returns_2 : tie.Need-returns-in_default-expect_byte
 returns_2 c =
     let told = c.before.before.before.before in
-    let read = told.before.before.before in (
-      no_end (cells read) (rw told.enum-told2.given.1 at told.before.before.expect-byte.ensures),
-      cleared_after (cells read).grown.others c.before.before.clear-row2.ensures,
+    let read = told.before.before in (
+      no_end (cells read) (rw told.in_default-expect_byte.is at told.expect_byte.ensures),
+      cleared_after (cells read).grown.others c.clear_row-in_default-expect_byte.ensures,
     )
 
-returns_3 : tie.Need-returns-3
+returns_3 : tie.Need-returns
 returns_3 c =
-    let read = c.before.before.before.before in
-    ended (cells read) (rw c.before.next.given.1 at c.before.before.before.expect-byte.ensures)
+    let read = c.before.before in
+    ended (cells read) (rw c.in-On-expect_byte.is at c.expect_byte.ensures)
 
 pub read_line_spec : {M : Type 1} → statement M
 read_line_spec =
