@@ -8,7 +8,7 @@ use Rattle.spec.specs.Vocabulary.{all, repeats}
 use Rattle.spec.specs.Limits.{permission_limit, user_limit, grant_limit}
 use Rattle.spec.specs.Text.{ascii, same_bytes, Bytes, Line, comma, line_feed, between, fields, lines, lines_of}
 use Rattle.spec.specs.Text.{same_name}
-use Rattle.spec.specs.Sheet.{first_field, sheet_of, grants}
+use Rattle.spec.specs.Sheet.{first_field, sheet_of}
 use Rattle.spec.specs.Refusal.{too_long, bad_bytes, bad_first_line, bad_line_count, has_name_length, bad_name}
 use Rattle.spec.specs.Refusal.{uneven_line, bad_cell, name_twice, too_many_grants, refuse_if, refusal}
 use Rattle.bits.specs.Truth.{same_truth}
