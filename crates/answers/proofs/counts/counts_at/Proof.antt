@@ -7,7 +7,7 @@ use Rattle.answers.proofs.counts.counts_at.Statement.{statement}
 use Rattle.answers.proofs.counts.counts_at.Tie as tie
 
 returns : tie.Need-returns
-returns c = record { roles = refl; bound = c.bound_of.ensures; standing = c.before.standing_of.ensures }
+returns c = record { roles = refl; bound = c.bound_of.ensures; standing = c.standing_of-standing.ensures }
 
 pub counts_at_spec : {M : Type 1} → statement M
 unfolding permission_limit

@@ -3,11 +3,11 @@ use borrow.Author.Rules.{rules}
 use Rattle.answers.proofs.answer.WriteAnswer.of.Statement.{statement}
 use Rattle.answers.proofs.answer.WriteAnswer.of.Tie as tie
 
-returns : tie.Need-returns
-returns c = rw c.before.writing.given.1
+returns : tie.Need-returns-in-Bytes
+returns c = rw c.in-Bytes.is
 
-returns_2 : tie.Need-returns-2
-returns_2 c = rw c.before.enum_told.given.1 c.refused.ensures
+returns_2 : tie.Need-returns-in-TooShort
+returns_2 c = rw c.in-TooShort.is c.refused.ensures
 
 pub of_spec : {M : Type 1} → statement M
 of_spec =
