@@ -12,60 +12,60 @@ use Rattle.read_rows.specs.RoleSteps.{no_roles_heading, heading_then_roles, no_r
 use Rattle.read_rows.proofs.roles_block.read_roles.Statement.{statement}
 use Rattle.read_rows.proofs.roles_block.read_roles.Tie as tie
 
-roles_heading_requires : tie.Need-roles-heading-requires
-roles_heading_requires c κs = (c.before.before.before.requires.0.0, c.before.before.before.requires.0.1.accepts)
+roles_heading_requires : tie.Need-roles_heading-requires
+roles_heading_requires c κs = (c.requires.0.0, c.requires.0.1.accepts)
 
-returns : tie.Need-returns
+returns : tie.Need-returns-in_default
 returns c =
-    let start = c.before.before.before.before.before.before in (
-      no_roles_heading (sheet_of start.args.sheet.now) (rw c.enum_told.given.1 at
-          c.before.before.roles_heading.ensures),
+    let start = c.before.before.before.before.before in (
+      no_roles_heading (sheet_of start.args.sheet.now) (rw c.in_default.is at
+          c.roles_heading.ensures),
       start.requires.1.1,
     )
 
 -- the call, from where the line of names has been read
-abbrev call : tie.After-known-told → tie.Start
-call c = c.before.before.before.before.before.before.before
+abbrev call : tie.In-On → tie.Start
+call c = c.before.before.before.before.before
 
-heading : (c : tie.After-known-told)
+heading : (c : tie.In-On)
     → HeadingAt (sheet_of (call c).args.sheet.now) (call c).args.book.now (call c).args.at
-    c.before.lines.given.0.0
-heading c = rw c.before.lines.given.1 at c.before.before.before.roles_heading.ensures
+    c.in-On.lines
+heading c = rw c.in-On.is at c.roles_heading.ensures
 
-role_lines_requires : tie.Need-role-lines-requires
+role_lines_requires : tie.Need-role_lines-requires
 role_lines_requires c κs =
     let start = call c.before in (
       (heading c.before).reads.within,
       omega (
         arith,
         permissions_fit,
-        start.pre.0.1.permission_total,
-        (accepted_lawful start.args.sheet.now start.pre.0.1.accepts).few_permissions,
+        start.requires.0.1.permission_total,
+        (accepted_lawful start.args.sheet.now start.requires.0.1.accepts).few_permissions,
       ),
-      start.pre.1.0,
-      start.pre.1.1,
+      start.requires.1.0,
+      start.requires.1.1,
     )
 
-returns_2 : tie.Need-returns-2
+returns_2 : tie.Need-returns-in_default-role_lines
 returns_2 c =
     let off = c.before.before.before.before in
-    let at_role_lines = off.before.before.before.before in
+    let at_role_lines = off.before.before.before in
     let read = at_role_lines.before.before in
     let start = call read in (
       no_role_lines (sheet_of start.args.sheet.now) (heading read) (rw (
-        off.enum-told2.given.1,
-        start.pre.0.1.permission_total,
+        off.in_default-role_lines.is,
+        start.requires.0.1.permission_total,
       ) at at_role_lines.role_lines.ensures),
-      rw c.before.before.clear-rows.ensures (zeros_blank (length at_role_lines.role_lines.new.1.1.0)),
+      rw c.clear_rows.ensures (zeros_blank (length at_role_lines.role_lines.new.gives)),
     )
 
-returns_3 : tie.Need-returns-3
+returns_3 : tie.Need-returns
 returns_3 c =
-    let at_role_lines = c.before.before.before.before.before in
+    let at_role_lines = c.before.before.before in
     let read = at_role_lines.before.before in
     let start = call read in
     heading_then_roles (sheet_of start.args.sheet.now) (heading read)
-    (rw (c.before.count.given.1, start.pre.0.1.permission_total) at at_role_lines.role_lines.ensures)
+    (rw (c.in-Roles.is, start.requires.0.1.permission_total) at at_role_lines.role_lines.ensures)
 
 pub read_roles_spec : {M : Type 1} → statement M
 read_roles_spec =

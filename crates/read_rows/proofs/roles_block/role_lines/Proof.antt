@@ -22,154 +22,154 @@ use Rattle.read_rows.specs.RoleSteps.{roles_end, roles_full, roles_off}
 use Rattle.read_rows.proofs.roles_block.role_lines.Statement.{statement}
 use Rattle.read_rows.proofs.roles_block.role_lines.Tie as tie
 
-abbrev invariant_loop : tie.invariant-loop
+abbrev invariant_loop : tie.invariant-loop-end
 invariant_loop book at gives₀ permissions next₀ r₀ gives next r =
     (r ≤ role_limit) × (length gives ≡ length gives₀) × LinesBelow book at role_name permissions gives r next
 
-abbrev decreases_loop : tie.decreases-loop
+abbrev decreases_loop : tie.decreases-loop-end
 decreases_loop book at gives₀ permissions next₀ r₀ gives next r = role_limit - r
 
 -- the call, from the head of the loop; that head, from where a role may follow; that, from where its name was looked
 -- for; and that, from where it was read
-abbrev call : tie.At-loop invariant_loop decreases_loop → tie.Start invariant_loop decreases_loop
+abbrev call : tie.At-loop-end invariant_loop decreases_loop → tie.Start invariant_loop decreases_loop
 call c = c.before.before.before
 
-abbrev head : tie.Else1 invariant_loop decreases_loop → tie.At-loop invariant_loop decreases_loop
-head c = c.before.before.before.before
+abbrev head : tie.Else-r-eq-ROLE_LIMIT invariant_loop decreases_loop → tie.At-loop-end invariant_loop decreases_loop
+head c = c.before.before.before
 
-abbrev turn : tie.After-expect invariant_loop decreases_loop → tie.Else1 invariant_loop decreases_loop
+abbrev turn : tie.After-expect invariant_loop decreases_loop → tie.Else-r-eq-ROLE_LIMIT invariant_loop decreases_loop
 turn c = c.before.before.before.before.before
 
-abbrev looked : tie.After-known-told2 invariant_loop decreases_loop → tie.After-expect invariant_loop decreases_loop
-looked c = c.before.before.before
+abbrev looked : tie.In-On-expect invariant_loop decreases_loop → tie.After-expect invariant_loop decreases_loop
+looked c = c.before
 
-abbrev read : tie.After-read-line invariant_loop decreases_loop → tie.After-known-told2 invariant_loop decreases_loop
+abbrev read : tie.After-read_line invariant_loop decreases_loop → tie.In-On-expect invariant_loop decreases_loop
 read c = c.before.before
 
-loop_holds : tie.Need-loop-init invariant_loop decreases_loop
+loop_holds : tie.Need-loop-end-init invariant_loop decreases_loop
 loop_holds c =
     let start = c.before.before in
     (omega arith, refl, lines_start role_name start.args.permissions start.requires.0 start.requires.3)
 
-expect_byte_requires : tie.Need-expect-byte-requires invariant_loop decreases_loop
-expect_byte_requires c κs = c.loop.invariant.2.reads.within
+expect_byte_requires : tie.Need-expect_byte-requires invariant_loop decreases_loop
+expect_byte_requires c κs = c.loop-end.invariant.2.reads.within
 
-same_length : tie.Need-same-length invariant_loop decreases_loop
-same_length c = c.before.before.before.before.loop.invariant.1
+same_length : tie.Need-shape_of-gives-in-On invariant_loop decreases_loop
+same_length c = c.loop-end.invariant.1
 
-returns : tie.Need-returns invariant_loop decreases_loop
+returns : tie.Need-returns-in-On invariant_loop decreases_loop
 returns c =
-    let at_loop = c.before.before.before.before in
-    roles_end at_loop.loop.invariant.0 at_loop.loop.invariant.2 (rw c.before.end.given.1 at
-    c.before.before.before.expect-byte.ensures)
+    let at_loop = c.before.before in
+    roles_end at_loop.loop-end.invariant.0 at_loop.loop-end.invariant.2 (rw c.in-On.is at
+    c.expect_byte.ensures)
 
-same_length_2 : tie.Need-same-length-2 invariant_loop decreases_loop
-same_length_2 c = c.before.before.before.before.loop.invariant.1
+same_length_2 : tie.Need-shape_of-gives-then-r-eq-ROLE_LIMIT invariant_loop decreases_loop
+same_length_2 c = c.loop-end.invariant.1
 
-returns_2 : tie.Need-returns-2 invariant_loop decreases_loop
+returns_2 : tie.Need-returns-then-r-eq-ROLE_LIMIT invariant_loop decreases_loop
 unfolding role_limit
 returns_2 c =
-    let at_loop = c.before.before.before.before in
-    roles_full at_loop.loop.invariant.2 (omega (arith, c.if1.true)) (rw c.before.enum_told.given.1 at
-    c.before.before.before.expect-byte.ensures)
+    let at_loop = c.before.before.before in
+    roles_full at_loop.loop-end.invariant.2 (omega (arith, c.if-r-eq-ROLE_LIMIT.true)) (rw c.in_default.is at
+    c.expect_byte.ensures)
 
-below : (c : tie.Else1 invariant_loop decreases_loop) → (head c).loop.r < role_limit
+below : (c : tie.Else-r-eq-ROLE_LIMIT invariant_loop decreases_loop) → (head c).loop-end.r < role_limit
 unfolding role_limit
-below c = omega (arith, (head c).loop.invariant.0, c.if1.false)
+below c = omega (arith, (head c).loop-end.invariant.0, c.if-r-eq-ROLE_LIMIT.false)
 
 -- no empty line ends the roles
-no_end : (c : tie.Else1 invariant_loop decreases_loop) → Misses (call (head c)).args.book.now (head c).loop.next line_end
-no_end c = rw c.before.enum_told.given.1 at c.before.before.before.expect-byte.ensures
+no_end : (c : tie.Else-r-eq-ROLE_LIMIT invariant_loop decreases_loop) → Misses (call (head c)).args.book.now (head c).loop-end.next line_end
+no_end c = rw c.in_default.is at c.expect_byte.ensures
 
-put_role_name_requires : tie.Need-put-role-name-requires invariant_loop decreases_loop
+put_role_name_requires : tie.Need-put_role_name-n-requires invariant_loop decreases_loop
 put_role_name_requires c κs =
-    (omega (arith, roles_fit, below c.before), role_name_short (head c.before).loop.r (below c.before))
+    (omega (arith, roles_fit, below c.before), role_name_short (head c.before).loop-end.r (below c.before))
 
-written_within : (c : tie.After-put-role-name invariant_loop decreases_loop) → c.put-role-name.result ≤
-    length c.put-role-name.new.0
+written_within : (c : tie.After-put_role_name-n invariant_loop decreases_loop) → c.put_role_name-n.result ≤
+    length c.put_role_name-n.new.out
 written_within c =
     let to_read = c.before.before in
-    name_within (head to_read).loop.r (below to_read) c.put-role-name.ensures c.put-role-name.auto.0
+    name_within (head to_read).loop-end.r (below to_read) c.put_role_name-n.ensures c.put_role_name-n.auto.out
 
-array_share_prefix_name : tie.Need-array-share-prefix-name invariant_loop decreases_loop
+array_share_prefix_name : tie.Need-slice_bounds-name-end invariant_loop decreases_loop
 array_share_prefix_name c = written_within c.before
 
-slice_aggregate_expect : tie.Need-slice-aggregate-expect invariant_loop decreases_loop
+slice_aggregate_expect : tie.Need-slice_bounds-expect-end invariant_loop decreases_loop
 slice_aggregate_expect c = sym (length-take-le _ _ (written_within c.before.before))
 
 expect_requires : tie.Need-expect-requires invariant_loop decreases_loop
-expect_requires c κs = (head c.before.before.before.before).loop.inv.2.reads.within
+expect_requires c κs = (head c.before.before.before.before).loop-end.invariant.2.reads.within
 
 -- the name was looked for as that of role r
 named : (c : tie.After-expect invariant_loop decreases_loop)
-    → let w = c.before.before.before.put-role-name in
-    take w.result w.new.0 ≡ role_name (head (turn c)).loop.r
-named c = front_written c.before.before.before.put-role-name.ensures
+    → let w = c.put_role_name-n in
+    take w.result w.new.out ≡ role_name (head (turn c)).loop-end.r
+named c = front_written c.put_role_name-n.ensures
 
-same_length_3 : tie.Need-same-length-3 invariant_loop decreases_loop
-same_length_3 c = (head (turn c.before.before)).loop.inv.1
+same_length_3 : tie.Need-shape_of-gives-in_default-expect invariant_loop decreases_loop
+same_length_3 c = (head (turn c.before)).loop-end.invariant.1
 
-returns_3 : tie.Need-returns-3 invariant_loop decreases_loop
+returns_3 : tie.Need-returns-in_default-expect invariant_loop decreases_loop
 returns_3 c =
-    let here = c.before.before in
+    let here = c.before in
     let at_loop = head (turn here) in
-    let none = rw (c.enum-told2.given.1, named here) at here.expect.ensures in
-    roles_off at_loop.loop.inv.2 (no_end (turn here))
+    let none = rw (c.in_default-expect.is, named here) at here.expect.ensures in
+    roles_off at_loop.loop-end.invariant.2 (no_end (turn here))
     (λ cells. misses_first (row_text (call at_loop).args.permissions cells) none)
 
-name_there : (c : tie.After-known-told2 invariant_loop decreases_loop)
+name_there : (c : tie.In-On-expect invariant_loop decreases_loop)
     → let at_loop = head (turn (looked c)) in
-    Stands (call at_loop).args.book.now at_loop.loop.next (role_name at_loop.loop.r)
-    c.before.cells.given.0.0
+    Stands (call at_loop).args.book.now at_loop.loop-end.next (role_name at_loop.loop-end.r)
+    c.in-On-expect.cells
 name_there c =
-    let here = c.before.before.before in
-    rw (c.before.cells.given.1, named here) at here.expect.ensures
+    let here = c.before in
+    rw (c.in-On-expect.is, named here) at here.expect.ensures
 
-read_line_requires : tie.Need-read-line-requires invariant_loop decreases_loop
+read_line_requires : tie.Need-read_line-requires invariant_loop decreases_loop
 read_line_requires c κs =
     let to_read = turn (looked c.before) in
     let at_loop = head to_read in
     let start = call at_loop in (
       (name_there c.before).within,
-      start.pre.1,
-      row_within at_loop.loop.r role_limit _ (below to_read) (omega (arith, start.pre.2, at_loop.loop.inv.1)),
-      at_loop.loop.inv.2.blank at_loop.loop.r (omega arith),
+      start.requires.1,
+      row_within at_loop.loop-end.r role_limit _ (below to_read) (omega (arith, start.requires.2, at_loop.loop-end.invariant.1)),
+      at_loop.loop-end.invariant.2.blank at_loop.loop-end.r (omega arith),
     )
 
-kept : (c : tie.After-read-line invariant_loop decreases_loop)
-    → length c.read-line.new.1.1.0 ≡ length (call (head (turn (looked (read c))))).args.gives.now
-kept c = c.read-line.auto.1.1.0 ∙ (head (turn (looked (read c)))).loop.inv.1
+kept : (c : tie.After-read_line invariant_loop decreases_loop)
+    → length c.read_line.new.rows ≡ length (call (head (turn (looked (read c))))).args.gives.now
+kept c = c.read_line.auto.rows ∙ (head (turn (looked (read c)))).loop-end.invariant.1
 
-same_length_4 : tie.Need-same-length-4 invariant_loop decreases_loop
-same_length_4 c = kept c.before.before.before.before
+same_length_4 : tie.Need-shape_of-gives-in_default-read_line invariant_loop decreases_loop
+same_length_4 c = kept c.before.before.before
 
-returns_4 : tie.Need-returns-4 invariant_loop decreases_loop
+returns_4 : tie.Need-returns-in_default-read_line invariant_loop decreases_loop
 returns_4 c =
-    let after = c.before.before.before.before in
+    let after = c.before.before.before in
     let to_read = turn (looked (read after)) in
-    let none = rw c.enum-told3.given.1 at after.read-line.ensures in
-    roles_off (head to_read).loop.inv.2 (no_end to_read)
+    let none = rw c.in_default-read_line.is at after.read_line.ensures in
+    roles_off (head to_read).loop-end.invariant.2 (no_end to_read)
     (λ cells. misses_second (row_text (call (head to_read)).args.permissions cells) (name_there (read after))
     (none.0 cells))
 
-add_r : tie.Need-overflow-add-r invariant_loop decreases_loop
+add_r : tie.Need-overflow_add-r invariant_loop decreases_loop
 unfolding role_limit
 add_r c =
-    let to_read = turn (looked (read c.before.before.before.before.before)) in
-    omega (arith, below to_read, (head to_read).loop.inv.0)
+    let to_read = turn (looked (read c.before.before.before)) in
+    omega (arith, below to_read, (head to_read).loop-end.invariant.0)
 
-loop_less : tie.Need-loop-smaller invariant_loop decreases_loop
-loop_less c = omega (arith, below (turn (looked (read c.before.before.before.before.before))))
+loop_less : tie.Need-loop-end-smaller invariant_loop decreases_loop
+loop_less c = omega (arith, below (turn (looked (read c.before.before.before))))
 
-loop_again : tie.Need-loop-preserved invariant_loop decreases_loop
+loop_again : tie.Need-loop-end-preserved invariant_loop decreases_loop
 loop_again c =
-    let after = c.before.before.before.before.before in
+    let after = c.before.before.before in
     let to_read = turn (looked (read after)) in
     let at_loop = head to_read in (
       omega (arith, below to_read),
       kept after,
-      lines_more (call at_loop).pre.1 at_loop.loop.inv.2 (name_there (read after))
-          (rw c.before.after.given.1 at after.read-line.ensures),
+      lines_more (call at_loop).requires.1 at_loop.loop-end.invariant.2 (name_there (read after))
+          (rw c.in-On-read_line.is at after.read_line.ensures),
     )
 
 pub role_lines_spec : {M : Type 1} → statement M

@@ -8,30 +8,29 @@ use Rattle.read_rows.specs.HeadingSteps.{no_word, names_decide}
 use Rattle.read_rows.proofs.roles_block.roles_heading.Statement.{statement}
 use Rattle.read_rows.proofs.roles_block.roles_heading.Tie as tie
 
-returns : tie.Need-returns
+returns : tie.Need-returns-in_default
 returns c =
-    let start = c.before.before.before.before.before.before in
-    no_word (sheet_of start.args.sheet.now) (rw c.enum_told.given.1 at c.before.before.expect.ensures)
+    no_word (sheet_of c.args.sheet.now) (rw c.in_default.is at c.expect.ensures)
 
 -- the call, from where the word has been read
-abbrev call : tie.After-known-told → tie.Start
-call c = c.before.before.before.before.before.before.before
+abbrev call : tie.In-On → tie.Start
+call c = c.before.before.before.before.before.before
 
-word : (c : tie.After-known-told)
-    → Stands (call c).args.book.now (call c).args.at (ascii "role") c.before.names.given.0.0
-word c = rw c.before.names.given.1 at c.before.before.before.expect.ensures
+word : (c : tie.In-On)
+    → Stands (call c).args.book.now (call c).args.at (ascii "role") c.in-On.names
+word c = rw c.in-On.is at c.expect.ensures
 
-expect_name_requires : tie.Need-expect-name-requires
+expect_name_requires : tie.Need-expect_name-requires
 expect_name_requires c κs = (word c.before).within
 
-returns_2 : tie.Need-returns-2
+returns_2 : tie.Need-returns
 returns_2 c =
     let named = c.before in
     let read = named.before in
-    names_decide (sheet_of (call read).args.sheet.now) (word read) c.expect-name.result
-    (rw named.permissions_line.ensures at c.expect-name.ensures)
+    names_decide (sheet_of (call read).args.sheet.now) (word read) c.expect_name.result
+    (rw named.permissions_line.ensures at c.expect_name.ensures)
 
 pub roles_heading_spec : {M : Type 1} → statement M
 roles_heading_spec =
-    tie.close (tie.spec (λ c. search rules) (λ c κs. search rules) (λ c. search rules) (λ c. search rules) returns
+    tie.close (tie.spec (λ c κs. search rules) (λ c. search rules) (λ c. search rules) returns
     (λ c κs. (call c).requires.1) expect_name_requires returns_2)

@@ -16,93 +16,93 @@ use Rattle.read_rows.specs.UserSteps.{UsersBelow, no_users_heading, no_user_line
 use Rattle.read_rows.proofs.users_block.read_users.Statement.{statement}
 use Rattle.read_rows.proofs.users_block.read_users.Tie as tie
 
-users_heading_requires : tie.Need-users-heading-requires
-users_heading_requires c κs = (c.before.before.before.requires.0.0, c.before.before.before.requires.0.2)
+users_heading_requires : tie.Need-users_heading-requires
+users_heading_requires c κs = (c.requires.0.0, c.requires.0.2)
 
-returns : tie.Need-returns
+returns : tie.Need-returns-in_default
 returns c =
-    let start = c.before.before.before.before.before.before in (
-      no_users_heading (sheet_of start.args.sheet.now) start.args.roles (rw c.enum_told.given.1 at
-          c.before.before.users_heading.ensures),
+    let start = c.before.before.before.before.before in (
+      no_users_heading (sheet_of start.args.sheet.now) start.args.roles (rw c.in_default.is at
+          c.users_heading.ensures),
       start.requires.1.1,
     )
 
-heading : (c : tie.After-known-told)
-    → let start = c.before.before.before.before.before.before.before in
+heading : (c : tie.In-On)
+    → let start = c.before.before.before.before.before in
     Stands start.args.book.now start.args.at (users_heading start.args.roles)
-    c.before.lines.given.0.0
-heading c = rw c.before.lines.given.1 at c.before.before.before.users_heading.ensures
+    c.in-On.lines
+heading c = rw c.in-On.is at c.users_heading.ensures
 
 -- the call, from where the line of names has been read
-abbrev call : tie.After-known-told → tie.Start
-call c = c.before.before.before.before.before.before.before
+abbrev call : tie.In-On → tie.Start
+call c = c.before.before.before.before.before
 
-array_share_prefix_places : tie.Need-array-share-prefix-places
+array_share_prefix_places : tie.Need-slice_bounds-places-end
 array_share_prefix_places c = users_placed (call c.before.before).requires.0.1
 
-slice_aggregate_user_lines : tie.Need-slice-aggregate-user-lines
+slice_aggregate_user_lines : tie.Need-slice_bounds-user_lines-end
 slice_aggregate_user_lines c = sym (length-take-le _ _ (users_placed (call c.before.before.before).requires.0.1))
 
-user_lines_requires : tie.Need-user-lines-requires
+user_lines_requires : tie.Need-user_lines-requires
 user_lines_requires c κs =
     let read = c.before.before.before.before in
     let start = call read in
-    let laid = start.pre.0.1 in (
+    let laid = start.requires.0.1 in (
       (
         (heading read).within,
         users_at start.args.sheet.now start.args.layout laid,
-        omega (arith, roles_fit, start.pre.0.2),
+        omega (arith, roles_fit, start.requires.0.2),
       ),
-      (rw (← laid.user_total) start.pre.1.0, start.pre.1.1),
+      (rw (← laid.user_total) start.requires.1.0, start.requires.1.1),
     )
 
-returns_2 : tie.Need-returns-2
+returns_2 : tie.Need-returns-in_default-user_lines
 returns_2 c =
     let off = c.before.before.before.before in
-    let at_user_lines = off.before.before.before.before in
+    let at_user_lines = off.before.before.before in
     let read = at_user_lines.before.before.before.before.before in
     let start = call read in (
       no_user_lines (sheet_of start.args.sheet.now) start.args.roles (heading read)
-          (rw off.enum-told2.given.1 at at_user_lines.user_lines.ensures),
-      rw c.before.before.clear-rows.ensures
-          (zeros_blank (length at_user_lines.user_lines.new.1.1.1.1.0)),
+          (rw off.in_default-user_lines.is at at_user_lines.user_lines.ensures),
+      rw c.clear_rows.ensures
+          (zeros_blank (length at_user_lines.user_lines.new.has)),
     )
 
 -- where the line of names has been read, from where the lines of the users have been
-abbrev headed : tie.After-known-told2 → tie.After-known-told
+abbrev headed : tie.In-On-user_lines → tie.In-On
 headed c =
-    let at_user_lines = c.before.before.before.before.before in
+    let at_user_lines = c.before.before.before in
     at_user_lines.before.before.before.before.before
 
-lines : (c : tie.After-known-told2)
+lines : (c : tie.In-On-user_lines)
     → let start = call (headed c) in
     UsersBelow (sheet_of start.args.sheet.now).users start.args.book.now
-    (headed c).before.lines.given.0.0 start.args.roles
-    c.before.before.before.before.before.user_lines.new.1.1.1.1.0
-    (user_count (sheet_of start.args.sheet.now)) c.before.end.given.0.0
-lines c = rw c.before.end.given.1 at c.before.before.before.before.before.user_lines.ensures
+    (headed c).in-On.lines start.args.roles
+    c.user_lines.new.has
+    (user_count (sheet_of start.args.sheet.now)) c.in-On-user_lines.end
+lines c = rw c.in-On-user_lines.is at c.user_lines.ensures
 
-expect_byte_requires : tie.Need-expect-byte-requires
+expect_byte_requires : tie.Need-expect_byte-requires
 expect_byte_requires c κs = (lines c).lines.reads.within
 
-returns_3 : tie.Need-returns-3
+returns_3 : tie.Need-returns-in_default-expect_byte
 returns_3 c =
     let off = c.before.before.before.before in
-    let read = off.before.before.before in
-    let at_user_lines = read.before.before.before.before.before in
+    let read = off.before.before in
+    let at_user_lines = read.before.before.before in
     let start = call (headed read) in (
       no_users_end (sheet_of start.args.sheet.now) start.args.roles (heading (headed read)) (lines read)
-          (rw off.enum-told3.given.1 at off.before.before.expect-byte.ensures),
-      rw c.before.before.clear-rows2.ensures
-          (zeros_blank (length at_user_lines.user_lines.new.1.1.1.1.0)),
+          (rw off.in_default-expect_byte.is at off.expect_byte.ensures),
+      rw c.clear_rows-in_default-expect_byte.ensures
+          (zeros_blank (length at_user_lines.user_lines.new.has)),
     )
 
-returns_4 : tie.Need-returns-4
+returns_4 : tie.Need-returns
 returns_4 c =
-    let read = c.before.before.before.before in
+    let read = c.before.before in
     let start = call (headed read) in
     users_then_end (sheet_of start.args.sheet.now) start.args.roles (heading (headed read)) (lines read)
-    (rw c.before.next.given.1 at c.before.before.before.expect-byte.ensures)
+    (rw c.in-On-expect_byte.is at c.expect_byte.ensures)
 
 pub read_users_spec : {M : Type 1} → statement M
 read_users_spec =

@@ -11,47 +11,46 @@ use Rattle.read_rows.proofs.users_block.users_heading.Statement.{statement}
 use Rattle.read_rows.proofs.users_block.users_heading.Tie as tie
 
 -- the call, from where the word has been read, and that place from where the names have been
-abbrev call : tie.After-known-told → tie.Start
-call c = c.before.before.before.before.before.before
+abbrev call : tie.In-On → tie.Start
+call c = c.before.before.before.before.before
 
-abbrev worded : tie.After-known-told2 → tie.After-known-told
-worded c = c.before.before.before.before
+abbrev worded : tie.In-On-expect_roles → tie.In-On
+worded c = c.before.before
 
-returns : tie.Need-returns
+returns : tie.Need-returns-in_default
 returns c =
-    let start = c.before.before.before.before.before in
     misses_first line_end
-    (misses_first (role_fields start.args.roles) (rw c.enum_told.given.1 at
-    c.before.before.expect.ensures))
+    (misses_first (role_fields c.args.roles) (rw c.in_default.is at
+    c.expect.ensures))
 
-word : (c : tie.After-known-told)
-    → Stands (call c).args.book.now (call c).args.at (ascii "user") c.before.names.given.0.0
-word c = rw c.before.names.given.1 at c.before.before.before.expect.ensures
+word : (c : tie.In-On)
+    → Stands (call c).args.book.now (call c).args.at (ascii "user") c.in-On.names
+word c = rw c.in-On.is at c.expect.ensures
 
-expect_roles_requires : tie.Need-expect-roles-requires
+expect_roles_requires : tie.Need-expect_roles-requires
 expect_roles_requires c κs = ((word c).within, (call c).requires.1)
 
-returns_2 : tie.Need-returns-2
+returns_2 : tie.Need-returns-in_default-expect_roles
 returns_2 c =
-    let read = c.before.before.before in
+    let read = c.before.before in
     misses_first line_end
-    (misses_second (role_fields (call read).args.roles) (word read) (rw c.enum-told2.given.1 at
-    c.before.before.expect-roles.ensures))
+    (misses_second (role_fields (call read).args.roles) (word read) (rw c.in_default-expect_roles.is at
+    c.expect_roles.ensures))
 
-names : (c : tie.After-known-told2)
+names : (c : tie.In-On-expect_roles)
     → let start = call (worded c) in
     Stands start.args.book.now start.args.at (ascii "user" ++ role_fields start.args.roles)
-    c.before.end.given.0.0
+    c.in-On-expect_roles.end
 names c =
-    stands_then (word (worded c)) (rw c.before.end.given.1 at c.before.before.before.expect-roles.ensures)
+    stands_then (word (worded c)) (rw c.in-On-expect_roles.is at c.expect_roles.ensures)
 
-expect_byte_requires : tie.Need-expect-byte-requires
+expect_byte_requires : tie.Need-expect_byte-requires
 expect_byte_requires c κs = (names c).within
 
-returns_3 : tie.Need-returns-3
-returns_3 c = expects_then line_end (names c.before) c.expect-byte.result c.expect-byte.ensures
+returns_3 : tie.Need-returns
+returns_3 c = expects_then line_end (names c.before) c.expect_byte.result c.expect_byte.ensures
 
 pub users_heading_spec : {M : Type 1} → statement M
 users_heading_spec =
-    tie.close (tie.spec (λ c. search rules) (λ c κs. search rules) (λ c. search rules) (λ c. search rules) returns
+    tie.close (tie.spec (λ c κs. search rules) (λ c. search rules) (λ c. search rules) returns
     expect_roles_requires (λ c. search rules) (λ c. search rules) returns_2 expect_byte_requires returns_3)
