@@ -50,121 +50,121 @@ gained_fits s = front_fits (to_gained s) (roles s) (roles_fit s)
 
 -- ---- behind the steps so far
 
-abbrev start : tie.After-put-decimal → tie.Start
+abbrev start : tie.After-put_decimal-a → tie.Start
 start c = c.before.before.before
 
-behind_steps : (c : tie.After-put-decimal)
+behind_steps : (c : tie.After-put_decimal-a)
     → let s = start c in
-    WrittenSoFar (steps s) (gained s) (buffer s) c.put-decimal.new.0 c.put-decimal.result
-behind_steps c = record { written = c.put-decimal.ensures; fits = gained_fits (start c) }
+    WrittenSoFar (steps s) (gained s) (buffer s) c.put_decimal-a.new.out c.put_decimal-a.result
+behind_steps c = record { written = c.put_decimal-a.ensures; fits = gained_fits (start c) }
 
-put_decimal_requires : tie.Need-put-decimal-requires
+put_decimal_requires : tie.Need-put_decimal-a-requires
 put_decimal_requires c κs =
     let s = c.before.before in
     front_fits (steps s) (gained s) (gained_fits s)
 
-sub_put_gained : tie.Need-overflow-sub-put-gained
+sub_put_gained : tie.Need-slice_bounds-put_gained-count
 sub_put_gained c = within_buffer (behind_steps c.before.before)
 
-part_put_gained_start : tie.Need-slice-bounds-put-gained-start
+part_put_gained_start : tie.Need-slice_bounds-put_gained-start
 part_put_gained_start c = within_buffer (behind_steps c.before.before)
 
-put_gained_requires : tie.Need-put-gained-requires
+put_gained_requires : tie.Need-put_gained-requires
 put_gained_requires c κs = room_behind (behind_steps c.before.before.before)
 
 -- ---- behind the depth gained
 
-abbrev steps_put : tie.After-put-gained → tie.After-put-decimal
+abbrev steps_put : tie.After-put_gained → tie.After-put_decimal-a
 steps_put c = c.before.before.before.before
 
 -- where it ends, and what the buffer then holds
-abbrev gained_end : tie.After-put-gained → ℕ
-gained_end c = (steps_put c).put-decimal.result + c.put-gained.result
+abbrev gained_end : tie.After-put_gained → ℕ
+gained_end c = (steps_put c).put_decimal-a.result + c.put_gained.result
 
-abbrev gained_left : tie.After-put-gained → Bytes
+abbrev gained_left : tie.After-put_gained → Bytes
 gained_left c =
     let p = steps_put c in
-    with_rest p.put-decimal.result p.put-decimal.last.0 c.put-gained.new.0
+    with_rest p.put_decimal-a.result p.put_decimal-a.new.out c.put_gained.new.out
 
-behind_gained : (c : tie.After-put-gained)
+behind_gained : (c : tie.After-put_gained)
     → let s = start (steps_put c) in
     WrittenSoFar (to_gained s) (roles s) (buffer s) (gained_left c) (gained_end c)
 behind_gained c =
     record {
-      written = then_written (behind_steps (steps_put c)) c.put-gained.ensures;
+      written = then_written (behind_steps (steps_put c)) c.put_gained.ensures;
       fits = roles_fit (start (steps_put c));
     }
 
-add_b : tie.Need-overflow-add-b
+add_b : tie.Need-overflow_add-b
 add_b c =
     let put = c.before.before in
-    omega (arith, end_within (behind_steps (steps_put put)) put.put-gained.ensures)
+    omega (arith, end_within (behind_steps (steps_put put)) put.put_gained.ensures)
 
-sub_put_counted : tie.Need-overflow-sub-put-counted
+sub_put_counted : tie.Need-slice_bounds-put_counted-count
 sub_put_counted c = within_buffer (behind_gained c.before.before)
 
-part_put_counted_start : tie.Need-slice-bounds-put-counted-start
+part_put_counted_start : tie.Need-slice_bounds-put_counted-start
 part_put_counted_start c = within_buffer (behind_gained c.before.before)
 
-put_counted_requires : tie.Need-put-counted-requires
-put_counted_requires c κs = room_behind (behind_gained c.before.before.before.before)
+put_counted_requires : tie.Need-put_counted-requires
+put_counted_requires c κs = room_behind (behind_gained c.before.before.before.before.before)
 
 -- ---- behind the roles
 
-abbrev gained_put : tie.After-put-counted → tie.After-put-gained
-gained_put c = c.before.before.before.before.before
+abbrev gained_put : tie.After-put_counted → tie.After-put_gained
+gained_put c = c.before.before.before.before.before.before
 
-behind_roles : (c : tie.After-put-counted)
+behind_roles : (c : tie.After-put_counted)
     → let p = gained_put c in
     let s = start (steps_put p) in
-    WrittenSoFar (to_roles s) (bound s) (buffer s) (with_rest (gained_end p) (gained_left p) c.put-counted.new.0)
-    (gained_end p + c.put-counted.result)
+    WrittenSoFar (to_roles s) (bound s) (buffer s) (with_rest (gained_end p) (gained_left p) c.put_counted.new.out)
+    (gained_end p + c.put_counted.result)
 behind_roles c =
     let p = gained_put c in
-    record { written = then_written (behind_gained p) c.put-counted.ensures; fits = (start (steps_put p)).requires }
+    record { written = then_written (behind_gained p) c.put_counted.ensures; fits = (start (steps_put p)).requires }
 
-add_c : tie.Need-overflow-add-c
+add_c : tie.Need-overflow_add-c
 add_c c =
     let put = c.before.before in
-    omega (arith, end_within (behind_gained (gained_put put)) put.put-counted.ensures)
+    omega (arith, end_within (behind_gained (gained_put put)) put.put_counted.ensures)
 
-sub_put_counted_2 : tie.Need-overflow-sub-put-counted-2
+sub_put_counted_2 : tie.Need-slice_bounds-put_counted-count-2
 sub_put_counted_2 c = within_buffer (behind_roles c.before.before)
 
-part_put_counted_start_2 : tie.Need-slice-bounds-put-counted-start-2
+part_put_counted_start_2 : tie.Need-slice_bounds-put_counted-start-2
 part_put_counted_start_2 c = within_buffer (behind_roles c.before.before)
 
-put_counted_requires_2 : tie.Need-put-counted-requires-2
-put_counted_requires_2 c κs = room_behind (behind_roles c.before.before.before.before)
+put_counted_requires_2 : tie.Need-put_counted-requires-2
+put_counted_requires_2 c κs = room_behind (behind_roles c.before.before.before.before.before)
 
 -- ---- behind the bound
 
-abbrev roles_put : tie.After-put-counted2 → tie.After-put-counted
-roles_put c = c.before.before.before.before.before
+abbrev roles_put : tie.After-put_counted-2 → tie.After-put_counted
+roles_put c = c.before.before.before.before.before.before
 
-add_result : tie.Need-overflow-add-result
+add_result : tie.Need-overflow_add-result
 add_result c =
     let put = c.before.before in
     let roles = roles_put put in
     omega (
       arith,
-      end_within (behind_roles roles) put.put-counted2.ensures,
+      end_within (behind_roles roles) put.put_counted-2.ensures,
       buffer_small (start (steps_put (gained_put roles))),
     )
 
-same_length : tie.Need-same-length
+same_length : tie.Need-shape_of-out
 same_length c =
     let put = c.before.before in
-    then_same_length (behind_roles (roles_put put)) put.put-counted2.ensures
+    then_same_length (behind_roles (roles_put put)) put.put_counted-2.ensures
 
 returns : tie.Need-returns
 returns c =
     let put = c.before.before in
-    then_written (behind_roles (roles_put put)) put.put-counted2.ensures
+    then_written (behind_roles (roles_put put)) put.put_counted-2.ensures
 
 pub put_counts_spec : {M : Type 1} → statement M
 put_counts_spec =
     tie.close (tie.spec put_decimal_requires sub_put_gained part_put_gained_start (λ c. search rules)
-    put_gained_requires add_b sub_put_counted part_put_counted_start (λ c. search rules) (λ c. search rules)
-    put_counted_requires add_c sub_put_counted_2 part_put_counted_start_2 (λ c. search rules) (λ c. search rules)
+    put_gained_requires add_b sub_put_counted part_put_counted_start (λ c. search rules)
+    put_counted_requires add_c sub_put_counted_2 part_put_counted_start_2 (λ c. search rules)
     put_counted_requires_2 add_result same_length returns)

@@ -40,81 +40,81 @@ speed_fits s = front_fits (counts s ++ speed s) last_part (line_fits s)
 
 -- ---- behind the counts
 
-abbrev start : tie.After-put-counts → tie.Start
+abbrev start : tie.After-put_counts-a → tie.Start
 start c = c.before.before.before
 
-behind_counts : (c : tie.After-put-counts)
+behind_counts : (c : tie.After-put_counts-a)
     → let s = start c in
-    WrittenSoFar (counts s) (speed s) (buffer s) c.put-counts.new.0 c.put-counts.result
-behind_counts c = record { written = c.put-counts.ensures; fits = speed_fits (start c) }
+    WrittenSoFar (counts s) (speed s) (buffer s) c.put_counts-a.new.out c.put_counts-a.result
+behind_counts c = record { written = c.put_counts-a.ensures; fits = speed_fits (start c) }
 
-put_counts_requires : tie.Need-put-counts-requires
+put_counts_requires : tie.Need-put_counts-a-requires
 put_counts_requires c κs =
     let s = c.before.before in
     front_fits (counts s) (speed s) (speed_fits s)
 
-sub_put_speed : tie.Need-overflow-sub-put-speed
+sub_put_speed : tie.Need-slice_bounds-put_speed-count
 sub_put_speed c = within_buffer (behind_counts c.before.before)
 
-part_put_speed_start : tie.Need-slice-bounds-put-speed-start
+part_put_speed_start : tie.Need-slice_bounds-put_speed-start
 part_put_speed_start c = within_buffer (behind_counts c.before.before)
 
-put_speed_requires : tie.Need-put-speed-requires
+put_speed_requires : tie.Need-put_speed-requires
 put_speed_requires c κs = room_behind (behind_counts c.before.before.before)
 
 -- ---- behind the steps a second
 
-abbrev counts_put : tie.After-put-speed → tie.After-put-counts
+abbrev counts_put : tie.After-put_speed → tie.After-put_counts-a
 counts_put c = c.before.before.before.before
 
-behind_speed : (c : tie.After-put-speed)
+behind_speed : (c : tie.After-put_speed)
     → let p = counts_put c in
     let s = start p in
     WrittenSoFar (counts s ++ speed s) last_part (buffer s)
-    (with_rest p.put-counts.result p.put-counts.last.0 c.put-speed.new.0)
-    (p.put-counts.result + c.put-speed.result)
+    (with_rest p.put_counts-a.result p.put_counts-a.new.out c.put_speed.new.out)
+    (p.put_counts-a.result + c.put_speed.result)
 behind_speed c =
     let p = counts_put c in
-    record { written = then_written (behind_counts p) c.put-speed.ensures; fits = line_fits (start p) }
+    record { written = then_written (behind_counts p) c.put_speed.ensures; fits = line_fits (start p) }
 
-add_b : tie.Need-overflow-add-b
+add_b : tie.Need-overflow_add-b
 add_b c =
     let put = c.before.before in
-    omega (arith, end_within (behind_counts (counts_put put)) put.put-speed.ensures)
+    omega (arith, end_within (behind_counts (counts_put put)) put.put_speed.ensures)
 
-sub_put_bytes : tie.Need-overflow-sub-put-bytes
+sub_put_bytes : tie.Need-slice_bounds-put_bytes-count
 sub_put_bytes c = within_buffer (behind_speed c.before.before)
 
-part_put_bytes_start : tie.Need-slice-bounds-put-bytes-start
+part_put_bytes_start : tie.Need-slice_bounds-put_bytes-start
 part_put_bytes_start c = within_buffer (behind_speed c.before.before)
 
-put_bytes_requires : tie.Need-put-bytes-requires
-put_bytes_requires c κs = room_behind (behind_speed c.before.before.before.before)
+put_bytes_requires : tie.Need-put_bytes-requires
+put_bytes_requires c κs = room_behind (behind_speed c.before.before.before.before.before)
 
 -- ---- behind the last part
 
-abbrev speed_put : tie.After-put-bytes → tie.After-put-speed
-speed_put c = c.before.before.before.before.before
+abbrev speed_put : tie.After-put_bytes → tie.After-put_speed
+speed_put c = c.before.before.before.before.before.before
 
-add_result : tie.Need-overflow-add-result
+add_result : tie.Need-overflow_add-result
 add_result c =
     let put = c.before.before in
-    omega (arith, end_within (behind_speed (speed_put put)) put.put-bytes.ensures)
+    omega (arith, end_within (behind_speed (speed_put put)) put.put_bytes.ensures)
 
-same_length : tie.Need-same-length
+same_length : tie.Need-shape_of-out
 same_length c =
     let put = c.before.before in
-    then_same_length (behind_speed (speed_put put)) put.put-bytes.ensures
+    then_same_length (behind_speed (speed_put put)) put.put_bytes.ensures
 
 returns : tie.Need-returns
 returns c =
     let put = c.before.before in
     let args = (start (counts_put (speed_put put))).args in
     written_as (line_parts args.so_far (search_said args.answer) args.speed)
-    (then_written (behind_speed (speed_put put)) put.put-bytes.ensures)
+    (then_written (behind_speed (speed_put put)) put.put_bytes.ensures)
 
 pub put_progress_spec : {M : Type 1} → statement M
 put_progress_spec =
     tie.close (tie.spec put_counts_requires sub_put_speed part_put_speed_start (λ c. search rules) put_speed_requires
-    add_b sub_put_bytes part_put_bytes_start (λ c. search rules) (λ c. search rules) put_bytes_requires add_result
+    add_b sub_put_bytes part_put_bytes_start (λ c. search rules) put_bytes_requires add_result
     same_length returns)
