@@ -20,32 +20,32 @@ word = ascii "role"
 abbrev names : tie.Start → Bytes
 names s = permissions_line (sheet_of s.args.s.now)
 
-abbrev start : tie.After-put-bytes → tie.Start
-start c = c.before.before.before.before.before
+abbrev start : tie.After-put_bytes-names → tie.Start
+start c = c.before.before.before.before.before.before
 
 fits : (s : tie.Start) → length (word ++ names s) ≤ length s.args.out.now
 fits s = fits_as (heading_parts word (sheet_of s.args.s.now)) s.requires.1
 
-behind_word : (c : tie.After-put-bytes)
-    → WrittenSoFar word (names (start c)) (start c).args.out.now c.put-bytes.new.0 c.put-bytes.result
-behind_word c = record { written = c.put-bytes.ensures; fits = fits (start c) }
+behind_word : (c : tie.After-put_bytes-names)
+    → WrittenSoFar word (names (start c)) (start c).args.out.now c.put_bytes-names.new.out c.put_bytes-names.result
+behind_word c = record { written = c.put_bytes-names.ensures; fits = fits (start c) }
 
-put_bytes_requires : tie.Need-put-bytes-requires
-put_bytes_requires c κs = let s = c.before.before.before.before in front_fits word (names s) (fits s)
+put_bytes_requires : tie.Need-put_bytes-names-requires
+put_bytes_requires c κs = let s = c.before.before.before.before in front_fits word (names s.before) (fits s.before)
 
-put_bytes_requires_2 : tie.Need-put-bytes-requires-2
+put_bytes_requires_2 : tie.Need-put_bytes-requires
 put_bytes_requires_2 c κs =
     fits_as (sym c.permissions_line.ensures) (room_behind (behind_word c.before.before.before.before))
 
 -- the place behind the word, from where the permissions have been written
-abbrev worded : tie.After-put-bytes2 → tie.After-put-bytes
+abbrev worded : tie.After-put_bytes → tie.After-put_bytes-names
 worded c = c.before.before.before.before.before
 
-written : (c : tie.After-put-bytes2)
+written : (c : tie.After-put_bytes)
     → let w = worded c in
-    Written (names (start w)) (rest_from w.put-bytes.result w.put-bytes.last.0) c.put-bytes2.new.0
-    c.put-bytes2.result
-written c = written_as c.before.permissions_line.ensures c.put-bytes2.ensures
+    Written (names (start w)) (rest_from w.put_bytes-names.result w.put_bytes-names.new.out) c.put_bytes.new.out
+    c.put_bytes.result
+written c = written_as c.permissions_line.ensures c.put_bytes.ensures
 
 returns : tie.Need-returns
 returns c =
@@ -56,7 +56,7 @@ returns c =
 
 pub put_role_heading_spec : {M : Type 1} → statement M
 put_role_heading_spec =
-    tie.close (tie.spec (λ c. search rules) put_bytes_requires (λ c. within_buffer (behind_word c.before.before))
+    tie.close (tie.spec put_bytes_requires (λ c. within_buffer (behind_word c.before.before))
     (λ c. within_buffer (behind_word c.before.before)) (λ c. search rules) (λ c κs. search rules)
     put_bytes_requires_2
     (λ c. omega (arith, end_within (behind_word (worded c.before.before)) (written c.before.before)))

@@ -10,45 +10,45 @@ use Rattle.text.specs.Written.{room_behind, within_buffer}
 use Rattle.blocks.proofs.role_block.put_role_lines.Statement.{statement}
 use Rattle.blocks.proofs.role_block.put_role_lines.Tie as tie
 
-abbrev invariant_loop : tie.invariant-loop
+abbrev invariant_loop : tie.invariant-loop-i
 invariant_loop out₀ gives roles permissions at₀ i₀ out at i =
     Listing roles (λ r. line_text (role_line gives permissions r)) i out₀ out at
 
-abbrev decreases_loop : tie.decreases-loop
+abbrev decreases_loop : tie.decreases-loop-i
 decreases_loop out₀ gives roles permissions at₀ i₀ out at i = roles - i
 
-loop_holds : tie.Need-loop-init invariant_loop decreases_loop
-loop_holds c = listing_starts _ _ c.before.before.requires.1
+loop_holds : tie.Need-loop-i-init invariant_loop decreases_loop
+loop_holds c = listing_starts _ _ c.requires.1
 
-sub_put_role_line : tie.Need-overflow-sub-put-role-line invariant_loop decreases_loop
-sub_put_role_line c = within_buffer (part_ready c.before.loop.invariant c.loop-test.true)
+sub_put_role_line : tie.Need-slice_bounds-put_role_line-count invariant_loop decreases_loop
+sub_put_role_line c = within_buffer (part_ready c.loop-i.invariant c.loop-i-test.true)
 
-part_put_role_line_start : tie.Need-slice-bounds-put-role-line-start invariant_loop decreases_loop
-part_put_role_line_start c = within_buffer (part_ready c.before.loop.invariant c.loop-test.true)
+part_put_role_line_start : tie.Need-slice_bounds-put_role_line-start invariant_loop decreases_loop
+part_put_role_line_start c = within_buffer (part_ready c.loop-i.invariant c.loop-i-test.true)
 
-put_role_line_requires : tie.Need-put-role-line-requires invariant_loop decreases_loop
+put_role_line_requires : tie.Need-put_role_line-at-requires invariant_loop decreases_loop
 unfolding row_words
 put_role_line_requires c κs = (
   (omega arith, omega arith, omega arith),
-  room_behind (part_ready c.before.before.loop.invariant
-      c.before.loop-test.true),
+  room_behind (part_ready c.loop-i.invariant
+      c.loop-i-test.true),
 )
 
-add_at : tie.Need-overflow-add-at invariant_loop decreases_loop
+add_at : tie.Need-overflow_add-at invariant_loop decreases_loop
 add_at c =
     let a = c.before.before.before.before in
-    omega (arith, part_within a.before.loop.invariant a.loop-test.true c.before.before.put-role-line.ensures)
+    omega (arith, part_within a.loop-i.invariant a.loop-i-test.true c.put_role_line-at.ensures)
 
-loop_again : tie.Need-loop-preserved invariant_loop decreases_loop
+loop_again : tie.Need-loop-i-preserved invariant_loop decreases_loop
 loop_again c =
     let a = c.before.before.before.before in
-    part_written a.before.loop.invariant a.loop-test.true c.before.before.put-role-line.ensures
+    part_written a.loop-i.invariant a.loop-i-test.true c.put_role_line-at.ensures
 
-same_length : tie.Need-same-length invariant_loop decreases_loop
-same_length c = c.before.loop.invariant.same_length
+same_length : tie.Need-shape_of-out invariant_loop decreases_loop
+same_length c = c.loop-i.invariant.same_length
 
 returns : tie.Need-returns invariant_loop decreases_loop
-returns c = listing_ends c.before.loop.invariant c.loop-test.false
+returns c = listing_ends c.loop-i.invariant c.loop-i-test.false
 
 pub put_role_lines_spec : {M : Type 1} → statement M
 put_role_lines_spec =

@@ -32,36 +32,36 @@ fits s = fits_as (roles_parts (sheet_of s.args.s.now) s.args.gives.now s.args.ro
 each_placed : (s : tie.Start) → lines s (length s.args.places.now) ≡ lines s (all s)
 each_placed s = ap (lines s) s.requires.0.0.names.total
 
-abbrev start : tie.After-put-role-heading → tie.Start
+abbrev start : tie.After-put_role_heading-lines → tie.Start
 start c = c.before.before.before.before.before.before
 
-behind_heading : (c : tie.After-put-role-heading)
+behind_heading : (c : tie.After-put_role_heading-lines)
     → WrittenSoFar (heading (start c)) (lines (start c) (all (start c))) (start c).args.out.now
-    c.put-role-heading.new.0 c.put-role-heading.result
-behind_heading c = record { written = c.put-role-heading.ensures; fits = fits (start c) }
+    c.put_role_heading-lines.new.out c.put_role_heading-lines.result
+behind_heading c = record { written = c.put_role_heading-lines.ensures; fits = fits (start c) }
 
-put_role_heading_requires : tie.Need-put-role-heading-requires
+put_role_heading_requires : tie.Need-put_role_heading-lines-requires
 put_role_heading_requires c κs =
     let s = c.before.before.before.before.before in
     (s.requires.0.0.accepts, front_fits (heading s) (lines s (all s)) (fits s))
 
-put_role_lines_requires : tie.Need-put-role-lines-requires
+put_role_lines_requires : tie.Need-put_role_lines-requires
 put_role_lines_requires c κs =
     let b = c.before.before.before in
     let s = start b in (
-      (s.pre.0.1, permissions_in_row s.pre.0.0, s.pre.0.2),
+      (s.requires.0.1, permissions_in_row s.requires.0.0, s.requires.0.2),
       fits_as (sym (each_placed s)) (room_behind (behind_heading b)),
     )
 
 -- the place behind the heading, from where the lines have been written
-abbrev headed : tie.After-put-role-lines → tie.After-put-role-heading
+abbrev headed : tie.After-put_role_lines → tie.After-put_role_heading-lines
 headed c = c.before.before.before.before
 
-written : (c : tie.After-put-role-lines)
+written : (c : tie.After-put_role_lines)
     → let b = headed c in
-    Written (lines (start b) (all (start b))) (rest_from b.put-role-heading.result b.put-role-heading.last.0)
-    c.put-role-lines.new.0 c.put-role-lines.result
-written c = written_as (each_placed (start (headed c))) c.put-role-lines.ensures
+    Written (lines (start b) (all (start b))) (rest_from b.put_role_heading-lines.result b.put_role_heading-lines.new.out)
+    c.put_role_lines.new.out c.put_role_lines.result
+written c = written_as (each_placed (start (headed c))) c.put_role_lines.ensures
 
 returns : tie.Need-returns
 returns c =

@@ -35,55 +35,53 @@ room : (s : tie.Start) → BlockRoom word (fields s) (lines s) s.args.out.now
 room s = record { fits = fits_as (parts s) s.requires.1 }
 
 -- behind the word, behind the names, and behind the heading
-abbrev start : tie.After-put-bytes → tie.Start
-start c =
-    let lent = c.before.before.before.before in
-    lent.before.before.before
+abbrev start : tie.After-put_bytes-names → tie.Start
+start c = c.before.before.before.before.before.before.before.before
 
-first : (c : tie.After-put-bytes)
-    → WrittenSoFar word (fields (start c)) (start c).args.out.now c.put-bytes.new.0 c.put-bytes.result
-first c = behind_name (heading_room (room (start c))) c.put-bytes.ensures
+first : (c : tie.After-put_bytes-names)
+    → WrittenSoFar word (fields (start c)) (start c).args.out.now c.put_bytes-names.new.out c.put_bytes-names.result
+first c = behind_name (heading_room (room (start c))) c.put_bytes-names.ensures
 
-abbrev worded : tie.After-put-role-fields → tie.After-put-bytes
+abbrev worded : tie.After-put_role_fields → tie.After-put_bytes-names
 worded c = c.before.before.before.before
 
-abbrev named : tie.After-put-role-fields → Bytes
-named c = with_rest (worded c).put-bytes.result (worded c).put-bytes.new.0 c.put-role-fields.new.0
+abbrev named : tie.After-put_role_fields → Bytes
+named c = with_rest (worded c).put_bytes-names.result (worded c).put_bytes-names.new.out c.put_role_fields.new.out
 
-abbrev end : tie.After-put-role-fields → ℕ
-end c = (worded c).put-bytes.result + c.put-role-fields.result
+abbrev end : tie.After-put_role_fields → ℕ
+end c = (worded c).put_bytes-names.result + c.put_role_fields.result
 
-second : (c : tie.After-put-role-fields)
+second : (c : tie.After-put_role_fields)
     → WrittenSoFar (word ++ fields (start (worded c))) line_end (start (worded c)).args.out.now (named c) (end c)
 second c =
-    behind_fields (heading_room (room (start (worded c)))) (worded c).put-bytes.ensures c.put-role-fields.ensures
+    behind_fields (heading_room (room (start (worded c)))) (worded c).put_bytes-names.ensures c.put_role_fields.ensures
 
-third : (c : tie.After-put-role-fields)
+third : (c : tie.After-put_role_fields)
     → let s = start (worded c) in
     WrittenSoFar ((word ++ fields s) ++ line_end) (lines s) s.args.out.now (set (named c) (end c) 10) (end c + 1)
 third c = behind_heading (room (start (worded c))) (second c)
 
-put_user_lines_requires : tie.Need-put-user-lines-requires
+put_user_lines_requires : tie.Need-put_user_lines-requires
 put_user_lines_requires c κs =
     let b = c.before.before.before in
     ((start (worded b)).requires.0, room_behind (third b))
 
-add_result : tie.Need-overflow-add-result
+add_result : tie.Need-overflow_add-result
 add_result c =
     let put = c.before.before in
     let b = put.before.before.before.before in
-    omega (arith, (start (worded b)).well-formed.0.0, end_within (third b) put.put-user-lines.ensures)
+    omega (arith, (start (worded b)).well_formed.0.0, end_within (third b) put.put_user_lines.ensures)
 
 returns : tie.Need-returns
 returns c =
     let put = c.before.before in
     let b = put.before.before.before.before in
-    written_as (sym (parts (start (worded b)))) (then_written (third b) put.put-user-lines.ensures)
+    written_as (sym (parts (start (worded b)))) (then_written (third b) put.put_user_lines.ensures)
 
 pub put_users_spec : {M : Type 1} → statement M
 put_users_spec =
-    tie.close (tie.spec (λ c. search rules)
-    (λ c κs. name_fits (heading_room (room c.before.before.before.before.before.before)))
+    tie.close (tie.spec
+    (λ c κs. name_fits (heading_room (room c.before.before.before.before.before.before.before)))
     (λ c. within_buffer (first c.before.before)) (λ c. within_buffer (first c.before.before))
     (λ c. search rules)
     (λ c κs. ((start c.before.before.before).requires.0.1, room_behind (first c.before.before.before)))
@@ -93,4 +91,4 @@ put_users_spec =
     (λ c. within_buffer (third c.before.before)) (λ c. within_buffer (third c.before.before))
     (λ c. search rules) put_user_lines_requires add_result
     (λ c. let put = c.before.before in
-    then_same_length (third put.before.before.before.before) put.put-user-lines.ensures) returns)
+    then_same_length (third put.before.before.before.before) put.put_user_lines.ensures) returns)

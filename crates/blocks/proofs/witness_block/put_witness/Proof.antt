@@ -29,48 +29,46 @@ parts s = witness_parts (sheet_of s.args.s.now) s.args.cells.now
 fits : (s : tie.Start) → length (heading ++ lines s) ≤ length s.args.out.now
 fits s = fits_as (parts s) s.requires.1
 
-abbrev start : tie.After-put-bytes → tie.Start
-start c =
-    let earlier = c.before.before.before.before.before.before.before.before in
-    earlier
+abbrev start : tie.After-put_bytes-lines → tie.Start
+start c = c.before.before.before.before.before.before.before.before.before
 
-behind_heading : (c : tie.After-put-bytes)
-    → WrittenSoFar heading (lines (start c)) (start c).args.out.now c.put-bytes.new.0 c.put-bytes.result
-behind_heading c = record { written = c.put-bytes.ensures; fits = fits (start c) }
+behind_heading : (c : tie.After-put_bytes-lines)
+    → WrittenSoFar heading (lines (start c)) (start c).args.out.now c.put_bytes-lines.new.out c.put_bytes-lines.result
+behind_heading c = record { written = c.put_bytes-lines.ensures; fits = fits (start c) }
 
-put_bytes_requires : tie.Need-put-bytes-requires
+put_bytes_requires : tie.Need-put_bytes-lines-requires
 put_bytes_requires c κs =
     let s = c.before.before.before.before.before.before.before in
-    front_fits heading (lines s) (fits s)
+    front_fits heading (lines s.before) (fits s.before)
 
-sub_put_cell_lines : tie.Need-overflow-sub-put-cell-lines
+sub_put_cell_lines : tie.Need-slice_bounds-put_cell_lines-count
 sub_put_cell_lines c = within_buffer (behind_heading c.before.before)
 
-part_put_cell_lines_start : tie.Need-slice-bounds-put-cell-lines-start
+part_put_cell_lines_start : tie.Need-slice_bounds-put_cell_lines-start
 part_put_cell_lines_start c = within_buffer (behind_heading c.before.before)
 
-put_cell_lines_requires : tie.Need-put-cell-lines-requires
+put_cell_lines_requires : tie.Need-put_cell_lines-requires
 put_cell_lines_requires c κs =
     let a = c.before.before.before in
     ((start a).requires.0, room_behind (behind_heading a))
 
-add_result : tie.Need-overflow-add-result
+add_result : tie.Need-overflow_add-result
 add_result c =
     let a = c.before.before.before.before.before.before in
-    omega (arith, end_within (behind_heading a) c.before.before.put-cell-lines.ensures)
+    omega (arith, end_within (behind_heading a) c.put_cell_lines.ensures)
 
-same_length : tie.Need-same-length
+same_length : tie.Need-shape_of-out
 same_length c =
     let a = c.before.before.before.before.before.before in
-    then_same_length (behind_heading a) c.before.before.put-cell-lines.ensures
+    then_same_length (behind_heading a) c.put_cell_lines.ensures
 
 returns : tie.Need-returns
 returns c =
     let a = c.before.before.before.before.before.before in
     written_as (sym (parts (start a))) (then_written (behind_heading a)
-    c.before.before.put-cell-lines.ensures)
+    c.put_cell_lines.ensures)
 
 pub put_witness_spec : {M : Type 1} → statement M
 put_witness_spec =
-    tie.close (tie.spec (λ c. search rules) put_bytes_requires sub_put_cell_lines part_put_cell_lines_start
+    tie.close (tie.spec put_bytes_requires sub_put_cell_lines part_put_cell_lines_start
     (λ c. search rules) put_cell_lines_requires add_result same_length returns)
