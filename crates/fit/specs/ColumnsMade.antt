@@ -1,7 +1,7 @@
 -- Columns made user by user: each goes into the columns of the permissions at the positions of each word of the row.
-use Rattle.std.specs.Prelude.{ℕ, ◌+◌, ◌*◌, ◌/◌, ◌%◌, ◌≤◌, ◌<◌, ◌≡◌, refl, Bool, true, false, not, ◌&&◌, ◌||◌, List, eqb, ltb, length, get_or, replicate}
+use Rattle.std.specs.Prelude.{ℕ, ◌+◌, ◌*◌, ◌/◌, ◌%◌, ◌≤◌, ◌<◌, ◌≡◌, refl, Bool, true, false, ◌&&◌, ◌||◌, List, eqb, ltb, length, get_or, replicate}
 use Rattle.std.proofs.Common.{mod-lt, arith, sym, ap, ◌∙◌, ⊎_elim, eqb-true, lt-ltb, le-ltb}
-use Rattle.std.proofs.Math.Bool.{So, and-true, and-false, or_assoc, or-false}
+use Rattle.std.proofs.Math.Bool.{and-true, and-false, or_assoc, or-false}
 use Rattle.std.proofs.Math.ListN.{get_or-eq_default}
 use Rattle.spec.specs.Limits.{user_limit}
 use Rattle.bits.specs.Truth.{passes_or_fails}

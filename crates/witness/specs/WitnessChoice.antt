@@ -8,7 +8,6 @@ use Rattle.std.proofs.Math.Option.{Option, none, some}
 use Rattle.std.proofs.lemmas.Bool.{eqb-false, lt-leb}
 use Rattle.spec.specs.Vocabulary.{least}
 use Rattle.spec.specs.Sheet.{Sheet, Grant}
-use Rattle.spec.specs.Fit.{partners}
 use Rattle.spec.specs.Witness.{fewest_partners}
 use Rattle.bits.specs.Truth.{passes_or_fails}
 use Rattle.lists.specs.LeastLast.{or_lesser, least_last}

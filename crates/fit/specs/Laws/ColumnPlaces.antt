@@ -2,7 +2,6 @@
 -- quotient and its remainder, so a place is that of one user and one permission.
 use Rattle.std.specs.Prelude.{ℕ, ◌+◌, ◌*◌, ◌/◌, ◌%◌, ◌≤◌, ◌<◌, ◌≡◌, ◌&&◌, eqb}
 use Rattle.std.proofs.Common.{mul_assoc, div-add-mod', le-div_iff_mul-le, div-lt_iff_lt-mul, arith, sym, ap, ◌∙◌, eqb-true, eq-eqb, lit<}
-use Rattle.std.proofs.Math.Bool.{So}
 use Rattle.std.proofs.Math.Arith.{digits_div, digits_mod}
 use Rattle.spec.specs.Limits.{user_limit}
 use Rattle.bits.specs.Truth.{same_truth, and_intro, and_left, and_right}

@@ -2,7 +2,7 @@
 -- and dropped.
 use Prim.Native.Nat.{◌+◌, ◌≤◌}
 use native.Mathlib.Omega.{arith}
-use mathlib.Core.Path.{◌≡◌, ◌∙◌}
+use mathlib.Core.Path.{◌≡◌}
 use borrow.Author.Tests.{ltb-false}
 use Rattle.spec.specs.Limits.{user_limit}
 use Rattle.bits.specs.Bit.{bit, word_bits}
