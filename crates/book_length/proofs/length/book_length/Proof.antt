@@ -19,55 +19,55 @@ use Rattle.book_length.proofs.length.book_length.Tie as tie
 
 -- the layout, which the function keeps where it can be lent
 abbrev layout : tie.Start → Layout
-layout s = s.args.t2
+layout s = s.args.layout
 
-abbrev begun : tie.After-first-places → tie.Start
-begun c = c.before.before.before.before.before.before
+abbrev begun : tie.After-first_places-user_places → tie.Start
+begun c = c.before.before.before.before.before
 
 -- where the names of the sheet are counted, and those of the roles
-abbrev counted : tie.After-bytes-at2 → tie.Start
+abbrev counted : tie.After-bytes_at-2 → tie.Start
 counted c =
     let placed = c.before.before in
     begun placed.before.before.before
 
-abbrev named : tie.After-role-names-length → tie.Start
+abbrev named : tie.After-role_names_length → tie.Start
 named c = counted c.before
 
-first_places_requires : tie.Need-first-places-requires
-first_places_requires c κs = users_placed c.before.before.before.before.before.requires.0
+first_places_requires : tie.Need-first_places-user_places-requires
+first_places_requires c κs = users_placed c.requires.0
 
-first_places_requires_2 : tie.Need-first-places-requires-2
+first_places_requires_2 : tie.Need-first_places-permission_places-requires
 first_places_requires_2 c κs = permissions_placed (begun c.before.before).requires.0
 
 -- the places of the names
-users_at : (c : tie.After-first-places2)
-    → UsersAt (begun c.before.before.before).args.s.now c.before.before.before.first-places.result.now
-users_at c = users_lent (begun c.before.before.before).requires.0 c.before.before.before.first-places.ensures
+users_at : (c : tie.After-first_places-permission_places)
+    → UsersAt (begun c.before.before.before).args.s.now c.first_places-user_places.result.now
+users_at c = users_lent (begun c.before.before.before).requires.0 c.first_places-user_places.ensures
 
-permissions_at : (c : tie.After-first-places2)
-    → PermissionsAt (begun c.before.before.before).args.s.now c.first-places2.result.now
-permissions_at c = permissions_lent (begun c.before.before.before).requires.0 c.first-places2.ensures
+permissions_at : (c : tie.After-first_places-permission_places)
+    → PermissionsAt (begun c.before.before.before).args.s.now c.first_places-permission_places.result.now
+permissions_at c = permissions_lent (begun c.before.before.before).requires.0 c.first_places-permission_places.ensures
 
 -- the names, and the lines, within their bounds
-names_small : (c : tie.After-bytes-at2) → c.before.bytes_at.result + c.bytes-at2.result ≤ 8_192
+names_small : (c : tie.After-bytes_at-2) → c.bytes_at.result + c.bytes_at-2.result ≤ 8_192
 names_small c =
     omega (
       arith,
-      c.before.bytes_at.ensures,
+      c.bytes_at.ensures,
       bytes_small (users_short (users_at c.before.before)),
-      c.bytes-at2.ensures,
+      c.bytes_at-2.ensures,
       bytes_small (permissions_short (permissions_at c.before.before)),
     )
 
-roles_small : (c : tie.After-role-names-length) → c.role-names-length.result ≤ 4 * row_bits
+roles_small : (c : tie.After-role_names_length) → c.role_names_length.result ≤ 4 * row_bits
 unfolding row_bits row_words
 roles_small c =
     let s = named c in
     omega (
       arith,
-      c.role-names-length.ensures,
-      s.pre.1,
-      role_bytes_small s.args.counts.roles (omega (arith, s.pre.1)),
+      c.role_names_length.ensures,
+      s.requires.1,
+      role_bytes_small s.args.counts.roles (omega (arith, s.requires.1)),
     )
 
 lines_small : (s : tie.Start)
@@ -82,12 +82,12 @@ lines_small s =
     let users = cells_small s.args.counts.roles (few_users s.requires.0) in
     (s.requires.1, fit, omega arith, omega (arith, s.requires.1))
 
-witness_length_requires : tie.Need-witness-length-requires
+witness_length_requires : tie.Need-witness_length-shown-requires
 witness_length_requires c κs =
     let placed = c.before.before.before in
     (users_at placed, permissions_at placed, (begun placed.before.before.before).requires.2)
 
-abbrev role_names : tie.After-counts-length → tie.After-role-names-length
+abbrev role_names : tie.After-counts_length → tie.After-role_names_length
 role_names c = c.before.before
 
 -- the whole sum within its bound
@@ -96,12 +96,12 @@ lines s =
     let roles = s.args.counts.roles in
     roles * (2 * (layout s).permissions + 1) + (layout s).users * (2 * roles + 1)
 
-sum_small : (c : tie.After-counts-length)
+sum_small : (c : tie.After-counts_length)
     → let r = role_names c in
     let s = named r in
-    let names = r.before.before.bytes_at.result + r.before.bytes-at2.result + 2 * r.role-names-length.result in
+    let names = r.bytes_at.result + r.bytes_at-2.result + 2 * r.role_names_length.result in
     c.counts_length.result + (29 + (layout s).permissions + s.args.counts.roles) + names + lines s
-    + c.before.witness_length.result < 2 ^ 32
+    + c.witness_length-shown.result < 2 ^ 32
 unfolding row_bits row_words user_limit
 sum_small c =
     let r = role_names c in
@@ -115,7 +115,7 @@ sum_small c =
       roles_small r,
       names_small r.before,
       c.counts_length.ensures.small,
-      c.before.witness_length.ensures.small,
+      c.witness_length-shown.ensures.small,
     )
 
 returns : tie.Need-returns
@@ -124,12 +124,12 @@ returns c =
     let placed = r.before.before.before in
     let s = named r in
     let text = s.args.s.now in
-    let laid = s.pre.0 in
+    let laid = s.requires.0 in
     λ has gives. book_sum text has gives s.args.witness.now s.args.counts laid.user_total
     laid.permission_total c.counts_length.ensures
-    (r.before.before.bytes_at.ensures ∙ users_bytes (users_at placed))
-    (r.before.bytes-at2.ensures ∙ permissions_bytes (permissions_at placed))
-    r.role-names-length.ensures c.before.witness_length.ensures
+    (r.bytes_at.ensures ∙ users_bytes (users_at placed))
+    (r.bytes_at-2.ensures ∙ permissions_bytes (permissions_at placed))
+    r.role_names_length.ensures c.witness_length-shown.ensures
 
 pub book_length_spec : {M : Type 1} → statement M
 unfolding row_bits row_words user_limit

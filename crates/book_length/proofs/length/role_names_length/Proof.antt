@@ -7,15 +7,15 @@ use Rattle.book_length.specs.Laws.NameBytes.{role_bytes_two, role_bytes_three, r
 use Rattle.book_length.proofs.length.role_names_length.Statement.{statement}
 use Rattle.book_length.proofs.length.role_names_length.Tie as tie
 
-returns : tie.Need-returns
-returns c = sym (role_bytes_two c.before.args.roles (omega arith))
+returns : tie.Need-returns-then-roles-lt10
+returns c = sym (role_bytes_two c.args.roles (omega arith))
 
-returns_2 : tie.Need-returns-2
-returns_2 c = sym (role_bytes_three c.before.before.args.roles (omega arith) (omega arith))
+returns_2 : tie.Need-returns-then-roles-lt100
+returns_2 c = sym (role_bytes_three c.args.roles (omega arith) (omega arith))
 
-returns_3 : tie.Need-returns-3
+returns_3 : tie.Need-returns
 unfolding row_bits row_words
-returns_3 c = sym (role_bytes_four c.before.before.args.roles (omega arith) (omega arith))
+returns_3 c = sym (role_bytes_four c.args.roles (omega arith) (omega arith))
 
 pub role_names_length_spec : {M : Type 1} → statement M
 unfolding row_bits row_words

@@ -13,17 +13,17 @@ use Rattle.book_length.proofs.length.standing_length.Tie as tie
 abbrev text : StandingValue → Bytes
 text standing = standing_text (standing_case standing)
 
-returns : tie.Need-returns
+returns : tie.Need-returns-in-Witnessed
 returns c =
-    measured_as (sym (ap text c.before.enum_told.given.1)) (record { counted = refl; small = omega arith })
+    measured_as (sym (ap text c.in-Witnessed.is)) (record { counted = refl; small = omega arith })
 
-returns_2 : tie.Need-returns-2
+returns_2 : tie.Need-returns-in-Searched
 returns_2 c =
-    measured_as (sym (ap text c.before.enum-told2.given.1)) (record { counted = refl; small = omega arith })
+    measured_as (sym (ap text c.in-Searched.is)) (record { counted = refl; small = omega arith })
 
-returns_3 : tie.Need-returns-3
+returns_3 : tie.Need-returns-in-Open
 returns_3 c =
-    measured_as (sym (ap text c.before.enum-told3.given.1)) (record { counted = refl; small = omega arith })
+    measured_as (sym (ap text c.in-Open.is)) (record { counted = refl; small = omega arith })
 
 pub standing_length_spec : {M : Type 1} → statement M
 standing_length_spec =

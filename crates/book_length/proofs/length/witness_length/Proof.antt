@@ -15,117 +15,115 @@ use Rattle.book_length.specs.Laws.WitnessMeasured.{cell_measured}
 use Rattle.book_length.proofs.length.witness_length.Statement.{statement}
 use Rattle.book_length.proofs.length.witness_length.Tie as tie
 
-abbrev invariant_loop : tie.invariant-loop
+abbrev invariant_loop : tie.invariant-loop-i
 invariant_loop s users permissions cells total₀ i₀ total i =
     Adding (length cells) (λ j. cell_line (sheet_of s) (get_or cells j 0)) piece_most i total
 
-abbrev decreases_loop : tie.decreases-loop
+abbrev decreases_loop : tie.decreases-loop-i
 decreases_loop s users permissions cells total₀ i₀ total i = length cells - i
 
-abbrev start : tie.In-loop invariant_loop decreases_loop → tie.Start invariant_loop decreases_loop
-start c =
-    let earlier = c.before.before.before.before.before.before in
-    earlier
+abbrev start : tie.In-loop-i invariant_loop decreases_loop → tie.Start invariant_loop decreases_loop
+start c = c.before.before.before.before.before.before
 
-abbrev cell_at : tie.In-loop invariant_loop decreases_loop → ℕ
-cell_at c = get_or (start c).args.cells.now c.before.loop.i 0
+abbrev cell_at : tie.In-loop-i invariant_loop decreases_loop → ℕ
+cell_at c = get_or (start c).args.cells.now c.loop-i.i 0
 
 -- the turn in which the user is found, and in which both names are
-abbrev user_turn : tie.After-user-of invariant_loop decreases_loop → tie.In-loop invariant_loop decreases_loop
+abbrev user_turn : tie.After-user_of invariant_loop decreases_loop → tie.In-loop-i invariant_loop decreases_loop
 user_turn c = c.before.before
 
-abbrev turn : tie.After-permission-of invariant_loop decreases_loop → tie.In-loop invariant_loop decreases_loop
+abbrev turn : tie.After-permission_of invariant_loop decreases_loop → tie.In-loop-i invariant_loop decreases_loop
 turn c = user_turn c.before.before
 
 -- the user and the permission of the cell are those of the sheet
-user_below : (c : tie.After-user-of invariant_loop decreases_loop)
-    → c.user-of.result.0 < user_count (sheet_of (start (user_turn c)).args.s.now)
+user_below : (c : tie.After-user_of invariant_loop decreases_loop)
+    → c.user_of.result.0 < user_count (sheet_of (start (user_turn c)).args.s.now)
 user_below c =
     let at = user_turn c in
-    omega (arith, c.user-of.ensures, (start at).pre.2.user_below at.before.loop.i at.loop-test.taken)
+    omega (arith, c.user_of.ensures, (start at).requires.2.user_below at.loop-i.i at.loop-i-test.true)
 
-permission_below : (c : tie.After-permission-of invariant_loop decreases_loop)
-    → c.permission-of.result.0 < permission_count (sheet_of (start (turn c)).args.s.now)
+permission_below : (c : tie.After-permission_of invariant_loop decreases_loop)
+    → c.permission_of.result.0 < permission_count (sheet_of (start (turn c)).args.s.now)
 permission_below c =
     let at = turn c in
     omega (
       arith,
-      c.permission-of.ensures,
-      (start at).pre.2.permission_below at.before.loop.i at.loop-test.taken,
+      c.permission_of.ensures,
+      (start at).requires.2.permission_below at.loop-i.i at.loop-i-test.true,
     )
 
 -- so both names are short
-user_fits : (c : tie.After-user-name-in invariant_loop decreases_loop) → length c.user-name-in.result.now ≤ name_limit
+user_fits : (c : tie.After-user_name_in-name invariant_loop decreases_loop) → length c.user_name_in-name.result.now ≤ name_limit
 user_fits c =
     omega (
       arith,
-      ap length c.user-name-in.ensures,
-      user_short (start (user_turn c.before)).pre.0 _ (user_below c.before),
+      ap length c.user_name_in-name.ensures,
+      user_short (start (user_turn c.before)).requires.0 _ (user_below c.before),
     )
 
-permission_fits : (c : tie.After-permission-name-in invariant_loop decreases_loop)
-    → length c.permission-name-in.result.now ≤ name_limit
+permission_fits : (c : tie.After-permission_name_in-held invariant_loop decreases_loop)
+    → length c.permission_name_in-held.result.now ≤ name_limit
 permission_fits c =
     omega (
       arith,
-      ap length c.permission-name-in.ensures,
-      permission_short (start (turn c.before)).pre.1 _ (permission_below c.before),
+      ap length c.permission_name_in-held.ensures,
+      permission_short (start (turn c.before)).requires.1 _ (permission_below c.before),
     )
 
 -- and the line of the cell is as long as the code adds
-measured : (c : tie.After-permission-name-in invariant_loop decreases_loop)
+measured : (c : tie.After-permission_name_in-held invariant_loop decreases_loop)
     → let at = turn c.before in
     Measured (cell_line (sheet_of (start at).args.s.now) (cell_at at)) piece_most
-    (length c.before.before.user-name-in.result.now + length c.permission-name-in.result.now + 2)
+    (length c.user_name_in-name.result.now + length c.permission_name_in-held.result.now + 2)
 measured c =
     let at = turn c.before in
     let named = c.before.before in
-    cell_measured (sheet_of (start at).args.s.now) (cell_at at) named.before.user-of.ensures
-    c.before.permission-of.ensures named.user-name-in.ensures c.permission-name-in.ensures
+    cell_measured (sheet_of (start at).args.s.now) (cell_at at) named.user_of.ensures
+    c.permission_of.ensures named.user_name_in-name.ensures c.permission_name_in-held.ensures
     (user_fits named) (permission_fits c)
 
-loop_holds : tie.Need-loop-init invariant_loop decreases_loop
+loop_holds : tie.Need-loop-i-init invariant_loop decreases_loop
 loop_holds c = adding_starts _ _ _
 
-cast_cell : tie.Need-overflow-cast-cell invariant_loop decreases_loop
-cast_cell c = omega (arith, c.shared-slice-known5.given c.before.before.loop.i)
+cast_cell : tie.Need-overflow_cast-cell invariant_loop decreases_loop
+cast_cell c = omega (arith, c.shared_slice_known-in-loop-i-1.given c.loop-i.i)
 
-user_name_in_requires : tie.Need-user-name-in-requires invariant_loop decreases_loop
-user_name_in_requires c κs = ((start (user_turn c)).pre.0, user_below c)
+user_name_in_requires : tie.Need-user_name_in-name-requires invariant_loop decreases_loop
+user_name_in_requires c κs = ((start (user_turn c)).requires.0, user_below c)
 
-permission_name_in_requires : tie.Need-permission-name-in-requires invariant_loop decreases_loop
-permission_name_in_requires c κs = ((start (turn c)).pre.1, permission_below c)
+permission_name_in_requires : tie.Need-permission_name_in-held-requires invariant_loop decreases_loop
+permission_name_in_requires c κs = ((start (turn c)).requires.1, permission_below c)
 
-add_total : tie.Need-overflow-add-total invariant_loop decreases_loop
+add_total : tie.Need-overflow_add-total invariant_loop decreases_loop
 unfolding name_limit
 add_total c = omega (arith, user_fits c.before.before, permission_fits c)
 
-add_total_2 : tie.Need-overflow-add-total-2 invariant_loop decreases_loop
+add_total_2 : tie.Need-overflow_add-total-in-loop-i invariant_loop decreases_loop
 unfolding name_limit
 add_total_2 c = omega (arith, user_fits c.before.before, permission_fits c)
 
-add_total_3 : tie.Need-overflow-add-total-3 invariant_loop decreases_loop
+add_total_3 : tie.Need-overflow_add-total-in-loop-i-2 invariant_loop decreases_loop
 unfolding grant_limit
 add_total_3 c =
     let at = turn c.before in
     omega (
       arith,
       (measured c).small,
-      at.before.loop.inv.small,
-      at.loop-test.taken,
-      (start at).pre.2.few,
+      at.loop-i.invariant.small,
+      at.loop-i-test.true,
+      (start at).requires.2.few,
     )
 
-loop_again : tie.Need-loop-preserved invariant_loop decreases_loop
+loop_again : tie.Need-loop-i-preserved invariant_loop decreases_loop
 loop_again c =
     let at = turn c.before in
-    part_added at.before.loop.inv at.loop-test.taken (measured c)
+    part_added at.loop-i.invariant at.loop-i-test.true (measured c)
 
 returns : tie.Need-returns invariant_loop decreases_loop
 unfolding grant_limit
 returns c =
     let s = c.before.before.before.before.before.before in
-    measured_within (adding_ends c.before.loop.invariant c.loop-test.false) (omega (arith, s.requires.2.few))
+    measured_within (adding_ends c.loop-i.invariant c.loop-i-test.false) (omega (arith, s.requires.2.few))
 
 pub witness_length_spec : {M : Type 1} → statement M
 witness_length_spec =
