@@ -9,83 +9,83 @@ use Rattle.read_fields.specs.CountSteps.{no_empty_line, counts_reads}
 use Rattle.read_fields.proofs.counts_block.read_counts.Statement.{statement}
 use Rattle.read_fields.proofs.counts_block.read_counts.Tie as tie
 
-returns : tie.Need-returns
+returns : tie.Need-returns-in_default
 returns c =
     λ role_digits bound_digits s p q. misses_first (after_heading role_digits bound_digits s)
-    (rw c.enum_told.given.1 at c.before.before.expect.ensures)
+    (rw c.in_default.is at c.expect.ensures)
 
 -- the call, from where the line of names has been read; and each place where a field has been, from the next such one
-abbrev call : tie.After-known-told → tie.Start
-call c = c.before.before.before.before.before.before
+abbrev call : tie.In-On → tie.Start
+call c = c.before.before.before.before.before
 
-abbrev headed : tie.After-known-told2 → tie.After-known-told
-headed c = c.before.before.before.before
+abbrev headed : tie.In-Count → tie.In-On
+headed c = c.before.before
 
-abbrev counted : tie.After-known-told3 → tie.After-known-told2
-counted c = c.before.before.before.before
+abbrev counted : tie.In-Count-count_field → tie.In-Count
+counted c = c.before.before
 
-abbrev bounded : tie.After-known-told4 → tie.After-known-told3
-bounded c = c.before.before.before.before
+abbrev bounded : tie.In-State → tie.In-Count-count_field
+bounded c = c.before.before
 
-heading : (c : tie.After-known-told)
-    → Stands (call c).args.book.now 0 (ascii "roles,bound,state\n") c.before.first.given.0.0
-heading c = rw c.before.first.given.1 at c.before.before.before.expect.ensures
+heading : (c : tie.In-On)
+    → Stands (call c).args.book.now 0 (ascii "roles,bound,state\n") c.in-On.first
+heading c = rw c.in-On.is at c.expect.ensures
 
-count_field_requires : tie.Need-count-field-requires
+count_field_requires : tie.Need-count_field-requires
 count_field_requires c κs = (heading c).within
 
-returns_2 : tie.Need-returns-2
+returns_2 : tie.Need-returns-in_default-count_field
 returns_2 c =
-    no_roles (heading c.before.before.before) (rw c.enum-told2.given.1 at
-    c.before.before.count_field.ensures)
+    no_roles (heading c.before.before) (rw c.in_default-count_field.is at
+    c.count_field.ensures)
 
-roles : (c : tie.After-known-told2)
-    → CountAt (call (headed c)).args.book.now (headed c).before.first.given.0.0 c.before.roles.given.0.0
-    c.before.roles.given.0.1.0
-roles c = rw c.before.roles.given.1 at c.before.before.before.count_field.ensures
+roles : (c : tie.In-Count)
+    → CountAt (call (headed c)).args.book.now (headed c).in-On.first c.in-Count.roles
+    c.in-Count.second
+roles c = rw c.in-Count.is at c.count_field.ensures
 
-count_field_requires_2 : tie.Need-count-field-requires-2
+count_field_requires_2 : tie.Need-count_field-requires-2
 count_field_requires_2 c κs = (roles c).reads.within
 
-returns_3 : tie.Need-returns-3
+returns_3 : tie.Need-returns-in_default-count_field-2
 returns_3 c =
-    let count = c.before.before.before in
-    no_bound (heading (headed count)) (roles count) (rw c.enum-told3.given.1 at
-    c.before.before.count-field2.ensures)
+    let count = c.before.before in
+    no_bound (heading (headed count)) (roles count) (rw c.in_default-count_field-2.is at
+    c.count_field-2.ensures)
 
-bound : (c : tie.After-known-told3)
-    → CountAt (call (headed (counted c))).args.book.now (counted c).before.roles.given.0.1.0
-    c.before.bound.given.0.0 c.before.bound.given.0.1.0
-bound c = rw c.before.bound.given.1 at c.before.before.before.count-field2.ensures
+bound : (c : tie.In-Count-count_field)
+    → CountAt (call (headed (counted c))).args.book.now (counted c).in-Count.second
+    c.in-Count-count_field.bound c.in-Count-count_field.third
+bound c = rw c.in-Count-count_field.is at c.count_field-2.ensures
 
-standing_field_requires : tie.Need-standing-field-requires
+standing_field_requires : tie.Need-standing_field-requires
 standing_field_requires c κs = (bound c).reads.within
 
-returns_4 : tie.Need-returns-4
+returns_4 : tie.Need-returns-in_default-standing_field
 returns_4 c =
-    let counts = c.before.before.before in
-    no_state (heading (headed (counted counts))) (roles (counted counts)) (bound counts) (rw c.enum-told4.given.1
-    at c.before.before.standing-field.ensures)
+    let counts = c.before.before in
+    no_state (heading (headed (counted counts))) (roles (counted counts)) (bound counts) (rw c.in_default-standing_field.is
+    at c.standing_field.ensures)
 
-standing : (c : tie.After-known-told4)
-    → Stands (call (headed (counted (bounded c)))).args.book.now (bounded c).before.bound.given.0.1.0
-    (standing_text (standing_case c.before.standing.given.0.0)) c.before.standing.given.0.1.0
-standing c = rw c.before.standing.given.1 at c.before.before.before.standing-field.ensures
+standing : (c : tie.In-State)
+    → Stands (call (headed (counted (bounded c)))).args.book.now (bounded c).in-Count-count_field.third
+    (standing_text (standing_case c.in-State.standing)) c.in-State.end
+standing c = rw c.in-State.is at c.standing_field.ensures
 
-expect_byte_requires : tie.Need-expect-byte-requires
+expect_byte_requires : tie.Need-expect_byte-requires
 expect_byte_requires c κs = (standing c).within
 
-returns_5 : tie.Need-returns-5
+returns_5 : tie.Need-returns-in_default-expect_byte
 returns_5 c =
-    let line = c.before.before.before in
+    let line = c.before.before in
     let counts = bounded line in
     no_empty_line (heading (headed (counted counts))) (roles (counted counts)) (bound counts)
-    (standing_case line.before.standing.given.0.0) (standing line) (rw c.enum-told5.given.1 at
-    c.before.before.expect-byte.ensures)
+    (standing_case line.in-State.standing) (standing line) (rw c.in_default-expect_byte.is at
+    c.expect_byte.ensures)
 
-returns_6 : tie.Need-returns-6
+returns_6 : tie.Need-returns
 returns_6 c =
-    let line = c.before.before.before.before in
+    let line = c.before.before in
     let counts = bounded line in
     record {
       role_digits = (roles (counted counts)).digits;
@@ -94,13 +94,13 @@ returns_6 c =
       bound = (bound counts).said;
       reads =
           counts_reads (heading (headed (counted counts))) (roles (counted counts)) (bound counts)
-          (standing_case line.before.standing.given.0.0) (standing line) (rw c.before.next.given.1 at
-          c.before.before.before.expect-byte.ensures);
+          (standing_case line.in-State.standing) (standing line) (rw c.in-On-expect_byte.is at
+          c.expect_byte.ensures);
     }
 
 pub read_counts_spec : {M : Type 1} → statement M
 read_counts_spec =
-    tie.close (tie.spec (λ c. search rules) (λ c κs. search rules) (λ c. search rules) (λ c. search rules) returns
+    tie.close (tie.spec (λ c κs. search rules) (λ c. search rules) (λ c. search rules) returns
     count_field_requires (λ c. search rules) (λ c. search rules) returns_2 count_field_requires_2 (λ c. search rules)
     (λ c. search rules) returns_3 standing_field_requires (λ c. search rules) (λ c. search rules) returns_4
     expect_byte_requires (λ c. search rules) (λ c. search rules) returns_5 returns_6)

@@ -11,11 +11,11 @@ use Rattle.read_fields.proofs.witness_block.witness_line.Statement.{statement}
 use Rattle.read_fields.proofs.witness_block.witness_line.Tie as tie
 
 -- the call, from where the user was looked for; and from where it was found
-abbrev asked : tie.After-name-field → tie.Start
+abbrev asked : tie.After-name_field → tie.Start
 asked c = c.before.before.before.before.before
 
-abbrev call : tie.After-known-told → tie.Start
-call c = asked c.before.before.before
+abbrev call : tie.In-Name → tie.Start
+call c = asked c.before
 
 abbrev sheet : tie.Start → Sheet
 sheet start = sheet_of start.args.sheet.now
@@ -29,39 +29,39 @@ users c = users_there c.requires.1
 permissions : (c : tie.Start) → NamesThere c.args.sheet.now c.args.permissions.now (sheet c).permissions
 permissions c = permissions_there c.requires.2
 
-name_field_requires : tie.Need-name-field-requires
+name_field_requires : tie.Need-name_field-requires
 name_field_requires c κs =
     let start = c.before.before.before.before in (start.requires.0, (users start).inside, (users start).apart)
 
-returns : tie.Need-returns
+returns : tie.Need-returns-in_default
 returns c =
-    let start = asked c.before.before in
-    no_user (sheet start) (lawful start) (rw (users start).same at (rw c.enum_told.given.1 at
-    c.before.before.name_field.ensures))
+    let start = asked c.before in
+    no_user (sheet start) (lawful start) (rw (users start).same at (rw c.in_default.is at
+    c.name_field.ensures))
 
-user : (c : tie.After-known-told)
-    → NameAt (sheet (call c)).users (call c).args.book.now (call c).args.at comma c.before.user.given.0.0
-    c.before.user.given.0.1.0
+user : (c : tie.In-Name)
+    → NameAt (sheet (call c)).users (call c).args.book.now (call c).args.at comma c.in-Name.user
+    c.in-Name.start
 user c =
-    rw (users (call c)).same at (rw c.before.user.given.1 at c.before.before.before.name_field.ensures)
+    rw (users (call c)).same at (rw c.in-Name.is at c.name_field.ensures)
 
-name_field_requires_2 : tie.Need-name-field-requires-2
+name_field_requires_2 : tie.Need-name_field-requires-2
 name_field_requires_2 c κs =
     let start = call c in ((user c).reads.within, (permissions start).inside, (permissions start).apart)
 
-returns_2 : tie.Need-returns-2
+returns_2 : tie.Need-returns-in_default-name_field
 returns_2 c =
-    let at_user = c.before.before.before in
+    let at_user = c.before.before in
     let start = call at_user in
     no_permission (sheet start) (lawful start) (user at_user) (rw (permissions start).same at
-    (rw c.enum-told2.given.1 at c.before.before.name-field2.ensures))
+    (rw c.in_default-name_field.is at c.name_field-2.ensures))
 
-returns_3 : tie.Need-returns-3
+returns_3 : tie.Need-returns
 returns_3 c =
-    let at_user = c.before.before.before.before in
+    let at_user = c.before.before in
     let start = call at_user in
     witness_at (sheet start) (lawful start) (user at_user) (rw (permissions start).same at
-    (rw c.before.permission.given.1 at c.before.before.before.name-field2.ensures))
+    (rw c.in-Name-name_field.is at c.name_field-2.ensures))
 
 pub witness_line_spec : {M : Type 1} → statement M
 witness_line_spec =
