@@ -29,5 +29,6 @@ returns_2 c =
 pub permissions_line_spec : {M : Type 1} → statement M
 permissions_line_spec =
     tie.close (tie.spec part_end_requires (λ c. search rules) (λ c. search rules) (λ c. search rules) returns
-    (λ c. omega (arith, (feed c).within)) (λ c. omega (arith, (feed c).forward)) (λ c. omega (arith, (feed c).forward))
+    (λ c. omega (arith, (feed c).within)) (λ c. omega (arith, (feed c).forward))
+    (λ c. omega (arith, (feed c).forward))
     (λ c. omega (arith, (feed c).within)) returns_2)

@@ -48,5 +48,6 @@ returns c =
 
 pub clear_rows_spec : {M : Type 1} → statement M
 clear_rows_spec =
-    tie.close (tie.spec invariant_loop decreases_loop loop_holds (λ c. search rules) slice_write_rows (λ c. search rules) loop_less
+    tie.close (tie.spec invariant_loop decreases_loop loop_holds (λ c. search rules) slice_write_rows
+    (λ c. search rules) loop_less
     loop_again same_length returns)

@@ -78,7 +78,8 @@ unfolding role_limit
 below c = omega (arith, (head c).loop-end.invariant.0, c.if-r-eq-ROLE_LIMIT.false)
 
 -- no empty line ends the roles
-no_end : (c : tie.Else-r-eq-ROLE_LIMIT invariant_loop decreases_loop) → Misses (call (head c)).args.book.now (head c).loop-end.next line_end
+no_end : (c : tie.Else-r-eq-ROLE_LIMIT invariant_loop decreases_loop)
+    → Misses (call (head c)).args.book.now (head c).loop-end.next line_end
 no_end c = rw c.in_default.is at c.expect_byte.ensures
 
 put_role_name_requires : tie.Need-put_role_name-n-requires invariant_loop decreases_loop
@@ -132,7 +133,8 @@ read_line_requires c κs =
     let start = call at_loop in (
       (name_there c.before).within,
       start.requires.1,
-      row_within at_loop.loop-end.r role_limit _ (below to_read) (omega (arith, start.requires.2, at_loop.loop-end.invariant.1)),
+      row_within at_loop.loop-end.r role_limit _ (below to_read)
+          (omega (arith, start.requires.2, at_loop.loop-end.invariant.1)),
       at_loop.loop-end.invariant.2.blank at_loop.loop-end.r (omega arith),
     )
 
@@ -174,7 +176,8 @@ loop_again c =
 
 pub role_lines_spec : {M : Type 1} → statement M
 role_lines_spec =
-    tie.close (tie.spec invariant_loop decreases_loop loop_holds expect_byte_requires (λ c. search rules) same_length returns
+    tie.close (tie.spec invariant_loop decreases_loop loop_holds expect_byte_requires (λ c. search rules) same_length
+    returns
     (λ c. search rules) same_length_2 returns_2 (λ c. search rules) put_role_name_requires array_share_prefix_name
     slice_aggregate_expect expect_requires (λ c. search rules) (λ c. search rules) same_length_3 returns_3
     read_line_requires (λ c. search rules) (λ c. search rules) same_length_4 returns_4 add_r loop_less loop_again)

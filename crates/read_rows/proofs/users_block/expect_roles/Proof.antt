@@ -123,6 +123,7 @@ returns_3 c =
 
 pub expect_roles_spec : {M : Type 1} → statement M
 expect_roles_spec =
-    tie.close (tie.spec invariant_loop decreases_loop loop_holds expect_byte_requires (λ c. search rules) (λ c. search rules)
+    tie.close (tie.spec invariant_loop decreases_loop loop_holds expect_byte_requires (λ c. search rules)
+    (λ c. search rules)
     returns (λ c. search rules) put_role_name_requires array_share_prefix_name slice_aggregate_expect expect_requires
     (λ c. search rules) (λ c. search rules) returns_2 (λ c. omega arith) (λ c. omega arith) loop_again returns_3)

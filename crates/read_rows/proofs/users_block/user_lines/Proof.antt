@@ -122,6 +122,7 @@ returns_3 c =
 
 pub user_lines_spec : {M : Type 1} → statement M
 user_lines_spec =
-    tie.close (tie.spec invariant_loop decreases_loop loop_holds user_name_in_requires expect_name_requires (λ c. search rules)
+    tie.close (tie.spec invariant_loop decreases_loop loop_holds user_name_in_requires expect_name_requires
+    (λ c. search rules)
     (λ c. search rules) same_length returns read_line_requires (λ c. search rules) (λ c. search rules) same_length_2
     returns_2 add_u loop_less loop_again same_length_3 returns_3)
