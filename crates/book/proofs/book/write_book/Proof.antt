@@ -69,49 +69,47 @@ first_room s = front_fits (first s ++ line_end) (second s) (front_fits (up_to_se
 
 -- ---- the buffer behind each block, and where it ends there
 
-abbrev begun : tie.After-first-places → tie.Start
-begun c =
-    let earlier = c.before.before.before.before.before.before.before in
-    earlier
+abbrev begun : tie.After-first_places-users → tie.Start
+begun c = c.before.before.before.before.before.before
 
-abbrev placed : tie.After-put-counts → tie.After-first-places2
+abbrev placed : tie.After-put_counts-first → tie.After-first_places-permissions
 placed c = c.before.before
 
-abbrev start : tie.After-put-counts → tie.Start
+abbrev start : tie.After-put_counts-first → tie.Start
 start c = begun (placed c).before.before.before
 
-behind_first : (c : tie.After-put-counts)
+behind_first : (c : tie.After-put_counts-first)
     → let s = start c in
-    WrittenSoFar (first s) line_end s.args.out.now c.put-counts.new.0 c.put-counts.result
-behind_first c = record { written = c.put-counts.ensures; fits = first_room (start c) }
+    WrittenSoFar (first s) line_end s.args.out.now c.put_counts-first.new.out c.put_counts-first.result
+behind_first c = record { written = c.put_counts-first.ensures; fits = first_room (start c) }
 
-at_second : (c : tie.After-put-counts)
+at_second : (c : tie.After-put_counts-first)
     → let s = start c in
     WrittenSoFar (first s ++ line_end) (second s) s.args.out.now
-    (set c.put-counts.new.0 c.put-counts.result 10) (c.put-counts.result + 1)
+    (set c.put_counts-first.new.out c.put_counts-first.result 10) (c.put_counts-first.result + 1)
 at_second c = empty_line (behind_first c) (second (start c)) (front_fits (up_to_second (start c)) line_end
     (second_room (start c)))
 
-abbrev counted : tie.After-put-roles → tie.After-put-counts
+abbrev counted : tie.After-put_roles → tie.After-put_counts-first
 counted c = c.before.before.before.before.before
 
-abbrev second_end : tie.After-put-roles → ℕ
-second_end c = (counted c).put-counts.result + 1 + c.put-roles.result
+abbrev second_end : tie.After-put_roles → ℕ
+second_end c = (counted c).put_counts-first.result + 1 + c.put_roles.result
 
-abbrev second_after : tie.After-put-roles → Bytes
+abbrev second_after : tie.After-put_roles → Bytes
 second_after c =
-    let a = (counted c).put-counts in
-    with_rest (a.result + 1) (set a.last.0 a.result 10) c.put-roles.new.0
+    let a = (counted c).put_counts-first in
+    with_rest (a.result + 1) (set a.new.out a.result 10) c.put_roles.new.out
 
-behind_second : (c : tie.After-put-roles)
+behind_second : (c : tie.After-put_roles)
     → let s = start (counted c) in
     WrittenSoFar (up_to_second s) line_end s.args.out.now (second_after c) (second_end c)
 behind_second c =
     let s = start (counted c) in
     block_behind (behind_first (counted c)) (second s) (front_fits (up_to_second s) line_end (second_room s))
-    (second_room s) c.put-roles.ensures
+    (second_room s) c.put_roles.ensures
 
-at_third : (c : tie.After-put-roles)
+at_third : (c : tie.After-put_roles)
     → let s = start (counted c) in
     WrittenSoFar (up_to_second s ++ line_end) (third s) s.args.out.now (set (second_after c) (second_end c) 10)
     (second_end c + 1)
@@ -119,26 +117,26 @@ at_third c =
     let s = start (counted c) in
     empty_line (behind_second c) (third s) (front_fits (up_to_third s) line_end (third_room s))
 
-abbrev roled : tie.After-put-users → tie.After-put-roles
+abbrev roled : tie.After-put_users → tie.After-put_roles
 roled c = c.before.before.before.before.before
 
-abbrev third_end : tie.After-put-users → ℕ
-third_end c = second_end (roled c) + 1 + c.put-users.result
+abbrev third_end : tie.After-put_users → ℕ
+third_end c = second_end (roled c) + 1 + c.put_users.result
 
-abbrev third_after : tie.After-put-users → Bytes
+abbrev third_after : tie.After-put_users → Bytes
 third_after c =
     let b = roled c in
-    with_rest (second_end b + 1) (set (second_after b) (second_end b) 10) c.put-users.new.0
+    with_rest (second_end b + 1) (set (second_after b) (second_end b) 10) c.put_users.new.out
 
-behind_third : (c : tie.After-put-users)
+behind_third : (c : tie.After-put_users)
     → let s = start (counted (roled c)) in
     WrittenSoFar (up_to_third s) line_end s.args.out.now (third_after c) (third_end c)
 behind_third c =
     let s = start (counted (roled c)) in
     block_behind (behind_second (roled c)) (third s) (front_fits (up_to_third s) line_end (third_room s))
-    (third_room s) c.put-users.ensures
+    (third_room s) c.put_users.ensures
 
-at_fourth : (c : tie.After-put-users)
+at_fourth : (c : tie.After-put_users)
     → let s = start (counted (roled c)) in
     WrittenSoFar (up_to_third s ++ line_end) (fourth s) s.args.out.now (set (third_after c) (third_end c) 10)
     (third_end c + 1)
@@ -146,72 +144,72 @@ at_fourth c = let s = start (counted (roled c)) in empty_line (behind_third c) (
 
 -- ---- what the code asks
 
-first_places_requires : tie.Need-first-places-requires
-first_places_requires c κs = users_placed c.before.before.before.before.before.before.requires.0.0
+first_places_requires : tie.Need-first_places-users-requires
+first_places_requires c κs = users_placed c.requires.0.0
 
-first_places_requires_2 : tie.Need-first-places-requires-2
+first_places_requires_2 : tie.Need-first_places-permissions-requires
 first_places_requires_2 c κs = permissions_placed (begun c.before.before).requires.0.0
 
-put_counts_requires : tie.Need-put-counts-requires
+put_counts_requires : tie.Need-put_counts-first-requires
 put_counts_requires c κs =
     let s = begun c.before.before.before.before in
     front_fits (first s) line_end (first_room s)
 
 -- the places of the names
-users_at : (c : tie.After-put-counts)
-    → UsersAt (start c).args.s.now (placed c).before.before.before.first-places.result.now
-users_at c = users_lent (start c).requires.0.0 (placed c).before.before.before.first-places.ensures
+users_at : (c : tie.After-put_counts-first)
+    → UsersAt (start c).args.s.now (placed c).first_places-users.result.now
+users_at c = users_lent (start c).requires.0.0 (placed c).first_places-users.ensures
 
-permissions_at : (c : tie.After-put-counts)
-    → PermissionsAt (start c).args.s.now (placed c).first-places2.result.now
-permissions_at c = permissions_lent (start c).requires.0.0 (placed c).first-places2.ensures
+permissions_at : (c : tie.After-put_counts-first)
+    → PermissionsAt (start c).args.s.now (placed c).first_places-permissions.result.now
+permissions_at c = permissions_lent (start c).requires.0.0 (placed c).first_places-permissions.ensures
 
 -- a role has a place in a row
 roles_in_row : (s : tie.Start) → s.args.counts.roles ≤ row_bits
 roles_in_row s = le_trans s.requires.0.1 roles_fit
 
-put_roles_requires : tie.Need-put-roles-requires
+put_roles_requires : tie.Need-put_roles-requires
 unfolding role_limit row_words
 put_roles_requires c κs =
     let a = c.before.before.before.before in
     let few = (start a).requires.0.1 in
     ((permissions_at a, roles_in_row (start a), omega arith), room_behind (at_second a))
 
-put_users_requires : tie.Need-put-users-requires
+put_users_requires : tie.Need-put_users-requires
 unfolding row_words user_limit
 put_users_requires c κs =
     let b = c.before.before.before.before in
     let a = counted b in
-    let pre = (start a).pre.0 in (
+    let pre = (start a).requires.0 in (
       (users_at a, roles_in_row (start a), omega (arith, few_users pre.0, pre.0.user_total)),
       room_behind (at_third b),
     )
 
-put_witness_requires : tie.Need-put-witness-requires
+put_witness_requires : tie.Need-put_witness-requires
 put_witness_requires c κs =
     let b = c.before.before.before in
     let a = counted (roled b) in
-    ((users_at a, permissions_at a, (start a).pre.0.2), room_behind (at_fourth b))
+    ((users_at a, permissions_at a, (start a).requires.0.2), room_behind (at_fourth b))
 
-abbrev before_witness : tie.After-put-witness → tie.After-put-users
+abbrev before_witness : tie.After-put_witness → tie.After-put_users
 before_witness c = c.before.before.before.before
 
-add_result : tie.Need-overflow-add-result
+add_result : tie.Need-overflow_add-result
 add_result c =
     let put = c.before.before in
     let b = before_witness put in
-    omega (arith, (start (counted (roled b))).well-formed.0.0, end_within (at_fourth b) put.put-witness.ensures)
+    omega (arith, (start (counted (roled b))).well_formed.0.0, end_within (at_fourth b) put.put_witness.ensures)
 
-same_length : tie.Need-same-length
+same_length : tie.Need-shape_of-out
 same_length c =
     let put = c.before.before in
-    then_same_length (at_fourth (before_witness put)) put.put-witness.ensures
+    then_same_length (at_fourth (before_witness put)) put.put_witness.ensures
 
 returns : tie.Need-returns
 returns c =
     let put = c.before.before in
     let b = before_witness put in
-    written_as (sym (parts (start (counted (roled b))))) (then_written (at_fourth b) put.put-witness.ensures)
+    written_as (sym (parts (start (counted (roled b))))) (then_written (at_fourth b) put.put_witness.ensures)
 
 pub write_book_spec : {M : Type 1} → statement M
 write_book_spec =
