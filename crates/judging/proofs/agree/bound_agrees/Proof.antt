@@ -4,23 +4,23 @@ use borrow.Author.Rules.{rules}
 use Rattle.judging.proofs.agree.bound_agrees.Statement.{statement}
 use Rattle.judging.proofs.agree.bound_agrees.Tie as tie
 
-returns : tie.Need-returns
-returns c = rw (c.before.enum_told.given.1, ne_eqb _ _ c.if1.true)
+returns : tie.Need-returns-then-bound-roles
+returns c = rw (c.in-Witnessed.is, ne_eqb _ _ c.if-bound-roles.true)
 
-returns_2 : tie.Need-returns-2
-returns_2 c = rw (c.before.enum-told2.given.1, ne_eqb _ _ c.if2.true)
+returns_2 : tie.Need-returns-then-bound-roles-2
+returns_2 c = rw (c.in-Searched.is, ne_eqb _ _ c.if-bound-roles-2.true)
 
-returns_3 : tie.Need-returns-3
-returns_3 c = rw (c.before.enum-told3.given.1, ne_eqb _ _ c.if3.true)
+returns_3 : tie.Need-returns-then-bound-lines
+returns_3 c = rw (c.in-Open.is, ne_eqb _ _ c.if-bound-lines.true)
 
-returns_4 : tie.Need-returns-4
-returns_4 c = rw (c.before.enum_told.given.1, eq-eqb _ _ c.if1.false)
+returns_4 : tie.Need-returns-else-bound-roles
+returns_4 c = rw (c.in-Witnessed.is, eq-eqb _ _ c.if-bound-roles.false)
 
-returns_5 : tie.Need-returns-5
-returns_5 c = rw (c.before.enum-told2.given.1, eq-eqb _ _ c.if2.false)
+returns_5 : tie.Need-returns-else-bound-roles-2
+returns_5 c = rw (c.in-Searched.is, eq-eqb _ _ c.if-bound-roles-2.false)
 
-returns_6 : tie.Need-returns-6
-returns_6 c = rw (c.before.enum-told3.given.1, eq-eqb _ _ c.if3.false)
+returns_6 : tie.Need-returns-else-bound-lines
+returns_6 c = rw (c.in-Open.is, eq-eqb _ _ c.if-bound-lines.false)
 
 pub bound_agrees_spec : {M : Type 1} → statement M
 bound_agrees_spec =

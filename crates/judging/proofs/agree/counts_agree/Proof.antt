@@ -4,11 +4,11 @@ use borrow.Author.Rules.{rules}
 use Rattle.judging.proofs.agree.counts_agree.Statement.{statement}
 use Rattle.judging.proofs.agree.counts_agree.Tie as tie
 
-returns : tie.Need-returns
-returns c = rw (ne_eqb _ _ c.if1.true)
+returns : tie.Need-returns-then-counts-roles
+returns c = rw (ne_eqb _ _ c.if-counts-roles.true)
 
-returns_2 : tie.Need-returns-2
-returns_2 c = rw (eq-eqb _ _ c.before.if1.false) c.bound_agrees.ensures
+returns_2 : tie.Need-returns
+returns_2 c = rw (eq-eqb _ _ c.if-counts-roles.false) c.bound_agrees.ensures
 
 pub counts_agree_spec : {M : Type 1} → statement M
 counts_agree_spec =

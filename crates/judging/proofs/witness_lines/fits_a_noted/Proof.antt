@@ -13,90 +13,90 @@ use Rattle.judging.specs.NotedLines.{crosses, fits_noted, word_owners, word_cros
 use Rattle.judging.proofs.witness_lines.fits_a_noted.Statement.{statement}
 use Rattle.judging.proofs.witness_lines.fits_a_noted.Tie as tie
 
-abbrev invariant_loop : tie.invariant-loop
+abbrev invariant_loop : tie.invariant-loop-k
 invariant_loop rows taken owners line permission k₀ k =
     (k ≤ row_words)
     × (some_below (k * word_bits) (crosses rows taken owners line.user.0 line.permission.0) ≡ false)
 
-abbrev decreases_loop : tie.decreases-loop
+abbrev decreases_loop : tie.decreases-loop-k
 decreases_loop rows taken owners line permission k₀ k = row_words - k
 
-loop_holds : tie.Need-loop-init invariant_loop decreases_loop
+loop_holds : tie.Need-loop-k-init invariant_loop decreases_loop
 unfolding some_below row_words
 loop_holds c = (omega arith, refl)
 
-more : (c : tie.In-loop invariant_loop decreases_loop) → c.before.loop.k < row_words
+more : (c : tie.In-loop-k invariant_loop decreases_loop) → c.loop-k.k < row_words
 unfolding row_words
-more c = c.loop-test.true
+more c = c.loop-k-test.true
 
-word_there : (c : tie.In-loop invariant_loop decreases_loop)
-    → let a = c.before.before.before.before.args in
-    a.line.user.0 * row_words + c.before.loop.k < length a.rows.now
+word_there : (c : tie.In-loop-k invariant_loop decreases_loop)
+    → let a = c.args in
+    a.line.user.0 * row_words + c.loop-k.k < length a.rows.now
 word_there c =
     let start = c.before.before.before.before in
-    word_below start.args.line.user.0 (start.args.line.user.0 + 1) c.before.loop.k _ (omega arith)
+    word_below start.args.line.user.0 (start.args.line.user.0 + 1) c.loop-k.k _ (omega arith)
     (more c) start.requires.0.row
 
-mul_some_2 : tie.Need-overflow-mul-some-2 invariant_loop decreases_loop
+mul_some_2 : tie.Need-overflow_mul-some invariant_loop decreases_loop
 unfolding row_words
 mul_some_2 c = omega (arith, word_there c.before)
 
-add_some : tie.Need-overflow-add-some invariant_loop decreases_loop
+add_some : tie.Need-overflow_add-some invariant_loop decreases_loop
 unfolding row_words
 add_some c = omega (arith, word_there c.before)
 
-mul_some_3 : tie.Need-overflow-mul-some-3 invariant_loop decreases_loop
+mul_some_3 : tie.Need-offset_bounds-rows-line invariant_loop decreases_loop
 unfolding row_words
 mul_some_3 c = omega (arith, word_there c.before)
 
-shared_slice_read_some : tie.Need-shared-slice-read-some invariant_loop decreases_loop
+shared_slice_read_some : tie.Need-bounds-rows-line invariant_loop decreases_loop
 unfolding row_words
 shared_slice_read_some c = word_there c.before.before
 
-an_owner_holds_requires : tie.Need-an-owner-holds-requires invariant_loop decreases_loop
+an_owner_holds_requires : tie.Need-an_owner_holds-requires invariant_loop decreases_loop
 unfolding row_bits row_words
 an_owner_holds_requires c κs =
     let at_loop = c.before.before.before.before in
     let start = at_loop.before.before.before in
     let a = start.args in (
-      omega (arith, more c.before.before.before),
+      omega (arith, more c.before.before.before.before),
       start.requires.0.place,
       word_owners a.rows.now a.taken.now a.owners.now a.line.user.0 a.line.permission.0
-          at_loop.loop.k _ refl start.requires.1,
+          at_loop.loop-k.k _ refl start.requires.1,
     )
 
-returns : tie.Need-returns invariant_loop decreases_loop
+returns : tie.Need-returns-then-an_owner_holds invariant_loop decreases_loop
 unfolding fits_noted row_words
 returns c =
     let at_loop = c.before.before.before.before.before.before in
-    let a = at_loop.before.before.before.args in
+    let a = at_loop.args in
     sym
     (word_found a.rows.now a.taken.now a.owners.now a.line.user.0 a.line.permission.0
-    at_loop.loop.k _ refl (more c.before.before.before.before.before)
-    (sym c.before.an-owner-holds.ensures ∙ c.if1.true))
+    at_loop.loop-k.k _ refl (more c.before.before.before.before.before.before)
+    (sym c.an_owner_holds.ensures ∙ c.if-an_owner_holds.true))
 
-loop_less : tie.Need-loop-smaller invariant_loop decreases_loop
+loop_less : tie.Need-loop-k-smaller invariant_loop decreases_loop
 unfolding row_words
 loop_less c = omega arith
 
-loop_again : tie.Need-loop-preserved invariant_loop decreases_loop
+loop_again : tie.Need-loop-k-preserved invariant_loop decreases_loop
 unfolding row_words
 loop_again c =
     let at_loop = c.before.before.before.before.before.before in
-    let a = at_loop.before.before.before.args in (
-      omega (arith, more c.before.before.before.before.before),
+    let a = at_loop.args in (
+      omega (arith, more c.before.before.before.before.before.before),
       word_crosses a.rows.now a.taken.now a.owners.now a.line.user.0 a.line.permission.0
-          at_loop.loop.k _ refl
-          ∙ or_fails (some_below (at_loop.loop.k * word_bits)
+          at_loop.loop-k.k _ refl
+          ∙ or_fails (some_below (at_loop.loop-k.k * word_bits)
           (crosses a.rows.now a.taken.now a.owners.now a.line.user.0 a.line.permission.0)) _
-          at_loop.loop.invariant.1 (sym c.before.an-owner-holds.ensures ∙ c.if1.false),
+          at_loop.loop-k.invariant.1 (sym c.an_owner_holds.ensures ∙ c.if-an_owner_holds.false),
     )
 
-returns_2 : tie.Need-returns-2 invariant_loop decreases_loop
+returns_2 : tie.Need-returns invariant_loop decreases_loop
 unfolding fits_noted row_bits row_words
 returns_2 c =
-    let all : c.before.loop.k ≡ row_words = omega (arith, c.before.loop.invariant.0, c.loop-test.false) in
-    sym (rw all at c.before.loop.invariant.1)
+    let all : c.loop-k.k ≡ row_words = omega (arith, c.loop-k.invariant.0, c.loop-k-test.false) in
+    sym (rw all at c.loop-k.invariant.1)
 
 pub fits_a_noted_spec : {M : Type 1} → statement M
 fits_a_noted_spec =

@@ -64,8 +64,8 @@ standing_field_requires c κs = (bound c).reads.within
 returns_4 : tie.Need-returns-in_default-standing_field
 returns_4 c =
     let counts = c.before.before in
-    no_state (heading (headed (counted counts))) (roles (counted counts)) (bound counts) (rw c.in_default-standing_field.is
-    at c.standing_field.ensures)
+    no_state (heading (headed (counted counts))) (roles (counted counts)) (bound counts)
+    (rw c.in_default-standing_field.is at c.standing_field.ensures)
 
 standing : (c : tie.In-State)
     → Stands (call (headed (counted (bounded c)))).args.book.now (bounded c).in-Count-count_field.third

@@ -13,7 +13,8 @@ use Rattle.read_fields.specs.WitnessSteps.{LinesRead, lines_start, lines_bound, 
 use Rattle.read_fields.specs.WitnessSteps.{line_some}
 use Rattle.read_fields.proofs.witness_block.witness_lines.Statement.{statement}
 use Rattle.read_fields.proofs.witness_block.witness_lines.Tie as tie
-use Rattle.read_fields.proofs.witness_block.witness_lines.Lts.{then-lines-lt-ROLE_LIMIT, else-lines-lt-ROLE_LIMIT}
+use Rattle.read_fields.proofs.witness_block.witness_lines.Lts.{then-lines-lt-ROLE_LIMIT}
+use Rattle.read_fields.proofs.witness_block.witness_lines.Lts.{else-lines-lt-ROLE_LIMIT}
 
 abbrev invariant_loop : tie.invariant-loop-next
 invariant_loop book at sheet users permissions none first₀ lines₀ next₀ last₀ first lines next last =
@@ -84,5 +85,6 @@ returns_2 c = lines_end c.loop-next.invariant c.loop-next-test.false
 
 pub witness_lines_spec : {M : Type 1} → statement M
 witness_lines_spec =
-    tie.close (tie.spec invariant_loop decreases_loop (λ c κs. search rules) loop_holds witness_line_requires (λ c. search rules)
+    tie.close (tie.spec invariant_loop decreases_loop (λ c κs. search rules) loop_holds witness_line_requires
+    (λ c. search rules)
     (λ c. search rules) returns (λ c. search rules) (λ c. search rules) add_lines loop_less loop_again returns_2)
