@@ -9,17 +9,17 @@ use Rattle.checker.specs.Laws.CheckSteps.{refused_for_sheet}
 use Rattle.checker.proofs.checking.check.Statement.{statement}
 use Rattle.checker.proofs.checking.check.Tie as tie
 
-returns : tie.Need-returns
-returns c = refused_for_sheet c.before.before.read.ensures.0 c.before.if1.true c.refused.ensures
+returns : tie.Need-returns-then-number-ne0
+returns c = refused_for_sheet c.read-read.ensures.0 c.if-number-ne0.true c.refused.ensures
 
-read_book_requires : tie.Need-read-book-requires
+read_book_requires : tie.Need-read_book-found-requires
 unfolding role_limit row_words
 read_book_requires c κs =
     let blank = c.before.before.before in
     let accepts = blank.before.before.before in
-    let read = accepts.before.read.ensures.1.0 accepts.if1.false in (
+    let read = accepts.read-read.ensures.1.0 accepts.if-number-ne0.false in (
       (read.0, read.1),
-      (rw blank.no_rows.ensures (zeros_blank (user_limit * row_words)), zeros_blank (role_limit * row_words)),
+      (rw blank.no_rows-has.ensures (zeros_blank (user_limit * row_words)), zeros_blank (role_limit * row_words)),
     )
 
 pub check_spec : {M : Type 1} → statement M

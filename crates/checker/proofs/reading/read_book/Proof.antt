@@ -12,68 +12,66 @@ use Rattle.checker.proofs.reading.read_book.Statement.{statement}
 use Rattle.checker.proofs.reading.read_book.Tie as tie
 
 -- the call, from where block 1 has been read, and that place from where block 2 has been
-abbrev call : tie.After-known-told → tie.Start
-call c =
-    let earlier = c.before.before.before.before.before.before.before in
-    earlier
+abbrev call : tie.In-Counts → tie.Start
+call c = c.before.before.before.before.before
 
-abbrev counted : tie.After-known-told2 → tie.After-known-told
-counted c = c.before.before.before.before.before
+abbrev counted : tie.In-Roles → tie.In-Counts
+counted c = c.before.before.before
 
 -- its sheet
 abbrev sheet : tie.Start → Sheet
 sheet c = sheet_of c.args.sheet.now
 
-returns : tie.Need-returns
+returns : tie.Need-returns-then-book-gt-BOOK_LIMIT
 unfolding book_limit
 returns c =
     let start = c.before.before.before.before in
-    refused_too_long start.requires.0.0.accepts c.unread.ensures (omega (arith, c.before.if1.true))
+    refused_too_long start.requires.0.0.accepts c.unread.ensures (omega (arith, c.if-book-gt-BOOK_LIMIT.true))
 
-returns_2 : tie.Need-returns-2
+returns_2 : tie.Need-returns-in_default
 returns_2 c =
-    let read = c.before.before.before in
+    let read = c.before.before in
     let start = read.before.before.before.before in
-    refused_for_form start.requires.0.0.accepts c.unread2.ensures
-    (no_counts_written (sheet start) (rw c.before.enum_told.given.1 at read.read-counts.ensures))
+    refused_for_form start.requires.0.0.accepts c.unread-in_default.ensures
+    (no_counts_written (sheet start) (rw c.in_default.is at read.read_counts.ensures))
 
-first : (c : tie.After-known-told)
-    → CountsAt (call c).args.book.now 0 c.before.counts.given.0.0 c.before.counts.given.0.1.0
-first c = rw c.before.counts.given.1 at c.before.before.before.read-counts.ensures
+first : (c : tie.In-Counts)
+    → CountsAt (call c).args.book.now 0 c.in-Counts.counts c.in-Counts.second
+first c = rw c.in-Counts.is at c.read_counts.ensures
 
-read_roles_requires : tie.Need-read-roles-requires
+read_roles_requires : tie.Need-read_roles-requires
 unfolding role_limit row_words
 read_roles_requires c κs = (
   ((first c.before).reads.within, (call c.before).requires.0.0),
-  (omega (arith, c.read-roles-arg.given.0.1), (call c.before).requires.1.1),
+  (omega (arith, c.read_roles-arg-1.given.0.1), (call c.before).requires.1.1),
 )
 
-returns_3 : tie.Need-returns-3
+returns_3 : tie.Need-returns-in_default-read_roles
 returns_3 c =
-    let read = c.before.before.before in
+    let read = c.before.before in
     let one = read.before.before in
-    refused_for_form (call one).requires.0.0.accepts c.unread3.ensures
-    (no_roles_written (sheet (call one)) (first one) (rw c.before.enum-told2.given.1 at
-    read.read-roles.ensures).0)
+    refused_for_form (call one).requires.0.0.accepts c.unread-in_default-read_roles.ensures
+    (no_roles_written (sheet (call one)) (first one) (rw c.in_default-read_roles.is at
+    read.read_roles.ensures).0)
 
-front : (c : tie.After-known-told2)
-    → FrontRead (sheet (call (counted c))) (call (counted c)).args.book.now (counted c).before.counts.given.0.0
-    c.before.before.before.read-roles.new.1.1.1.1.0 c.before.roles.given.0.0
-    c.before.roles.given.0.1.0
+front : (c : tie.In-Roles)
+    → FrontRead (sheet (call (counted c))) (call (counted c)).args.book.now (counted c).in-Counts.counts
+    c.read_roles.new.gives c.in-Roles.roles
+    c.in-Roles.third
 front c =
     record {
-      second = (counted c).before.counts.given.0.1.0;
+      second = (counted c).in-Counts.second;
       counts_at = first (counted c);
-      roles_at = rw c.before.roles.given.1 at c.before.before.before.read-roles.ensures;
+      roles_at = rw c.in-Roles.is at c.read_roles.ensures;
     }
 
-read_from_users_requires : tie.Need-read-from-users-requires
+read_from_users_requires : tie.Need-read_from_users-requires
 unfolding book_limit
 read_from_users_requires c κs =
-    let one = counted c.before.before in
-    let pre = (call one).pre in
-    let short = one.before.before.before.before.if1.left in
-    (pre.0, ((omega (arith, short), pre.1.0), front c.before.before))
+    let one = counted c.before in
+    let pre = (call one).requires in
+    let short = one.if-book-gt-BOOK_LIMIT.false in
+    (pre.0, ((omega (arith, short), pre.1.0), front c.before))
 
 pub read_book_spec : {M : Type 1} → statement M
 read_book_spec =
