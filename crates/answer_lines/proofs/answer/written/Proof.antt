@@ -10,7 +10,7 @@ use Rattle.answer_lines.proofs.answer.written.Tie as tie
 
 returns : tie.Need-returns
 returns c =
-    let answer = c.before.before.args.answer in
+    let answer = c.args.answer in
     ap (λ (sum : ℕ). digest_line (ascii "write") (write_said answer) sum) c.adler_32.ensures
 
 pub written_spec : {M : Type 1} → statement M

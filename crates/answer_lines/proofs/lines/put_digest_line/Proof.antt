@@ -14,23 +14,23 @@ use Rattle.answer_lines.specs.Laws.HexWidth.{hex_width}
 use Rattle.answer_lines.proofs.lines.put_digest_line.Statement.{statement}
 use Rattle.answer_lines.proofs.lines.put_digest_line.Tie as tie
 
-abbrev start : tie.After-hex → tie.Start
+abbrev start : tie.After-hex-count → tie.Start
 start c = c.before.before.before.before.before
 
 -- the digits as they were spelled
-abbrev spelled : tie.After-hex → Bytes
-spelled c = take c.hex.result c.hex.new.1.1.0
+abbrev spelled : tie.After-hex-count → Bytes
+spelled c = take c.hex-count.result c.hex-count.new.out
 
-eight : (c : tie.After-hex) → c.hex.result ≡ digest_digits
-eight c = hex_width (start c).args.sum c.hex.result (start c).ranges.sum.fits c.hex.ensures.1.0
+eight : (c : tie.After-hex-count) → c.hex-count.result ≡ digest_digits
+eight c = hex_width (start c).args.sum c.hex-count.result (start c).ranges.sum.fits c.hex-count.ensures.1.0
 
-spelled_length : (c : tie.After-hex) → length (spelled c) ≡ digest_digits
-spelled_length c = sym c.hex.ensures.0.1 ∙ eight c
+spelled_length : (c : tie.After-hex-count) → length (spelled c) ≡ digest_digits
+spelled_length c = sym c.hex-count.ensures.0.1 ∙ eight c
 
-said : (c : tie.After-hex) → spelled c ≡ digest_word (start c).args.sum
-said c = c.hex.ensures.1.1 ∙ ap (λ k. last_digits 16 k (start c).args.sum) (eight c)
+said : (c : tie.After-hex-count) → spelled c ≡ digest_word (start c).args.sum
+said c = c.hex-count.ensures.1.1.0 ∙ ap (λ k. last_digits 16 k (start c).args.sum) (eight c)
 
-put_line_requires : tie.Need-put-line-requires
+put_line_requires : tie.Need-put_line-requires
 put_line_requires c κs = omega (arith, (start c.before.before).requires, spelled_length c.before.before)
 
 returns : tie.Need-returns
@@ -40,7 +40,7 @@ returns c =
     let args = (start hex).args in
     written_as (ap (λ (words : List Bytes). answer_line (args.word.now ∷ map decimal args.numbers.now ++ words))
     (sym (last_word (spelled hex) (rw (spelled_length hex) (omega arith))) ∙ ap (λ (w : Bytes). w ∷ []) (said hex)))
-    put.put-line.ensures
+    put.put_line.ensures
 
 pub put_digest_line_spec : {M : Type 1} → statement M
 put_digest_line_spec =

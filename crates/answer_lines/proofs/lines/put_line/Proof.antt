@@ -11,81 +11,79 @@ use Rattle.answer_lines.specs.Laws.AnswerParts.{line_parts, line_room}
 use Rattle.answer_lines.proofs.lines.put_line.Statement.{statement}
 use Rattle.answer_lines.proofs.lines.put_line.Tie as tie
 
-abbrev start : tie.After-put-bytes → tie.Start
-start c = let lent = c.before.before.before in lent.before.before.before
+abbrev start : tie.After-put_bytes-at → tie.Start
+start c = c.before.before.before.before.before.before
 
 -- the three parts
-abbrev word : tie.After-put-bytes → Bytes
+abbrev word : tie.After-put_bytes-at → Bytes
 word c = (start c).args.word.now
 
-abbrev numbers : tie.After-put-bytes → Bytes
+abbrev numbers : tie.After-put_bytes-at → Bytes
 numbers c = numbers_text (start c).args.numbers.now
 
-abbrev last : tie.After-put-bytes → Bytes
+abbrev last : tie.After-put_bytes-at → Bytes
 last c = last_text (start c).args.last.now
 
-behind_word : (c : tie.After-put-bytes)
-    → WrittenSoFar (word c) (numbers c) (start c).args.out.now c.put-bytes.new.0 c.put-bytes.result
+behind_word : (c : tie.After-put_bytes-at)
+    → WrittenSoFar (word c) (numbers c) (start c).args.out.now c.put_bytes-at.new.out c.put_bytes-at.result
 behind_word c =
     let args = (start c).args in
     record {
-      written = c.put-bytes.ensures;
+      written = c.put_bytes-at.ensures;
       fits = front_fits (word c ++ numbers c) (last c)
           (line_room args.word.now args.numbers.now args.last.now
-          (λ i. (c.before.before.before.shared-slice-known2.given i).fits) (start c).requires);
+          (λ i. (c.shared_slice_known-2-1.given i).fits) (start c).requires);
     }
 
-abbrev word_put : tie.After-put-numbers → tie.After-put-bytes
+abbrev word_put : tie.After-put_numbers → tie.After-put_bytes-at
 word_put c = c.before.before.before.before
 
-behind_numbers : (c : tie.After-put-numbers)
+behind_numbers : (c : tie.After-put_numbers)
     → let w = word_put c in
     WrittenSoFar (word w ++ numbers w) (last w) (start w).args.out.now
-    (with_rest w.put-bytes.result w.put-bytes.last.0 c.put-numbers.new.0)
-    (w.put-bytes.result + c.put-numbers.result)
+    (with_rest w.put_bytes-at.result w.put_bytes-at.new.out c.put_numbers.new.out)
+    (w.put_bytes-at.result + c.put_numbers.result)
 behind_numbers c =
     let w = word_put c in
     let args = (start w).args in
     record {
-      written = then_written (behind_word w) c.put-numbers.ensures;
+      written = then_written (behind_word w) c.put_numbers.ensures;
       fits = line_room args.word.now args.numbers.now args.last.now
-          (λ i. (w.before.before.before.shared-slice-known2.given i).fits) (start w).pre;
+          (λ i. (w.shared_slice_known-2-1.given i).fits) (start w).requires;
     }
 
-put_numbers_requires : tie.Need-put-numbers-requires
+put_numbers_requires : tie.Need-put_numbers-requires
 put_numbers_requires c κs = room_behind (behind_word c.before.before.before)
 
-add_end : tie.Need-overflow-add-end
+add_end : tie.Need-overflow_add-end
 add_end c =
     let n = c.before.before in
-    omega (arith, end_within (behind_word (word_put n)) n.put-numbers.ensures)
+    omega (arith, end_within (behind_word (word_put n)) n.put_numbers.ensures)
 
-sub_put_last : tie.Need-overflow-sub-put-last
+sub_put_last : tie.Need-slice_bounds-put_last-count
 sub_put_last c = within_buffer (behind_numbers c.before.before)
 
-part_put_last_start : tie.Need-slice-bounds-put-last-start
+part_put_last_start : tie.Need-slice_bounds-put_last-start
 part_put_last_start c = within_buffer (behind_numbers c.before.before)
 
-put_last_requires : tie.Need-put-last-requires
+put_last_requires : tie.Need-put_last-requires
 put_last_requires c κs = room_behind (behind_numbers c.before.before.before)
 
-abbrev numbers_put : tie.After-slice-known4 → tie.After-put-numbers
-numbers_put c =
-    let put = c.before.before in
-    put.before.before.before.before
+abbrev numbers_put : tie.After-slice_known-4-1 → tie.After-put_numbers
+numbers_put c = c.before.before.before.before.before.before
 
-add_result : tie.Need-overflow-add-result
-add_result c = omega (arith, end_within (behind_numbers (numbers_put c)) c.before.before.put_last.ensures)
+add_result : tie.Need-overflow_add-result
+add_result c = omega (arith, end_within (behind_numbers (numbers_put c)) c.put_last.ensures)
 
-same_length : tie.Need-same-length
-same_length c = then_same_length (behind_numbers (numbers_put c)) c.before.before.put_last.ensures
+same_length : tie.Need-shape_of-out
+same_length c = then_same_length (behind_numbers (numbers_put c)) c.put_last.ensures
 
 returns : tie.Need-returns
 returns c =
     let n = numbers_put c in
     let args = (start (word_put n)).args in
     written_as (line_parts args.word.now args.numbers.now args.last.now)
-    (then_written (behind_numbers n) c.before.before.put_last.ensures)
+    (then_written (behind_numbers n) c.put_last.ensures)
 
 pub put_line_spec : {M : Type 1} → statement M
 put_line_spec =
