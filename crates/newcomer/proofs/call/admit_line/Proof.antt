@@ -26,7 +26,7 @@ use Rattle.newcomer.proofs.call.admit_line.Tie as tie
 -- ---- the book
 
 -- the call, from where the book has been read, and what is lent
-abbrev call : tie.After-read-book → tie.Start
+abbrev call : tie.After-read_book-read → tie.Start
 call c = c.before.before.before.before.before.before.before.before
 
 abbrev lent : tie.Start → Admission
@@ -35,88 +35,88 @@ lent c = record { sheet = c.args.sheet.now; book = c.args.book.now; line = c.arg
 accepts : (c : tie.Start) → refusal c.args.sheet.now ≡ 0
 accepts c = eqb-true (refusal c.args.sheet.now) 0 c.requires.0.accepts
 
-read_book_requires : tie.Need-read-book-requires
+read_book_requires : tie.Need-read_book-read-requires
 unfolding role_limit row_words
 read_book_requires c κs =
-    let pre = c.before.before.before.before.before.before.before.requires in (
+    let pre = c.requires in (
       (pre.0, pre.1),
       (
-        rw c.before.before.no_rows.ensures (zeros_blank (user_limit * row_words)),
+        rw c.no_rows-has.ensures (zeros_blank (user_limit * row_words)),
         zeros_blank (role_limit * row_words),
       ),
     )
 
-returns : tie.Need-returns
+returns : tie.Need-returns-then-number-ne0
 returns c =
     let read = c.before.before in
     let start = call read in
     let buffer = start.args.out.now in
-    let refuses = c.before.if1.true in
+    let refuses = c.if-number-ne0.true in
     refused_by (lent start) buffer
-    (book_refuses (lent start) buffer (accepts start) start.pre.2 read.read-book.ensures.0 refuses) refuses
+    (book_refuses (lent start) buffer (accepts start) start.requires.2 read.read_book-read.ensures.0 refuses) refuses
     c.refused.ensures
 
 -- the book stands
-stands : (c : tie.Else1) → let start = call c.before in
+stands : (c : tie.Else-number-ne0) → let start = call c.before in
     (check start.args.sheet.now start.args.book.now).number ≡ 0
 stands c =
-    ap (λ (answer : CheckAnswer). answer.number) (sym c.before.read-book.ensures.0.answers) ∙ c.if1.false
+    ap (λ (answer : CheckAnswer). answer.number) (sym c.read_book-read.ensures.0.answers) ∙ c.if-number-ne0.false
 
 -- ---- the name
 
-told : (c : tie.After-name-taken) → let start = call c.before.before in
+told : (c : tie.After-name_taken) → let start = call c.before.before in
     c.name_taken.result ≡ name_taken (lent start)
 told c =
     let start = call c.before.before in
-    c.name_taken.ensures ∙ sym (name_taken_told (lent start) start.pre.0.accepts start.pre.2)
+    c.name_taken.ensures ∙ sym (name_taken_told (lent start) start.requires.0.accepts start.requires.2)
 
-returns_2 : tie.Need-returns-2
+returns_2 : tie.Need-returns-then-name_taken
 returns_2 c =
     let asked = c.before.before in
     let start = call asked.before.before in
     let buffer = start.args.out.now in
     refused_by (lent start) buffer
-    (name_refuses (lent start) buffer (accepts start) start.pre.2 (stands asked.before)
-    (sym (told asked) ∙ c.before.if2.true)) (λ z. omega arith) c.refused2.ensures
+    (name_refuses (lent start) buffer (accepts start) start.requires.2 (stands asked.before)
+    (sym (told asked) ∙ c.if-name_taken.true)) (λ z. omega arith) c.refused-then-name_taken.ensures
 
-free : (c : tie.Else2) → name_taken (lent (call c.before.before.before)) ≡ false
-free c = sym (told c.before) ∙ c.if2.false
+free : (c : tie.Else-name_taken) → name_taken (lent (call c.before.before.before)) ≡ false
+free c = sym (told c.before) ∙ c.if-name_taken.false
 
 -- ---- the room
 
-returns_3 : tie.Need-returns-3
+returns_3 : tie.Need-returns-then-users-eq-USER_LIMIT
 unfolding users_at_limit user_limit
 returns_3 c =
     let named = c.before.before in
     let start = call named.before.before.before in
     let buffer = start.args.out.now in
-    let total = start.pre.0.user_total in
+    let total = start.requires.0.user_total in
     refused_by (lent start) buffer
-    (users_refuse (lent start) buffer (accepts start) start.pre.2 (stands named.before.before) (free named)
-    (le-leb 256 (user_count (given_sheet (lent start))) (omega (arith, total, c.before.if3.true))))
-    (λ z. omega arith) c.refused3.ensures
+    (users_refuse (lent start) buffer (accepts start) start.requires.2 (stands named.before.before) (free named)
+    (le-leb 256 (user_count (given_sheet (lent start))) (omega (arith, total, c.if-users-eq-USER_LIMIT.true))))
+    (λ z. omega arith) c.refused-then-users-eq-USER_LIMIT.ensures
 
-room : (c : tie.Else3) → users_at_limit (lent (call c.before.before.before.before)) ≡ false
+room : (c : tie.Else-users-eq-USER_LIMIT) → users_at_limit (lent (call c.before.before.before.before)) ≡ false
 unfolding users_at_limit user_limit
 room c =
     let start = call c.before.before.before.before in
-    let few = (accepted_lawful start.args.sheet.now start.pre.0.accepts).few_users in
+    let few = (accepted_lawful start.args.sheet.now start.requires.0.accepts).few_users in
     lt-leb 256 (user_count (given_sheet (lent start)))
-    (omega (arith, few, start.pre.0.user_total, c.if3.false))
+    (omega (arith, few, start.requires.0.user_total, c.if-users-eq-USER_LIMIT.false))
 
-put_longer_requires : tie.Need-put-longer-requires
+put_longer_requires : tie.Need-put_longer-length-requires
 unfolding sheet_limit
 put_longer_requires c κs =
     let start = call c.before.before.before.before.before in
-    longer_short (lent start) start.pre.0.accepts start.pre.2
+    longer_short (lent start) start.requires.0.accepts start.requires.2
 
 -- all is ready
-ready : (c : tie.After-put-longer)
+ready : (c : tie.After-put_longer-length)
     → let named = c.before.before in
     let read = named.before.before.before.before in
     let start = call read in
-    Ready (lent start) (take c.put-longer.result c.put-longer.new.0) start.args.layout.users
-    read.read-book.result read.read-book.new.1.1.1.1.0 read.read-book.new.1.1.1.1.1.0
+    Ready (lent start) (take c.put_longer-length.result c.put_longer-length.new.text) start.args.layout.users
+    read.read_book-read.result read.read_book-read.new.has read.read_book-read.new.gives
 ready c =
     let named = c.before.before in
     let asked = named.before in
@@ -124,33 +124,33 @@ ready c =
     let read = stood.before in
     let start = call read in
     record {
-      longer_text = front_written c.put-longer.ensures;
-      last = start.pre.0.user_total;
+      longer_text = front_written c.put_longer-length.ensures;
+      last = start.requires.0.user_total;
       addable = record {
-        given = start.pre.0.accepts;
-        unrefused = start.pre.2;
+        given = start.requires.0.accepts;
+        unrefused = start.requires.2;
         new_name = free asked;
         room = room named;
       };
       book_accepted = stands stood;
-      as_read = read.read-book.ensures.1 stood.if1.false;
+      as_read = read.read_book-read.ensures.1 stood.if-number-ne0.false;
     }
 
-array_share_prefix_text : tie.Need-array-share-prefix-text
-array_share_prefix_text c = count_within c.before.put-longer.ensures
+array_share_prefix_text : tie.Need-slice_bounds-text-end
+array_share_prefix_text c = count_within c.put_longer-length.ensures
 
-slice_aggregate_write_new : tie.Need-slice-aggregate-write-new
-slice_aggregate_write_new c = front_counted c.before.before.put-longer.ensures
+slice_aggregate_write_new : tie.Need-slice_bounds-write_new-end
+slice_aggregate_write_new c = front_counted c.put_longer-length.ensures
 
-write_new_requires : tie.Need-write-new-requires
+write_new_requires : tie.Need-write_new-requires
 write_new_requires c κs =
     let put = c.before.before.before.before.before in
     record { lent = _; ready = ready put }
 
-returns_4 : tie.Need-returns-4
+returns_4 : tie.Need-returns
 returns_4 c =
     let put = c.before.before.before.before.before.before.before.before in
-    c.before.before.write_new.ensures _ (ready put)
+    c.write_new.ensures _ (ready put)
 
 pub admit_line_spec : {M : Type 1} → statement M
 admit_line_spec =

@@ -31,25 +31,25 @@ use Rattle.newcomer.proofs.call.write_new.Tie as tie
 abbrev call : tie.After-admit → tie.Start
 call c = c.before.before.before.before.before.before.before.before
 
-abbrev longer : tie.After-admit → tie.After-read
+abbrev longer : tie.After-admit → tie.After-read-longer
 longer c = c.before.before.before.before.before
 
-abbrev admitted : tie.After-counts-with → tie.After-admit
-admitted c = c.before.before.before.before.before
+abbrev admitted : tie.After-counts_with-counts → tie.After-admit
+admitted c = c.before.before.before.before
 
-abbrev counted : tie.After-witness-cells → tie.After-counts-with
+abbrev counted : tie.After-witness_cells-cells → tie.After-counts_with-counts
 counted c = c.before
 
 -- ---- what is known there
 
-laid : (c : tie.After-admit) → LaidOut (call c).args.text.now (longer c).read.result.layout
+laid : (c : tie.After-admit) → LaidOut (call c).args.text.now (longer c).read-longer.result.layout
 laid c =
-    let e = (longer c).read.ensures in
+    let e = (longer c).read-longer.ensures in
     (e.1.0 (e.0 ∙ eqb-true (refusal (call c).args.text.now) 0 (text_accepted (call c).requires.ready))).0
 
-shown : (c : tie.After-admit) → RowsRead (longer c).read.result.rows (sheet_of (call c).args.text.now)
+shown : (c : tie.After-admit) → RowsRead (longer c).read-longer.result.rows (sheet_of (call c).args.text.now)
 shown c =
-    let e = (longer c).read.ensures in
+    let e = (longer c).read-longer.ensures in
     (e.1.0 (e.0 ∙ eqb-true (refusal (call c).args.text.now) 0 (text_accepted (call c).requires.ready))).1
 
 -- what was answered of the newcomer's roles, and what the matrices then hold
@@ -58,87 +58,87 @@ rows_admitted : (c : tie.After-admit) (lent : Admission)
     (call c).args.gives.now
     → RowsAdmitted (sheet_of (call c).args.text.now) (call c).args.users
     (roles_in (call c).args.has.now (call c).args.gives.now (call c).args.read.checked.roles)
-    c.admit.new.1.1.0 c.admit.new.1.1.1.0 c.admit.result
+    c.admit.new.has c.admit.new.gives c.admit.result
 rows_admitted c lent ready = c.admit.ensures (sheet_of (call c).args.text.now) (admit_ready ready (shown c))
 
-admitted_at : (c : tie.After-counts-with) (lent : Admission)
+admitted_at : (c : tie.After-counts_with-counts) (lent : Admission)
     → let j = admitted c in
     Ready lent (call j).args.text.now (call j).args.users (call j).args.read (call j).args.has.now
     (call j).args.gives.now
     → AdmittedAt (sheet_of (call j).args.text.now) (call j).args.users
     (roles_in (call j).args.has.now (call j).args.gives.now (call j).args.read.checked.roles)
-    j.admit.last.1.1.0 j.admit.last.1.1.1.0 c.before.before.before.roles.given.0.0
+    j.admit.new.has j.admit.new.gives c.in-Roles.roles
 admitted_at c lent ready =
     let j = admitted c in
     subst
     (RowsAdmitted (sheet_of (call j).args.text.now) (call j).args.users
     (roles_in (call j).args.has.now (call j).args.gives.now (call j).args.read.checked.roles)
-    j.admit.last.1.1.0 j.admit.last.1.1.1.0)
-    c.before.before.before.roles.given.1 (rows_admitted j lent ready)
+    j.admit.new.has j.admit.new.gives)
+    c.in-Roles.is (rows_admitted j lent ready)
 
 admit_requires : tie.Need-admit-requires
 admit_requires c κs =
-    let ready = c.before.before.before.before.before.before.before.requires.ready in
+    let ready = c.requires.ready in
     (room_for_the_user ready, few_roles ready)
 
-returns : tie.Need-returns
+returns : tie.Need-returns-in_default
 returns c lent ready =
-    let j = c.before.before.before in
+    let j = c.before.before in
     let buffer = (call j).args.out.now in
     let none =
     subst
     (RowsAdmitted (sheet_of (call j).args.text.now) (call j).args.users
     (roles_in (call j).args.has.now (call j).args.gives.now (call j).args.read.checked.roles)
-    j.admit.new.1.1.0 j.admit.new.1.1.1.0)
-    c.before.enum_told.given.1 (rows_admitted j lent ready) in
+    j.admit.new.has j.admit.new.gives)
+    c.in_default.is (rows_admitted j lent ready) in
     refused_by lent buffer (refused_for_roles ready buffer none) (λ z. omega arith) c.refused.ensures
 
-witness_cells_requires : tie.Need-witness-cells-requires
+witness_cells_requires : tie.Need-witness_cells-cells-requires
 witness_cells_requires c κs = lines_kept (call (admitted c)).requires.ready
 
-array_share_prefix_cells : tie.Need-array-share-prefix-cells
+array_share_prefix_cells : tie.Need-slice_bounds-cells-end
 array_share_prefix_cells c =
-    let w = c.before.before.before.before in
-    omega (arith, (lines_kept (call (admitted (counted w))).requires.ready).few, w.witness-cells.ensures.whole)
+    let w = c.before.before in
+    omega (arith, (lines_kept (call (admitted (counted w))).requires.ready).few, w.witness_cells-cells.ensures.whole)
 
-slice_aggregate_write_if_room : tie.Need-slice-aggregate-write-if-room
+slice_aggregate_write_if_room : tie.Need-slice_bounds-write_if_room-end
 slice_aggregate_write_if_room c =
-    let w = c.before.before.before.before.before in
+    let w = c.before.before.before in
     let ready = (call (admitted (counted w))).requires.ready in
-    sym (as_many_cells (lines_kept ready) ready.as_read.says_read.collects w.witness-cells.ensures)
+    sym (as_many_cells (lines_kept ready) ready.as_read.says_read.collects w.witness_cells-cells.ensures)
 
-write_if_room_requires : tie.Need-write-if-room-requires
+write_if_room_requires : tie.Need-write_if_room-requires
 write_if_room_requires c κs =
-    let w = c.before.before.before.before.before in
+    let w = c.before.before.before in
     let k = counted w in
     let some = (call (admitted k)).requires in
     let ready = some.ready in (
       laid (admitted k),
       omega (
         arith,
-        ap (λ (counts : Counts). counts.roles) k.Counts-with.ensures,
+        ap (λ (counts : Counts). counts.roles) k.counts_with-counts.ensures,
         room_for_roles ready (admitted_at k some.lent ready),
       ),
-      cells_within (lines_kept ready) ready.as_read.says_read.collects w.witness-cells.ensures _
+      cells_within (lines_kept ready) ready.as_read.says_read.collects w.witness_cells-cells.ensures _
           (witness_known ready),
     )
 
-returns_2 : tie.Need-returns-2
+returns_2 : tie.Need-returns
 returns_2 c lent ready =
     let written = c.before.before.before in
-    let w = written.before.before.before.before.before.before in
+    let w = written.before.before.before.before in
     let k = counted w in
     let buffer = (call (admitted k)).args.out.now in
     let at = admitted_at k lent ready in
     let text = (call (admitted k)).args.text.now in
-    let has = (admitted k).admit.last.1.1.0 in
-    let gives = (admitted k).admit.last.1.1.1.0 in
-    let cells = take (call (admitted k)).args.read.witness.lines w.witness-cells.result in
+    let has = (admitted k).admit.new.has in
+    let gives = (admitted k).admit.new.gives in
+    let cells = take (call (admitted k)).args.read.witness.lines w.witness_cells-cells.result in
     written_as_new_book lent buffer (only_the_buffer ready buffer at.room)
-    (ap (λ (counts : Counts). rows_book text has gives cells counts) k.Counts-with.ensures
+    (ap (λ (counts : Counts). rows_book text has gives cells counts) k.counts_with-counts.ensures
     ∙ rows_are_the_new_book ready at cells
-    (cells_are_the_witness (lines_kept ready) ready.as_read.says_read.collects w.witness-cells.ensures))
-    c.of.ensures written.write-if-room.ensures
+    (cells_are_the_witness (lines_kept ready) ready.as_read.says_read.collects w.witness_cells-cells.ensures))
+    c.of.ensures written.write_if_room.ensures
 
 pub write_new_spec : {M : Type 1} → statement M
 write_new_spec =

@@ -6,30 +6,30 @@ use Rattle.text.specs.Written.{within_buffer}
 use Rattle.newcomer.proofs.longer_text.put_longer.Statement.{statement}
 use Rattle.newcomer.proofs.longer_text.put_longer.Tie as tie
 
-abbrev start : tie.After-put-bytes → tie.Start
+abbrev start : tie.After-put_bytes-at → tie.Start
 start c = c.before.before.before.before.before
 
-behind_sheet : (c : tie.After-put-bytes)
+behind_sheet : (c : tie.After-put_bytes-at)
     → WrittenSoFar (start c).args.sheet.now (start c).args.line.now (start c).args.text.now
-    c.put-bytes.new.0 c.put-bytes.result
-behind_sheet c = record { written = c.put-bytes.ensures; fits = (start c).requires }
+    c.put_bytes-at.new.out c.put_bytes-at.result
+behind_sheet c = record { written = c.put_bytes-at.ensures; fits = (start c).requires }
 
-put_bytes_requires : tie.Need-put-bytes-requires
+put_bytes_requires : tie.Need-put_bytes-at-requires
 put_bytes_requires c κs =
     let s = c.before.before.before.before in
     front_fits s.args.sheet.now s.args.line.now s.requires
 
-put_bytes_requires_2 : tie.Need-put-bytes-requires-2
+put_bytes_requires_2 : tie.Need-put_bytes-requires
 put_bytes_requires_2 c κs = room_behind (behind_sheet c.before.before.before)
 
 -- the place behind the sheet, from where the line has been put
-abbrev sheet_put : tie.After-put-bytes2 → tie.After-put-bytes
+abbrev sheet_put : tie.After-put_bytes → tie.After-put_bytes-at
 sheet_put c = c.before.before.before.before
 
 returns : tie.Need-returns
 returns c =
     let put = c.before.before in
-    then_written (behind_sheet (sheet_put put)) put.put-bytes2.ensures
+    then_written (behind_sheet (sheet_put put)) put.put_bytes.ensures
 
 pub put_longer_spec : {M : Type 1} → statement M
 put_longer_spec =
@@ -38,7 +38,7 @@ put_longer_spec =
     (λ c. omega (
       arith,
       end_within (behind_sheet (sheet_put c.before.before))
-          c.before.before.put-bytes2.ensures,
+          c.put_bytes.ensures,
     ))
-    (λ c. then_same_length (behind_sheet (sheet_put c.before.before)) c.before.before.put-bytes2.ensures)
+    (λ c. then_same_length (behind_sheet (sheet_put c.before.before)) c.put_bytes.ensures)
     returns)

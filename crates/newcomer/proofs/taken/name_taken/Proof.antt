@@ -20,49 +20,49 @@ users : (c : tie.Start) → NamesThere c.args.sheet.now (take c.args.layout.user
 users c = users_there (users_at c.args.sheet.now c.args.layout c.requires)
 
 -- the field that was read, and the call from there
-abbrev call : tie.After-field → tie.Start
+abbrev call : tie.After-field-name → tie.Start
 call c = c.before.before.before
 
-name : (c : tie.After-field) → NameUpTo (call c).args.line.now c.field.result.to
+name : (c : tie.After-field-name) → NameUpTo (call c).args.line.now c.field-name.result.to
 name c =
     let line = (call c).args.line.now in
-    subst (λ (field : FieldRead). NameUpTo line field.to) (sym c.field.ensures) (name_of_line line)
+    subst (λ (field : FieldRead). NameUpTo line field.to) (sym c.field-name.ensures) (name_of_line line)
 
-array_share_prefix_places : tie.Need-array-share-prefix-places
-array_share_prefix_places c = users_placed c.before.before.before.before.before.requires
+array_share_prefix_places : tie.Need-slice_bounds-places-end
+array_share_prefix_places c = users_placed c.requires
 
-slice_aggregate_find_from_2 : tie.Need-slice-aggregate-find-from-2
-slice_aggregate_find_from_2 c = sym (length-take-le _ _ (name c.before.before.before.before).within)
+slice_aggregate_find_from_2 : tie.Need-slice_bounds-find_from-end-2
+slice_aggregate_find_from_2 c = sym (length-take-le _ _ (name c.before.before.before).within)
 
-find_from_requires : tie.Need-find-from-requires
+find_from_requires : tie.Need-find_from-requires
 find_from_requires c κs =
-    let there = users c.before.before.before.before.before.before.before in (there.inside, there.apart)
+    let there = users c.before.before.before.before.before.before in (there.inside, there.apart)
 
 -- the place where the name was read, from where it was looked for
-abbrev read : tie.After-find-from → tie.After-field
-read c = c.before.before.before.before.before
+abbrev read : tie.After-find_from → tie.After-field-name
+read c = c.before.before.before.before
 
 -- what was found is the number of the newcomer's name among the users
-looked_for : (c : tie.After-find-from)
+looked_for : (c : tie.After-find_from)
     → let args = (call (read c)).args in
-    c.find-from.result ≡ found (name_number (sheet_of args.sheet.now).users (added_name args.line.now))
-looked_for c = rw ((users (call (read c))).same, (name (read c)).reads) at c.find-from.ensures
+    c.find_from.result ≡ found (name_number (sheet_of args.sheet.now).users (added_name args.line.now))
+looked_for c = rw ((users (call (read c))).same, (name (read c)).reads) at c.find_from.ensures
 
-returns : tie.Need-returns
+returns : tie.Need-returns-in-At
 returns c =
-    let place = c.before.before in
+    let place = c.before in
     let start = call (read place) in
     sym
     (found_known (sheet_of start.args.sheet.now).users (added_name start.args.line.now)
-    (sym (looked_for place) ∙ c.enum_told.given.1))
+    (sym (looked_for place) ∙ c.in-At.is))
 
-returns_2 : tie.Need-returns-2
+returns_2 : tie.Need-returns-in-Nothing
 returns_2 c =
-    let place = c.before.before in
+    let place = c.before in
     let start = call (read place) in
     sym
     (nothing_unknown (sheet_of start.args.sheet.now).users (added_name start.args.line.now)
-    (sym (looked_for place) ∙ c.enum-told2.given.1))
+    (sym (looked_for place) ∙ c.in-Nothing.is))
 
 pub name_taken_spec : {M : Type 1} → statement M
 name_taken_spec =
