@@ -47,7 +47,8 @@ pub record WordRest (left : List ℕ) (i w : ℕ) (cells : List ℕ) (size : ℕ
   pub ahead : (q : ℕ) → place ≤ q → bit w q ≡ bit (get_or left i 0) q
   pub listed : ListedTo left (i * word_bits + place) cells size
 
-pub word_starts : (left : List ℕ) (i word : ℕ) (cells : List ℕ) (size : ℕ) → word < 2 ^ word_bits → get_or left i 0 ≡ word
+pub word_starts : (left : List ℕ) (i word : ℕ) (cells : List ℕ) (size : ℕ) → word < 2 ^ word_bits
+    → get_or left i 0 ≡ word
     → ListedTo left (i * word_bits) cells size → WordRest left i word cells size
 word_starts left i word cells size fits e h =
     let same : i * word_bits + 0 ≡ i * word_bits = omega arith in

@@ -119,7 +119,8 @@ module _ {rows cells classes : List ℕ} {d : ℕ} {asked lacked : List ℕ} (m 
           → So (cell asked c q)
       asked_there i q l k s t =
           m.asking.gathers c q below k
-          ∙ some_below_intro d (λ j. eqb c (get_or classes j 0) && asks cells j q) l (and_intro (eqb c (get_or classes i 0))
+          ∙ some_below_intro d (λ j. eqb c (get_or classes j 0) && asks cells j q) l
+          (and_intro (eqb c (get_or classes i 0))
           (asks cells i q) s t)
 
       lacked_there : (i q : ℕ) → i < d → q < row_bits → So (eqb c (get_or classes i 0)) → So (lacks rows cells i q)
@@ -149,7 +150,8 @@ module _ {rows cells classes : List ℕ} {d : ℕ} {asked lacked : List ℕ} (m 
         abbrev held : ℕ → Bool
         held q = implies (cell asked c q) (cell rows (it / row_bits) q)
 
-        joinable_fits : So (joinable rows asked lacked it c) → (i : ℕ) → i < d → So (eqb c (get_or classes i 0)) → Fits i
+        joinable_fits : So (joinable rows asked lacked it c) → (i : ℕ) → i < d
+            → So (eqb c (get_or classes i 0)) → Fits i
         joinable_fits e i l s =
             let p = get_or cells i 0 % row_bits in
             let k : p < row_bits = mod-lt (get_or cells i 0) row_bits_pos in
@@ -183,7 +185,8 @@ module _ {rows cells classes : List ℕ} {d : ℕ} {asked lacked : List ℕ} (m 
               let e = eqb-true q (get_or cells i 0 % row_bits) (and_right (eqb c (get_or classes i 0)) (asks cells i q)
               r.holds) in
               rw e
-              (and_left (cell rows (it / row_bits) (get_or cells i 0 % row_bits)) (cell rows (get_or cells i 0 / row_bits)
+              (and_left (cell rows (it / row_bits) (get_or cells i 0 % row_bits))
+              (cell rows (get_or cells i 0 / row_bits)
               (it % row_bits))
               (fitting i r.within s))
 
@@ -202,7 +205,8 @@ module _ {rows cells classes : List ℕ} {d : ℕ} {asked lacked : List ℕ} (m 
           (latest_first classes d) c)
           (λ e. joins_intro (fit_at_cells rows cells) d (latest_first classes d) c (λ i k s.
           let l : i < d = rw (latest_first_length classes d) at k in
-          joinable_fits (get_or cells d 0) e i l (eq-eqb c (get_or classes i 0) (sym s ∙ latest_first_class classes d l))))
+          joinable_fits (get_or cells d 0) e i l (eq-eqb c (get_or classes i 0)
+          (sym s ∙ latest_first_class classes d l))))
           (λ e. fits_joinable (get_or cells d 0) (λ i l s.
           joins_elim (fit_at_cells rows cells) d (latest_first classes d) c e (rw (latest_first_length classes d) l)
           (latest_first_class classes d l ∙ sym (eqb-true c (get_or classes i 0) s))))

@@ -41,7 +41,8 @@ module _ {rows words after : List ℕ} {c u j : ℕ} (added : LacksAdded rows wo
   next_word = bit_or (get_or after (c * row_words + j) 0) (2 ^ word_bits - 1 - get_or rows (u * row_words + j) 0)
 
   next_bit : (x : ℕ) → x < word_bits
-      → bit next_word x ≡ (bit (get_or after (c * row_words + j) 0) x || not (bit (get_or rows (u * row_words + j) 0) x))
+      → bit next_word x ≡ (bit (get_or after (c * row_words + j) 0) x
+      || not (bit (get_or rows (u * row_words + j) 0) x))
   next_bit x l =
       rw (
         bit_of_or (get_or after (c * row_words + j) 0) (2 ^ word_bits - 1 - get_or rows (u * row_words + j) 0) x,

@@ -27,7 +27,8 @@ pub record Table (sheet : Sheet) (grants : List Grant) (table : List ℕ) : Type
 -- there are grants i and j among these cells, and they fit, as the rows say
 abbrev pub fit_among : List ℕ → List ℕ → ℕ → ℕ → Bool
 fit_among rows cells i j =
-    ltb i (length cells) && ltb j (length cells) && fit_in rows (grant_of (get_or cells i 0)) (grant_of (get_or cells j 0))
+    ltb i (length cells) && ltb j (length cells) && fit_in rows (grant_of (get_or cells i 0))
+    (grant_of (get_or cells j 0))
 
 -- word t of the table
 abbrev pub table_word : List ℕ → List ℕ → ℕ → ℕ → Bool

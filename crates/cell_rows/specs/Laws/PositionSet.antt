@@ -22,7 +22,8 @@ put_in words n w inside says m = ⊎_elim here elsewhere (passes_or_fails (eqb (
     here e =
         let word : m / word_bits ≡ n / word_bits = eqb-true (m / word_bits) (n / word_bits) e in
         rw (word, get_or-set_same words (n / word_bits) w 0 inside)
-        (says (m % word_bits) ∙ ap (λ b. bit (get_or words (n / word_bits) 0) (m % word_bits) || b) (same_position word))
+        (says (m % word_bits) ∙ ap (λ b. bit (get_or words (n / word_bits) 0) (m % word_bits) || b)
+        (same_position word))
       where
         same_position : m / word_bits ≡ n / word_bits → eqb (m % word_bits) (n % word_bits) ≡ eqb m n
         same_position word =

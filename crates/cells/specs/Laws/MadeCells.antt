@@ -38,7 +38,8 @@ one_made test i words w m inside says = record {
   rest = λ s l. get_or-set_other words i s w 0 (omega arith) ∙ m.rest s (omega arith);
 }
   where
-    latest : (s q : ℕ) → s < i + 1 → q < word_bits → i ≤ s → bit (get_or (set words i w) s 0) q ≡ test (s * word_bits + q)
+    latest : (s q : ℕ) → s < i + 1 → q < word_bits → i ≤ s
+        → bit (get_or (set words i w) s 0) q ≡ test (s * word_bits + q)
     latest s q l k o = let same : s ≡ i = omega arith in rw (same, get_or-set_same words i w 0 inside) (says q k)
 
 pub all_made : (test : ℕ → Bool) (i : ℕ) (words : List ℕ) → MadeWords test i words → MadeCells test (i * word_bits)

@@ -48,7 +48,8 @@ module _ (columns : List ℕ) (word k j : ℕ) where
   union_ends some all t =
       sym (or-false (bit some t))
       ∙ ap (λ b. bit some t || b)
-      (sym (none_below_intro word_bits (λ q. bit 0 q && bit (get_or columns ((k * word_bits + q) * column_words + j) 0) t)
+      (sym (none_below_intro word_bits (λ q. bit 0 q
+      && bit (get_or columns ((k * word_bits + q) * column_words + j) 0) t)
       (λ q l. ap (λ b. b && bit (get_or columns ((k * word_bits + q) * column_words + j) 0) t) (bit_of_zero q))))
       ∙ all t
 

@@ -1,6 +1,6 @@
--- What a cell has after r roles is the "or" over roles 1 to r: a role more is one more at the end of the "or". So the cell
--- is yes after r roles exactly where one of them opens it; and after all roles, which is the product, the "or" is over
--- all of them.
+-- What a cell has after r roles is the "or" over roles 1 to r: a role more is one more at the end of the "or". So the
+-- cell is yes after r roles exactly where one of them opens it; and after all roles, which is the product, the "or" is
+-- over all of them.
 use Rattle.std.specs.Prelude.{ℕ, zero, suc, ◌<◌, ◌≡◌, refl, ◌↔◌, Bool, false, ◌&&◌, ◌||◌}
 use Rattle.std.proofs.Common.{le_refl, sym, ap, ◌∙◌}
 use Rattle.std.proofs.Math.Nat.{le_step}
@@ -33,7 +33,8 @@ product_is_the_or_over_all_roles roles u p =
 some_after : (roles : RoleSet) (u p r : ℕ) → cell_after roles u p r ≡ some_below r (opens roles u p)
 unfolding cell_after some_below
 some_after roles u p zero = refl
-some_after roles u p (suc r) = rw (some_after roles u p r) (or_comm (some_below r (opens roles u p)) (opens roles u p r))
+some_after roles u p (suc r) = rw (some_after roles u p r)
+    (or_comm (some_below r (opens roles u p)) (opens roles u p r))
 
 -- the text that was the definition of the product before request [2]: its value is the same
 pub product_as_it_was : (roles : RoleSet) (u p : ℕ)

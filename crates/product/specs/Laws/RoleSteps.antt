@@ -30,7 +30,8 @@ take_start row gives role owned =
 
 pub take_more : {row after gives : List ℕ} {role n : ℕ} {owned : Bool} → RoleTaken row after gives role owned n
     → (all : ℕ) → ((q : ℕ) → q < word_bits → bit all q ≡ owned) → n < length after
-    → RoleTaken row (set after n (bit_or (get_or after n 0) (bit_and all (get_or gives (role * row_words + n) 0)))) gives role
+    → RoleTaken row (set after n (bit_or (get_or after n 0)
+    (bit_and all (get_or gives (role * row_words + n) 0)))) gives role
     owned (n + 1)
 take_more {row} {after} {gives} {role} {n} {owned} taken all says inside =
     record {

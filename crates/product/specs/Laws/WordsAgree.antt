@@ -61,7 +61,8 @@ module _ (rows has gives : List ℕ) (roles u : ℕ) where
 
   -- a word that is another has a cell that does not agree
   pub word_differs : {k : ℕ} {row : List ℕ} → RowAfter has gives u roles row → k < row_words
-      → get_or row k 0 < 2 ^ word_bits → get_or rows (u * row_words + k) 0 < 2 ^ word_bits → (get_or row k 0 ≡ get_or rows (u * row_words + k) 0 → ⊥)
+      → get_or row k 0 < 2 ^ word_bits → get_or rows (u * row_words + k) 0 < 2 ^ word_bits
+      → (get_or row k 0 ≡ get_or rows (u * row_words + k) 0 → ⊥)
       → row_agrees rows (roles_in has gives roles) u ≡ false
   unfolding row_agrees row_bits
   word_differs {k} {row} given h small other differ =

@@ -10,7 +10,8 @@ single_count removed partner count = length (singles_of (log_of removed partner 
 
 pub one_single_more : (removed partner : List ℕ) (i : ℕ) → get_or removed i 0 ≡ get_or partner i 0
     → single_count removed partner (i + 1) ≡ single_count removed partner i + 1
-one_single_more removed partner i same = rw (add-one i, eq-eqb (get_or removed i 0) (get_or partner i 0) same) (omega arith)
+one_single_more removed partner i same = rw (add-one i, eq-eqb (get_or removed i 0) (get_or partner i 0) same)
+    (omega arith)
 
 pub no_single_more : (removed partner : List ℕ) (i : ℕ) → get_or removed i 0 ≢ get_or partner i 0
     → single_count removed partner (i + 1) ≡ single_count removed partner i

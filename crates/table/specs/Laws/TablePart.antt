@@ -123,7 +123,8 @@ module _ {rows cells : List ℕ} {i : ℕ} {words : List ℕ} (filled : Filled r
   -- the two words of a grant
   pub grant_filled : {p mine_low mine_high low high : ℕ} → i < table_limit → i < length cells
       → length words ≡ table_limit * table_row
-      → p ≡ get_or cells i 0 % row_bits → FirstBits (permission_held rows cells 0 (get_or cells i 0 / row_bits)) word_bits
+      → p ≡ get_or cells i 0 % row_bits → FirstBits
+      (permission_held rows cells 0 (get_or cells i 0 / row_bits)) word_bits
       mine_low
       → FirstBits (permission_held rows cells word_bits (get_or cells i 0 / row_bits)) word_bits mine_high
       → FirstBits (user_holds rows cells 0 p) word_bits low → FirstBits (user_holds rows cells word_bits p) word_bits

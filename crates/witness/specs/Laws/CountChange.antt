@@ -64,7 +64,8 @@ changed_as {at} {wider} {to} {said} {before} same none c = record {
       (λ f. rw f (sym (unchanged n f))) (passes_or_fails (at n));
 }
   where
-    unchanged : (n : ℕ) → at n ≡ false → cond (wider n) (said n (get_or before n 0)) (get_or before n 0) ≡ get_or before n 0
+    unchanged : (n : ℕ) → at n ≡ false → cond (wider n) (said n (get_or before n 0)) (get_or before n 0)
+        ≡ get_or before n 0
     unchanged n f = ⊎_elim (λ (p : So (wider n)). rw p (none n f p (get_or before n 0))) (λ g. rw g)
         (passes_or_fails (wider n))
 

@@ -67,5 +67,6 @@ returns_2 c left e listed = word_listed (c.loop-w.invariant left e listed) c.loo
 pub list_word_spec : {M : Type 1} → statement M
 unfolding user_limit row_words
 list_word_spec =
-    tie.close (tie.spec invariant_loop decreases_loop loop_holds (λ c. omega arith) (λ c κs. omega arith) add_cells cast_cells
+    tie.close (tie.spec invariant_loop decreases_loop loop_holds (λ c. omega arith) (λ c κs. omega arith)
+    add_cells cast_cells
     mul_cells_2 element_write_cells add_size (λ c κs. omega arith) loop_less loop_again returns returns_2)

@@ -10,7 +10,8 @@ use Rattle.cells.proofs.listing.listed.Statement.{statement}
 use Rattle.cells.proofs.listing.listed.Tie as tie
 
 abbrev invariant_loop : tie.invariant-loop-i
-invariant_loop left users cells₀ size₀ i₀ cells size i = (i ≤ users * row_words) × ListedTo left (i * word_bits) cells size
+invariant_loop left users cells₀ size₀ i₀ cells size i = (i ≤ users * row_words)
+    × ListedTo left (i * word_bits) cells size
 
 abbrev decreases_loop : tie.decreases-loop-i
 decreases_loop left users cells₀ size₀ i₀ cells size i = users * row_words - i
@@ -33,5 +34,6 @@ returns c =
 pub listed_spec : {M : Type 1} → statement M
 unfolding user_limit row_words
 listed_spec =
-    tie.close (tie.spec invariant_loop decreases_loop loop_holds (λ c. omega arith) (λ c. omega arith) (λ c. omega arith)
+    tie.close (tie.spec invariant_loop decreases_loop loop_holds (λ c. omega arith) (λ c. omega arith)
+    (λ c. omega arith)
     (λ c κs. omega arith) (λ c. omega arith) (λ c. omega arith) loop_again returns)

@@ -51,11 +51,17 @@ returns_2 : tie.Need-returns invariant_loop decreases_loop
 unfolding row_bits row_words
 returns_2 c =
     let at = c.loop-n in
-    record { not_before = at.invariant.0; not_past = at.invariant.1; skipped = at.invariant.2; passes = λ l. absurd (omega arith) }
+    record {
+      not_before = at.invariant.0;
+      not_past = at.invariant.1;
+      skipped = at.invariant.2;
+      passes = λ l. absurd (omega arith);
+    }
 
 pub next_cell_spec : {M : Type 1} → statement M
 unfolding user_limit row_bits row_words
 next_cell_spec =
-    tie.close (tie.spec invariant_loop decreases_loop loop_holds (λ c. omega arith) (λ c. omega arith) (λ c. omega arith)
+    tie.close (tie.spec invariant_loop decreases_loop loop_holds (λ c. omega arith) (λ c. omega arith)
+    (λ c. omega arith)
     (λ c κs. omega arith) (λ c. omega arith) (λ c. omega arith) returns (λ c. omega arith) (λ c. omega arith)
     (λ c. omega arith) loop_again returns_2)

@@ -44,5 +44,6 @@ returns c =
 pub allowed_to_spec : {M : Type 1} → statement M
 unfolding row_bits row_words
 allowed_to_spec =
-    tie.close (tie.spec invariant_loop decreases_loop loop_holds (λ c κs. omega arith) put_if_requires (λ c. omega arith)
+    tie.close (tie.spec invariant_loop decreases_loop loop_holds (λ c κs. omega arith) put_if_requires
+    (λ c. omega arith)
     (λ c. omega arith) loop_again returns)

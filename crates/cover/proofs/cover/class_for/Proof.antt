@@ -48,5 +48,6 @@ returns_2 c =
 pub class_for_spec : {M : Type 1} → statement M
 unfolding row_words
 class_for_spec =
-    tie.close (tie.spec invariant_loop decreases_loop loop_holds (λ c. omega arith) (λ c. omega arith) (λ c κs. omega arith)
+    tie.close (tie.spec invariant_loop decreases_loop loop_holds (λ c. omega arith) (λ c. omega arith)
+    (λ c κs. omega arith)
     (λ c. omega arith) (λ c. omega arith) returns (λ c. omega arith) (λ c. omega arith) loop_again returns_2)

@@ -20,14 +20,16 @@ use Rattle.cover.proofs.cover.grouped_by_fit.Statement.{statement}
 use Rattle.cover.proofs.cover.grouped_by_fit.Tie as tie
 
 abbrev invariant_loop : tie.invariant-loop-d
-invariant_loop rows cells most asked₀ lacked₀ classes₀ allowed₀ latest₀ count₀ d₀ asked lacked classes allowed latest count
+invariant_loop rows cells most asked₀ lacked₀ classes₀ allowed₀ latest₀ count₀ d₀ asked lacked classes allowed
+    latest count
     d =
     (d ≤ length cells) × (length classes ≡ grant_limit) × (length asked ≡ class_words) × (length lacked ≡ class_words)
     × (HeldCells rows cells → FitSoFar rows cells classes d count asked lacked latest.0 allowed most)
     × BlankFrom d classes
 
 abbrev decreases_loop : tie.decreases-loop-d
-decreases_loop rows cells most asked₀ lacked₀ classes₀ allowed₀ latest₀ count₀ d₀ asked lacked classes allowed latest count d =
+decreases_loop rows cells most asked₀ lacked₀ classes₀ allowed₀ latest₀ count₀ d₀ asked lacked classes allowed
+    latest count d =
     length cells - d
 
 loop_holds : tie.Need-loop-d-init invariant_loop decreases_loop
@@ -165,7 +167,8 @@ returns_2 c =
 pub grouped_by_fit_spec : {M : Type 1} → statement M
 unfolding row_bits row_words grant_limit
 grouped_by_fit_spec =
-    tie.close (tie.spec invariant_loop decreases_loop loop_holds (λ c. omega arith) (λ c. omega arith) cast_at (λ c κs. tt)
+    tie.close (tie.spec invariant_loop decreases_loop loop_holds (λ c. omega arith) (λ c. omega arith) cast_at
+    (λ c κs. tt)
     (λ c κs. tt) allowed_next_requires class_for_requires add_used returns add_asked_requires add_lacked_requires
     (λ c. omega arith) (λ c. omega arith) (λ c. omega arith) (λ c κs. tt) (λ c. omega arith) (λ c. omega arith)
     loop_again returns_2)

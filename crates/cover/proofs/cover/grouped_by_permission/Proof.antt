@@ -31,7 +31,8 @@ cast_at : tie.Need-overflow_cast-at invariant_loop decreases_loop
 cast_at c = omega (arith, c.shared_slice_known-in-loop-d-1.given c.loop-d.d)
 
 -- the permission has its place in the table
-below : (c : tie.After-permission_of-permission invariant_loop decreases_loop) → c.permission_of-permission.result.0 < row_bits
+below : (c : tie.After-permission_of-permission invariant_loop decreases_loop)
+    → c.permission_of-permission.result.0 < row_bits
 below c = rw c.permission_of-permission.ensures (mod-lt _ row_bits_pos)
 
 -- there are no more classes than permissions
@@ -71,6 +72,7 @@ returns c =
 pub grouped_by_permission_spec : {M : Type 1} → statement M
 unfolding grant_limit
 grouped_by_permission_spec =
-    tie.close (tie.spec invariant_loop decreases_loop loop_holds (λ c. omega arith) (λ c. omega arith) cast_at (λ c κs. tt)
+    tie.close (tie.spec invariant_loop decreases_loop loop_holds (λ c. omega arith) (λ c. omega arith) cast_at
+    (λ c κs. tt)
     class_of_permission_requires array_write_table (λ c. omega arith) (λ c κs. tt) (λ c. omega arith)
     (λ c. omega arith) loop_again returns)

@@ -32,7 +32,8 @@ unfolding row_words
 add_n c =
     let at = c.before.before.before.before in
     let few : c.count-n.result ≤ word_bits = rw c.count-n.ensures (count_below_le word_bits _) in
-    let so_far : at.loop-k.n ≤ at.loop-k.k * word_bits = rw at.loop-k.invariant.1 (count_below_le (at.loop-k.k * word_bits) _) in
+    let so_far : at.loop-k.n ≤ at.loop-k.k * word_bits
+    = rw at.loop-k.invariant.1 (count_below_le (at.loop-k.k * word_bits) _) in
     omega (arith, few, so_far)
 
 loop_again : tie.Need-loop-k-preserved invariant_loop decreases_loop
@@ -60,6 +61,7 @@ returns c =
 pub near_in_row_spec : {M : Type 1} → statement M
 unfolding user_limit row_words
 near_in_row_spec =
-    tie.close (tie.spec invariant_loop decreases_loop (λ c. omega arith) loop_holds (λ c. omega arith) (λ c. omega arith)
+    tie.close (tie.spec invariant_loop decreases_loop (λ c. omega arith) loop_holds (λ c. omega arith)
+    (λ c. omega arith)
     (λ c. omega arith) (λ c. omega arith) fitting_requires (λ c κs. tt) add_n (λ c. omega arith) (λ c. omega arith)
     loop_again returns)

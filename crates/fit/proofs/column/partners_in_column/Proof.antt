@@ -84,6 +84,7 @@ returns_2 c =
 
 pub partners_in_column_spec : {M : Type 1} → statement M
 partners_in_column_spec =
-    tie.close (tie.spec invariant_loop decreases_loop loop_holds (λ c. omega arith) (λ c. omega arith) (λ c. omega arith)
+    tie.close (tie.spec invariant_loop decreases_loop loop_holds (λ c. omega arith) (λ c. omega arith)
+    (λ c. omega arith)
     (λ c. omega arith) (λ c. omega arith) partners_among_requires (λ c. omega arith) loop_less loop_again returns
     returns_2)

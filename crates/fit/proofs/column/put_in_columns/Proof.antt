@@ -34,7 +34,8 @@ loop_again c =
     let at_loop = c.before.before.before.before.before in
     let start = at_loop.before in
     let put = c.mark.ensures in
-    one_put_in start.args.user.0 start.args.k start.args.some _ _ _ start.requires.0 at_loop.loop-w.invariant low.ensures
+    one_put_in start.args.user.0 start.args.k start.args.some _ _ _ start.requires.0
+    at_loop.loop-w.invariant low.ensures
     c.without_lowest-w.ensures put.size put.shows
 
 returns : tie.Need-returns invariant_loop decreases_loop

@@ -40,5 +40,6 @@ returns c =
 pub put_row_spec : {M : Type 1} → statement M
 unfolding user_limit row_words
 put_row_spec =
-    tie.close (tie.spec invariant_loop decreases_loop (λ c. omega arith) loop_holds (λ c. omega arith) (λ c. omega arith)
+    tie.close (tie.spec invariant_loop decreases_loop (λ c. omega arith) loop_holds (λ c. omega arith)
+    (λ c. omega arith)
     (λ c. omega arith) put_in_columns_requires (λ c. omega arith) (λ c. omega arith) loop_again returns)

@@ -38,5 +38,6 @@ returns c n l =
 pub first_classes_spec : {M : Type 1} → statement M
 unfolding search_limit grant_limit
 first_classes_spec =
-    tie.close (tie.spec invariant_loop decreases_loop loop_holds (λ c. omega arith) (λ c. omega arith) (λ c. omega arith)
+    tie.close (tie.spec invariant_loop decreases_loop loop_holds (λ c. omega arith) (λ c. omega arith)
+    (λ c. omega arith)
     (λ c. omega arith) loop_again returns)

@@ -44,5 +44,6 @@ returns c =
 pub copied_spec : {M : Type 1} → statement M
 unfolding sheet_limit
 copied_spec =
-    tie.close (tie.spec invariant_loop decreases_loop loop_holds (λ c. omega arith) (λ c. omega arith) (λ c. omega arith)
+    tie.close (tie.spec invariant_loop decreases_loop loop_holds (λ c. omega arith) (λ c. omega arith)
+    (λ c. omega arith)
     (λ c. omega arith) loop_again returns)

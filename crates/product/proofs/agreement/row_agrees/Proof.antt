@@ -1,4 +1,5 @@
--- `product::agreement::row_agrees`: the cells of the words below k agree; a word that is another has a cell that does not.
+-- `product::agreement::row_agrees`: the cells of the words below k agree; a word that is another has a cell that does
+-- not.
 use Prim.Native.Nat.{◌+◌, ◌*◌, ◌-◌, ◌^◌, ◌≤◌, ◌<◌}
 use native.Mathlib.Omega.{arith}
 use mathlib.Core.Path.{sym}
@@ -92,5 +93,6 @@ returns_2 c =
 
 pub row_agrees_spec : {M : Type 1} → statement M
 row_agrees_spec =
-    tie.close (tie.spec invariant_loop decreases_loop row_after_requires loop_holds (λ c κs. more c.before) mul_if1 add_if1
+    tie.close (tie.spec invariant_loop decreases_loop row_after_requires loop_holds (λ c κs. more c.before)
+    mul_if1 add_if1
     mul_if1_2 shared_slice_read_if1 returns (λ c. omega arith) loop_less loop_again returns_2)

@@ -15,7 +15,8 @@ use Rattle.product.proofs.agreement.rows_agree.Statement.{statement}
 use Rattle.product.proofs.agreement.rows_agree.Tie as tie
 
 abbrev invariant_loop : tie.invariant-loop-u
-invariant_loop rows has gives roles users u₀ u = (u ≤ users) × So (every_below u (row_agrees rows (roles_in has gives roles)))
+invariant_loop rows has gives roles users u₀ u = (u ≤ users)
+    × So (every_below u (row_agrees rows (roles_in has gives roles)))
 
 abbrev decreases_loop : tie.decreases-loop-u
 decreases_loop rows has gives roles users u₀ u = users - u
@@ -61,5 +62,6 @@ returns_2 c =
 
 pub rows_agree_spec : {M : Type 1} → statement M
 rows_agree_spec =
-    tie.close (tie.spec invariant_loop decreases_loop loop_holds row_agrees_requires returns (λ c. omega arith) (λ c. omega arith)
+    tie.close (tie.spec invariant_loop decreases_loop loop_holds row_agrees_requires returns (λ c. omega arith)
+    (λ c. omega arith)
     loop_again returns_2)

@@ -50,5 +50,6 @@ returns c =
 pub row_after_spec : {M : Type 1} → statement M
 unfolding row_words
 row_after_spec =
-    tie.close (tie.spec invariant_loop decreases_loop loop_holds take_word_requires (λ c. omega arith) (λ c. omega arith) loop_again
+    tie.close (tie.spec invariant_loop decreases_loop loop_holds take_word_requires (λ c. omega arith)
+    (λ c. omega arith) loop_again
     returns)

@@ -73,6 +73,7 @@ returns c =
 
 pub take_role_spec : {M : Type 1} → statement M
 take_role_spec =
-    tie.close (tie.spec invariant_loop decreases_loop (λ c κs. omega arith) loop_holds (λ c. omega arith) (λ c. omega arith) mul_row_2
+    tie.close (tie.spec invariant_loop decreases_loop (λ c κs. omega arith) loop_holds (λ c. omega arith)
+    (λ c. omega arith) mul_row_2
     add_row mul_row_3 shared_slice_read_row (λ c. omega arith) (λ c. omega arith) (λ c. omega arith) loop_less
     loop_again returns)

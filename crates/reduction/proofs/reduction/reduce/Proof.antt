@@ -61,4 +61,5 @@ returns c =
 
 pub reduce_spec : {M : Type 1} → statement M
 reduce_spec =
-    tie.close (tie.spec invariant_loop decreases_loop loop_holds sweep_requires loop_less loop_again count_singles_requires returns)
+    tie.close (tie.spec invariant_loop decreases_loop loop_holds sweep_requires loop_less loop_again
+    count_singles_requires returns)

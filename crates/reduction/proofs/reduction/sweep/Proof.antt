@@ -33,7 +33,8 @@ invariant_loop3 rows columns left₀ removed₀ partner₀ users count count₀ 
     × Insides rows left u inside
 
 abbrev decreases_loop3 : tie.decreases-loop-w
-decreases_loop3 rows columns left₀ removed₀ partner₀ users count count₀ u inside d i w₀ left removed partner count' w = w
+decreases_loop3 rows columns left₀ removed₀ partner₀ users count count₀ u inside d i w₀ left removed partner
+    count' w = w
 
 -- from word to word
 abbrev invariant_loop2 : tie.invariant-loop-d
@@ -54,18 +55,22 @@ invariant_loop rows columns left₀ removed₀ partner₀ users count count₀ u
 abbrev decreases_loop : tie.decreases-loop-u
 decreases_loop rows columns left₀ removed₀ partner₀ users count count₀ u₀ left removed partner count' u = users - u
 
-loop_holds : tie.Need-loop-u-init invariant_loop3 decreases_loop3 invariant_loop2 decreases_loop2 invariant_loop decreases_loop
+loop_holds : tie.Need-loop-u-init invariant_loop3 decreases_loop3 invariant_loop2 decreases_loop2 invariant_loop
+    decreases_loop
 unfolding row_words
 loop_holds c = (omega arith, swept_none c.requires.0)
 
-has_grants_requires : tie.Need-has_grants-requires invariant_loop3 decreases_loop3 invariant_loop2 decreases_loop2 invariant_loop decreases_loop
+has_grants_requires : tie.Need-has_grants-requires invariant_loop3 decreases_loop3 invariant_loop2 decreases_loop2
+    invariant_loop decreases_loop
 has_grants_requires c κs = omega (arith, c.requires.0.shows.few_users)
 
-insides_requires : tie.Need-insides-inside-requires invariant_loop3 decreases_loop3 invariant_loop2 decreases_loop2 invariant_loop decreases_loop
+insides_requires : tie.Need-insides-inside-requires invariant_loop3 decreases_loop3 invariant_loop2 decreases_loop2
+    invariant_loop decreases_loop
 insides_requires c κs =
     (omega (arith, c.requires.0.shows.few_users), (visited_ready c.requires.0 c.loop-u.invariant.1).part, c.requires.1)
 
-loop2_holds : tie.Need-loop-d-init invariant_loop3 decreases_loop3 invariant_loop2 decreases_loop2 invariant_loop decreases_loop
+loop2_holds : tie.Need-loop-d-init invariant_loop3 decreases_loop3 invariant_loop2 decreases_loop2 invariant_loop
+    decreases_loop
 loop2_holds c =
     let ready = visited_ready c.requires.0 c.loop-u.invariant.1 in (
       omega arith,
@@ -73,22 +78,26 @@ loop2_holds c =
           (omega (arith, ready.shows.few_users)) c.insides-inside.ensures),
     )
 
-loop3_holds : tie.Need-loop-w-init invariant_loop3 decreases_loop3 invariant_loop2 decreases_loop2 invariant_loop decreases_loop
+loop3_holds : tie.Need-loop-w-init invariant_loop3 decreases_loop3 invariant_loop2 decreases_loop2 invariant_loop
+    decreases_loop
 loop3_holds c =
     let at = c.loop-d.invariant.1 in (sweeping_at_first at.ready, at.insides)
 
 -- the cell at the position found
-abbrev cell_of : tie.After-lowest invariant_loop3 decreases_loop3 invariant_loop2 decreases_loop2 invariant_loop decreases_loop → ℕ
+abbrev cell_of : tie.After-lowest invariant_loop3 decreases_loop3 invariant_loop2 decreases_loop2 invariant_loop
+    decreases_loop → ℕ
 cell_of c =
     (c.loop-u.u * row_words + c.loop-d.d) * word_bits + c.lowest.result
 
 -- it is one of these users' cells, and of the user's, and remains
-below : (c : tie.After-lowest invariant_loop3 decreases_loop3 invariant_loop2 decreases_loop2 invariant_loop decreases_loop)
+below : (c : tie.After-lowest invariant_loop3 decreases_loop3 invariant_loop2 decreases_loop2 invariant_loop
+    decreases_loop)
     → cell_of c < cells_of c.args.users
 unfolding row_words
 below c = digits_lt (omega arith) c.lowest.ensures.within
 
-of_user : (c : tie.After-lowest invariant_loop3 decreases_loop3 invariant_loop2 decreases_loop2 invariant_loop decreases_loop)
+of_user : (c : tie.After-lowest invariant_loop3 decreases_loop3 invariant_loop2 decreases_loop2 invariant_loop
+    decreases_loop)
     → cell_of c / row_bits ≡ c.loop-u.u
 unfolding row_words
 of_user c =
@@ -97,13 +106,15 @@ of_user c =
     user_of_cell (cell_of c) ∙ ap (λ i. i / row_words) (digits_div (u * row_words + d) c.lowest.ensures.within)
     ∙ digits_div u (omega arith)
 
-remains : (c : tie.After-lowest invariant_loop3 decreases_loop3 invariant_loop2 decreases_loop2 invariant_loop decreases_loop)
+remains : (c : tie.After-lowest invariant_loop3 decreases_loop3 invariant_loop2 decreases_loop2 invariant_loop
+    decreases_loop)
     → So (marked c.loop-w.left (cell_of c))
 unfolding row_words
 remains c =
     c.loop-w.invariant.0.set c.lowest.result c.lowest.ensures.within c.lowest.ensures.holds
 
-judge_requires : tie.Need-judge-verdict-requires invariant_loop3 decreases_loop3 invariant_loop2 decreases_loop2 invariant_loop decreases_loop
+judge_requires : tie.Need-judge-verdict-requires invariant_loop3 decreases_loop3 invariant_loop2 decreases_loop2
+    invariant_loop decreases_loop
 unfolding row_words
 judge_requires c κs =
     let found = c.before in
@@ -118,17 +129,20 @@ judge_requires c κs =
       rw (of_user found) at.1,
     )
 
-carry_out_requires : tie.Need-carry_out-count-requires invariant_loop3 decreases_loop3 invariant_loop2 decreases_loop2 invariant_loop decreases_loop
+carry_out_requires : tie.Need-carry_out-count-requires invariant_loop3 decreases_loop3 invariant_loop2 decreases_loop2
+    invariant_loop decreases_loop
 unfolding row_words
 carry_out_requires c κs =
     let judged = c.before.before.before in
     let found = judged.before.before in
     carriable c.loop-w.invariant.0.ready (below found) (remains found) c.judge-verdict.result c.judge-verdict.ensures
 
-loop3_less : tie.Need-loop-w-smaller invariant_loop3 decreases_loop3 invariant_loop2 decreases_loop2 invariant_loop decreases_loop
+loop3_less : tie.Need-loop-w-smaller invariant_loop3 decreases_loop3 invariant_loop2 decreases_loop2 invariant_loop
+    decreases_loop
 loop3_less c = c.without_lowest-w.ensures.less
 
-loop3_again : tie.Need-loop-w-preserved invariant_loop3 decreases_loop3 invariant_loop2 decreases_loop2 invariant_loop decreases_loop
+loop3_again : tie.Need-loop-w-preserved invariant_loop3 decreases_loop3 invariant_loop2 decreases_loop2 invariant_loop
+    decreases_loop
 unfolding row_words
 loop3_again c =
     let judged = c.before.before.before.before.before in
@@ -139,7 +153,8 @@ loop3_again c =
     c.carry_out-count.ensures in
     (sweeping_next at.0 low seen c.without_lowest-w.ensures, insides_kept (of_user found) at.1 seen)
 
-loop2_again : tie.Need-loop-d-preserved invariant_loop3 decreases_loop3 invariant_loop2 decreases_loop2 invariant_loop decreases_loop
+loop2_again : tie.Need-loop-d-preserved invariant_loop3 decreases_loop3 invariant_loop2 decreases_loop2 invariant_loop
+    decreases_loop
 unfolding row_words
 loop2_again c =
     let at = c.loop-w.invariant in (
@@ -149,7 +164,8 @@ loop2_again c =
     )
 
 -- the user had grants left, or none
-loop_again : tie.Need-loop-u-preserved invariant_loop3 decreases_loop3 invariant_loop2 decreases_loop2 invariant_loop decreases_loop
+loop_again : tie.Need-loop-u-preserved invariant_loop3 decreases_loop3 invariant_loop2 decreases_loop2 invariant_loop
+    decreases_loop
 unfolding row_words
 loop_again c =
     let at = c.loop-u in
@@ -172,8 +188,10 @@ returns c =
 pub sweep_spec : {M : Type 1} → statement M
 unfolding user_limit row_words
 sweep_spec =
-    tie.close (tie.spec invariant_loop3 decreases_loop3 invariant_loop2 decreases_loop2 invariant_loop decreases_loop loop_holds has_grants_requires
-    insides_requires loop2_holds (λ c. omega (arith, c.requires.0.shows.few_users)) (λ c. omega (arith, c.requires.0.shows.few_users))
+    tie.close (tie.spec invariant_loop3 decreases_loop3 invariant_loop2 decreases_loop2 invariant_loop decreases_loop
+    loop_holds has_grants_requires
+    insides_requires loop2_holds (λ c. omega (arith, c.requires.0.shows.few_users))
+    (λ c. omega (arith, c.requires.0.shows.few_users))
     (λ c. omega (arith, c.requires.0.shows.few_users)) (λ c. omega (arith, c.requires.0.shows.few_users)) loop3_holds
     (λ c. omega (arith, c.requires.0.shows.few_users)) (λ c κs. omega arith)
     (λ c. omega (arith, c.requires.0.shows.few_users, c.lowest.ensures.within)) judge_requires carry_out_requires

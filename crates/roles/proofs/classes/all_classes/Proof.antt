@@ -113,7 +113,8 @@ loop_again c =
     let wide = c.loop-i.invariant.3.at.each.wide in (
       omega arith,
       omega (arith, on.1),
-      sym (get_or-set_same c.loop-i.class cell c.if-cell-tie.known 0 (rw wide (removed_below c.before.before.before.before))),
+      sym (get_or-set_same c.loop-i.class cell c.if-cell-tie.known 0
+          (rw wide (removed_below c.before.before.before.before))),
       on.0,
     )
 
@@ -124,6 +125,7 @@ returns c =
 
 pub all_classes_spec : {M : Type 1} → statement M
 all_classes_spec =
-    tie.close (tie.spec invariant_loop decreases_loop place_kernel_requires (λ c. omega arith) loop_holds (λ c. omega arith)
+    tie.close (tie.spec invariant_loop decreases_loop place_kernel_requires (λ c. omega arith) loop_holds
+    (λ c. omega arith)
     (λ c. omega arith) (λ c. omega arith) cast_cell (λ c. omega arith) (λ c. omega arith) cast_tie cast_known
     add_opened mul_known element_copy_out_known_2 mul_class element_write_class (λ c. omega arith) loop_again returns)

@@ -57,5 +57,6 @@ returns c =
 
 pub place_kernel_spec : {M : Type 1} → statement M
 place_kernel_spec =
-    tie.close (tie.spec invariant_loop decreases_loop loop_holds (λ c. omega arith) (λ c. omega arith) cast_cell (λ c. omega arith)
+    tie.close (tie.spec invariant_loop decreases_loop loop_holds (λ c. omega arith) (λ c. omega arith) cast_cell
+    (λ c. omega arith)
     (λ c κs. search rules) mul_class element_write_class (λ c. omega arith) (λ c. omega arith) loop_again returns)

@@ -42,5 +42,6 @@ returns c =
 pub role_rows_spec : {M : Type 1} → statement M
 unfolding user_limit row_words
 role_rows_spec =
-    tie.close (tie.spec invariant_loop decreases_loop loop_holds (λ c. omega arith) word_roles_requires (λ c. omega arith)
+    tie.close (tie.spec invariant_loop decreases_loop loop_holds (λ c. omega arith) word_roles_requires
+    (λ c. omega arith)
     (λ c. omega arith) loop_again returns)

@@ -84,7 +84,8 @@ returns c = word_ends c.loop-left.invariant c.loop-left-test.false
 pub word_roles_spec : {M : Type 1} → statement M
 unfolding user_limit row_words
 word_roles_spec =
-    tie.close (tie.spec invariant_loop decreases_loop (λ c. omega arith) (λ c. omega arith) loop_holds (λ c. omega arith)
+    tie.close (tie.spec invariant_loop decreases_loop (λ c. omega arith) (λ c. omega arith) loop_holds
+    (λ c. omega arith)
     (λ c κs. omega arith) add_cell mul_of_class element_copy_out_of_class cast_of_class role_for_requires
     put_in_role_requires counted_requires (λ c κs. omega arith) (λ c. c.without_lowest-left.ensures.less) loop_again
     returns)

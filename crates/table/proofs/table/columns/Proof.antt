@@ -53,5 +53,6 @@ returns c =
 pub columns_spec : {M : Type 1} → statement M
 unfolding row_bits row_words
 columns_spec =
-    tie.close (tie.spec invariant_loop decreases_loop loop_holds (λ c. omega arith) (λ c. omega arith) (λ c κs. omega arith)
+    tie.close (tie.spec invariant_loop decreases_loop loop_holds (λ c. omega arith) (λ c. omega arith)
+    (λ c κs. omega arith)
     line_word_requires (λ c. omega arith) (λ c. omega arith) (λ c. omega arith) (λ c. omega arith) loop_again returns)

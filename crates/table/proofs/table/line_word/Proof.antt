@@ -73,5 +73,6 @@ returns c =
 
 pub line_word_spec : {M : Type 1} → statement M
 line_word_spec =
-    tie.close (tie.spec invariant_loop decreases_loop (λ c κs. search rules) loop_holds add_at mul_at shared_slice_read_at cast_at
+    tie.close (tie.spec invariant_loop decreases_loop (λ c κs. search rules) loop_holds add_at mul_at
+    shared_slice_read_at cast_at
     (λ c κs. search rules) with_requires (λ c. omega arith) (λ c. omega arith) loop_again returns)

@@ -58,5 +58,6 @@ returns c =
 
 pub permissions_among_spec : {M : Type 1} → statement M
 permissions_among_spec =
-    tie.close (tie.spec invariant_loop decreases_loop loop_holds (λ c. omega arith) (λ c. omega arith) cast_at slice_aggregate_mark
+    tie.close (tie.spec invariant_loop decreases_loop loop_holds (λ c. omega arith) (λ c. omega arith) cast_at
+    slice_aggregate_mark
     (λ c κs. search rules) mark_requires (λ c. omega arith) (λ c. omega arith) loop_again returns)

@@ -24,7 +24,8 @@ abbrev decreases_loop : tie.decreases-loop-i
 decreases_loop rows cells count low high last₀ words₀ i₀ last words i = count - i
 
 -- where the permissions of the cells were found
-abbrev found : tie.At-loop-i invariant_loop decreases_loop → tie.After-permissions_among-some invariant_loop decreases_loop
+abbrev found : tie.At-loop-i invariant_loop decreases_loop
+    → tie.After-permissions_among-some invariant_loop decreases_loop
 found c =
     let low_made = c.before.before.before.before in
     low_made.before.before
@@ -87,7 +88,8 @@ returns c users sheet shown =
 pub table_of_spec : {M : Type 1} → statement M
 unfolding table_row row_bits row_words
 table_of_spec =
-    tie.close (tie.spec invariant_loop decreases_loop (λ c κs. search rules) (λ c κs. search rules) (λ c κs. omega arith)
+    tie.close (tie.spec invariant_loop decreases_loop (λ c κs. search rules) (λ c κs. search rules)
+    (λ c κs. omega arith)
     (λ c κs. omega arith) (λ c κs. search rules) loop_holds (λ c. omega (arith, within c)) (λ c. omega arith) cast_at
     (λ c κs. search rules) (λ c κs. search rules) (λ c. omega (arith, column c)) (λ c. omega (arith, column c))
     (λ c. omega (arith, within c.before.before.before.before))

@@ -53,5 +53,6 @@ returns_2 c =
 pub has_grants_spec : {M : Type 1} → statement M
 unfolding user_limit row_words
 has_grants_spec =
-    tie.close (tie.spec invariant_loop decreases_loop loop_holds (λ c. omega arith) (λ c. omega arith) (λ c. omega arith)
+    tie.close (tie.spec invariant_loop decreases_loop loop_holds (λ c. omega arith) (λ c. omega arith)
+    (λ c. omega arith)
     (λ c. omega arith) (λ c κs. tt) returns (λ c. omega arith) (λ c. omega arith) loop_again returns_2)

@@ -47,5 +47,6 @@ returns c =
 pub insides_spec : {M : Type 1} → statement M
 unfolding user_limit
 insides_spec =
-    tie.close (tie.spec invariant_loop decreases_loop loop_holds inside_among_requires (λ c. omega arith) (λ c. omega arith)
+    tie.close (tie.spec invariant_loop decreases_loop loop_holds inside_among_requires (λ c. omega arith)
+    (λ c. omega arith)
     (λ c. omega arith) (λ c. omega arith) loop_again returns)

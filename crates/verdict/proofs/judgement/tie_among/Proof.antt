@@ -110,6 +110,7 @@ returns_2 c =
 pub tie_among_spec : {M : Type 1} → statement M
 unfolding user_limit
 tie_among_spec =
-    tie.close (tie.spec invariant_loop decreases_loop (λ c κs. search rules) holders_requires (λ c. omega arith) (λ c. omega arith)
+    tie.close (tie.spec invariant_loop decreases_loop (λ c κs. search rules) holders_requires (λ c. omega arith)
+    (λ c. omega arith)
     loop_holds (λ c. omega arith) (λ c κs. omega arith) add_x tie_of_user_requires (λ c. search rules) returns
     (λ c. search rules) (λ c κs. omega arith) loop_less loop_again returns_2)

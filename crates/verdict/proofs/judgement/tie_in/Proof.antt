@@ -75,7 +75,8 @@ returns_2 c =
 pub tie_in_spec : {M : Type 1} → statement M
 unfolding user_limit row_words
 tie_in_spec =
-    tie.close (tie.spec invariant_loop decreases_loop (λ c κs. search rules) loop_holds (λ c. omega arith) (λ c κs. omega arith)
+    tie.close (tie.spec invariant_loop decreases_loop (λ c κs. search rules) loop_holds (λ c. omega arith)
+    (λ c κs. omega arith)
     (λ c. omega (arith, c.lowest.ensures.within)) misfit_requires returns
     (λ c. omega (arith, c.before.misfit-x.ensures.not_past))
     (λ c. omega (arith, c.before.misfit-x.ensures.not_past))

@@ -48,5 +48,6 @@ returns_2 c =
 pub tie_of_user_spec : {M : Type 1} → statement M
 unfolding user_limit row_words
 tie_of_user_spec =
-    tie.close (tie.spec invariant_loop decreases_loop loop_holds (λ c. omega arith) (λ c. omega arith) (λ c κs. search rules)
+    tie.close (tie.spec invariant_loop decreases_loop loop_holds (λ c. omega arith) (λ c. omega arith)
+    (λ c κs. search rules)
     (λ c. search rules) returns (λ c. search rules) (λ c. omega arith) (λ c. omega arith) loop_again returns_2)

@@ -41,7 +41,8 @@ returns c rows users few inside counted walked =
 pub better_in_word_spec : {M : Type 1} → statement M
 unfolding user_limit row_words
 better_in_word_spec =
-    tie.close (tie.spec invariant_loop decreases_loop (λ c. omega arith) (λ c. omega arith) (λ c. omega arith) loop_holds
+    tie.close (tie.spec invariant_loop decreases_loop (λ c. omega arith) (λ c. omega arith)
+    (λ c. omega arith) loop_holds
     (λ c κs. omega arith) (λ c. omega (arith, c.lowest.ensures.within))
     (λ c. omega (arith, c.lowest.ensures.within)) (λ c. omega (arith, c.lowest.ensures.within))
     (λ c κs. search rules) (λ c κs. omega arith) loop_less loop_again returns)

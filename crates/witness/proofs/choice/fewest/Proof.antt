@@ -40,5 +40,6 @@ returns c rows counted =
 pub fewest_spec : {M : Type 1} → statement M
 unfolding user_limit row_words
 fewest_spec =
-    tie.close (tie.spec invariant_loop decreases_loop loop_holds (λ c. omega arith) (λ c κs. omega arith) (λ c. omega arith)
+    tie.close (tie.spec invariant_loop decreases_loop loop_holds (λ c. omega arith) (λ c κs. omega arith)
+    (λ c. omega arith)
     (λ c. omega arith) loop_again returns)

@@ -46,5 +46,6 @@ returns c =
 pub recount_spec : {M : Type 1} → statement M
 unfolding user_limit
 recount_spec =
-    tie.close (tie.spec invariant_loop decreases_loop loop_holds (λ c κs. omega arith) take_off_requires (λ c. omega arith)
+    tie.close (tie.spec invariant_loop decreases_loop loop_holds (λ c κs. omega arith) take_off_requires
+    (λ c. omega arith)
     (λ c. omega arith) loop_again returns)

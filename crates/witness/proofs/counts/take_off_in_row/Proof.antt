@@ -58,5 +58,6 @@ returns c =
 pub take_off_in_row_spec : {M : Type 1} → statement M
 unfolding user_limit row_words
 take_off_in_row_spec =
-    tie.close (tie.spec invariant_loop decreases_loop loop_holds (λ c. omega arith) (λ c. omega arith) (λ c. omega arith)
+    tie.close (tie.spec invariant_loop decreases_loop loop_holds (λ c. omega arith) (λ c. omega arith)
+    (λ c. omega arith)
     (λ c. omega arith) take_off_at_requires (λ c. omega arith) (λ c. omega arith) loop_again returns)

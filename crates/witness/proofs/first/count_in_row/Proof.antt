@@ -50,5 +50,6 @@ returns c =
 pub count_in_row_spec : {M : Type 1} → statement M
 unfolding row_words
 count_in_row_spec =
-    tie.close (tie.spec invariant_loop decreases_loop loop_holds (λ c. omega arith) (λ c. omega arith) count_in_word_requires
+    tie.close (tie.spec invariant_loop decreases_loop loop_holds (λ c. omega arith) (λ c. omega arith)
+    count_in_word_requires
     (λ c. omega arith) (λ c. omega arith) loop_again returns)

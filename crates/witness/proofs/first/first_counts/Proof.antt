@@ -41,5 +41,6 @@ returns c =
 pub first_counts_spec : {M : Type 1} → statement M
 unfolding user_limit
 first_counts_spec =
-    tie.close (tie.spec invariant_loop decreases_loop loop_holds count_user_requires (λ c. omega arith) (λ c. omega arith)
+    tie.close (tie.spec invariant_loop decreases_loop loop_holds count_user_requires (λ c. omega arith)
+    (λ c. omega arith)
     loop_again returns)

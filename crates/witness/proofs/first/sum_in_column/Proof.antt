@@ -68,5 +68,6 @@ returns c =
 pub sum_in_column_spec : {M : Type 1} → statement M
 unfolding user_limit row_bits row_words
 sum_in_column_spec =
-    tie.close (tie.spec invariant_loop decreases_loop loop_holds (λ c. omega arith) (λ c. omega arith) (λ c. omega arith)
+    tie.close (tie.spec invariant_loop decreases_loop loop_holds (λ c. omega arith) (λ c. omega arith)
+    (λ c. omega arith)
     (λ c. omega arith) sum_in_word_requires add_sum (λ c. omega arith) (λ c. omega arith) loop_again returns)

@@ -13,7 +13,8 @@ use Rattle.witness.proofs.first.sum_in_word.Tie as tie
 
 abbrev invariant_loop : tie.invariant-loop-w
 invariant_loop shares j word from sum₀ w₀ sum w =
-    sum + word_sum (λ q. get_or shares (j * word_bits + q) 0) w ≡ word_sum (λ q. get_or shares (j * word_bits + q) 0) word
+    sum + word_sum (λ q. get_or shares (j * word_bits + q) 0) w
+    ≡ word_sum (λ q. get_or shares (j * word_bits + q) 0) word
 
 abbrev decreases_loop : tie.decreases-loop-w
 decreases_loop shares j word from sum₀ w₀ sum w = w

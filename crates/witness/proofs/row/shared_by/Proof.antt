@@ -54,6 +54,7 @@ returns c =
 pub shared_by_spec : {M : Type 1} → statement M
 unfolding user_limit row_words
 shared_by_spec =
-    tie.close (tie.spec invariant_loop decreases_loop loop_holds (λ c. omega arith) (λ c. omega arith) (λ c. omega arith)
+    tie.close (tie.spec invariant_loop decreases_loop loop_holds (λ c. omega arith) (λ c. omega arith)
+    (λ c. omega arith)
     (λ c. omega arith) (λ c. omega arith) (λ c. omega arith) (λ c κs. tt) add_n (λ c. omega arith)
     (λ c. omega arith) loop_again returns)

@@ -46,5 +46,6 @@ returns c =
 pub counted_spec : {M : Type 1} → statement M
 unfolding count_below user_limit row_words
 counted_spec =
-    tie.close (tie.spec invariant_loop decreases_loop (λ c. search rules) (λ c. omega arith) (λ c. omega arith) (λ c. omega arith)
+    tie.close (tie.spec invariant_loop decreases_loop (λ c. search rules) (λ c. omega arith) (λ c. omega arith)
+    (λ c. omega arith)
     (λ c κs. search rules) add_n (λ c. omega arith) (λ c. omega arith) loop_again returns)

@@ -141,6 +141,7 @@ returns_3 c sheet shown part =
 pub choose_spec : {M : Type 1} → statement M
 unfolding grant_limit user_limit
 choose_spec =
-    tie.close (tie.spec invariant_loop decreases_loop (λ c κs. search rules) (λ c. omega arith) returns first_counts_requires
+    tie.close (tie.spec invariant_loop decreases_loop (λ c κs. search rules) (λ c. omega arith) returns
+    first_counts_requires
     loop_holds (λ c κs. search rules) returns_2 put_cell_requires dropped_requires recount_requires
     (λ c. omega arith) (λ c. omega arith) loop_again returns_3)

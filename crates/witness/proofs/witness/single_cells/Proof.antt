@@ -65,5 +65,6 @@ returns c =
 pub single_cells_spec : {M : Type 1} → statement M
 unfolding grant_limit
 single_cells_spec =
-    tie.close (tie.spec invariant_loop decreases_loop loop_holds (λ c. omega arith) (λ c. omega arith) (λ c. omega arith)
+    tie.close (tie.spec invariant_loop decreases_loop loop_holds (λ c. omega arith) (λ c. omega arith)
+    (λ c. omega arith)
     (λ c. omega arith) cast_cell put_cell_requires (λ c. omega arith) (λ c. omega arith) loop_again returns)
