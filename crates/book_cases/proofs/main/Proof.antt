@@ -5,7 +5,7 @@ use lib.ListN.{length-take}
 use Rattle.book_cases.proofs.main.Statement.{statement}
 use Rattle.book_cases.proofs.main.Tie as tie
 
-slice_aggregate_show_all : tie.Need-slice-aggregate-show-all
+slice_aggregate_show_all : tie.Need-slice_bounds-show_all-end
 slice_aggregate_show_all c = simp length-take (omega arith)
 
 pub main_spec : {M : Type 1} → statement M

@@ -5,7 +5,7 @@ use lib.ListN.{length-take}
 use Rattle.book_cases.proofs.build.damaged.Statement.{statement}
 use Rattle.book_cases.proofs.build.damaged.Tie as tie
 
-slice_aggregate_put : tie.Need-slice-aggregate-put
+slice_aggregate_put : tie.Need-slice_bounds-put-end
 slice_aggregate_put c = simp length-take (omega arith)
 
 pub damaged_spec : {M : Type 1} → statement M

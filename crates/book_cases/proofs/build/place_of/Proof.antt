@@ -7,10 +7,10 @@ use lib.ListN.{length}
 use Rattle.book_cases.proofs.build.place_of.Statement.{statement}
 use Rattle.book_cases.proofs.build.place_of.Tie as tie
 
-abbrev invariant_loop : tie.invariant-loop
+abbrev invariant_loop : tie.invariant-loop-at
 invariant_loop text part size at₀ at = (at ≤ length text) × (size ≡ length part)
 
-abbrev decreases_loop : tie.decreases-loop
+abbrev decreases_loop : tie.decreases-loop-at
 decreases_loop text part size at₀ at = length text - at
 
 pub place_of_spec : {M : Type 1} → statement M

@@ -7,10 +7,10 @@ use lib.ListN.{length}
 use Rattle.book_cases.proofs.build.put.Statement.{statement}
 use Rattle.book_cases.proofs.build.put.Tie as tie
 
-abbrev invariant_loop : tie.invariant-loop
+abbrev invariant_loop : tie.invariant-loop-i
 invariant_loop out₀ at word to₀ i₀ i-end out to i = (length out ≡ length out₀) × (i ≤ length word) × (i-end ≡ length word)
 
-abbrev decreases_loop : tie.decreases-loop
+abbrev decreases_loop : tie.decreases-loop-i
 decreases_loop out₀ at word to₀ i₀ i-end out to i = length word - i
 
 pub put_spec : {M : Type 1} → statement M

@@ -7,10 +7,10 @@ use lib.ListN.{length}
 use Rattle.book_cases.proofs.build.put_times.Statement.{statement}
 use Rattle.book_cases.proofs.build.put_times.Tie as tie
 
-abbrev invariant_loop : tie.invariant-loop
+abbrev invariant_loop : tie.invariant-loop-i
 invariant_loop out₀ at word times to₀ i₀ out to i = (length out ≡ length out₀) × (i ≤ times)
 
-abbrev decreases_loop : tie.decreases-loop
+abbrev decreases_loop : tie.decreases-loop-i
 decreases_loop out₀ at word times to₀ i₀ out to i = times - i
 
 pub put_times_spec : {M : Type 1} → statement M

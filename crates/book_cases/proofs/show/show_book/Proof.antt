@@ -5,7 +5,7 @@ use lib.ListN.{length-take}
 use Rattle.book_cases.proofs.show.show_book.Statement.{statement}
 use Rattle.book_cases.proofs.show.show_book.Tie as tie
 
-slice_aggregate_show : tie.Need-slice-aggregate-show
+slice_aggregate_show : tie.Need-slice_bounds-show-end
 slice_aggregate_show c = simp length-take (omega arith)
 
 pub show_book_spec : {M : Type 1} → statement M

@@ -5,7 +5,7 @@ use lib.ListN.{length-take}
 use Rattle.book_cases.proofs.show.show_both.Statement.{statement}
 use Rattle.book_cases.proofs.show.show_both.Tie as tie
 
-slice_aggregate_show_damaged : tie.Need-slice-aggregate-show-damaged
+slice_aggregate_show_damaged : tie.Need-slice_bounds-show_damaged-end
 slice_aggregate_show_damaged c = simp length-take (omega arith)
 
 pub show_both_spec : {M : Type 1} → statement M

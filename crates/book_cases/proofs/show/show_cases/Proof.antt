@@ -7,10 +7,10 @@ use lib.ListN.{length}
 use Rattle.book_cases.proofs.show.show_cases.Statement.{statement}
 use Rattle.book_cases.proofs.show.show_cases.Tie as tie
 
-abbrev invariant_loop : tie.invariant-loop
+abbrev invariant_loop : tie.invariant-loop-at
 invariant_loop of cases heading at₀ at = at₀ ≡ at₀
 
-abbrev decreases_loop : tie.decreases-loop
+abbrev decreases_loop : tie.decreases-loop-at
 decreases_loop of cases heading at₀ at = length cases - at
 
 pub show_cases_spec : {M : Type 1} → statement M

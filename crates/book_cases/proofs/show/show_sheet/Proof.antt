@@ -5,10 +5,10 @@ use lib.ListN.{length-take}
 use Rattle.book_cases.proofs.show.show_sheet.Statement.{statement}
 use Rattle.book_cases.proofs.show.show_sheet.Tie as tie
 
-slice_aggregate_show : tie.Need-slice-aggregate-show
+slice_aggregate_show : tie.Need-slice_bounds-show-end
 slice_aggregate_show c = simp length-take (omega arith)
 
 pub show_sheet_spec : {M : Type 1} → statement M
 show_sheet_spec =
-    tie.close (tie.spec slice_aggregate_show (λ c. search rules) (λ c κs. search rules) (λ c κs. search rules)
+    tie.close (tie.spec slice_aggregate_show (λ c κs. search rules) (λ c κs. search rules)
     (λ c. search rules) (λ c. search rules))
