@@ -9,7 +9,7 @@ use Rattle.session.proofs.Session.fresh.Tie as tie
 returns : tie.Need-returns
 returns c = (
   refl,
-  unreduced_sound (λ accepts. absurd (false≢true accepts)) refl c.none2.ensures c.before.no_position.ensures,
+  unreduced_sound (λ accepts. absurd (false≢true accepts)) refl c.none-2.ensures c.no_position.ensures,
 )
 
 pub fresh_spec : {M : Type 1} → statement M

@@ -14,36 +14,36 @@ use Rattle.session.specs.Laws.SheetHeld.{unreduced_sound}
 use Rattle.session.proofs.Session.load.Statement.{statement}
 use Rattle.session.proofs.Session.load.Tie as tie
 
-returns : tie.Need-returns
+returns : tie.Need-returns-then-number-ne0
 returns c =
     let at_read = c.before.before in (
-      refused_loads _ _ at_read.read.ensures.0 (λ z. omega arith) c.refused.ensures,
-      (at_read.before.before.requires, λ _. refl),
+      refused_loads _ _ at_read.read-found.ensures.0 (λ z. omega arith) c.refused.ensures,
+      (at_read.requires, λ _. refl),
     )
 
 -- where the sheet is not refused
-abbrev sheet_text : tie.Else1 → Bytes
-sheet_text e = e.before.before.before.args.s.now
+abbrev sheet_text : tie.Else-number-ne0 → Bytes
+sheet_text e = e.args.s.now
 
-zero : (e : tie.Else1) → e.before.read.result.number ≡ 0
+zero : (e : tie.Else-number-ne0) → e.read-found.result.number ≡ 0
 zero e = omega arith
 
-unrefused : (e : tie.Else1) → refusal (sheet_text e) ≡ 0
-unrefused e = sym e.before.read.ensures.0 ∙ zero e
+unrefused : (e : tie.Else-number-ne0) → refusal (sheet_text e) ≡ 0
+unrefused e = sym e.read-found.ensures.0 ∙ zero e
 
-copied_requires : tie.Need-copied-requires
+copied_requires : tie.Need-copied-text-requires
 copied_requires c κs = unrefused_short (sheet_text c) (unrefused c)
 
-room : (c : tie.After-copied) → length c.copied.result ≡ sheet_limit
+room : (c : tie.After-copied-text) → length c.copied-text.result ≡ sheet_limit
 unfolding sheet_limit
 room c = search rules
 
-returns_2 : tie.Need-returns-2
+returns_2 : tie.Need-returns
 returns_2 c =
     let at_copied = c.before.before.before.before in
     let e = at_copied.before in
-    let found = e.before.read.ensures.1.0 (zero e) in
-    let kept = at_copied.copied.ensures.0 in (
+    let found = e.read-found.ensures.1.0 (zero e) in
+    let kept = at_copied.copied-text.ensures.0 in (
       accepted_loads _ _ (unrefused e) (counts_found (sheet_text e) _ found.0) (ap read kept),
       (
         unreduced_sound
@@ -53,7 +53,7 @@ returns_2 c =
               laid = rw kept found.0;
               cells = rw kept found.1;
             })
-            refl c.none.ensures c.before.no_position.ensures,
+            refl c.none.ensures c.no_position.ensures,
         λ refused. absurd (refused refl),
       ),
     )

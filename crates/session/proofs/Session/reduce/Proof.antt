@@ -15,59 +15,55 @@ use Rattle.session.specs.Laws.Reducing.{unreduced_view, reduces_nothing, reduces
 use Rattle.session.proofs.Session.reduce.Statement.{statement}
 use Rattle.session.proofs.Session.reduce.Tie as tie
 
-returns : tie.Need-returns
+returns : tie.Need-returns-then-not-self
 returns c =
     let start = c.before.before in
-    let s = start.args.t1 in (
-      reduces_nothing s (reduce_said c.refused.result) (not-true s.loaded c.before.if1.true)
+    let s = start.args.self in (
+      reduces_nothing s (reduce_said c.refused.result) (not-true s.loaded c.if-not-self.true-raw)
           c.refused.ensures,
       (start.requires, (λ n. refl, λ r. refl)),
     )
 
 -- where a sheet is loaded
-loaded : (e : tie.Else1) → So e.before.args.t1.loaded
-loaded e = not-false e.before.args.t1.loaded e.if1.false
+loaded : (e : tie.Else-not-self) → So e.args.self.loaded
+loaded e = not-false e.args.self.loaded e.if-not-self.false-raw
 
-returns_2 : tie.Need-returns-2
+returns_2 : tie.Need-returns-then-self
 returns_2 c =
     let start = c.before.before.before in
-    let s = start.args.t1 in
-    let r : So s.reduced = c.before.if2.true in (
+    let s = start.args.self in
+    let r : So s.reduced = c.if-self.true in (
       reduces_again s (reduce_said c.found.result) (start.requires.held r) r c.found.ensures,
       (start.requires, (λ n. refl, λ _. refl)),
     )
 
 -- and not reduced
-sheet : (e : tie.Else2) → HoldsSheet e.before.before.args.t1
-sheet e = e.before.before.requires.sheet (loaded e.before)
+sheet : (e : tie.Else-self) → HoldsSheet e.args.self
+sheet e = e.requires.sheet (loaded e.before)
 
-prepare_requires : tie.Need-prepare-requires
-prepare_requires c κs = shows_held (sheet c.before.before)
+prepare_requires : tie.Need-prepare-prepared-requires
+prepare_requires c κs = shows_held (sheet c.before)
 
-returns_3 : tie.Need-returns-3
+returns_3 : tie.Need-returns
 returns_3 c =
-    let at_start : tie.After-start = c.before in
-    let at_first : tie.After-first-classes = at_start.before in
-    let at_prepared : tie.After-prepare = at_first.before.before.before in
-    let e = at_prepared.before.before.before in
-    let start = e.before.before in
-    let s = start.args.t1 in
+    let e = c.before.before.before.before.before.before in
+    let s = c.args.self in
     let held = sheet e in
-    let anew : Anew s at_prepared.prepare.result at_start.start.result =
+    let anew : Anew s c.prepare-prepared.result c.start-position.result =
     record {
       accepts = loaded e.before;
       sheet = held;
-      found = at_prepared.prepare.ensures _ (shown_held held) (few_grants_held held);
-      first = at_first.first-classes.result;
-      same = λ l. at_first.first-classes.ensures _ l;
-      starts = at_start.start.ensures;
+      found = c.prepare-prepared.ensures _ (shown_held held) (few_grants_held held);
+      first = c.first_classes-first.result;
+      same = λ l. c.first_classes-first.ensures _ l;
+      starts = c.start-position.ensures;
     } in (
-      reduces_anew s (reduce_said c.found2.result) e.if2.false anew c.found2.ensures,
+      reduces_anew s (reduce_said c.found-2.result) e.if-self.false anew c.found-2.ensures,
       (
         reduced_sound (holds_anew anew) refl,
         (
-          λ n. absurd (n (ap (λ (a : ReduceAnswer). a.number) c.found2.ensures)),
-          λ stays. absurd (not_both (unreduced_view s (loaded e.before) e.if2.false) stays),
+          λ n. absurd (n (ap (λ (a : ReduceAnswer). a.number) c.found-2.ensures)),
+          λ stays. absurd (not_both (unreduced_view s (loaded e.before) e.if-self.false) stays),
         ),
       ),
     )

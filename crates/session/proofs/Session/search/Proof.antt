@@ -19,49 +19,49 @@ use Rattle.session.proofs.Session.search.Statement.{statement}
 use Rattle.session.proofs.Session.search.Tie as tie
 
 -- the session that the search is made on
-abbrev start_of : tie.After-unready → tie.Start
+abbrev start_of : tie.After-unready-number → tie.Start
 start_of c = c.before
 
-returns : tie.Need-returns
+returns : tie.Need-returns-then-number-ne0
 returns c =
     let at = c.before.before in
     let a = (start_of at).args in (
-      searches_unready a.self at.unready.ensures a.budget (search_said c.refused.result)
+      searches_unready a.self at.unready-number.ensures a.budget (search_said c.refused.result)
           c.refused.ensures (λ z. omega arith),
       ((start_of at).requires, λ n. refl),
     )
 
 -- where its sheet is reduced
-abbrev start_from : tie.Else1 → tie.Start
+abbrev start_from : tie.Else-number-ne0 → tie.Start
 start_from e = start_of e.before
 
-reduced : (e : tie.Else1) → So (start_from e).args.self.reduced
-reduced e = ready (start_from e).args.self e.before.unready.ensures (omega arith)
+reduced : (e : tie.Else-number-ne0) → So (start_from e).args.self.reduced
+reduced e = ready (start_from e).args.self e.unready-number.ensures (omega arith)
 
-holds : (e : tie.Else1) → Holds (start_from e).args.self
+holds : (e : tie.Else-number-ne0) → Holds (start_from e).args.self
 holds e = (start_from e).requires.held (reduced e)
 
-search_requires : tie.Need-search-requires
+search_requires : tie.Need-search-ran-requires
 search_requires c κs = (holds c.before.before.before).stands
 
-abbrev reduced_at : tie.After-search → tie.Else1
+abbrev reduced_at : tie.After-search-ran → tie.Else-number-ne0
 reduced_at c = c.before.before.before.before
 
 -- where the search came to
-ran : (c : tie.After-search)
-    → let start = start_from (reduced_at c) in RanIn start.args.self start.args.budget c.search.result
+ran : (c : tie.After-search-ran)
+    → let start = start_from (reduced_at c) in RanIn start.args.self start.args.budget c.search-ran.result
 ran c =
-    let e = c.search.ensures in
+    let e = c.search-ran.ensures in
     let start = start_from (reduced_at c) in
-    ran_in (holds (reduced_at c)) start.args.budget c.search.result e.0 e.1.0 e.1.1
+    ran_in (holds (reduced_at c)) start.args.budget c.search-ran.result e.0 e.1.0 e.1.1
 
-counts_at_requires : tie.Need-counts-at-requires
+counts_at_requires : tie.Need-counts_at-counts-requires
 counts_at_requires c κs = few_roles_held (ran c.before).holds
 
-returns_2 : tie.Need-returns-2
+returns_2 : tie.Need-returns
 returns_2 c =
     let at_counts = c.before.before in
-    let counts = at_counts.counts_at in
+    let counts = at_counts.counts_at-counts in
     let after = at_counts.before.before in
     let on = ran after in (
       searches_held on (reduced (reduced_at after)) (counts_held on.holds counts.result counts.ensures)
