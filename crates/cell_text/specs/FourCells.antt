@@ -1,6 +1,7 @@
 -- Four cells, each behind a comma, from a table of the sixteen that they can be: the four lowest digits of a word say
 -- where they stand in it, and a row of cells is written four by four. Assumes nothing.
-use Rattle.std.specs.Prelude.{ℕ, zero, suc, ◌+◌, ◌*◌, ◌/◌, ◌%◌, ◌^◌, ◌≤◌, ◌-◌, ◌≡◌, refl, Bool, true, false, [], ◌++◌, length, take, drop}
+use Rattle.std.specs.Prelude.{ℕ, zero, suc, ◌+◌, ◌*◌, ◌/◌, ◌%◌, ◌^◌, ◌≤◌, ◌-◌, ◌≡◌, refl, Bool, true, false, [], ◌++◌}
+use Rattle.std.specs.Prelude.{length, take, drop}
 use Rattle.std.proofs.Common.{add-zero, arith, sym, ap, ◌∙◌, append_assoc, lit<}
 use Rattle.std.proofs.Math.Arith.{mod-mul}
 use Rattle.spec.specs.Text.{Bytes}

@@ -16,7 +16,8 @@ const FOURS: [u8; 128] = *b",0,0,0,0,1,0,0,0,0,1,0,0,1,1,0,0\
 // Writes the four lowest cells of a word, a comma before each. The table is lent, so that a word lays it out once.
 fn put_four(out: &mut [u8], table: &[u8], word: u64) -> usize
     requires table_value { table.now ≡ fours 16 }
-    requires word_in_bounds { length (four_fields (bit word 0) (bit word 1) (bit word 2) (bit word 3)) ≤ length out.old }
+    requires word_in_bounds { length (four_fields (bit word 0) (bit word 1) (bit word 2) (bit word 3))
+        ≤ length out.old }
     ensures { Written (four_fields (bit word 0) (bit word 1) (bit word 2) (bit word 3)) out.old
         out.new result }
 {

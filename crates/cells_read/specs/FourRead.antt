@@ -34,8 +34,10 @@ pub record FourBytes (a b c d n : ℕ) : Type 0 where
 pub record EightBytes (text : Bytes) (at n : ℕ) : Type 0 where
   pub low : ℕ
   pub high : ℕ
-  pub first : FourBytes (get_or text at 0) (get_or text (at + 1) 0) (get_or text (at + 2) 0) (get_or text (at + 3) 0) low
-  pub second : FourBytes (get_or text (at + 4) 0) (get_or text (at + 5) 0) (get_or text (at + 6) 0) (get_or text (at + 7) 0)
+  pub first : FourBytes (get_or text at 0) (get_or text (at + 1) 0) (get_or text (at + 2) 0) (get_or text (at + 3) 0)
+      low
+  pub second : FourBytes (get_or text (at + 4) 0) (get_or text (at + 5) 0) (get_or text (at + 6) 0)
+      (get_or text (at + 7) 0)
       high
   pub sum : n ≡ low + high * 4294967296
 

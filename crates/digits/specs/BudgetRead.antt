@@ -1,6 +1,7 @@
 -- A budget read up to one past the greatest: digits that say a budget are read as that number, and any other word as
 -- no number, whatever its length is. The number of searches of the long search is read through it. Assumes nothing.
-use Rattle.std.specs.Prelude.{ℕ, suc, ◌≤◌, ◌<◌, ◌≡◌, refl, Bool, true, false, ◌&&◌, not, cond, [], ◌∷◌, eqb, leb, ltb, length}
+use Rattle.std.specs.Prelude.{ℕ, suc, ◌≤◌, ◌<◌, ◌≡◌, refl, Bool, true, false, ◌&&◌, not, cond, [], ◌∷◌, eqb, leb, ltb}
+use Rattle.std.specs.Prelude.{length}
 use Rattle.std.proofs.Common.{arith, ap, ⊎_elim, le-leb, lt-ltb, le-ltb, eq-eqb, ne_eqb}
 use Rattle.std.proofs.lemmas.Bool.{lt-leb}
 use Rattle.spec.specs.Vocabulary.{all}

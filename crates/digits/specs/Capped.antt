@@ -1,7 +1,8 @@
 -- Digits read into a number of the machine, which stops at a cap. Digits that say a lesser number are read as that
 -- number, and any others as the cap, whatever their length is. A count of a book stops at a bound that no number of
 -- lines of a book reaches, so a comparison with a number of lines comes out as it should.
-use Rattle.std.specs.Prelude.{ℕ, suc, ◌+◌, ◌-◌, ◌*◌, ◌^◌, ◌<◌, min, ◌≡◌, refl, Bool, true, false, cond, [], ◌∷◌, eqb, length, get_or, drop}
+use Rattle.std.specs.Prelude.{ℕ, suc, ◌+◌, ◌-◌, ◌*◌, ◌^◌, ◌<◌, min, ◌≡◌, refl, Bool, true, false, cond, [], ◌∷◌, eqb}
+use Rattle.std.specs.Prelude.{length, get_or, drop}
 use Prim.Native.Char.{code}
 use Rattle.std.proofs.Common.{add-one, arith, sym, ap, eqb-true, eq-eqb, ne_eqb, drop-cons}
 use Rattle.std.proofs.Math.Bool.{So}

@@ -1,6 +1,7 @@
 -- Where the parts of a text stand: a place is one number, which says the first byte of a part and the byte after its
 -- last. Assumes nothing.
-use Rattle.std.specs.Prelude.{ℕ, ◌+◌, ◌*◌, ◌-◌, ◌/◌, ◌%◌, ◌≤◌, ◌<◌, ◌≡◌, List, [], length, get_or, take, drop, replicate}
+use Rattle.std.specs.Prelude.{ℕ, ◌+◌, ◌*◌, ◌-◌, ◌/◌, ◌%◌, ◌≤◌, ◌<◌, ◌≡◌, List, [], length, get_or, take, drop}
+use Rattle.std.specs.Prelude.{replicate}
 use Rattle.spec.specs.Limits.{user_limit}
 use Rattle.spec.specs.Text.{Bytes}
 use Rattle.places.specs.declared.places.Places.{Places}

@@ -86,7 +86,8 @@ fn good_first_line(s: &[u8], head: LineRead) -> bool
 fn has_name_twice(s: &[u8], head: LineRead, users: usize) -> bool
     requires read_line { ReadLine s.now 0 head }
     requires users_value { users ≡ length (lines_of (drop head.next s.now)) }
-    requires users_le_user_limit { (users ≤ user_limit) × (head.cells.count ≤ permission_limit) × (length s.now ≤ sheet_limit) }
+    requires users_le_user_limit { (users ≤ user_limit) × (head.cells.count ≤ permission_limit)
+        × (length s.now ≤ sheet_limit) }
     ensures { result ≡ (repeats same_name (map first_field (lines_of (drop head.next s.now)))
         || repeats same_name (tail (line_fields s.now))) }
 {

@@ -1,7 +1,8 @@
 -- A part of a text that a byte ends: what stands before the first such byte. A text has one such part at most at a
 -- place, so what follows it is known too. Assumes nothing.
 use Rattle.std.specs.Prelude.{ℕ, suc, ◌+◌, ◌-◌, ◌≤◌, ◌<◌, ◌≡◌, refl, eqb, length, get_or, drop}
-use Rattle.std.proofs.Common.{arith, sym, ap, ◌∙◌, ⊎_elim, eq-eqb, ne_eqb, length-drop, take-append-drop, drop_of_length-le, drop-cons, take-suc, get_or-drop, drop-drop}
+use Rattle.std.proofs.Common.{arith, sym, ap, ◌∙◌, ⊎_elim, eq-eqb, ne_eqb, length-drop, take-append-drop}
+use Rattle.std.proofs.Common.{drop_of_length-le, drop-cons, take-suc, get_or-drop, drop-drop}
 use mathlib.Core.List.{[], ◌∷◌, ◌++◌, append_assoc, append_cancel_left, append-nil, tail-eq_of_cons-eq, Memᴰ}
 use Rattle.spec.specs.Text.{Bytes}
 use Rattle.bits.specs.Truth.{not_both}
@@ -92,7 +93,8 @@ no_end {text} {at} {end} {i} p h = record { none = contradiction }
 
     contradiction : (bytes rest : Bytes) → drop at text ≡ bytes ++ end ∷ rest → ⊥
     contradiction bytes rest e =
-        let member : Memᴰ end (part at i text) = rw (sym e ∙ whole) at (mathlib.Core.List.Memᴰ.append_right bytes (here rest)) in
+        let member : Memᴰ end (part at i text) =
+        rw (sym e ∙ whole) at (mathlib.Core.List.Memᴰ.append_right bytes (here rest)) in
         not_both (eq-eqb end end refl) (p.free end member)
 
 -- ---- there is one such part

@@ -1,7 +1,9 @@
 -- The table of buckets as names are noted one by one, and what a name that meets none of its bucket says of all names
 -- before it. Assumes nothing.
-use Rattle.std.specs.Prelude.{ℕ, suc, ◌+◌, ◌*◌, ◌/◌, ◌%◌, ◌≤◌, ◌<◌, ◌≡◌, refl, ◌⊎◌, ◌||◌, List, [], ◌∷◌, eqb, length, get_or, set, drop, replicate}
-use Rattle.std.proofs.Common.{not-suc-le-zero, arith, sym, ap, ◌∙◌, inl, inr, ⊎_elim, eqb-true, eq-eqb, length-set, drop-cons, get_or-set_same, get_or-set_other}
+use Rattle.std.specs.Prelude.{ℕ, suc, ◌+◌, ◌*◌, ◌/◌, ◌%◌, ◌≤◌, ◌<◌, ◌≡◌, refl, ◌⊎◌, ◌||◌, List, [], ◌∷◌, eqb, length}
+use Rattle.std.specs.Prelude.{get_or, set, drop, replicate}
+use Rattle.std.proofs.Common.{not-suc-le-zero, arith, sym, ap, ◌∙◌, inl, inr, ⊎_elim, eqb-true, eq-eqb, length-set}
+use Rattle.std.proofs.Common.{drop-cons, get_or-set_same, get_or-set_other}
 use Rattle.std.proofs.Math.Bool.{So}
 use Rattle.std.proofs.lemmas.Bool.{eqb-false}
 use Rattle.std.proofs.lemmas.List.{length-replicate}

@@ -1,6 +1,7 @@
 -- A name and those of its bucket: what walking the positions of a word finds, and what it says of all names before.
 -- Assumes nothing.
-use Rattle.std.specs.Prelude.{ℕ, suc, ◌+◌, ◌*◌, ◌/◌, ◌%◌, ◌≤◌, ◌<◌, ◌≡◌, refl, Bool, true, false, not, ◌&&◌, ◌||◌, List, eqb, ltb, length, get_or, set, replicate}
+use Rattle.std.specs.Prelude.{ℕ, suc, ◌+◌, ◌*◌, ◌/◌, ◌%◌, ◌≤◌, ◌<◌, ◌≡◌, refl, Bool, true, false, not, ◌&&◌, ◌||◌, List}
+use Rattle.std.specs.Prelude.{eqb, ltb, length, get_or, set, replicate}
 use Rattle.std.proofs.Common.{not-suc-le-zero, arith, sym, ◌∙◌, ⊎_elim, eqb-true, ltb-true, lt-ltb}
 use Rattle.std.proofs.Math.Bool.{So, and-false}
 use Rattle.spec.specs.Vocabulary.{repeats}

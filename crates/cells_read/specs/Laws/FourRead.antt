@@ -1,7 +1,9 @@
 -- Cells read four and eight at once: eight bytes whose number says four cells are those cells, and cells behind others
 -- are that many more. Assumes nothing.
-use Rattle.std.specs.Prelude.{ℕ, zero, suc, ◌+◌, ◌-◌, ◌*◌, ◌%◌, ◌^◌, ◌≤◌, ◌<◌, ◌≡◌, refl, Bool, true, false, ◌||◌, length, get_or}
-use Rattle.std.proofs.Common.{mod-eq_of_lt, lt_of_lt_of_le, pow_pos, pow_mono, shl_lt, arith, sym, ap, ◌∙◌, ⊎_elim, true≢false}
+use Rattle.std.specs.Prelude.{ℕ, zero, suc, ◌+◌, ◌-◌, ◌*◌, ◌%◌, ◌^◌, ◌≤◌, ◌<◌, ◌≡◌, refl, Bool, true, false, ◌||◌}
+use Rattle.std.specs.Prelude.{length, get_or}
+use Rattle.std.proofs.Common.{mod-eq_of_lt, lt_of_lt_of_le, pow_pos, pow_mono, shl_lt, arith, sym, ap, ◌∙◌, ⊎_elim}
+use Rattle.std.proofs.Common.{true≢false}
 use Rattle.std.specs.Int.Bits.{bit_or}
 use Rattle.std.proofs.Math.Bool.{or-false}
 use Rattle.spec.specs.Text.{Bytes, comma}

@@ -1,6 +1,7 @@
 -- A number's decimal is a count of the book's form, and the only count that says the number: a count is `0`, or
 -- digits that do not begin with `0`, and each digit read makes the number just as one more digit writes it.
-use Rattle.std.specs.Prelude.{ℕ, zero, suc, ◌+◌, ◌-◌, ◌*◌, ◌≤◌, ◌<◌, ◌≡◌, refl, ◌⊎◌, Bool, true, false, ◌&&◌, cond, [], ◌∷◌, ◌++◌, eqb, length}
+use Rattle.std.specs.Prelude.{ℕ, zero, suc, ◌+◌, ◌-◌, ◌*◌, ◌≤◌, ◌<◌, ◌≡◌, refl, ◌⊎◌, Bool, true, false, ◌&&◌, cond, []}
+use Rattle.std.specs.Prelude.{◌∷◌, ◌++◌, eqb, length}
 use Prim.Native.Char.{code}
 use Rattle.std.proofs.Common.{arith, sym, ap, ◌∙◌, inl, inr, append_assoc, append-nil, ne_eqb, eqb-true}
 use Rattle.std.proofs.Math.Bool.{So}

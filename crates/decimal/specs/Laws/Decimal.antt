@@ -1,7 +1,8 @@
 -- A number in decimal: one digit below ten, and else the decimal of its tenth with one digit behind it. So what holds
 -- of one digit, and goes on with one more, holds of every number's decimal: it says the number, is made of digits,
 -- and is as short as the number is small.
-use Rattle.std.specs.Prelude.{ℕ, zero, suc, ◌+◌, ◌-◌, ◌*◌, ◌/◌, ◌%◌, ◌^◌, ◌≤◌, ◌<◌, ◌≡◌, refl, ◌⊎◌, true, ◌&&◌, [], ◌∷◌, ◌++◌, length}
+use Rattle.std.specs.Prelude.{ℕ, zero, suc, ◌+◌, ◌-◌, ◌*◌, ◌/◌, ◌%◌, ◌^◌, ◌≤◌, ◌<◌, ◌≡◌, refl, ◌⊎◌, true, ◌&&◌, [], ◌∷◌}
+use Rattle.std.specs.Prelude.{◌++◌, length}
 use Prim.Native.Char.{code}
 use Rattle.std.proofs.Common.{pow-suc, arith, ap, ◌∙◌, inl, inr, ⊎_elim, lt-ltb, le-ltb, length-append}
 use Rattle.std.proofs.Math.Bool.{So}

@@ -1,7 +1,8 @@
 -- Places are noted one after the other: a place noted last is read back, those noted before stay, and past them none
 -- is noted. Assumes nothing.
 use Rattle.std.specs.Prelude.{ℕ, suc, ◌≤◌, ◌<◌, ◌≡◌, List, [], length, get_or, set, take, replicate}
-use Rattle.std.proofs.Common.{not-suc-le-zero, ne_of_lt, arith, ap, ◌∙◌, ⊎_elim, get_or-set_same, get_or-set_other, get_or-take, length-take-le}
+use Rattle.std.proofs.Common.{not-suc-le-zero, ne_of_lt, arith, ap, ◌∙◌, ⊎_elim, get_or-set_same, get_or-set_other}
+use Rattle.std.proofs.Common.{get_or-take, length-take-le}
 use Rattle.std.proofs.lemmas.List.{length-replicate, get_or-replicate}
 use Rattle.std.proofs.Math.ListN.{get_or-eq_default}
 use Rattle.spec.specs.Text.{Bytes}

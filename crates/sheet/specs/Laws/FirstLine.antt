@@ -1,6 +1,8 @@
 -- Reading the names of the first line one by one: one more name stands behind those read so far. Assumes nothing.
-use Rattle.std.specs.Prelude.{ℕ, zero, suc, ◌+◌, ◌≤◌, ◌<◌, ◌≡◌, refl, not, ◌&&◌, List, ◌∷◌, ◌++◌, eqb, ltb, length, get_or}
-use Rattle.std.proofs.Common.{not-suc-le-zero, arith, add-one, sym, ap, subst, ◌∙◌, ⊎_elim, append_assoc, ltb-false, length-set, get_or-set_other}
+use Rattle.std.specs.Prelude.{ℕ, zero, suc, ◌+◌, ◌≤◌, ◌<◌, ◌≡◌, refl, not, ◌&&◌, List, ◌∷◌, ◌++◌, eqb, ltb, length}
+use Rattle.std.specs.Prelude.{get_or}
+use Rattle.std.proofs.Common.{not-suc-le-zero, arith, add-one, sym, ap, subst, ◌∙◌, ⊎_elim, append_assoc, ltb-false}
+use Rattle.std.proofs.Common.{length-set, get_or-set_other}
 use Rattle.std.proofs.Math.Bool.{So}
 use Rattle.std.proofs.lemmas.Bool.{not-true}
 use Rattle.spec.specs.Limits.{permission_limit, user_limit}
@@ -60,7 +62,8 @@ end_kept places n from to (suc i) h = ap to_of (get_or-set_other places n i (pla
 -- one name more
 module _ (text : Bytes) (places : List ℕ) (n at : ℕ) (read : NamesNoted text places n at)
     (small : length text < place_base) (h : n < permission_limit)
-    (found : So (ltb at (length text) && eqb (get_or text at 0) comma)) (end : ℕ) (name : NameAt text (at + 1) end) where
+    (found : So (ltb at (length text) && eqb (get_or text at 0) comma)) (end : ℕ)
+    (name : NameAt text (at + 1) end) where
   abbrev noted : List ℕ
   noted = note_place places n (at + 1) end
 

@@ -1,7 +1,9 @@
 -- The first line that a sheet starts with is found: behind `user` the names are read one by one, while a comma stands
 -- there a name is left, and behind the last name stands the line feed. Assumes nothing.
-use Rattle.std.specs.Prelude.{ℕ, suc, ◌+◌, ◌≤◌, ◌<◌, ◌≡◌, refl, false, not, ◌&&◌, List, [], ◌∷◌, ◌++◌, map, eqb, ltb, length, get_or, drop}
-use Rattle.std.proofs.Common.{arith, sym, ap, ◌∙◌, ⊎_elim, append_assoc, eqb-true, le-ltb, drop_of_length-le, length-append, drop-cons}
+use Rattle.std.specs.Prelude.{ℕ, suc, ◌+◌, ◌≤◌, ◌<◌, ◌≡◌, refl, false, not, ◌&&◌, List, [], ◌∷◌, ◌++◌, map, eqb, ltb}
+use Rattle.std.specs.Prelude.{length, get_or, drop}
+use Rattle.std.proofs.Common.{arith, sym, ap, ◌∙◌, ⊎_elim, append_assoc, eqb-true, le-ltb, drop_of_length-le}
+use Rattle.std.proofs.Common.{length-append, drop-cons}
 use Rattle.std.proofs.Math.Bool.{So}
 use Rattle.spec.specs.Vocabulary.{concat}
 use Rattle.spec.specs.Text.{ascii, same_bytes, Bytes, comma, line_feed, line_text}

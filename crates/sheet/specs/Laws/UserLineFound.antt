@@ -1,5 +1,6 @@
 -- The line of a user that stands in a text is found, and what follows it. Assumes nothing.
-use Rattle.std.specs.Prelude.{ℕ, zero, suc, ◌+◌, ◌*◌, ◌≤◌, ◌<◌, ◌≡◌, refl, Bool, ◌&&◌, List, [], ◌∷◌, ◌++◌, eqb, ltb, length, get_or, drop}
+use Rattle.std.specs.Prelude.{ℕ, zero, suc, ◌+◌, ◌*◌, ◌≤◌, ◌<◌, ◌≡◌, refl, Bool, ◌&&◌, List, [], ◌∷◌, ◌++◌, eqb, ltb}
+use Rattle.std.specs.Prelude.{length, get_or, drop}
 use Rattle.std.proofs.Common.{arith, add-one, sym, ap, ◌∙◌, append_assoc, lt-ltb, eq-eqb, length-drop, get_or-drop}
 use Rattle.std.proofs.Math.Bool.{So}
 use Rattle.spec.specs.Text.{Bytes, comma, line_feed}
@@ -39,7 +40,8 @@ pub byte_found : (text : Bytes) (at b : ℕ) (rest : Bytes) → drop at text ≡
 byte_found text at b rest e =
     let long : at < length text = omega (arith, ap length e, length-drop at text) in
     let there : get_or text at 0 ≡ b =
-    ap (λ (k : ℕ). get_or text k 0) (omega arith) ∙ sym (get_or-drop at text 0 0) ∙ ap (λ (l : Bytes). get_or l 0 0) e in
+    ap (λ (k : ℕ). get_or text k 0) (omega arith) ∙ sym (get_or-drop at text 0 0) ∙ ap (λ (l : Bytes). get_or l 0 0) e
+    in
     and_intro (ltb at (length text)) (eqb (get_or text at 0) b) (lt-ltb at (length text) long)
     (eq-eqb (get_or text at 0) b there)
 

@@ -1,7 +1,9 @@
 -- Reading the lines of users one by one: one more line stands behind those read so far, and what was noted of them
 -- stays. Assumes nothing.
-use Rattle.std.specs.Prelude.{ℕ, suc, ◌+◌, ◌*◌, ◌/◌, ◌%◌, ◌≤◌, ◌<◌, ◌≡◌, refl, List, [], ◌∷◌, ◌++◌, length, get_or, drop, replicate}
-use Rattle.std.proofs.Common.{not-suc-le-zero, ne_of_lt, le_trans, le-add_right, add-mul, arith, add-one, sym, ap, subst, ◌∙◌, ⊎_elim, append_assoc, append-nil, length-set, drop_at}
+use Rattle.std.specs.Prelude.{ℕ, suc, ◌+◌, ◌*◌, ◌/◌, ◌%◌, ◌≤◌, ◌<◌, ◌≡◌, refl, List, [], ◌∷◌, ◌++◌, length, get_or}
+use Rattle.std.specs.Prelude.{drop, replicate}
+use Rattle.std.proofs.Common.{not-suc-le-zero, ne_of_lt, le_trans, le-add_right, add-mul, arith, add-one, sym, ap}
+use Rattle.std.proofs.Common.{subst, ◌∙◌, ⊎_elim, append_assoc, append-nil, length-set, drop_at}
 use Rattle.std.proofs.lemmas.List.{length-replicate, drop-append-le}
 use Rattle.spec.specs.Limits.{user_limit}
 use Rattle.spec.specs.Text.{Bytes, Line, line_text, text_of}

@@ -1,7 +1,9 @@
 -- Bytes that stand in a text from one place up to another: one after the other they stand there together. Assumes
 -- nothing.
-use Rattle.std.specs.Prelude.{ℕ, suc, ◌+◌, ◌-◌, ◌≤◌, ◌<◌, ◌≡◌, refl, ◌&&◌, [], ◌∷◌, ◌++◌, eqb, ltb, length, get_or, drop}
-use Rattle.std.proofs.Common.{arith, sym, ap, ◌∙◌, append_assoc, ltb-true, eqb-true, take-append-drop, drop-cons, drop-drop}
+use Rattle.std.specs.Prelude.{ℕ, suc, ◌+◌, ◌-◌, ◌≤◌, ◌<◌, ◌≡◌, refl, ◌&&◌, [], ◌∷◌, ◌++◌, eqb, ltb, length, get_or}
+use Rattle.std.specs.Prelude.{drop}
+use Rattle.std.proofs.Common.{arith, sym, ap, ◌∙◌, append_assoc, ltb-true, eqb-true, take-append-drop, drop-cons}
+use Rattle.std.proofs.Common.{drop-drop}
 use Rattle.std.proofs.Math.Bool.{So}
 use Rattle.spec.specs.Text.{Bytes}
 use Rattle.bits.specs.Truth.{and_left, and_right}

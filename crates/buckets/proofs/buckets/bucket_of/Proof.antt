@@ -41,5 +41,6 @@ returns c =
 
 pub bucket_of_spec : {M : Type 1} → statement M
 bucket_of_spec =
-    tie.close (tie.spec invariant_loop decreases_loop loop_holds (λ c. search rules) (λ c. omega arith) (λ c κs. tt) add_h
+    tie.close (tie.spec invariant_loop decreases_loop loop_holds (λ c. search rules) (λ c. omega arith) (λ c κs. tt)
+    add_h
     (λ c. omega arith) (λ c. omega arith) loop_again returns)

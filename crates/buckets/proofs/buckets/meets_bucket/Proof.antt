@@ -67,6 +67,7 @@ returns_2 c =
 
 pub meets_bucket_spec : {M : Type 1} → statement M
 meets_bucket_spec =
-    tie.close (tie.spec invariant_loop decreases_loop loop_holds (λ c. omega arith) (λ c. omega arith) (λ c. omega arith)
+    tie.close (tie.spec invariant_loop decreases_loop loop_holds (λ c. omega arith) (λ c. omega arith)
+    (λ c. omega arith)
     (λ c. omega arith) (λ c. omega arith) meets_word_requires returns (λ c. omega arith) (λ c. omega arith) loop_again
     returns_2)

@@ -70,5 +70,6 @@ returns_2 c =
 
 pub meets_word_spec : {M : Type 1} → statement M
 meets_word_spec =
-    tie.close (tie.spec invariant_loop decreases_loop loop_holds (λ c κs. omega arith) add_i part_at_requires (λ c κs. tt) returns
+    tie.close (tie.spec invariant_loop decreases_loop loop_holds (λ c κs. omega arith) add_i part_at_requires
+    (λ c κs. tt) returns
     (λ c κs. omega arith) loop_less loop_again returns_2)

@@ -68,5 +68,6 @@ returns_2 c =
 
 pub repeated_few_spec : {M : Type 1} → statement M
 repeated_few_spec =
-    tie.close (tie.spec invariant_loop decreases_loop loop_holds part_at_requires (λ c κs. omega arith) meets_word_requires returns
+    tie.close (tie.spec invariant_loop decreases_loop loop_holds part_at_requires (λ c κs. omega arith)
+    meets_word_requires returns
     (λ c. omega arith) (λ c. omega arith) loop_again returns_2)

@@ -111,6 +111,7 @@ returns c = listing_ends (standing c.before) c.loop-i-test.false
 
 pub put_word_spec : {M : Type 1} → statement M
 put_word_spec =
-    tie.close (tie.spec invariant_loop decreases_loop put_fours_requires (λ c. omega arith) loop_holds has_requires sub_put_cell
+    tie.close (tie.spec invariant_loop decreases_loop put_fours_requires (λ c. omega arith) loop_holds has_requires
+    sub_put_cell
     part_put_cell_start (λ c. search rules) put_cell_requires add_at (λ c. omega arith) (λ c. omega arith) loop_again
     same_length returns)

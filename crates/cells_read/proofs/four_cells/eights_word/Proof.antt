@@ -55,5 +55,6 @@ returns_2 c =
 
 pub eights_word_spec : {M : Type 1} → statement M
 eights_word_spec =
-    tie.close (tie.spec invariant_loop decreases_loop loop_holds (λ c. omega arith) (λ c. omega arith) (λ c κs. omega arith) returns
+    tie.close (tie.spec invariant_loop decreases_loop loop_holds (λ c. omega arith) (λ c. omega arith)
+    (λ c κs. omega arith) returns
     (λ c. omega arith) (λ c. omega arith) (λ c. omega arith) (λ c. omega arith) loop_again returns_2)

@@ -87,7 +87,8 @@ returns_4 c =
 
 pub cells_word_spec : {M : Type 1} → statement M
 cells_word_spec =
-    tie.close (tie.spec invariant_loop decreases_loop (λ c. omega arith) (λ c. omega arith) returns fours_word_requires returns_2
+    tie.close (tie.spec invariant_loop decreases_loop (λ c. omega arith) (λ c. omega arith) returns fours_word_requires
+    returns_2
     (λ c. omega arith) loop_holds (λ c. omega arith) (λ c. omega arith) (λ c. omega arith) (λ c. omega arith)
     (λ c. omega arith) (λ c κs. tt) returns_3 (λ c κs. omega arith) (λ c. omega arith) (λ c. omega arith) loop_again
     returns_4)

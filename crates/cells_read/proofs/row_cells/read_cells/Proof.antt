@@ -143,6 +143,7 @@ returns_2 c =
 
 pub read_cells_spec : {M : Type 1} → statement M
 read_cells_spec =
-    tie.close (tie.spec invariant_loop decreases_loop loop_holds cells_in_word_requires cells_word_requires same_length returns
+    tie.close (tie.spec invariant_loop decreases_loop loop_holds cells_in_word_requires cells_word_requires same_length
+    returns
     mul_rows add_rows mul_rows_2 slice_write_rows mul_next add_next add_k loop_less loop_again same_length_2
     returns_2)

@@ -76,5 +76,6 @@ returns_3 c =
 
 pub digits_of_spec : {M : Type 1} → statement M
 digits_of_spec =
-    tie.close (tie.spec invariant_loop decreases_loop loop_holds (λ c. omega arith) returns returns_2 with_digit_requires
+    tie.close (tie.spec invariant_loop decreases_loop loop_holds (λ c. omega arith) returns returns_2
+    with_digit_requires
     (λ c. omega arith) (λ c. omega arith) loop_again returns_3)

@@ -58,5 +58,6 @@ returns_2 c =
 
 pub find_between_spec : {M : Type 1} → statement M
 find_between_spec =
-    tie.close (tie.spec invariant_loop decreases_loop loop_holds part_at_requires (λ c κs. tt) returns (λ c. omega arith)
+    tie.close (tie.spec invariant_loop decreases_loop loop_holds part_at_requires (λ c κs. tt) returns
+    (λ c. omega arith)
     (λ c. omega arith) loop_again returns_2)

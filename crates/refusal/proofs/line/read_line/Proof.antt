@@ -78,5 +78,6 @@ returns c =
 
 pub read_line_spec : {M : Type 1} → statement M
 read_line_spec =
-    tie.close (tie.spec invariant_loop decreases_loop (λ c κs. tt) (λ c κs. tt) loop_holds (λ c κs. tt) sub_with part_with_start
+    tie.close (tie.spec invariant_loop decreases_loop (λ c κs. tt) (λ c κs. tt) loop_holds (λ c κs. tt) sub_with
+    part_with_start
     part_with_end (λ c κs. omega arith) loop_less loop_again returns)

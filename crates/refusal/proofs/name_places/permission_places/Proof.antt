@@ -84,7 +84,8 @@ returns c =
 pub permission_places_spec : {M : Type 1} → statement M
 unfolding user_limit
 permission_places_spec =
-    tie.close (tie.spec invariant_loop decreases_loop (λ c κs. tt) loop_holds (λ c κs. tt) place_of_requires (λ c. omega (
+    tie.close (tie.spec invariant_loop decreases_loop (λ c κs. tt) loop_holds (λ c κs. tt) place_of_requires
+    (λ c. omega (
       arith,
       room c.before.before,
     )) (λ c. room c.before.before) (λ c. omega (arith, room c.before.before))

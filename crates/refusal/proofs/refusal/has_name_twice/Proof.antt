@@ -55,7 +55,8 @@ unfolding user_limit
 permissions_placed c =
     let start = c.before.before.before.before.before.before in
     first_placed start.args.head.cells.count start.args.s.now c.permission_places-permission_places.result
-    (permissions start) (rw (permission_total start) c.permission_places-permission_places.ensures) (permission_total start)
+    (permissions start) (rw (permission_total start) c.permission_places-permission_places.ensures)
+    (permission_total start)
     (omega (arith, permission_total start, (few start).1))
 
 user_places_requires : tie.Need-user_places-user_places-requires

@@ -85,7 +85,8 @@ is_4 c = (told c.before).line_count ∙ ap not (sym c.is_within.ensures)
 returns_4 : tie.Need-returns-then-not-is_within
 returns_4 c = rw (past_3 c.before.before.before, is_4 c.before ∙ c.if-not-is_within.true-raw)
 
-past_4 : (c : tie.Else-not-is_within) → refusal (sheet_bytes c.before.before) ≡ causes_from_5 (sheet_bytes c.before.before)
+past_4 : (c : tie.Else-not-is_within)
+    → refusal (sheet_bytes c.before.before) ≡ causes_from_5 (sheet_bytes c.before.before)
 past_4 c = rw (past_3 c.before.before.before, is_4 c.before ∙ c.if-not-is_within.false-raw)
 
 -- ---- 5
@@ -180,12 +181,20 @@ past_8 c = rw (past_7 c.before.before, is_8 c.before ∙ c.if-has_name_twice.fal
 returns_9 : tie.Need-returns-then-body-gt-GRANT_LIMIT
 unfolding grant_limit
 returns_9 c =
-    rw (past_8 c.before.before, (told (body c.before.before.before.before)).grants, lt-ltb _ _ c.if-body-gt-GRANT_LIMIT.true)
+    rw (
+      past_8 c.before.before,
+      (told (body c.before.before.before.before)).grants,
+      lt-ltb _ _ c.if-body-gt-GRANT_LIMIT.true,
+    )
 
 returns_10 : tie.Need-returns
 unfolding grant_limit
 returns_10 c =
-    rw (past_8 c.before.before, (told (body c.before.before.before.before)).grants, le-ltb _ _ c.if-body-gt-GRANT_LIMIT.false)
+    rw (
+      past_8 c.before.before,
+      (told (body c.before.before.before.before)).grants,
+      le-ltb _ _ c.if-body-gt-GRANT_LIMIT.false,
+    )
 
 pub judge_spec : {M : Type 1} → statement M
 judge_spec =

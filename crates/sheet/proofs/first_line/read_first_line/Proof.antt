@@ -60,7 +60,8 @@ unfolding permission_limit
 below c = omega (arith, c.loop-count.invariant.0.few)
 
 -- and a name is read behind the comma
-abbrev turn : tie.In-Name invariant_loop decreases_loop → tie.Else-count-eq-PERMISSION_LIMIT invariant_loop decreases_loop
+abbrev turn : tie.In-Name invariant_loop decreases_loop
+    → tie.Else-count-eq-PERMISSION_LIMIT invariant_loop decreases_loop
 turn c = c.before.before
 
 abbrev at_loop : tie.In-Name invariant_loop decreases_loop → tie.At-loop-count invariant_loop decreases_loop
@@ -73,9 +74,11 @@ named : (c : tie.In-Name invariant_loop decreases_loop) → Name (end c) ≡ nam
     ((at_loop c).loop-count.at + 1)
 named c = sym c.in-Name.is ∙ c.read_name.ensures
 
-name : (c : tie.In-Name invariant_loop decreases_loop) → NameAt (text (at_loop c)) ((at_loop c).loop-count.at + 1) (end c)
+name : (c : tie.In-Name invariant_loop decreases_loop)
+    → NameAt (text (at_loop c)) ((at_loop c).loop-count.at + 1) (end c)
 name c =
-    name_stands (text (at_loop c)) ((at_loop c).loop-count.at + 1) (end c) (omega (arith, within (turn c).before)) (named c)
+    name_stands (text (at_loop c)) ((at_loop c).loop-count.at + 1) (end c) (omega (arith, within (turn c).before))
+    (named c)
 
 small : (c : tie.At-loop-count invariant_loop decreases_loop) → length (text c) < place_base
 unfolding sheet_limit
@@ -135,7 +138,8 @@ loop_again c =
           (names_more s loop.places loop.count loop.at loop.invariant.0 (small (at_loop told.before))
           (below (turn told.before)) (comma_there (turn told.before).before) (end told.before) (name told.before)),
       rw (add-one loop.count)
-          (names_left_next s loop.count loop.at (end told.before) loop.invariant.1 (comma_there (turn told.before).before)
+          (names_left_next s loop.count loop.at (end told.before) loop.invariant.1
+          (comma_there (turn told.before).before)
           (named told.before)),
     )
 
@@ -187,7 +191,9 @@ returns_6 c =
 pub read_first_line_spec : {M : Type 1} → statement M
 unfolding permission_limit
 read_first_line_spec =
-    tie.close (tie.spec invariant_loop decreases_loop (λ c κs. search rules) returns loop_holds (λ c κs. search rules) returns_2
+    tie.close (tie.spec invariant_loop decreases_loop (λ c κs. search rules) returns loop_holds (λ c κs. search rules)
+    returns_2
     add_start read_name_requires (λ c. search rules) (λ c. search rules) returns_3 place_of_requires
     (λ c. omega (arith, below (turn c.before))) (λ c. omega (arith, below (turn c.before.before)))
-    (λ c. omega (arith, below (turn c.before.before))) loop_less loop_again returns_4 (λ c κs. search rules) returns_5 add_t16 returns_6)
+    (λ c. omega (arith, below (turn c.before.before))) loop_less loop_again returns_4 (λ c κs. search rules) returns_5
+    add_t16 returns_6)

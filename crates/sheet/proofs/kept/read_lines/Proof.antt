@@ -122,7 +122,8 @@ returns_3 : tie.Need-returns-in_default-read_user_lines
 returns_3 c p =
     let read = c.before in
     let s = text (reading (told read)) in
-    let none = subst (λ (r : UserLinesRead). LinesOf read r) c.in_default-read_user_lines.is read.read_user_lines.ensures
+    let none = subst (λ (r : UserLinesRead). LinesOf read r) c.in_default-read_user_lines.is
+    read.read_user_lines.ensures
     in
     let same = first_same (told read) p in
     none (sheet_of s).users (sheet_of s).rows (subst (λ (w : ℕ). Fit w (sheet_of s).users (sheet_of s).rows)

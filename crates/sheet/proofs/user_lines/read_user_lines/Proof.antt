@@ -47,7 +47,8 @@ unfolding user_limit row_words
 row_there c = omega (arith, below c, c.loop-at.invariant.0.words_room)
 
 -- and a line is read
-abbrev turn : tie.After-read_user_line invariant_loop decreases_loop → tie.Else-users-eq-USER_LIMIT invariant_loop decreases_loop
+abbrev turn : tie.After-read_user_line invariant_loop decreases_loop
+    → tie.Else-users-eq-USER_LIMIT invariant_loop decreases_loop
 turn c = c.before.before
 
 -- which leaves these rows

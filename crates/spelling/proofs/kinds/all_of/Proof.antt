@@ -50,5 +50,6 @@ returns_2 c =
 
 pub all_of_spec : {M : Type 1} → statement M
 all_of_spec =
-    tie.close (tie.spec invariant_loop decreases_loop loop_holds (λ c. omega arith) (λ c κs. tt) returns (λ c. omega arith)
+    tie.close (tie.spec invariant_loop decreases_loop loop_holds (λ c. omega arith) (λ c κs. tt) returns
+    (λ c. omega arith)
     (λ c. omega arith) loop_again returns_2)

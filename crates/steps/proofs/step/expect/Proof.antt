@@ -66,5 +66,6 @@ returns_3 c =
 
 pub expect_spec : {M : Type 1} → statement M
 expect_spec =
-    tie.close (tie.spec invariant_loop decreases_loop loop_holds (λ c. omega arith) returns (λ c. omega arith) (λ c. omega arith)
+    tie.close (tie.spec invariant_loop decreases_loop loop_holds (λ c. omega arith) returns (λ c. omega arith)
+    (λ c. omega arith)
     (λ c. omega arith) returns_2 (λ c. omega arith) (λ c. omega arith) loop_again (λ c. omega arith) returns_3)

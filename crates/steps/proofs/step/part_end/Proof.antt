@@ -26,5 +26,6 @@ returns_2 c = no_end c.loop-i.invariant.1 (omega arith)
 
 pub part_end_spec : {M : Type 1} → statement M
 part_end_spec =
-    tie.close (tie.spec invariant_loop decreases_loop loop_holds (λ c. omega arith) returns (λ c. omega arith) (λ c. omega arith)
+    tie.close (tie.spec invariant_loop decreases_loop loop_holds (λ c. omega arith) returns (λ c. omega arith)
+    (λ c. omega arith)
     loop_again returns_2)
