@@ -7,7 +7,7 @@ use Rattle.porvuund.proofs.sessions.porvuund_search.Tie as tie
 
 returns : tie.Need-returns
 returns c =
-    let searched = c.before.before.before.search.ensures in (
+    let searched = c.search-searched.ensures in (
       searches_as searched.0 (record {
         number = refl;
         steps = refl;
