@@ -11,23 +11,23 @@ use Rattle.outputs.proofs.lines.put_number_line.Tie as tie
 abbrev number : tie.Start → Bytes
 number s = decimal s.args.number
 
-abbrev start : tie.After-put-decimal → tie.Start
+abbrev start : tie.After-put_decimal-at → tie.Start
 start c = c.before.before.before
 
-behind_digits : (c : tie.After-put-decimal)
-    → WrittenSoFar (number (start c)) (line_feed ∷ []) (start c).args.out.now c.put-decimal.new.0
-    c.put-decimal.result
-behind_digits c = record { written = c.put-decimal.ensures; fits = (start c).requires }
+behind_digits : (c : tie.After-put_decimal-at)
+    → WrittenSoFar (number (start c)) (line_feed ∷ []) (start c).args.out.now c.put_decimal-at.new.out
+    c.put_decimal-at.result
+behind_digits c = record { written = c.put_decimal-at.ensures; fits = (start c).requires }
 
-put_decimal_requires : tie.Need-put-decimal-requires
+put_decimal_requires : tie.Need-put_decimal-at-requires
 put_decimal_requires c κs =
     let s = c.before.before in
     front_fits (number s) (line_feed ∷ []) s.requires
 
-slice_write_out : tie.Need-slice-write-out
+slice_write_out : tie.Need-bounds-out-at
 slice_write_out c = byte_within (behind_digits c.before.before)
 
-add_result : tie.Need-overflow-add-result
+add_result : tie.Need-overflow_add-result
 add_result c = omega (arith, byte_within (behind_digits c.before.before))
 
 returns : tie.Need-returns

@@ -21,56 +21,56 @@ second s = number_line s.args.second
 front_room : (s : tie.Start) → length (first s ++ comma ∷ []) ≤ length s.args.out.now
 front_room s = front_fits (first s ++ comma ∷ []) (second s) s.requires
 
-abbrev start : tie.After-put-decimal → tie.Start
+abbrev start : tie.After-put_decimal-at → tie.Start
 start c = c.before.before.before
 
-behind_first : (c : tie.After-put-decimal)
-    → WrittenSoFar (first (start c)) (comma ∷ []) (start c).args.out.now c.put-decimal.new.0
-    c.put-decimal.result
-behind_first c = record { written = c.put-decimal.ensures; fits = front_room (start c) }
+behind_first : (c : tie.After-put_decimal-at)
+    → WrittenSoFar (first (start c)) (comma ∷ []) (start c).args.out.now c.put_decimal-at.new.out
+    c.put_decimal-at.result
+behind_first c = record { written = c.put_decimal-at.ensures; fits = front_room (start c) }
 
-behind_comma : (c : tie.After-slice-known2)
+behind_comma : (c : tie.After-slice_known-2-1)
     → let a = c.before.before in
     WrittenSoFar (first (start a) ++ comma ∷ []) (second (start a)) (start a).args.out.now
-    (set a.put-decimal.new.0 a.put-decimal.result comma) (a.put-decimal.result + 1)
+    (set a.put_decimal-at.new.out a.put_decimal-at.result comma) (a.put_decimal-at.result + 1)
 behind_comma c =
     let a = c.before.before in
     record { written = then_byte (behind_first a); fits = (start a).requires }
 
-put_decimal_requires : tie.Need-put-decimal-requires
+put_decimal_requires : tie.Need-put_decimal-at-requires
 put_decimal_requires c κs =
     let s = c.before.before in
     front_fits (first s) (comma ∷ []) (front_room s)
 
-slice_write_out : tie.Need-slice-write-out
+slice_write_out : tie.Need-bounds-out-at
 slice_write_out c = byte_within (behind_first c.before.before)
 
-add_from : tie.Need-overflow-add-from
+add_from : tie.Need-overflow_add-from
 add_from c = omega (arith, byte_within (behind_first c.before.before))
 
-sub_put_number_line : tie.Need-overflow-sub-put-number-line
+sub_put_number_line : tie.Need-slice_bounds-put_number_line-count
 sub_put_number_line c = within_buffer (behind_comma c)
 
-part_put_number_line_start : tie.Need-slice-bounds-put-number-line-start
+part_put_number_line_start : tie.Need-slice_bounds-put_number_line-start
 part_put_number_line_start c = within_buffer (behind_comma c)
 
-put_number_line_requires : tie.Need-put-number-line-requires
+put_number_line_requires : tie.Need-put_number_line-requires
 put_number_line_requires c κs = room_behind (behind_comma c.before)
 
-add_result : tie.Need-overflow-add-result
+add_result : tie.Need-overflow_add-result
 add_result c =
     let earlier = c.before.before.before.before in
-    omega (arith, end_within (behind_comma earlier) c.before.before.put-number-line.ensures)
+    omega (arith, end_within (behind_comma earlier) c.put_number_line.ensures)
 
-same_length : tie.Need-same-length
+same_length : tie.Need-shape_of-out
 same_length c =
     let earlier = c.before.before.before.before in
-    then_same_length (behind_comma earlier) c.before.before.put-number-line.ensures
+    then_same_length (behind_comma earlier) c.put_number_line.ensures
 
 returns : tie.Need-returns
 returns c =
     let earlier = c.before.before.before.before in
-    then_written (behind_comma earlier) c.before.before.put-number-line.ensures
+    then_written (behind_comma earlier) c.put_number_line.ensures
 
 pub put_pair_line_spec : {M : Type 1} → statement M
 put_pair_line_spec =

@@ -14,43 +14,43 @@ use Rattle.outputs.specs.Lines.{number_line_length}
 use Rattle.outputs.proofs.output.book_output.Statement.{statement}
 use Rattle.outputs.proofs.output.book_output.Tie as tie
 
-room : (c : tie.After-porvuund-book-arg) → length c.before.before.before.before.args.out.now ≡ program_buffer
+room : (c : tie.After-porvuund_book-arg-1) → length c.args.out.now ≡ program_buffer
 unfolding program_buffer
 room c = search rules
 
-abbrev start : tie.After-porvuund-book → tie.Start
+abbrev start : tie.After-porvuund_book-answer → tie.Start
 start c = c.before.before.before.before.before
 
-books : (c : tie.After-porvuund-book)
+books : (c : tie.After-porvuund_book-answer)
     → let s = start c in
     Books s.args.sheet.now (budget_of (s.args.word.now ∷ [])) s.args.out.now
-    (write_said c.porvuund-book.result) c.porvuund-book.new.1.1.0
-books c = rw c.before.before.budget_of.ensures at c.porvuund-book.ensures
+    (write_said c.porvuund_book-answer.result) c.porvuund_book-answer.new.out
+books c = rw c.budget_of-budget.ensures at c.porvuund_book-answer.ensures
 
-returns : tie.Need-returns
+returns : tie.Need-returns-then-answer-eq0
 returns c =
     let b = c.before.before in
     let s = start b in
     output_written s.args.sheet.now s.args.word.now s.args.out.now (room b.before) (books b)
-    c.if1.true
+    c.if-answer-eq0.true
 
-put_number_line_requires : tie.Need-put-number-line-requires
+put_number_line_requires : tie.Need-put_number_line-requires
 put_number_line_requires c κs =
-    let h : length c.before.before.before.porvuund-book.new.1.1.0 ≡ 65_536 = search rules in
+    let h : length c.porvuund_book-answer.new.out ≡ 65_536 = search rules in
     omega (
       arith,
-      number_line_length c.before.before.before.porvuund-book.result.number
-          c.before.before.struct_known.given.0.fits,
+      number_line_length c.porvuund_book-answer.result.number
+          c.struct_known-1.given.0.fits,
     )
 
-returns_2 : tie.Need-returns-2
+returns_2 : tie.Need-returns
 returns_2 c =
     let e = c.before.before in
     let b = e.before.before in
     let s = start b in
     let refused = output_refused s.args.sheet.now s.args.word.now s.args.out.now (room b.before)
-    (books b) e.if1.false in
-    written_as (sym refused.0) (rw refused.1 at c.put-number-line.ensures)
+    (books b) e.if-answer-eq0.false in
+    written_as (sym refused.0) (rw refused.1 at c.put_number_line.ensures)
 
 pub book_output_spec : {M : Type 1} → statement M
 book_output_spec =

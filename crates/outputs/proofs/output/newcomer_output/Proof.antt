@@ -12,39 +12,39 @@ use Rattle.outputs.specs.Lines.{number_line_length}
 use Rattle.outputs.proofs.output.newcomer_output.Statement.{statement}
 use Rattle.outputs.proofs.output.newcomer_output.Tie as tie
 
-room : (c : tie.After-porvuund-newcomer-arg) → length c.before.before.before.before.args.out.now ≡ book_limit
+room : (c : tie.After-porvuund_newcomer-arg-1) → length c.args.out.now ≡ book_limit
 unfolding book_limit
 room c = search rules
 
-abbrev start : tie.After-porvuund-newcomer → tie.Start
+abbrev start : tie.After-porvuund_newcomer-admitted → tie.Start
 start c = c.before.before.before.before.before
 
 abbrev lent : tie.Start → Admission
 lent c = record { sheet = c.args.sheet.now; book = c.args.book.now; line = c.args.line.now }
 
-returns : tie.Need-returns
+returns : tie.Need-returns-then-admitted-eq0
 returns c =
     let w = c.before.before in
     let s = start w in
-    newcomer_written (lent s) s.args.out.now (room w.before) w.porvuund-newcomer.ensures c.if1.true
+    newcomer_written (lent s) s.args.out.now (room w.before) w.porvuund_newcomer-admitted.ensures c.if-admitted-eq0.true
 
-put_number_line_requires : tie.Need-put-number-line-requires
+put_number_line_requires : tie.Need-put_number_line-requires
 put_number_line_requires c κs =
     let w = c.before.before.before in
-    let h : length w.porvuund-newcomer.new.1.1.1.0 ≡ 131_072 = search rules in
+    let h : length w.porvuund_newcomer-admitted.new.out ≡ 131_072 = search rules in
     omega (
       arith,
-      number_line_length w.porvuund-newcomer.result.number c.before.before.struct_known.given.0.fits,
+      number_line_length w.porvuund_newcomer-admitted.result.number c.struct_known-1.given.0.fits,
     )
 
-returns_2 : tie.Need-returns-2
+returns_2 : tie.Need-returns
 returns_2 c =
     let e = c.before.before in
     let w = e.before.before in
     let s = start w in
     let refused =
-    newcomer_refused (lent s) s.args.out.now (room w.before) w.porvuund-newcomer.ensures e.if1.false in
-    written_as (sym refused.0) (rw refused.1 at c.put-number-line.ensures)
+    newcomer_refused (lent s) s.args.out.now (room w.before) w.porvuund_newcomer-admitted.ensures e.if-admitted-eq0.false in
+    written_as (sym refused.0) (rw refused.1 at c.put_number_line.ensures)
 
 pub newcomer_output_spec : {M : Type 1} → statement M
 newcomer_output_spec =
