@@ -1,5 +1,4 @@
--- Theorems only: two sheets that differ only in one user's line, or only in one permission's column, have smallest role
--- counts at most 1 apart. A column is a line of the sheets with rows and columns exchanged.
+-- Two sheets that differ only in one user's line, or only in one permission's column: a sheet with rows and columns
+-- exchanged, and one user's line changed. What follows stands in proofs/.
 pub mod Exchanged
 pub mod OneLine
-pub mod OneApart

@@ -8,8 +8,8 @@ use Rattle.spec.specs.RoleSet.{RoleSet, Multiplies}
 use Rattle.spec.specs.Admitted.{AtLeast}
 use Rattle.spec.specs.OneChange.{SmallestCount, OnlyInLine, OnlyInColumn, OneChange, AtMostOneApart}
 use Rattle.spec.specs.OneChange.{OnlyPermissionMoved}
-use Rattle.one_change.specs.Exchanged.{exchanged_roles, exchanged, exchanged_holds, multiplies_exchanged}
-use Rattle.one_change.specs.Exchanged.{multiplies_back}
+use Rattle.one_change.specs.Exchanged.{exchanged_roles, exchanged}
+use Rattle.one_change.proofs.Exchanged.{exchanged_holds, multiplies_exchanged, multiplies_back}
 use Rattle.one_change.specs.OneLine.{same_users, same_permissions, Moved, line_moved, line_undone}
 
 -- ---- a column is a line
