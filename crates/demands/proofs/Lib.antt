@@ -1,0 +1,2 @@
+-- One person moves one role, whole.
+pub mod OneMoves
