@@ -23,7 +23,7 @@ use Rattle.spec.specs.OneChange.{NumbersOneApart}
 use Rattle.text.specs.Written.{Written}
 use Rattle.book_lines.specs.Laws.LineWritten.{front_written}
 use Rattle.demands.specs.Answers.{reduced_write, reduced_write_short}
-use Rattle.demands.specs.OneMoves.{believed_numbers}
+use Rattle.demands.proofs.OneMoves.{believed_numbers}
 use Rattle.right.specs.CheckOwed.{CheckOwed, check_owed}
 use Rattle.porvuund.specs.OneShot.{searched_once, book_answer, book_buffer}
 use Rattle.porvuund.specs.Laws.TaskOwed.{TaskOwed, task_owed}

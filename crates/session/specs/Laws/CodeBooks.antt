@@ -6,7 +6,7 @@ use Rattle.std.proofs.Math.Option.{some}
 use Rattle.spec.specs.Text.{Bytes}
 use Rattle.spec.specs.Sequence.{write, WriteOutcome, Event, calls, last_accepted, brought_out}
 use Rattle.spec.specs.OneChange.{BroughtOut, NumbersOneApart}
-use Rattle.demands.specs.OneMoves.{one_moves_one}
+use Rattle.demands.proofs.OneMoves.{one_moves_one}
 use Rattle.session.specs.CodeSession.{view}
 use Rattle.session.specs.Laws.CodeSequence.{Calling, Ran, Tied, ran_led}
 use Rattle.session.specs.declared.Session.{Session as CodeSession}
