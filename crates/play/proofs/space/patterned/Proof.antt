@@ -6,27 +6,27 @@ use Rattle.play.specs.Space.{Patterned, space_limit, pattern_starts, pattern_goe
 use Rattle.play.proofs.space.patterned.Statement.{statement}
 use Rattle.play.proofs.space.patterned.Tie as tie
 
-abbrev invariant_loop : tie.invariant-loop
+abbrev invariant_loop : tie.invariant-loop-i
 invariant_loop space₀ i₀ space i = (i ≤ space_limit) × Patterned space i
 
-abbrev decreases_loop : tie.decreases-loop
+abbrev decreases_loop : tie.decreases-loop-i
 decreases_loop space₀ i₀ space i = space_limit - i
 
-loop_holds : tie.Need-loop-init invariant_loop decreases_loop
+loop_holds : tie.Need-loop-i-init invariant_loop decreases_loop
 loop_holds c = (omega arith, pattern_starts _ (search rules))
 
-loop_again : tie.Need-loop-preserved invariant_loop decreases_loop
+loop_again : tie.Need-loop-i-preserved invariant_loop decreases_loop
 loop_again c =
-    let at = c.before.before.loop in (
+    let at = c.loop-i in (
       omega arith,
-      pattern_goes_on at.space at.i c.pattern-byte.result at.invariant.1
-          c.before.loop-test.true c.pattern-byte.ensures,
+      pattern_goes_on at.space at.i c.pattern_byte.result at.invariant.1
+          c.loop-i-test.true c.pattern_byte.ensures,
     )
 
 returns : tie.Need-returns invariant_loop decreases_loop
 returns c =
-    let at = c.before.loop in
-    pattern_ends at.space at.i at.invariant.1 c.loop-test.false
+    let at = c.loop-i in
+    pattern_ends at.space at.i at.invariant.1 c.loop-i-test.false
 
 pub patterned_spec : {M : Type 1} → statement M
 patterned_spec =
