@@ -1,5 +1,5 @@
--- One person moves one role: every book that a session brings out is believed, so that it prints the smallest role count
--- of its sheet where it says so; and one change in a sheet moves a smallest role count by at most 1.
+-- One person moves one role: every book that a session brings out is believed, so that it prints the smallest role
+-- count of its sheet where it says so; and one change in a sheet moves a smallest role count by at most 1.
 use Rattle.std.specs.Prelude.{◌≡◌, ◌∷◌}
 use Rattle.std.proofs.Common.{sym, ◌∙◌}
 use Rattle.std.proofs.Math.Option.{some}

@@ -38,7 +38,10 @@ accepted_even text takes =
 -- the witness's grants are held, and no two fit
 pub witness_holds : (sheet : Sheet) → WitnessStands sheet (witness sheet)
 witness_holds sheet =
-    record { all_held = λ g m. grant_held sheet (witness_granted sheet m); none_fit = (witness_independent sheet).apart }
+    record {
+      all_held = λ g m. grant_held sheet (witness_granted sheet m);
+      none_fit = (witness_independent sheet).apart;
+    }
 
 -- never more roles than the checker takes
 pub few_roles : (text : Bytes) → So (accepted text) → (given : ℕ) → role_count (sheet_of text) (reached text given) ≤

@@ -1,6 +1,6 @@
--- One person moves one role: a book that is believed prints what it says, so where it says `witnessed` or `searched` the
--- role count that it prints is the smallest one of its sheet. Of two such books whose sheets have one change between
--- them the bound of the one is at most 1 above the role count of the other.
+-- One person moves one role: a book that is believed prints what it says, so where it says `witnessed` or `searched`
+-- the role count that it prints is the smallest one of its sheet. Of two such books whose sheets have one change
+-- between them the bound of the one is at most 1 above the role count of the other.
 use Rattle.std.specs.Prelude.{ℕ, suc, ◌≤◌, ◌≡◌, ◌⊎◌}
 use Rattle.std.proofs.Common.{arith, sym, ◌∙◌}
 use Rattle.spec.specs.Text.{Bytes}

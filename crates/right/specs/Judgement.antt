@@ -1,7 +1,8 @@
 -- The checker's answer, from the answer's own side. A sheet that is refused gives its number. For any other sheet a
 -- book that is not written for anything that can be said gives 12, and a book that is written for something is judged
 -- by what it says.
-use Rattle.std.specs.Prelude.{ℕ, ◌≤◌, ◌<◌, ◌≡◌, refl, Bool, true, false, ◌||◌, not, cond, List, [], ◌∷◌, ◌++◌, eqb, ltb, length}
+use Rattle.std.specs.Prelude.{ℕ, ◌≤◌, ◌<◌, ◌≡◌, refl, Bool, true, false, ◌||◌, not, cond, List, [], ◌∷◌, ◌++◌, eqb, ltb}
+use Rattle.std.specs.Prelude.{length}
 use Rattle.std.proofs.Common.{ap, ◌∙◌}
 use Rattle.std.proofs.Math.Bool.{So}
 use Rattle.std.specs.Bool.{beq}

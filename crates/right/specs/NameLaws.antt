@@ -74,7 +74,8 @@ known_at names i h name e =
 pub number_among_at : (names : List Bytes) → GoodNames names → (i : ℕ) → i < length names → (name : Bytes)
     → lowered name ≡ lowered (get_or names i [])
     → number_among names name ≡ i
-number_among_at names good i h name e = ap (λ found. Option.get_or found 0) (lowest_below_intro (length names) test here)
+number_among_at names good i h name e =
+    ap (λ found. Option.get_or found 0) (lowest_below_intro (length names) test here)
   where
     test : ℕ → Bool
     test j = same_name name (get_or names j [])
