@@ -25,13 +25,13 @@ module _ (text : Bytes) (arguments : List Bytes) where
       → RoundsMade round_budget rounds reduced searched made steps
       → printed searched (replicate book_limit 0) ≡ long_search_output text arguments
   unfolding long_search_output
-  session_printed accepts {reduced = reduced} {searched = searched} start loads reduces rounds made =
-      let here : reduced ≡ opened text =
+  session_printed accepts {reduced = first} {searched = last} start loads reduces rounds made =
+      let here : first ≡ opened text =
       reduces.leaves
       ∙ ap after_reduce (loads.leaves ∙ ap (λ (s : Session). after_load s text) start) in
-      let there : searched ≡ after_rounds round_budget (rounds_of arguments) (opened text) =
+      let there : last ≡ after_rounds round_budget (rounds_of arguments) (opened text) =
       made.session
-      ∙ ap (λ (n : ℕ). after_rounds round_budget n reduced) rounds
+      ∙ ap (λ (n : ℕ). after_rounds round_budget n first) rounds
       ∙ ap (after_rounds round_budget (rounds_of arguments)) here in
       rw (eq-eqb (refusal text) 0 accepts)
       (ap (λ (s : Session). printed s (replicate book_limit 0)) there)
