@@ -1,6 +1,6 @@
 -- A part of a text that a byte ends: what stands before the first such byte. A text has one such part at most at a
 -- place, so what follows it is known too. Assumes nothing.
-use Rattle.std.specs.Prelude.{ℕ, suc, ◌+◌, ◌-◌, ◌≤◌, ◌<◌, ◌≡◌, refl, eqb, length, get_or, drop}
+use Rattle.std.specs.Prelude.{ℕ, suc, ◌+◌, ◌-◌, ◌≤◌, ◌<◌, ◌≡◌, refl, eqb, length, get_or, drop, Option, Some, None}
 use Rattle.std.proofs.Common.{arith, sym, ap, ◌∙◌, ⊎_elim, eq-eqb, ne_eqb, length-drop, take-append-drop}
 use Rattle.std.proofs.Common.{drop_of_length-le, drop-cons, take-suc, get_or-drop, drop-drop}
 use mathlib.Core.List.{[], ◌∷◌, ◌++◌, append_assoc, append_cancel_left, append-nil, tail-eq_of_cons-eq, Memᴰ}
@@ -9,8 +9,6 @@ use Rattle.bits.specs.Truth.{not_both}
 use Rattle.lists.specs.CutLaws.{Free}
 use Rattle.steps.specs.Laws.Aligned.{ended_same}
 use Rattle.places.specs.Places.{part}
-use Rattle.steps.specs.declared.step.Step.{Step}
-use Rattle.steps.specs.declared.step.Step.TheVariants.{On, Off}
 use Rattle.steps.specs.Stands.{Stands}
 
 -- a part from one place up to another, where the byte that ends it stands
@@ -25,9 +23,9 @@ pub record Unended (text : Bytes) (at : ℕ) (end : ℕ) : Type 0 where
   pub none : (bytes rest : Bytes) → drop at text ≡ bytes ++ end ∷ rest → ⊥
 
 -- a step to the end of a part
-abbrev pub PartEnd : Bytes → ℕ → ℕ → Step → Type 0
-PartEnd text at end (On to) = Ended text at end to
-PartEnd text at end Off = Unended text at end
+abbrev pub PartEnd : Bytes → ℕ → ℕ → Option ℕ → Type 0
+PartEnd text at end (Some to) = Ended text at end to
+PartEnd text at end None = Unended text at end
 
 -- ---- looking for the end, byte by byte
 

@@ -1,8 +1,6 @@
 -- A name that stands in a text, spelled in whatever case. Assumes nothing.
-use Rattle.std.specs.Prelude.{ℕ, ◌≡◌}
+use Rattle.std.specs.Prelude.{ℕ, ◌≡◌, Option, Some, None}
 use Rattle.spec.specs.Text.{Bytes, lowered}
-use Rattle.steps.specs.declared.step.Step.{Step}
-use Rattle.steps.specs.declared.step.Step.TheVariants.{On, Off}
 use Rattle.steps.specs.Stands.{Stands}
 use Rattle.steps.specs.Steps.{Misses}
 
@@ -17,6 +15,6 @@ abbrev pub NotSpelled : Bytes → ℕ → Bytes → Type 0
 NotSpelled text at name = (spelled : Bytes) → lowered spelled ≡ lowered name → Misses text at spelled
 
 -- a step that goes past a name
-abbrev pub ExpectsName : Bytes → ℕ → Bytes → Step → Type 0
-ExpectsName text at name (On next) = SpelledAt text at name next
-ExpectsName text at name Off = NotSpelled text at name
+abbrev pub ExpectsName : Bytes → ℕ → Bytes → Option ℕ → Type 0
+ExpectsName text at name (Some next) = SpelledAt text at name next
+ExpectsName text at name None = NotSpelled text at name

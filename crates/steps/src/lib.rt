@@ -6,4 +6,4 @@ mod name;
 mod step;
 
 pub use name::expect_name;
-pub use step::{Step, expect, expect_byte, part_end};
+pub use step::{expect, expect_byte, part_end};

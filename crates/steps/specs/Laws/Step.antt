@@ -1,13 +1,12 @@
 -- Steps one after the other. Bytes that stand at a place and bytes that stand where it goes on stand there together;
 -- and where the first or the second of two parts is missing, both together are. All of it is cancelling in front.
-use Rattle.std.specs.Prelude.{ℕ, suc, ◌+◌, ◌≤◌, ◌<◌, ◌≡◌, refl, length, drop, get_or}
+use Rattle.std.specs.Prelude.{ℕ, suc, ◌+◌, ◌≤◌, ◌<◌, ◌≡◌, refl, length, drop, get_or, Option}
+use Rattle.std.specs.Prelude.{Some, None}
 use Rattle.std.proofs.Common.{add-one, arith, sym, ap, ◌∙◌, length-append, length-drop, drop_of_length-le, drop-cons}
 use mathlib.Core.List.{◌∷◌, ◌++◌, append_assoc, append_cancel_left, nil≢cons, head-eq_of_cons-eq}
 use Rattle.spec.specs.Text.{Bytes}
 use Rattle.lists.specs.Listed.{listed, listed_more}
 use Rattle.steps.specs.Laws.Aligned.{Aligned, aligned_same, listed_next}
-use Rattle.steps.specs.declared.step.Step.{Step}
-use Rattle.steps.specs.declared.step.Step.TheVariants.{On, Off}
 use Rattle.steps.specs.Stands.{Stands}
 use Rattle.steps.specs.Laws.Stands.{stands_then, stands_byte}
 use Rattle.steps.specs.Steps.{Misses, Expects}
@@ -74,11 +73,11 @@ pub stands_more : {text : Bytes} {at next last : ℕ} (j : ℕ) (f : ℕ → Byt
 stands_more j f p q = rw (listed_more j f) (stands_then p q)
 
 -- with the first part there, the second decides
-pub expects_then : {text a : Bytes} {at next : ℕ} (b : Bytes) → Stands text at a next → (r : Step)
+pub expects_then : {text a : Bytes} {at next : ℕ} (b : Bytes) → Stands text at a next → (r : Option ℕ)
     → Expects text next b r
     → Expects text at (a ++ b) r
-expects_then b p (On last) q = stands_then p q
-expects_then b p Off m = misses_second b p m
+expects_then b p (Some last) q = stands_then p q
+expects_then b p None m = misses_second b p m
 
 -- ---- one byte
 
@@ -97,7 +96,7 @@ misses_at_end text at b rest h = record { misses = λ more e. nil≢cons (sym (d
 -- with byte i of a word there, the rest of the word decides
 pub expects_next : (text word : Bytes) (at i : ℕ) → i < length word → at + i < length text → get_or text (at + i) 0 ≡
     get_or word i 0
-    → (r : Step) → Expects text (at + (i + 1)) (drop (i + 1) word) r → Expects text (at + i) (drop i word) r
+    → (r : Option ℕ) → Expects text (at + (i + 1)) (drop (i + 1) word) r → Expects text (at + i) (drop i word) r
 expects_next text word at i h k same r e =
     let later : at + (i + 1) ≡ suc (at + i) = omega arith in
     rw (drop-cons word i 0 h, ← same)

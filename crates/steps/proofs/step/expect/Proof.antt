@@ -1,11 +1,10 @@
 -- `step::expect`: with the first i bytes of the word there, the rest of the word decides from there on.
 use Prim.Native.Nat.{◌+◌, ◌-◌, ◌≤◌}
+use Rattle.std.specs.Prelude.{ℕ, Option, Some, None}
 use native.Mathlib.Nat.{add-zero}
 use native.Mathlib.Omega.{arith}
 use lib.ListN.{length, drop, drop_of_length-le}
 use lib.Seq.{drop-cons}
-use Rattle.steps.specs.declared.step.Step.{Step}
-use Rattle.steps.specs.declared.step.Step.TheVariants.{On, Off}
 use Rattle.steps.specs.Steps.{Expects}
 use Rattle.steps.specs.Laws.Stands.{stands_nothing}
 use Rattle.steps.specs.Laws.Step.{expects_next, misses_byte, misses_at_end}
@@ -16,7 +15,7 @@ abbrev invariant_loop : tie.invariant-loop-i
 invariant_loop text at word i₀ i =
     (i ≤ length word)
     × (at + i ≤ length text)
-    × ((r : Step) → Expects text (at + i) (drop i word) r → Expects text at word r)
+    × ((r : Option ℕ) → Expects text (at + i) (drop i word) r → Expects text at word r)
 
 abbrev decreases_loop : tie.decreases-loop-i
 decreases_loop text at word i₀ i = length word - i
@@ -30,7 +29,7 @@ returns : tie.Need-returns-then-text-at invariant_loop decreases_loop
 returns c =
     let a = c.args in
     let i = c.loop-i.i in
-    c.loop-i.invariant.2 Off
+    c.loop-i.invariant.2 None
     (rw (drop-cons a.word.now i 0 (omega arith)) (misses_at_end a.text.now (a.at + i) _ _ c.if-text-at.true))
 
 returns_2 : tie.Need-returns-then-text-at-2 invariant_loop decreases_loop
@@ -39,7 +38,7 @@ returns_2 c =
     let start = at_loop.before in
     let a = start.args in
     let i = at_loop.loop-i.i in
-    at_loop.loop-i.invariant.2 Off
+    at_loop.loop-i.invariant.2 None
     (rw (drop-cons a.word.now i 0 (omega arith)) (misses_byte a.text.now (a.at + i) _ _ (omega arith)
     c.if-text-at-2.true))
 
@@ -61,7 +60,7 @@ returns_3 c =
     let a = c.args in
     let i = c.loop-i.i in
     let whole : length a.word.now ≤ i = omega arith in
-    c.loop-i.invariant.2 (On (a.at + i))
+    c.loop-i.invariant.2 (Some (a.at + i))
     (rw (drop_of_length-le a.word.now whole) (stands_nothing a.text.now (a.at + i) (omega arith)))
 
 pub expect_spec : {M : Type 1} → statement M
