@@ -1,9 +1,10 @@
-// The kinds of numbers, and every limit of the code.
+// The kinds of numbers, every limit of the code, and why calls are refused.
 
 #![tactic(auto)]
 
 mod limits;
 mod numbers;
+mod refusal;
 
 pub use limits::{
     BOOK_LIMIT, CELL_LIMIT, CELL_WORDS, COUNT_CAP, GRANT_LIMIT, KERNEL_LIMIT, KERNEL_WORDS,
@@ -11,3 +12,4 @@ pub use limits::{
     TABLE_WORDS, USER_LIMIT,
 };
 pub use numbers::{CellNo, GrantNo, PermissionNo, RoleNo, UserNo};
+pub use refusal::Refusal;
