@@ -1,7 +1,7 @@
 -- A budget read up to one past the greatest: digits that say a budget are read as that number, and any other word as
 -- no number, whatever its length is. The number of searches of the long search is read through it. Assumes nothing.
 use Rattle.std.specs.Prelude.{ℕ, suc, ◌≤◌, ◌<◌, ◌≡◌, refl, Bool, true, false, ◌&&◌, not, cond, [], ◌∷◌, eqb, leb, ltb}
-use Rattle.std.specs.Prelude.{length}
+use Rattle.std.specs.Prelude.{length, Option, Some, None}
 use Rattle.std.proofs.Common.{arith, ap, ⊎_elim, le-leb, lt-ltb, le-ltb, eq-eqb, ne_eqb}
 use Rattle.std.proofs.lemmas.Bool.{lt-leb}
 use Rattle.spec.specs.Vocabulary.{all}
@@ -12,10 +12,6 @@ use Rattle.spec.specs.Program.{is_budget, budget_of}
 use Rattle.spec.specs.LongSearch.{is_rounds, rounds_of}
 use Rattle.bits.specs.Laws.Below.{below_or_from}
 use Rattle.digits.specs.Capped.{up_to, digits_read}
-use Rattle.digits.specs.declared.digits.CountRead.{CountRead}
-use Rattle.digits.specs.declared.digits.CountRead.TheVariants.{Count, Off}
-use Rattle.digits.specs.declared.budget.BudgetRead.{BudgetRead}
-use Rattle.digits.specs.declared.budget.BudgetRead.TheVariants.{Number, NoNumber}
 
 -- one more than the greatest budget
 unfoldable pub budget_cap : ℕ
@@ -23,15 +19,15 @@ unfolding budget_limit
 budget_cap = suc budget_limit
 
 -- what digits that are read up to the bound say
-abbrev pub budget_within : CountRead → BudgetRead
-budget_within (Count n) = cond (ltb n budget_cap) (Number n) NoNumber
-budget_within Off = NoNumber
+abbrev pub budget_within : Option ℕ → Option ℕ
+budget_within (Some n) = cond (ltb n budget_cap) (Some n) None
+budget_within None = None
 
 -- what a word says
-abbrev pub budget_read : Bytes → BudgetRead
-budget_read word = cond (is_budget word) (Number (number_of word)) NoNumber
+abbrev pub budget_read : Bytes → Option ℕ
+budget_read word = cond (is_budget word) (Some (number_of word)) None
 
-pub no_digits : (word : Bytes) → length word ≡ 0 → budget_read word ≡ NoNumber
+pub no_digits : (word : Bytes) → length word ≡ 0 → budget_read word ≡ None
 unfolding is_budget
 no_digits [] e = refl
 no_digits (b ∷ rest) e = absurd (omega arith)
@@ -44,28 +40,28 @@ as_digits_say [] some = absurd (some refl)
 as_digits_say (b ∷ rest) some = choose (all is_digit (b ∷ rest)) (number_of (b ∷ rest))
   where
     choose : (digits : Bool) (n : ℕ)
-        → cond (digits && leb n budget_limit) (Number n) NoNumber
-        ≡ budget_within (cond digits (Count (up_to budget_cap n)) Off)
+        → cond (digits && leb n budget_limit) (Some n) None
+        ≡ budget_within (cond digits (Some (up_to budget_cap n)) None)
     choose true n =
         ⊎_elim
         (λ (l : n < budget_cap).
         rw (le-leb n budget_limit (omega arith), lt-ltb (up_to budget_cap n) budget_cap (omega arith))
-        (ap Number (omega arith)))
+        (ap Some (omega arith)))
         (λ (l : budget_cap ≤ n).
         rw (lt-leb n budget_limit (omega arith), le-ltb (up_to budget_cap n) budget_cap (omega arith)))
         (below_or_from n budget_cap)
     choose false n = refl
 
 -- the budget that a word gives, by what it says: 0 where that is no number
-abbrev pub budget_said : BudgetRead → ℕ
-budget_said (Number n) = n
-budget_said NoNumber = 0
+abbrev pub budget_said : Option ℕ → ℕ
+budget_said (Some n) = n
+budget_said None = 0
 
 pub budget_is_said : (word : Bytes) → budget_said (budget_read word) ≡ budget_of (word ∷ [])
 unfolding budget_of
 budget_is_said word = choose (is_budget word)
   where
-    choose : (t : Bool) → budget_said (cond t (Number (number_of word)) NoNumber) ≡ cond t (number_of word) 0
+    choose : (t : Bool) → budget_said (cond t (Some (number_of word)) None) ≡ cond t (number_of word) 0
     choose true = refl
     choose false = refl
 

@@ -2,7 +2,7 @@
 -- number, and any others as the cap, whatever their length is. A count of a book stops at a bound that no number of
 -- lines of a book reaches, so a comparison with a number of lines comes out as it should.
 use Rattle.std.specs.Prelude.{ℕ, suc, ◌+◌, ◌-◌, ◌*◌, ◌^◌, ◌<◌, min, ◌≡◌, refl, Bool, true, false, cond, [], ◌∷◌, eqb}
-use Rattle.std.specs.Prelude.{length, get_or, drop}
+use Rattle.std.specs.Prelude.{length, get_or, drop, Option, Some, None}
 use Prim.Native.Char.{code}
 use Rattle.std.proofs.Common.{add-one, arith, sym, ap, eqb-true, eq-eqb, ne_eqb, drop-cons}
 use Rattle.std.proofs.Math.Bool.{So}
@@ -11,8 +11,6 @@ use Rattle.spec.specs.Limits.{book_limit}
 use Rattle.spec.specs.Text.{Bytes}
 use Rattle.spec.specs.Decimal.{is_digit, is_count, number_after, number_of}
 use Rattle.bits.specs.Truth.{fails_unless, same_truth}
-use Rattle.digits.specs.declared.digits.CountRead.{CountRead}
-use Rattle.digits.specs.declared.digits.CountRead.TheVariants.{Count, Off}
 
 -- one more than a book has bytes
 unfoldable pub count_cap : ℕ
@@ -28,15 +26,15 @@ abbrev pub up_to : ℕ → ℕ → ℕ
 up_to cap n = min cap n
 
 -- what digits say, after those that said n
-abbrev pub digits_read : ℕ → ℕ → Bytes → CountRead
-digits_read cap n digits = cond (all is_digit digits) (Count (up_to cap (number_after n digits))) Off
+abbrev pub digits_read : ℕ → ℕ → Bytes → Option ℕ
+digits_read cap n digits = cond (all is_digit digits) (Some (up_to cap (number_after n digits))) None
 
 -- what a count says, read up to the bound
 abbrev pub capped : ℕ → ℕ
 capped n = up_to count_cap n
 
-abbrev pub count_read : Bytes → CountRead
-count_read digits = cond (is_count digits) (Count (capped (number_of digits))) Off
+abbrev pub count_read : Bytes → Option ℕ
+count_read digits = cond (is_count digits) (Some (capped (number_of digits))) None
 
 -- ---- digit by digit
 
@@ -69,25 +67,25 @@ module _ (cap : ℕ) where
 
   -- and where there is none
   pub digits_off_at : (n : ℕ) (field : Bytes) (i : ℕ) → i < length field → (So (is_digit (get_or field i 0)) → ⊥)
-      → digits_read cap n (drop i field) ≡ Off
+      → digits_read cap n (drop i field) ≡ None
   digits_off_at n field i h e = rw (drop-cons field i 0 h, fails_unless (is_digit (get_or field i 0)) e)
 
 -- ---- the first digit
 
-pub no_digits : (digits : Bytes) → length digits ≡ 0 → count_read digits ≡ Off
+pub no_digits : (digits : Bytes) → length digits ≡ 0 → count_read digits ≡ None
 no_digits [] e = refl
 no_digits (b ∷ digits) e = absurd (omega arith)
 
-pub count_zero : (digits : Bytes) → length digits ≡ 1 → get_or digits 0 0 ≡ code "0" → count_read digits ≡ Count 0
+pub count_zero : (digits : Bytes) → length digits ≡ 1 → get_or digits 0 0 ≡ code "0" → count_read digits ≡ Some 0
 count_zero [] h e = absurd (omega arith)
-count_zero (b ∷ []) h e = rw e (ap Count capped_none)
+count_zero (b ∷ []) h e = rw e (ap Some capped_none)
   where
     capped_none : capped 0 ≡ 0
     capped_none = omega arith
 count_zero (b ∷ next ∷ digits) h e = absurd (omega arith)
 
 pub leading_zero : (digits : Bytes) → (length digits ≡ 1 → ⊥) → get_or digits 0 0 ≡ code "0" → (length digits ≡ 0 → ⊥)
-    → count_read digits ≡ Off
+    → count_read digits ≡ None
 leading_zero [] h e some = absurd (some refl)
 leading_zero (b ∷ []) h e some = absurd (h refl)
 leading_zero (b ∷ next ∷ digits) h e some = rw e
@@ -104,17 +102,17 @@ pub record CountSaid (digits : Bytes) (n : ℕ) : Type 0 where
   pub count : So (is_count digits)
   pub number : n ≡ capped (number_of digits)
 
-pub count_said : (digits : Bytes) (n : ℕ) → Count n ≡ count_read digits → CountSaid digits n
+pub count_said : (digits : Bytes) (n : ℕ) → Some n ≡ count_read digits → CountSaid digits n
 count_said digits n e = choose (is_count digits) refl e
   where
-    choose : (t : Bool) → is_count digits ≡ t → Count n ≡ cond t (Count (capped (number_of digits))) Off
+    choose : (t : Bool) → is_count digits ≡ t → Some n ≡ cond t (Some (capped (number_of digits))) None
         → CountSaid digits n
     choose true p q = record { count = p; number = cc }
     choose false p q = absurd (let z : ◌≡◌ {A = ℕ} 0 1 = cc in omega arith)
 
-pub count_refused : (digits : Bytes) → Off ≡ count_read digits → So (is_count digits) → ⊥
+pub count_refused : (digits : Bytes) → None ≡ count_read digits → So (is_count digits) → ⊥
 count_refused digits e p =
-    let q : Off ≡ Count (capped (number_of digits)) = rw p at e in
+    let q : None ≡ Some (capped (number_of digits)) = rw p at e in
     let z : ◌≡◌ {A = ℕ} 0 1 = cc in
     omega arith
 

@@ -4,33 +4,22 @@ ghost use Rattle.spec.specs.Program.{budget_of};
 ghost use Rattle.spec.specs.LongSearch.{rounds_of};
 ghost use Rattle.digits.specs.BudgetRead.{budget_read};
 
-use crate::digits::{CountRead, digits_of};
+use crate::digits::digits_of;
 
 // One more than the greatest budget.
 const BUDGET_CAP: usize = 4_294_967_296;
 
-// What reading a budget finds: a number of that range, or none.
-#[derive(Clone, Copy)]
-pub enum BudgetRead {
-    Number(u32),
-    NoNumber,
-}
-
 // The number that a word says, if it is decimal digits, at least one, of value at most 4,294,967,295.
-pub fn read_budget(word: &[u8]) -> BudgetRead
+pub fn read_budget(word: &[u8]) -> Option<u32>
     ensures { result ≡ budget_read word.now }
 {
     if word.len() == 0 {
-        return BudgetRead::NoNumber;
+        return None;
     }
-    let CountRead::Count(n) = digits_of(word, BUDGET_CAP) else {
-        return BudgetRead::NoNumber;
+    let Some(n) = digits_of(word, BUDGET_CAP) else {
+        return None;
     };
-    if n < BUDGET_CAP {
-        BudgetRead::Number(n as u32)
-    } else {
-        BudgetRead::NoNumber
-    }
+    if n < BUDGET_CAP { Some(n as u32) } else { None }
 }
 
 // The budget that a word gives: 0 where it is no number of that range.
@@ -38,8 +27,8 @@ pub fn budget_of(word: &[u8]) -> u32
     ensures { result ≡ budget_of (word.now ∷ []) }
 {
     match read_budget(word) {
-        BudgetRead::Number(n) => n,
-        BudgetRead::NoNumber => 0,
+        Some(n) => n,
+        None => 0,
     }
 }
 

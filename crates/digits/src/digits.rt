@@ -4,14 +4,6 @@ ghost use Rattle.digits.specs.Capped.{cap_most, up_to, digits_read, count_read};
 
 use numbers::COUNT_CAP;
 
-// What reading digits finds: the number that they say, or the cap where that is greater; or that other bytes stand
-// among them.
-#[derive(Clone, Copy)]
-pub enum CountRead {
-    Count(usize),
-    Off,
-}
-
 // The number n with a digit behind it, no greater than the cap.
 fn with_digit(n: usize, digit: u8, cap: usize) -> usize
     requires { (n ≤ cap) × (cap ≤ cap_most) × (48 ≤ digit) }
@@ -21,8 +13,9 @@ fn with_digit(n: usize, digit: u8, cap: usize) -> usize
     if m < cap { m } else { cap }
 }
 
-// What digits say, no greater than the cap; no digits say 0.
-pub fn digits_of(field: &[u8], cap: usize) -> CountRead
+// What digits say: the number, or the cap where that is greater, and None where other bytes stand among them. No digits
+// say 0.
+pub fn digits_of(field: &[u8], cap: usize) -> Option<usize>
     requires { cap ≤ cap_most }
     ensures { result ≡ digits_read cap 0 field.now }
 {
@@ -31,29 +24,29 @@ pub fn digits_of(field: &[u8], cap: usize) -> CountRead
     while i < field.len() {
         let b = field[i];
         if b < b'0' {
-            return CountRead::Off;
+            return None;
         }
         if b'9' < b {
-            return CountRead::Off;
+            return None;
         }
         n = with_digit(n, b, cap);
         i += 1;
     }
-    CountRead::Count(n)
+    Some(n)
 }
 
 // What a count says, no greater than COUNT_CAP: digits without leading zeros.
-pub fn count_of(field: &[u8]) -> CountRead
+pub fn count_of(field: &[u8]) -> Option<usize>
     ensures { result ≡ count_read field.now }
 {
     if field.len() == 0 {
-        return CountRead::Off;
+        return None;
     }
     if field[0] != b'0' {
         return digits_of(field, COUNT_CAP);
     }
     if field.len() == 1 {
-        return CountRead::Count(0);
+        return Some(0);
     }
-    CountRead::Off
+    None
 }

@@ -5,5 +5,5 @@
 mod budget;
 mod digits;
 
-pub use budget::{BudgetRead, budget_of, read_budget, rounds_of};
-pub use digits::{CountRead, count_of, digits_of};
+pub use budget::{budget_of, read_budget, rounds_of};
+pub use digits::{count_of, digits_of};

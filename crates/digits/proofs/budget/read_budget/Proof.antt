@@ -22,7 +22,7 @@ unfolding budget_cap
 returns_3 c =
     let read = c.before.before in
     rw (lt-ltb _ _ c.if-n-lt-BUDGET_CAP.true) at
-    (ap budget_within (sym c.in-Count.is ∙ read.digits_of.ensures)
+    (ap budget_within (sym c.in-Some.is ∙ read.digits_of.ensures)
     ∙ sym (as_digits_say read.args.word.now read.if-word-eq0.false))
 
 returns_4 : tie.Need-returns-else-n-lt-BUDGET_CAP
@@ -30,7 +30,7 @@ unfolding budget_cap
 returns_4 c =
     let read = c.before.before in
     rw (le-ltb _ _ c.if-n-lt-BUDGET_CAP.false) at
-    (ap budget_within (sym c.in-Count.is ∙ read.digits_of.ensures)
+    (ap budget_within (sym c.in-Some.is ∙ read.digits_of.ensures)
     ∙ sym (as_digits_say read.args.word.now read.if-word-eq0.false))
 
 pub read_budget_spec : {M : Type 1} → statement M

@@ -1,4 +1,5 @@
 -- `digits::digits_of`: what the digits from i on say, after those before i, is what all of them say.
+use Rattle.std.specs.Prelude.{Some}
 use Prim.Native.Nat.{◌-◌, ◌≤◌}
 use native.Mathlib.Omega.{arith}
 use mathlib.Core.Path.{◌≡◌, refl, sym, ap, ◌∙◌}
@@ -8,7 +9,6 @@ use lib.ListN.{length, get_or, drop, drop_of_length-le}
 use Rattle.spec.specs.Decimal.{is_digit}
 use Rattle.text.specs.Laws.Byte.{between_intro, between_low, between_high}
 use Rattle.digits.specs.Capped.{digits_read, digits_next_at, digits_off_at}
-use Rattle.digits.specs.declared.digits.CountRead.TheVariants.{Count}
 use Rattle.digits.proofs.digits.digits_of.Statement.{statement}
 use Rattle.digits.proofs.digits.digits_of.Tie as tie
 
@@ -70,7 +70,7 @@ returns_3 c =
     let s = c.args.field.now in
     let n = c.loop-i.n in
     let whole : length s ≤ c.loop-i.i = c.loop-i-test.false in
-    let said : Count n ≡ digits_read c.args.cap n [] = ap Count
+    let said : Some n ≡ digits_read c.args.cap n [] = ap Some
     (let h = c.loop-i.invariant.1 in omega arith) in
     said ∙ rw (drop_of_length-le s whole) at c.loop-i.invariant.2
 
