@@ -1,12 +1,12 @@
 -- The names that stand at places of a text, and looking for one. Assumes nothing.
 use Rattle.std.specs.Prelude.{ℕ, ◌≤◌, ◌<◌, List, [], length, get_or, ◌≡◌, false}
-use Rattle.std.proofs.Math.Option.{Option, none, some}
+use Rattle.std.specs.Prelude.{Option, Some, None}
+use Rattle.std.proofs.Math.Option.{none, some}
+use Rattle.std.proofs.Math.Option as math
 use Rattle.spec.specs.Vocabulary.{lowest_below, list_of}
 use Rattle.spec.specs.Limits.{user_limit}
 use Rattle.spec.specs.Text.{Bytes, same_name}
 use Rattle.places.specs.Places.{from_at, to_at, part}
-use Rattle.names.specs.declared.lookup.Found.{Found}
-use Rattle.names.specs.declared.lookup.Found.TheVariants.{At, Nothing}
 
 -- there are no more places than there can be users, and each is that of a part of the text
 pub record Inside (text : Bytes) (places : List ℕ) : Type 0 where
@@ -36,10 +36,10 @@ Apart text places n =
     (i j : ℕ) → i < j → j < n → same_name (name_there text places i) (name_there text places j) ≡ false
 
 -- the lowest number of a name in a list of names that is equal to this one
-abbrev pub name_number : List Bytes → Bytes → Option ℕ
+abbrev pub name_number : List Bytes → Bytes → math.Option ℕ
 name_number names name = lowest_below (length names) (λ i. same_name name (get_or names i []))
 
 -- the number of a name, where it has one, as what looking for it finds
-abbrev pub found : Option ℕ → Found
-found none = Nothing
-found (some i) = At i
+abbrev pub found : math.Option ℕ → Option ℕ
+found none = None
+found (some i) = Some i

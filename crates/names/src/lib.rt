@@ -6,4 +6,4 @@ mod layout;
 mod lookup;
 
 pub use layout::{Layout, permission_name_in, user_name_in};
-pub use lookup::{Found, find_from, part_at};
+pub use lookup::{find_from, part_at};

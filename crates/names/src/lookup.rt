@@ -7,13 +7,6 @@ ghost use Rattle.names.specs.NamesAt.{Inside, PartThere, name_there, all_names, 
 use places::{from_of, to_of};
 use text::same_name;
 
-// What looking for a name finds.
-#[derive(Clone, Copy)]
-pub enum Found {
-    At(usize),
-    Nothing,
-}
-
 // What stands at place i: the part of the sheet itself. The places are lent, so that no loop copies them.
 pub fn part_at<'a, 'b>(s: &'a [u8], places: &'b [u64], i: usize) -> &'a [u8]
     requires { PartThere s.now places.now i }
@@ -32,31 +25,36 @@ fn find_between<'a, 'b>(
     low: usize,
     high: usize,
     name: &'a [u8],
-) -> Found
+) -> Option<usize>
     requires { Inside s.now places.now × (high ≤ length places.now) }
     ensures { FoundBetween s.now places.now name.now low high result }
 {
     let mut i = low;
     while i < high {
         if same_name(name, part_at(s, places, i)) {
-            return Found::At(i);
+            return Some(i);
         }
         i += 1;
     }
-    Found::Nothing
+    None
 }
 
 // The number of a name among names no two of which are equal. Those from number `first` on are looked at first: a
 // caller whose names rise says the last number, and the answer is the same whatever it says.
-pub fn find_from<'a, 'b>(s: &'a [u8], places: &'b [u64], first: usize, name: &'a [u8]) -> Found
+pub fn find_from<'a, 'b>(
+    s: &'a [u8],
+    places: &'b [u64],
+    first: usize,
+    name: &'a [u8],
+) -> Option<usize>
     requires { Inside s.now places.now × Apart s.now places.now (length places.now) }
     ensures { result ≡ found (name_number (all_names s.now places.now)
         name.now) }
 {
     let count = places.len();
     let late = find_between(s, places, first, count, name);
-    if let Found::At(i) = late {
-        return Found::At(i);
+    if let Some(i) = late {
+        return Some(i);
     }
     let end = if first < count { first } else { count };
     find_between(s, places, 0, end, name)

@@ -1,5 +1,5 @@
 -- Looking for one of names of which no two are equal, in two parts, whichever comes first. Assumes nothing.
-use Rattle.std.specs.Prelude.{ℕ, suc, ◌≤◌, ◌<◌, ◌≡◌, false, List, [], get_or}
+use Rattle.std.specs.Prelude.{ℕ, suc, ◌≤◌, ◌<◌, ◌≡◌, false, List, [], get_or, Option, Some, None}
 use Rattle.std.proofs.Common.{arith, sym, ap, ⊎_elim}
 use Rattle.std.proofs.Math.Bool.{So}
 use Rattle.std.proofs.Math.Option.{some, none}
@@ -10,8 +10,6 @@ use Rattle.text.specs.Laws.Lowered.{same_name_sym, same_name_trans}
 use Rattle.names.specs.NamesAt.{name_there, names_at, Apart, name_number, found}
 use Rattle.names.specs.FoundBetween.{StandsAt, StandsNowhere, FoundBetween}
 use Rattle.names.specs.Laws.NamesAt.{name_of, found_at, found_nothing}
-use Rattle.names.specs.declared.lookup.Found.{Found}
-use Rattle.names.specs.declared.lookup.Found.TheVariants.{At, Nothing}
 
 -- two names that equal a third are equal
 both_equal : (name a b : Bytes) → So (same_name name a) → So (same_name name b) → So (same_name a b)
@@ -58,9 +56,9 @@ module _ (text : Bytes) (places : List ℕ) (name : Bytes) where
 -- what looking in the earlier part finds, where the name does not stand in the later one
 pub found_early : (text : Bytes) (places : List ℕ) (name : Bytes) (count : ℕ) → Apart text places count
     → (first end : ℕ) → end ≤ count
-    → ((i : ℕ) → i < first → i < count → i < end) → StandsNowhere text places name first count → (r : Found)
+    → ((i : ℕ) → i < first → i < count → i < end) → StandsNowhere text places name first count → (r : Option ℕ)
     → FoundBetween text places name 0 end r → r ≡ found (name_number (names_at text places count) name)
-found_early text places name count apart first end h all late (At i) early =
+found_early text places name count apart first end h all late (Some i) early =
     sym (ap found (stands_number text places name count apart 0 end i h early))
-found_early text places name count apart first end h all late Nothing early =
+found_early text places name count apart first end h all late None early =
     sym (ap found (nowhere_number text places name count first end late early all))

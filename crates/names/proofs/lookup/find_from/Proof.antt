@@ -12,14 +12,14 @@ use Rattle.names.proofs.lookup.find_from.Statement.{statement}
 use Rattle.names.proofs.lookup.find_from.Tie as tie
 use Rattle.names.proofs.lookup.find_from.Lts.{then-first-count, else-first-count}
 
-returns : tie.Need-returns-in-At
+returns : tie.Need-returns-in-Some
 returns c =
     let start = c.before.before.before.before.before in
-    let told = rw c.in-At.is at c.find_between-late.ensures in
+    let told = rw c.in-Some.is at c.find_between-late.ensures in
     sym (ap found (stands_number start.args.s.now start.args.places.now start.args.name.now
     (length start.args.places.now)
     start.requires.1 start.args.first
-    (length start.args.places.now) c.in-At.i (le_refl (length start.args.places.now))
+    (length start.args.places.now) c.in-Some.i (le_refl (length start.args.places.now))
     told))
 
 -- the earlier part ends at `first`, or at the last name
