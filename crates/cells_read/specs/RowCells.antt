@@ -1,6 +1,7 @@
 -- Reading the cells of a line into a row, a word of them at a time: the cells read stand in the text one after the
 -- other, and where some of them do not stand, no such cells do.
-use Rattle.std.specs.Prelude.{ℕ, ◌+◌, ◌-◌, ◌*◌, ◌≤◌, ◌<◌, ◌≡◌, refl, Bool, List, length, get_or}
+use Rattle.std.specs.Prelude.{ℕ, ◌+◌, ◌-◌, ◌*◌, ◌≤◌, ◌<◌, ◌≡◌, refl, Bool, List, length, get_or, Option}
+use Rattle.std.specs.Prelude.{Some, None}
 use Rattle.std.proofs.Common.{arith, sym, ap, ◌∙◌, ⊎_elim}
 use Rattle.spec.specs.Text.{Bytes, comma}
 use Rattle.bits.specs.Laws.Below.{below_or_from}
@@ -12,8 +13,6 @@ use Rattle.cells_read.specs.Laws.FourRead.{stand_from}
 use Rattle.cell_text.specs.CellsText.{cell_field}
 use Rattle.cell_text.specs.Laws.CellsWritten.{cell_field_length}
 use Rattle.steps.specs.Laws.Aligned.{Aligned, aligned_length, aligned_listed}
-use Rattle.steps.specs.declared.step.Step.{Step}
-use Rattle.steps.specs.declared.step.Step.TheVariants.{On, Off}
 use Rattle.steps.specs.Stands.{Stands}
 use Rattle.steps.specs.Steps.{Misses}
 use Rattle.cells_read.specs.RowGrown.{Blank, OthersKept, Grown, grown_none, WordStored, cells_kept, cells_read}
@@ -25,9 +24,9 @@ pub record RowRead (text : Bytes) (at row count : ℕ) (words after : List ℕ) 
   pub grown : Grown words after row count
 
 -- a step over so many cells; where they do not stand, only their row has changed
-abbrev pub CellsRead : Bytes → ℕ → ℕ → ℕ → List ℕ → List ℕ → Step → Type 0
-CellsRead text at row count words after (On next) = RowRead text at row count words after next
-CellsRead text at row count words after Off =
+abbrev pub CellsRead : Bytes → ℕ → ℕ → ℕ → List ℕ → List ℕ → Option ℕ → Type 0
+CellsRead text at row count words after (Some next) = RowRead text at row count words after next
+CellsRead text at row count words after None =
     ((cells : ℕ → Bool) → Misses text at (cells_text count cells)) × OthersKept words after row
 
 -- any two cells take as many bytes

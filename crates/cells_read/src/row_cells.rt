@@ -7,10 +7,15 @@ ghost use Rattle.cells_read.specs.RowCells.{CellsRead};
 use crate::line_cells::cells_word;
 use cell_rows::cells_in_word;
 use numbers::ROW_WORDS;
-use steps::Step;
 
 // Reads so many cells into a row that has none set. Where they do not stand, the row may have some of them.
-pub fn read_cells(text: &[u8], at: usize, rows: &mut [u64], row: usize, count: usize) -> Step
+pub fn read_cells(
+    text: &[u8],
+    at: usize,
+    rows: &mut [u64],
+    row: usize,
+    count: usize,
+) -> Option<usize>
     requires { (at ≤ length text.now) × (count ≤ row_bits) × ((row + 1) * row_words ≤ length rows.old)
         × Blank rows.old row }
     ensures { CellsRead text.now at row count rows.old rows.new result }
@@ -21,11 +26,11 @@ pub fn read_cells(text: &[u8], at: usize, rows: &mut [u64], row: usize, count: u
         let n = cells_in_word(count, k);
         let read = cells_word(text, next, n);
         if !read.good {
-            return Step::Off;
+            return None;
         }
         rows[row * ROW_WORDS + k] = read.word;
         next += 2 * n;
         k += 1;
     }
-    Step::On(next)
+    Some(next)
 }
