@@ -11,11 +11,7 @@ pub fn first_classes(classes: &[u8; GRANT_LIMIT]) -> [u8; KERNEL_LIMIT]
     ensures { (n : ℕ) → n ≤ search_limit → latest_first result n ≡ latest_first classes.now n }
 {
     let mut first = [0u8; KERNEL_LIMIT];
-    let mut i = 0;
-    while i < KERNEL_LIMIT {
-        first[i] = classes[i];
-        i += 1;
-    }
+    first.copy_from_slice(&classes[..KERNEL_LIMIT]);
     first
 }
 

@@ -6,16 +6,13 @@ ghost use Rattle.cells.specs.Blank.{BlankFrom};
 use numbers::SHEET_LIMIT;
 
 // A copy of a sheet's bytes, at the front, and 0 behind them.
+#[tactic(auto, unfolding(spec::specs::Limits::sheet_limit))]
 pub fn copied(s: &[u8]) -> [u8; SHEET_LIMIT]
     requires { length s.now ≤ sheet_limit }
     ensures result_value { take (length s.now) result ≡ s.now }
     ensures blank_from { BlankFrom (length s.now) result }
 {
     let mut text = [0; SHEET_LIMIT];
-    let mut i = 0;
-    while i < s.len() {
-        text[i] = s[i];
-        i += 1;
-    }
+    text[..s.len()].copy_from_slice(s);
     text
 }
