@@ -1,5 +1,5 @@
 -- Reading what stands behind the name of a line: cells, which are read into a row, and the end of the line.
-use Rattle.std.specs.Prelude.{ℕ, ◌≡◌, Bool, List, length}
+use Rattle.std.specs.Prelude.{ℕ, ◌≡◌, Bool, List, length, Option, Some, None}
 use Rattle.spec.specs.Text.{Bytes}
 use Rattle.cell_rows.specs.Rows.{cell}
 use Rattle.text.specs.Line.{line_end}
@@ -9,8 +9,6 @@ use Rattle.cells_read.specs.RowCells.{RowRead, cells_text_aligned}
 use Rattle.steps.specs.Stands.{Stands}
 use Rattle.steps.specs.Laws.Stands.{stands_then}
 use Rattle.steps.specs.Laws.Aligned.{Aligned, aligned_same, aligned_length, aligned_then}
-use Rattle.steps.specs.declared.step.Step.{Step}
-use Rattle.steps.specs.declared.step.Step.TheVariants.{On, Off}
 use Rattle.steps.specs.Steps.{Misses}
 use Rattle.steps.specs.Laws.Step.{misses_first, misses_after}
 use Rattle.form.specs.Pieces.{row_text, named_text}
@@ -22,9 +20,9 @@ pub record LineRead (text : Bytes) (at : ℕ) (row count : ℕ) (words after : L
   pub grown : Grown words after row count
 
 -- a step over them; where they do not stand, their row has no cell set and no other has changed
-abbrev pub LineReads : Bytes → ℕ → ℕ → ℕ → List ℕ → List ℕ → Step → Type 0
-LineReads text at row count words after (On next) = LineRead text at row count words after next
-LineReads text at row count words after Off =
+abbrev pub LineReads : Bytes → ℕ → ℕ → ℕ → List ℕ → List ℕ → Option ℕ → Type 0
+LineReads text at row count words after (Some next) = LineRead text at row count words after next
+LineReads text at row count words after None =
     ((cells : ℕ → Bool) → Misses text at (row_text count cells)) × RowCleared words after row
 
 pub no_cells : {text : Bytes} {at : ℕ} (count : ℕ) → ((cells : ℕ → Bool) → Misses text at (cells_text count cells))

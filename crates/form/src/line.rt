@@ -6,22 +6,28 @@ ghost use Rattle.form.specs.LineSteps.{LineReads};
 
 use crate::clear::clear_row;
 use cells_read::read_cells;
-use steps::{Step, expect_byte};
+use steps::expect_byte;
 
 // Reads so many cells and the end of the line into a row that has none set, and where they do not stand leaves the row
 // so.
-pub fn read_line(book: &[u8], at: usize, rows: &mut [u64], row: usize, count: usize) -> Step
+pub fn read_line(
+    book: &[u8],
+    at: usize,
+    rows: &mut [u64],
+    row: usize,
+    count: usize,
+) -> Option<usize>
     requires { (at ≤ length book.now) × (count ≤ row_bits) × ((row + 1) * row_words ≤ length rows.old)
         × Blank rows.old row }
     ensures { LineReads book.now at row count rows.old rows.new result }
 {
-    let Step::On(end) = read_cells(book, at, rows, row, count) else {
+    let Some(end) = read_cells(book, at, rows, row, count) else {
         clear_row(rows, row);
-        return Step::Off;
+        return None;
     };
-    let Step::On(next) = expect_byte(book, end, b'\n') else {
+    let Some(next) = expect_byte(book, end, b'\n') else {
         clear_row(rows, row);
-        return Step::Off;
+        return None;
     };
-    Step::On(next)
+    Some(next)
 }

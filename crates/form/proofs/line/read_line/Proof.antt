@@ -7,7 +7,7 @@ use Rattle.form.proofs.line.read_line.Statement.{statement}
 use Rattle.form.proofs.line.read_line.Tie as tie
 
 -- the call, from where the cells have been read
-abbrev call : tie.In-On → tie.Start
+abbrev call : tie.In-Some → tie.Start
 call c = c.before.before.before.before.before.before.before
 
 returns : tie.Need-returns-in_default
@@ -20,12 +20,12 @@ returns c =
       cleared_after none.1 c.clear_row.ensures,
     )
 
-cells : (c : tie.In-On)
+cells : (c : tie.In-Some)
     → let start = call c in
     RowRead start.args.book.now start.args.at start.args.row start.args.count
     start.args.rows.now c.read_cells.new.rows
-    c.in-On.end
-cells c = rw c.in-On.is at c.read_cells.ensures
+    c.in-Some.end
+cells c = rw c.in-Some.is at c.read_cells.ensures
 
 expect_byte_requires : tie.Need-expect_byte-requires
 expect_byte_requires c κs = (cells c).reads.within
@@ -41,7 +41,7 @@ returns_2 c =
 returns_3 : tie.Need-returns
 returns_3 c =
     let read = c.before.before in
-    ended (cells read) (rw c.in-On-expect_byte.is at c.expect_byte.ensures)
+    ended (cells read) (rw c.in-Some-expect_byte.is at c.expect_byte.ensures)
 
 pub read_line_spec : {M : Type 1} → statement M
 read_line_spec =
