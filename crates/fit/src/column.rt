@@ -35,27 +35,25 @@ fn put_in_columns(columns: &mut [u64; PLACE_WORDS], user: UserNo, k: usize, some
 }
 
 // Puts a user into the columns of the permissions held.
+#[tactic(auto, unfolding(spec::specs::Limits::user_limit, cell_rows::specs::Rows::row_words))]
 fn put_row(columns: &mut [u64; PLACE_WORDS], rows: &[u64; CELL_WORDS], user: UserNo)
     requires { (user.0 < user_limit) × (length columns.old ≡ row_bits * column_words) }
     ensures { PutRow rows.now user.0 columns.old columns.new }
 {
     let row = user.0 * ROW_WORDS;
-    let mut k = 0;
-    while k < ROW_WORDS {
+    for k in 0..ROW_WORDS {
         put_in_columns(columns, user, k, rows[row + k]);
-        k += 1;
     }
 }
 
 // For each permission the users who hold it.
+#[tactic(auto, unfolding(spec::specs::Limits::user_limit, cell_rows::specs::Rows::row_words, cell_rows::specs::Rows::row_bits))]
 pub fn columns_of(rows: &[u64; CELL_WORDS]) -> [u64; PLACE_WORDS]
     ensures { Columns rows.now result }
 {
     let mut columns = [0; PLACE_WORDS];
-    let mut u = 0;
-    while u < USER_LIMIT {
+    for u in 0..USER_LIMIT {
         put_row(&mut columns, rows, UserNo(u));
-        u += 1;
     }
     columns
 }
@@ -76,20 +74,20 @@ fn union_of(columns: &[u64; PLACE_WORDS], word: u64, k: usize, j: usize) -> u64
 }
 
 // Word j of the columns of the permissions of a row of words, all together.
+#[tactic(auto, unfolding(spec::specs::Limits::user_limit, cell_rows::specs::Rows::row_words))]
 pub fn union_of_row(columns: &[u64; PLACE_WORDS], words: &[u64], row: usize, j: usize) -> u64
     requires { ((row + 1) * row_words ≤ length words.now) × (j < column_words) }
     ensures { (t : ℕ) → bit result t ≡ in_row_union columns.now words.now row j t }
 {
     let mut joined = 0;
-    let mut k = 0;
-    while k < ROW_WORDS {
-        joined = joined | union_of(columns, words[row * ROW_WORDS + k], k, j);
-        k += 1;
+    for k in 0..ROW_WORDS {
+        joined |= union_of(columns, words[row * ROW_WORDS + k], k, j);
     }
     joined
 }
 
 // How many grants of left fit the grant at a cell, of those of a user.
+#[tactic(auto, unfolding(spec::specs::Limits::user_limit, cell_rows::specs::Rows::row_words))]
 fn near_in_row<'a>(
     rows: &'a [u64; CELL_WORDS],
     left: &'a [u64; CELL_WORDS],
@@ -101,10 +99,8 @@ fn near_in_row<'a>(
 {
     let row = user.0 * ROW_WORDS;
     let mut n = 0;
-    let mut k = 0;
-    while k < ROW_WORDS {
+    for k in 0..ROW_WORDS {
         n += bits::count(left[row + k] & fitting(rows, it, row + k));
-        k += 1;
     }
     n
 }
@@ -137,6 +133,7 @@ fn partners_among<'a>(
 
 // How many cells of left are near a cell, itself among them where it is one, counted over the users of its permission's
 // column; most, if there are more.
+#[tactic(auto, unfolding(spec::specs::Limits::user_limit, cell_rows::specs::Rows::row_words, cell_rows::specs::Rows::row_bits))]
 pub fn partners_in_column<'a>(
     rows: &'a [u64; CELL_WORDS],
     columns: &'a [u64; PLACE_WORDS],
@@ -149,14 +146,9 @@ pub fn partners_in_column<'a>(
 {
     let p = it.0 % ROW_BITS;
     let mut n = 0;
-    let mut j = 0;
-    while j < COLUMN_WORDS {
+    for j in 0..COLUMN_WORDS {
         let some = columns[p * COLUMN_WORDS + j];
         n = partners_among(rows, left, it, j * WORD_BITS, some, n, most);
-        j += 1;
     }
-    if most < n {
-        return most;
-    }
-    n
+    most.min(n)
 }
