@@ -1,6 +1,6 @@
 // The bytes of a sheet.
 ghost use Rattle.std.specs.Prelude.{◌≡◌, ◌&&◌, eqb, ltb, length, get_or};
-ghost use Rattle.spec.specs.Text.{between, name_byte, lower, allowed_byte};
+ghost use Rattle.spec.specs.Text.{name_byte, lower, allowed_byte};
 ghost use Rattle.text.specs.Line.{separator};
 
 pub const COMMA: u8 = b',';
@@ -14,67 +14,39 @@ pub const LETTERS: u8 = 32;
 pub fn is_separator(b: u8) -> bool
     ensures { result ≡ separator b }
 {
-    if b == COMMA {
-        return true;
-    }
-    b == LINE_FEED
-}
-
-// Whether b is at least low and at most high.
-fn is_between(low: u8, high: u8, b: u8) -> bool
-    ensures { result ≡ between low high b }
-{
-    if b < low {
-        return false;
-    }
-    b <= high
+    b == COMMA || b == LINE_FEED
 }
 
 // Whether b is a byte of a name.
+#[tactic(auto, unfolding(spec::specs::Text::name_byte))]
 pub fn is_name_byte(b: u8) -> bool
     ensures { result ≡ name_byte b }
 {
-    if is_between(b'A', b'Z', b) {
-        return true;
-    }
-    if is_between(b'a', b'z', b) {
-        return true;
-    }
-    if is_between(b'0', b'9', b) {
-        return true;
-    }
-    if b == b'-' {
-        return true;
-    }
-    if b == b'.' {
-        return true;
-    }
-    b == b'_'
+    matches!(b, b'A'..=b'Z' | b'a'..=b'z' | b'0'..=b'9' | b'-' | b'.' | b'_')
 }
 
 // A byte with `A-Z` read as `a-z`.
+#[tactic(auto, unfolding(spec::specs::Text::lower))]
 pub fn lower_byte(byte: u8) -> u8
     ensures { result ≡ lower byte }
 {
-    if is_between(b'A', b'Z', byte) {
-        return b'a' + (byte - b'A');
+    match byte {
+        b'A'..=b'Z' => b'a' + (byte - b'A'),
+        _ => byte,
     }
-    byte
 }
 
 // Whether b is a byte of a sheet.
+#[tactic(auto, unfolding(spec::specs::Text::allowed_byte))]
 pub fn is_allowed(b: u8) -> bool
     ensures { result ≡ allowed_byte b }
 {
-    if is_name_byte(b) {
-        return true;
-    }
-    is_separator(b)
+    is_name_byte(b) || is_separator(b)
 }
 
 // Whether this byte stands at a place of a text.
 pub fn stands_at(s: &[u8], at: usize, b: u8) -> bool
     ensures { result ≡ (ltb at (length s.now) && eqb (get_or s.now at 0) b) }
 {
-    if at < s.len() { s[at] == b } else { false }
+    at < s.len() && s[at] == b
 }
