@@ -1,5 +1,5 @@
 -- What is asked of rows of words where a newcomer is put in, and what is left there. Assumes nothing.
-use Rattle.std.specs.Prelude.{ℕ, suc, ◌≤◌, ◌<◌, ◌≡◌, Bool, false, ◌&&◌, List, leb}
+use Rattle.std.specs.Prelude.{ℕ, suc, ◌≤◌, ◌<◌, ◌≡◌, Bool, false, ◌&&◌, List, leb, Option, Some, None}
 use Rattle.std.proofs.Math.Bool.{So}
 use Rattle.spec.specs.Limits.{role_limit}
 use Rattle.spec.specs.Sheet.{Sheet, user_count, permission_count}
@@ -8,8 +8,6 @@ use Rattle.spec.specs.Newcomer.{some_left_over, roles_admitting}
 use Rattle.rules.specs.AcceptedFacts.{Lawful}
 use Rattle.cell_rows.specs.Rows.{row_bits, cell, RowsOf}
 use Rattle.product.specs.RoleRows.{RolesAt}
-use Rattle.admitting.specs.declared.newcomer.RolesAdmitted.{RolesAdmitted}
-use Rattle.admitting.specs.declared.newcomer.RolesAdmitted.TheVariants as admitted
 
 -- the rows show a sheet that has user u; the matrices are of so many roles: no user before u has another, and no role
 -- holds what is no permission of the sheet
@@ -30,6 +28,6 @@ pub record AdmittedAt (sheet : Sheet) (u : ℕ) (roles : RoleSet) (has gives : L
   pub at : RolesAt has gives count (suc u) (roles_admitting sheet u roles)
 
 -- what is answered, and what the matrices then hold
-abbrev pub RowsAdmitted : Sheet → ℕ → RoleSet → List ℕ → List ℕ → RolesAdmitted → Type 0
-RowsAdmitted sheet u roles has gives (admitted.Roles count) = AdmittedAt sheet u roles has gives count
-RowsAdmitted sheet u roles has gives admitted.TooMany = So (no_room sheet u roles)
+abbrev pub RowsAdmitted : Sheet → ℕ → RoleSet → List ℕ → List ℕ → Option ℕ → Type 0
+RowsAdmitted sheet u roles has gives (Some count) = AdmittedAt sheet u roles has gives count
+RowsAdmitted sheet u roles has gives None = So (no_room sheet u roles)

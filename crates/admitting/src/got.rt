@@ -17,12 +17,10 @@ pub fn roles_got<'a>(
     ensures { RolesGot rows.now gives.now user.0 roles result }
 {
     let mut got = [0; ROW_WORDS];
-    let mut r = 0;
-    while r < roles {
+    for r in 0..roles {
         if holds_row(rows, gives, user.0, r) {
             mark(&mut got, r);
         }
-        r += 1;
     }
     got
 }

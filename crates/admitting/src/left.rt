@@ -8,6 +8,7 @@ ghost use Rattle.admitting.specs.LeftRow.{not_taken};
 use numbers::{CELL_WORDS, ROW_WORDS, UserNo};
 
 // A row with what a user holds and what is not taken.
+#[tactic(auto, unfolding(spec::specs::Limits::user_limit))]
 pub fn left_row<'a>(
     rows: &'a [u64; CELL_WORDS],
     user: UserNo,
@@ -17,10 +18,8 @@ pub fn left_row<'a>(
     ensures { MadeCells (not_taken rows.now user.0 taken.now) row_bits result }
 {
     let mut left = [0; ROW_WORDS];
-    let mut k = 0;
-    while k < ROW_WORDS {
+    for k in 0..ROW_WORDS {
         left[k] = bits::apart(rows[user.0 * ROW_WORDS + k], taken[k]);
-        k += 1;
     }
     left
 }

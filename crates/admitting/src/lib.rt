@@ -8,4 +8,4 @@ mod left;
 mod newcomer;
 mod put;
 
-pub use newcomer::{RolesAdmitted, admit};
+pub use newcomer::admit;

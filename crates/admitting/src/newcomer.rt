@@ -12,23 +12,16 @@ use cell_rows::holds_row;
 use numbers::{CELL_WORDS, ROLE_LIMIT, ROLE_WORDS, RoleNo, UserNo};
 use product::row_after;
 
-// How many roles there are with the newcomer, or that there is no room for the new one.
-#[derive(Clone, Copy)]
-pub enum RolesAdmitted {
-    Roles(usize),
-    TooMany,
-}
-
 // The newcomer, a user of the sheet that the rows show, gets each role whose permissions they all hold: what these
 // roles hold is the only row of their product. If permissions are left over, one new role, the last, holds exactly
-// those, and only the newcomer has it.
+// those, and only the newcomer has it. How many roles there are then, or none where there is no room for the new one.
 pub fn admit<'a>(
     rows: &'a [u64; CELL_WORDS],
     user: UserNo,
     has: &mut [u64; CELL_WORDS],
     gives: &mut [u64; ROLE_WORDS],
     roles: usize,
-) -> RolesAdmitted
+) -> Option<usize>
     requires { (user.0 < user_limit) × (roles ≤ role_limit) }
     ensures { (sheet : Sheet) → AdmitReady sheet rows.now user.0 has.old
         gives.old roles
@@ -40,12 +33,12 @@ pub fn admit<'a>(
     let taken = row_after(&got, gives, UserNo(0), roles);
     if holds_row(&taken, rows, 0, u) {
         put_row(has, u, &got);
-        return RolesAdmitted::Roles(roles);
+        return Some(roles);
     }
     if roles == ROLE_LIMIT {
-        return RolesAdmitted::TooMany;
+        return None;
     }
     let left = left_row(rows, user, &taken);
     put_new_role(has, gives, user, RoleNo(roles), got, &left);
-    RolesAdmitted::Roles(roles + 1)
+    Some(roles + 1)
 }

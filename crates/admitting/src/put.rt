@@ -8,15 +8,13 @@ use cell_rows::mark;
 use numbers::{CELL_WORDS, ROLE_WORDS, ROW_WORDS, RoleNo, UserNo};
 
 // A row takes the place of another.
+#[tactic(auto, unfolding(cell_rows::specs::Rows::row_words))]
 pub fn put_row(words: &mut [u64], row: usize, new: &[u64; ROW_WORDS])
     requires { (row + 1) * row_words ≤ length words.old }
     ensures { RowPut words.old words.new row new.now }
 {
-    let mut k = 0;
-    while k < ROW_WORDS {
-        words[row * ROW_WORDS + k] = new[k];
-        k += 1;
-    }
+    let at = row * ROW_WORDS;
+    words[at..at + ROW_WORDS].copy_from_slice(new);
 }
 
 // A user has the roles got, and a new one, whose row of permissions is put in too.

@@ -1,12 +1,9 @@
 -- `got::roles_got`: the row has those of the roles below r that the user gets.
-use Rattle.std.proofs.Common.{◌≡◌, ◌-◌, ◌≤◌, length}
+use Rattle.std.proofs.Common.{◌≡◌, length}
 use Rattle.cell_rows.specs.Rows.{row_words}
 use Rattle.admitting.specs.RolesGot.{RolesGot}
 use Rattle.admitting.proofs.got.roles_got.Given as goal
 
 abbrev pub invariant-loop-r : goal.invariant-loop-r
 invariant-loop-r l =
-    (l.r ≤ l.roles) × (length l.got ≡ row_words) × RolesGot l.rows l.gives l.user.0 l.r l.got
-
-abbrev pub decreases-loop-r : goal.decreases-loop-r
-decreases-loop-r l = l.roles - l.r
+    (length l.got ≡ row_words) × RolesGot l.rows l.gives l.user.0 l.r l.got
