@@ -23,13 +23,7 @@ use numbers::{
 fn cells_from(size: usize, from: usize) -> usize
     ensures { CellsFrom size from result }
 {
-    if size <= from {
-        return 0;
-    }
-    if size - from < WORD_BITS {
-        return size - from;
-    }
-    WORD_BITS
+    size.saturating_sub(from).min(WORD_BITS)
 }
 
 // Some cells: those whose users hold a permission, or those whose permissions a user holds.
@@ -57,13 +51,11 @@ fn line_word<'a>(rows: &'a [u64], cells: &'a [u16], from: usize, line: Line) -> 
 {
     let count = cells_from(cells.len(), from);
     let mut word = 0;
-    let mut q = 0;
-    while q < count {
+    for q in 0..count {
         let at = cells[from + q] as usize;
         if on_line(rows, CellNo(at), line) {
             word = bits::with(word, q);
         }
-        q += 1;
     }
     word
 }
@@ -75,11 +67,9 @@ fn permissions_among(cells: &[u16], count: usize) -> [u64; ROW_WORDS]
         % row_bits)) }
 {
     let mut row = [0; ROW_WORDS];
-    let mut i = 0;
-    while i < count {
-        let at = cells[i] as usize;
-        mark(&mut row, permission_of(CellNo(at)).0);
-        i += 1;
+    for at in &cells[..count] {
+        let it = CellNo(*at as usize);
+        mark(&mut row, permission_of(it).0);
     }
     row
 }
@@ -95,12 +85,10 @@ fn columns<'a>(
     ensures { ColumnsOf rows.now cells.now from some.now row_bits result }
 {
     let mut words = [0; ROW_BITS];
-    let mut p = 0;
-    while p < ROW_BITS {
+    for (p, word) in words.iter_mut().enumerate() {
         if bits::has(some[p / WORD_BITS], p % WORD_BITS) {
-            words[p] = line_word(rows, cells, from, Line::Column(PermissionNo(p)));
+            *word = line_word(rows, cells, from, Line::Column(PermissionNo(p)));
         }
-        p += 1;
     }
     words
 }
@@ -138,11 +126,7 @@ fn held_again<'a>(last: HolderCells, rows: &'a [u64], cells: &'a [u16], it: Cell
 fn limited(size: usize) -> usize
     ensures { (result ≤ size) × (result ≤ table_limit) × (result < table_limit → result ≡ size) }
 {
-    if size < KERNEL_LIMIT {
-        size
-    } else {
-        KERNEL_LIMIT
-    }
+    size.min(KERNEL_LIMIT)
 }
 
 // The fit table of the grants at some cells, as far as it has room: those that fit a grant are the cells whose
@@ -157,15 +141,12 @@ fn table_of<'a>(rows: &'a [u64], cells: &'a [u16]) -> [u64; TABLE_WORDS]
     let high = columns(rows, cells, WORD_BITS, &some);
     let mut last = held_by(rows, cells, CellNo(0));
     let mut words = [0; TABLE_WORDS];
-    let mut i = 0;
-    while i < count {
-        let at = cells[i] as usize;
-        let it = CellNo(at);
+    for (i, at) in cells[..count].iter().enumerate() {
+        let it = CellNo(*at as usize);
         last = held_again(last, rows, cells, it);
         let p = permission_of(it).0;
         words[i * KERNEL_WORDS] = last.low & low[p];
         words[i * KERNEL_WORDS + 1] = last.high & high[p];
-        i += 1;
     }
     words
 }

@@ -1,0 +1,81 @@
+-- `table::table_of`: grant by grant its two words are put in; past the last grant the words stay 0, and nothing fits
+-- there.
+use Rattle.std.proofs.Common.{◌≡◌, ◌*◌, ◌≤◌, ◌<◌, ℕ, List, arith, ◌∙◌, eq-eqb, length, take}
+use Rattle.std.proofs.lemmas.List.{length-take-le, get_or-take, length-set, length-replicate}
+use Rattle.bits.specs.Laws.Below.{some_below_intro}
+use Rattle.cell_rows.specs.Rows.{row_words, row_bits}
+use Rattle.table.specs.TableWords.{table_row, table_limit}
+use Rattle.table.specs.TableHeld.{own_user}
+use Rattle.table.specs.Laws.Table.{table_of}
+use Rattle.table.specs.Laws.TablePart.{nothing_filled, grant_filled, all_filled}
+use Rattle.table.proofs.table.table_of.Goals as goal
+
+pub columns-low-requires : goal.columns-low-requires
+unfolding table_row
+columns-low-requires c = omega arith
+
+pub columns-high-requires : goal.columns-high-requires
+unfolding table_row
+columns-high-requires c = omega arith
+
+pub loop-i-init : goal.loop-i-init
+unfolding table_row
+loop-i-init c = (
+  length-replicate {A = ℕ} (table_limit * table_row) 0,
+  own_user c.held_by-last.ensures,
+  nothing_filled _ _,
+)
+
+-- the next grant is among the first cells, so that there is room for it
+within : (i count : ℕ) (cells : List ℕ) → (count ≤ length cells) × (count ≤ table_limit) × (count < table_limit
+    → count ≡ length cells) → i < length (take count cells) → i < count
+within i count cells few l = omega (arith, length-take-le count cells few.0)
+
+pub bounds-low-p : goal.bounds-low-p
+unfolding row_bits row_words
+bounds-low-p c = omega (arith, c.permission_of-p.ensures)
+
+pub offset_bounds-words-i : goal.offset_bounds-words-i
+unfolding table_row
+offset_bounds-words-i c = omega (arith, within _ _ _ c.limited-count.ensures c.loop-i-test.true)
+
+pub bounds-words-i : goal.bounds-words-i
+unfolding table_row
+bounds-words-i c = omega (arith, within _ _ _ c.limited-count.ensures c.loop-i-test.true)
+
+pub bounds-high-p : goal.bounds-high-p
+unfolding row_bits row_words
+bounds-high-p c = omega (arith, c.permission_of-p.ensures)
+
+pub offset_bounds-words-i-in-loop-i : goal.offset_bounds-words-i-in-loop-i
+unfolding table_row
+offset_bounds-words-i-in-loop-i c = omega (arith, within _ _ _ c.limited-count.ensures c.loop-i-test.true)
+
+pub bounds-words-i-in-loop-i : goal.bounds-words-i-in-loop-i
+unfolding table_row
+bounds-words-i-in-loop-i c = omega (arith, within _ _ _ c.limited-count.ensures c.loop-i-test.true)
+
+pub loop-i-preserved : goal.loop-i-preserved
+unfolding table_row row_bits row_words
+loop-i-preserved c =
+    let i = c.loop-i.i in
+    let p = c.permission_of-p.result.0 in
+    let few = c.limited-count.ensures in
+    let there : i < c.limited-count.result = within _ _ _ few c.loop-i-test.true in
+    let same = rw get_or-take at c.permission_of-p.ensures in
+    let held = rw get_or-take at c.held_again-last.ensures in
+    let inside : p < row_bits = omega (arith, c.permission_of-p.ensures) in
+    let wanted = c.permissions_among-some.ensures p ∙ some_below_intro _ _ {i = i} there (eq-eqb _ _ same) in (
+      simp length-set c.loop-i.invariant.0,
+      own_user held,
+      grant_filled c.loop-i.invariant.2 (omega arith) (omega arith) c.loop-i.invariant.0 same held.low held.high
+          (c.columns-low.ensures.column p inside wanted) (c.columns-high.ensures.column p inside wanted),
+    )
+
+pub returns : goal.returns
+unfolding table_row
+returns c users sheet shown =
+    let few = c.limited-count.ensures in
+    let end : c.loop-i.i ≡ c.limited-count.result =
+    omega (arith, length-take-le c.limited-count.result c.args.cells.now few.0) in
+    table_of _ _ c.loop-i.words (all_filled c.loop-i.invariant.2 (λ l. end ∙ few.2 (omega arith))) shown
