@@ -29,14 +29,7 @@ fn is_of(b: u8, kind: Kind) -> bool
 pub fn all_of(s: &[u8], kind: Kind) -> bool
     ensures { result ≡ all (byte_of kind) s.now }
 {
-    let mut i = 0;
-    while i < s.len() {
-        if !is_of(s[i], kind) {
-            return false;
-        }
-        i += 1;
-    }
-    true
+    s.iter().all(|b| is_of(*b, kind))
 }
 
 // Whether a field is the word that a sheet starts with.
@@ -47,6 +40,7 @@ pub fn is_user(field: &[u8]) -> bool
 }
 
 // Whether a field is as long as a name.
+#[tactic(auto, unfolding(spec::specs::Refusal::has_name_length))]
 pub fn name_length(field: &[u8]) -> bool
     ensures { result ≡ has_name_length field.now }
 {
@@ -57,8 +51,5 @@ pub fn name_length(field: &[u8]) -> bool
 pub fn is_within(low: usize, high: usize, n: usize) -> bool
     ensures { result ≡ between low high n }
 {
-    if n < low {
-        return false;
-    }
-    n <= high
+    low <= n && n <= high
 }
