@@ -1,13 +1,11 @@
 -- Reading the line of names of block 2: `role`, and the permissions of the sheet, each spelled in whatever case.
-use Rattle.std.specs.Prelude.{ℕ, ◌≡◌, List, [], ◌++◌, map}
+use Rattle.std.specs.Prelude.{ℕ, ◌≡◌, List, [], ◌++◌, map, Option, Some, None}
 use Rattle.std.proofs.Common.{sym, ap, ◌∙◌}
 use Rattle.spec.specs.Text.{ascii, Bytes, lowered}
 use Rattle.spec.specs.Sheet.{Sheet}
 use Rattle.text.specs.Line.{line_end}
 use Rattle.text.specs.Laws.Lowered.{lowered_length}
 use Rattle.steps.specs.Laws.Aligned.{Aligned, aligned_same, aligned_length, aligned_then}
-use Rattle.steps.specs.declared.step.Step.{Step}
-use Rattle.steps.specs.declared.step.Step.TheVariants.{On, Off}
 use Rattle.steps.specs.Stands.{Stands}
 use Rattle.steps.specs.Steps.{Misses}
 use Rattle.steps.specs.Spelled.{SpelledAt, NotSpelled, ExpectsName}
@@ -29,9 +27,9 @@ NoHeading sheet text at =
     (names : List Bytes) → map lowered names ≡ map lowered sheet.permissions → Misses text at (roles_heading names)
 
 -- a step over it
-abbrev pub HeadingReads : Sheet → Bytes → ℕ → Step → Type 0
-HeadingReads sheet text at (On next) = HeadingAt sheet text at next
-HeadingReads sheet text at Off = NoHeading sheet text at
+abbrev pub HeadingReads : Sheet → Bytes → ℕ → Option ℕ → Type 0
+HeadingReads sheet text at (Some next) = HeadingAt sheet text at next
+HeadingReads sheet text at None = NoHeading sheet text at
 
 -- two such lines of equal names
 pub headings_aligned : (names others : List Bytes) → map lowered names ≡ map lowered others
@@ -68,6 +66,6 @@ module _ (sheet : Sheet) {text : Bytes} {at mid : ℕ} (word : Stands text at (a
       (misses_second (fields_text names ++ line_end) word (m (fields_text names ++ line_end)
       (fields_same names sheet.permissions same ∙ sym (ap lowered (heading_fields [] sheet.permissions)))))
 
-  pub names_decide : (r : Step) → ExpectsName text mid (permissions_line sheet) r → HeadingReads sheet text at r
-  names_decide (On next) s = names_there s
-  names_decide Off m = names_missing m
+  pub names_decide : (r : Option ℕ) → ExpectsName text mid (permissions_line sheet) r → HeadingReads sheet text at r
+  names_decide (Some next) s = names_there s
+  names_decide None m = names_missing m

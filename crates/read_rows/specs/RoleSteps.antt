@@ -1,6 +1,6 @@
 -- Reading the lines of the roles, in order and up to the empty line. A line begins with `R`, so an empty line ends
 -- the roles, and the number of roles and what follows them are known.
-use Rattle.std.specs.Prelude.{ℕ, ◌≤◌, ◌<◌, ◌≡◌, refl, ◌⊎◌, Bool, false, length, drop}
+use Rattle.std.specs.Prelude.{ℕ, ◌≤◌, ◌<◌, ◌≡◌, refl, ◌⊎◌, Bool, false, length, drop, Option, Some, None}
 use Prim.Native.Char.{code}
 use Rattle.std.proofs.Common.{arith, sym, ◌∙◌, ⊎_elim}
 use mathlib.Core.List.{List, ◌∷◌, ◌++◌, map, append_assoc, head-eq_of_cons-eq, tail-eq_of_cons-eq}
@@ -14,7 +14,6 @@ use Rattle.right.specs.WordLaws.{role_name_parts}
 use Rattle.right.specs.Spelling.{spells_length}
 use Rattle.text.specs.Line.{line_end}
 use Rattle.read_rows.specs.declared.roles_block.RolesRead.{RolesRead}
-use Rattle.read_rows.specs.declared.roles_block.RolesRead.TheVariants as found
 use Rattle.steps.specs.Stands.{Stands}
 use Rattle.steps.specs.Steps.{Misses}
 use Rattle.steps.specs.Laws.Stands.{stands_then}
@@ -42,9 +41,9 @@ NoRoles text at permissions =
     (count : ℕ) (gives : ℕ → ℕ → Bool) → count ≤ role_limit → Misses text at (role_texts permissions gives count ++
     line_end)
 
-abbrev pub RoleLinesRead : Bytes → ℕ → ℕ → List ℕ → RolesRead → Type 0
-RoleLinesRead text at permissions words (found.Roles count next) = RolesAt text at permissions words count next
-RoleLinesRead text at permissions words found.Off = NoRoles text at permissions
+abbrev pub RoleLinesRead : Bytes → ℕ → ℕ → List ℕ → Option RolesRead → Type 0
+RoleLinesRead text at permissions words (Some read) = RolesAt text at permissions words read.roles read.next
+RoleLinesRead text at permissions words None = NoRoles text at permissions
 
 -- block 2 was read into rows of words, which have nothing else; its permissions are the sheet's in whatever case
 pub record RolesPart (sheet : Sheet) (text : Bytes) (at : ℕ) (words : List ℕ) (count next : ℕ) : Type 0 where
@@ -62,9 +61,9 @@ NoRolesPart sheet text at =
     → count ≤ role_limit → Misses text at (roles_part names count gives)
 
 -- a step over block 2 and the empty line behind it; where there is none, the rows have nothing
-abbrev pub RolesReads : Sheet → Bytes → ℕ → List ℕ → RolesRead → Type 0
-RolesReads sheet text at words (found.Roles count next) = RolesPart sheet text at words count next
-RolesReads sheet text at words found.Off = NoRolesPart sheet text at × AllBlank words
+abbrev pub RolesReads : Sheet → Bytes → ℕ → List ℕ → Option RolesRead → Type 0
+RolesReads sheet text at words (Some read) = RolesPart sheet text at words read.roles read.next
+RolesReads sheet text at words None = NoRolesPart sheet text at × AllBlank words
 
 -- ---- where the lines end
 

@@ -1,6 +1,7 @@
 -- Reading block 3: the roles are known from block 2, and the users from the sheet but for the case in which they are
 -- spelled. So only that and the cells are open, and what follows the block is known.
 use Rattle.std.specs.Prelude.{ℕ, suc, ◌+◌, ◌≤◌, ◌<◌, ◌≡◌, refl, Bool, false, List, [], ◌∷◌, ◌++◌, map, length, get_or, take}
+use Rattle.std.specs.Prelude.{Option, Some, None}
 use Rattle.std.proofs.Common.{add-one, arith, sym, ap, ◌∙◌, take_all, take-suc, get_or-take, length-take-le}
 use Rattle.std.proofs.lemmas.List.{map-append, length-map, get_or_at}
 use Rattle.std.proofs.Math.ListN.{get_or-map, get_or-append}
@@ -10,8 +11,6 @@ use Rattle.text.specs.Line.{line_end}
 use Rattle.text.specs.Laws.Lowered.{lowered_length}
 use Rattle.steps.specs.Laws.Aligned.{Aligned, aligned_same, aligned_length, aligned_then, aligned_listed}
 use Rattle.cell_rows.specs.Rows.{row_bits, cell}
-use Rattle.steps.specs.declared.step.Step.{Step}
-use Rattle.steps.specs.declared.step.Step.TheVariants.{On, Off}
 use Rattle.steps.specs.Stands.{Stands}
 use Rattle.steps.specs.Steps.{Misses}
 use Rattle.steps.specs.Spelled.{SpelledAt, NotSpelled}
@@ -40,10 +39,10 @@ NoUsers users text at roles =
     → Misses text at (user_texts names roles has)
 
 -- a step over the lines of all users
-abbrev pub UserLinesRead : Sheet → Bytes → ℕ → ℕ → List ℕ → Step → Type 0
-UserLinesRead sheet text at roles words (On next) =
+abbrev pub UserLinesRead : Sheet → Bytes → ℕ → ℕ → List ℕ → Option ℕ → Type 0
+UserLinesRead sheet text at roles words (Some next) =
     UsersBelow sheet.users text at roles words (user_count sheet) next
-UserLinesRead sheet text at roles words Off = NoUsers sheet.users text at roles
+UserLinesRead sheet text at roles words None = NoUsers sheet.users text at roles
 
 -- block 3 was read into rows of words, which have nothing else; its users are the sheet's in whatever case
 pub record UsersPart (sheet : Sheet) (text : Bytes) (at roles : ℕ) (words : List ℕ) (next : ℕ) : Type 0 where
@@ -60,9 +59,9 @@ NoUsersPart sheet text at roles =
     → Misses text at (users_part names roles has)
 
 -- a step over block 3 and the empty line behind it; where there is none, the rows have nothing
-abbrev pub UsersReads : Sheet → Bytes → ℕ → ℕ → List ℕ → Step → Type 0
-UsersReads sheet text at roles words (On next) = UsersPart sheet text at roles words next
-UsersReads sheet text at roles words Off = NoUsersPart sheet text at roles × AllBlank words
+abbrev pub UsersReads : Sheet → Bytes → ℕ → ℕ → List ℕ → Option ℕ → Type 0
+UsersReads sheet text at roles words (Some next) = UsersPart sheet text at roles words next
+UsersReads sheet text at roles words None = NoUsersPart sheet text at roles × AllBlank words
 
 -- ---- line after line
 

@@ -14,18 +14,18 @@ use book_lines::{ROLE_NAME_BYTES, permissions_line, put_role_name};
 use form::{clear_rows, read_line};
 use names::Layout;
 use numbers::{ROLE_LIMIT, RoleNo};
-use steps::{Step, expect, expect_byte, expect_name};
+use steps::{expect, expect_byte, expect_name};
 
-// What reading the lines of roles finds: how many there are, and where to go on.
+// The lines of roles that were read: how many there are, and where to go on.
 #[derive(Clone, Copy)]
-pub enum RolesRead {
-    Roles(usize, usize),
-    Off,
+pub struct RolesRead {
+    pub roles: usize,
+    pub next: usize,
 }
 
 // Reads the lines of the roles in order, up to the empty line behind them. Where they do not stand, some may have been
 // read: what the rows then have is of no use, and the caller clears them.
-fn role_lines(book: &[u8], at: usize, gives: &mut [u64], permissions: usize) -> RolesRead
+fn role_lines(book: &[u8], at: usize, gives: &mut [u64], permissions: usize) -> Option<RolesRead>
     requires { (at ≤ length book.now) × (permissions ≤ row_bits) × (role_limit * row_words ≤ length gives.old)
         × AllBlank gives.old }
     ensures { RoleLinesRead book.now at permissions gives.new result }
@@ -33,19 +33,22 @@ fn role_lines(book: &[u8], at: usize, gives: &mut [u64], permissions: usize) -> 
     let mut next = at;
     let mut r = 0;
     loop {
-        if let Step::On(end) = expect_byte(book, next, b'\n') {
-            return RolesRead::Roles(r, end);
+        if let Some(end) = expect_byte(book, next, b'\n') {
+            return Some(RolesRead {
+                roles: r,
+                next: end,
+            });
         }
         if r == ROLE_LIMIT {
-            return RolesRead::Off;
+            return None;
         }
         let mut name = [0u8; ROLE_NAME_BYTES];
         let n = put_role_name(&mut name, RoleNo(r));
-        let Step::On(cells) = expect(book, next, &name[..n]) else {
-            return RolesRead::Off;
+        let Some(cells) = expect(book, next, &name[..n]) else {
+            return None;
         };
-        let Step::On(after) = read_line(book, cells, gives, r, permissions) else {
-            return RolesRead::Off;
+        let Some(after) = read_line(book, cells, gives, r, permissions) else {
+            return None;
         };
         next = after;
         r += 1;
@@ -55,12 +58,12 @@ fn role_lines(book: &[u8], at: usize, gives: &mut [u64], permissions: usize) -> 
 // Reads the line of names of block 2: `role`, and the sheet's own first line from behind its `user` on, which has the
 // permissions. That part is read in whatever case, as a whole: commas and line feeds have no case, and no other byte is
 // equal to one, so each name is read in its own case.
-fn roles_heading<'a>(book: &'a [u8], at: usize, sheet: &'a [u8]) -> Step
+fn roles_heading<'a>(book: &'a [u8], at: usize, sheet: &'a [u8]) -> Option<usize>
     requires { (at ≤ length book.now) × So (accepted sheet.now) }
     ensures { HeadingReads (sheet_of sheet.now) book.now at result }
 {
-    let Step::On(names) = expect(book, at, b"role") else {
-        return Step::Off;
+    let Some(names) = expect(book, at, b"role") else {
+        return None;
     };
     expect_name(book, names, permissions_line(sheet))
 }
@@ -73,17 +76,17 @@ pub fn read_roles<'a>(
     sheet: &'a [u8],
     layout: Layout,
     gives: &mut [u64],
-) -> RolesRead
+) -> Option<RolesRead>
     requires at_in_bounds { (at ≤ length book.now) × LaidOut sheet.now layout }
     requires row_words_in_bounds { (role_limit * row_words ≤ length gives.old) × AllBlank gives.old }
     ensures { RolesReads (sheet_of sheet.now) book.now at gives.new result }
 {
-    let Step::On(lines) = roles_heading(book, at, sheet) else {
-        return RolesRead::Off;
+    let Some(lines) = roles_heading(book, at, sheet) else {
+        return None;
     };
-    let RolesRead::Roles(count, next) = role_lines(book, lines, gives, layout.permissions) else {
+    let Some(read) = role_lines(book, lines, gives, layout.permissions) else {
         clear_rows(gives);
-        return RolesRead::Off;
+        return None;
     };
-    RolesRead::Roles(count, next)
+    Some(read)
 }

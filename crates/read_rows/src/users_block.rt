@@ -13,40 +13,40 @@ use book_lines::{ROLE_NAME_BYTES, put_role_name};
 use form::{clear_rows, read_line};
 use names::Layout;
 use numbers::{RoleNo, UserNo};
-use steps::{Step, expect, expect_byte, expect_name};
+use steps::{expect, expect_byte, expect_name};
 
 // Goes past the names of so many roles, a comma before each.
-fn expect_roles(book: &[u8], at: usize, roles: usize) -> Step
+fn expect_roles(book: &[u8], at: usize, roles: usize) -> Option<usize>
     requires { (at ≤ length book.now) × (roles ≤ role_limit) }
     ensures { Expects book.now at (role_fields roles) result }
 {
     let mut next = at;
     let mut r = 0;
     while r < roles {
-        let Step::On(start) = expect_byte(book, next, b',') else {
-            return Step::Off;
+        let Some(start) = expect_byte(book, next, b',') else {
+            return None;
         };
         let mut name = [0u8; ROLE_NAME_BYTES];
         let n = put_role_name(&mut name, RoleNo(r));
-        let Step::On(after) = expect(book, start, &name[..n]) else {
-            return Step::Off;
+        let Some(after) = expect(book, start, &name[..n]) else {
+            return None;
         };
         next = after;
         r += 1;
     }
-    Step::On(next)
+    Some(next)
 }
 
 // Reads the line of names of block 3: `user` and the roles.
-fn users_heading(book: &[u8], at: usize, roles: usize) -> Step
+fn users_heading(book: &[u8], at: usize, roles: usize) -> Option<usize>
     requires { (at ≤ length book.now) × (roles ≤ role_limit) }
     ensures { Expects book.now at (users_heading roles) result }
 {
-    let Step::On(names) = expect(book, at, b"user") else {
-        return Step::Off;
+    let Some(names) = expect(book, at, b"user") else {
+        return None;
     };
-    let Step::On(end) = expect_roles(book, names, roles) else {
-        return Step::Off;
+    let Some(end) = expect_roles(book, names, roles) else {
+        return None;
     };
     expect_byte(book, end, b'\n')
 }
@@ -61,7 +61,7 @@ fn user_lines<'a, 'b>(
     places: &'b [u64],
     has: &mut [u64],
     roles: usize,
-) -> Step
+) -> Option<usize>
     requires at_in_bounds { (at ≤ length book.now) × UsersAt sheet.now places.now × (roles ≤ row_bits) }
     requires row_words_in_bounds { (user_count (sheet_of sheet.now) * row_words ≤ length has.old) × AllBlank has.old }
     ensures { UserLinesRead (sheet_of sheet.now) book.now at roles has.new result }
@@ -70,16 +70,16 @@ fn user_lines<'a, 'b>(
     let mut u = 0;
     while u < places.len() {
         let name = names::user_name_in(sheet, places, UserNo(u));
-        let Step::On(cells) = expect_name(book, next, name) else {
-            return Step::Off;
+        let Some(cells) = expect_name(book, next, name) else {
+            return None;
         };
-        let Step::On(after) = read_line(book, cells, has, u, roles) else {
-            return Step::Off;
+        let Some(after) = read_line(book, cells, has, u, roles) else {
+            return None;
         };
         next = after;
         u += 1;
     }
-    Step::On(next)
+    Some(next)
 }
 
 // Reads block 3 and the empty line behind it into rows that have none set, and leaves none set where there is no
@@ -91,24 +91,24 @@ pub fn read_users<'a>(
     layout: Layout,
     has: &mut [u64],
     roles: usize,
-) -> Step
+) -> Option<usize>
     requires at_in_bounds { (at ≤ length book.now) × LaidOut sheet.now layout × (roles ≤ role_limit) }
     requires row_words_in_bounds { (layout.users * row_words ≤ length has.old) × AllBlank has.old }
     ensures { UsersReads (sheet_of sheet.now) book.now at roles has.new result }
 {
-    let Step::On(lines) = users_heading(book, at, roles) else {
-        return Step::Off;
+    let Some(lines) = users_heading(book, at, roles) else {
+        return None;
     };
     let users = layout.users;
     let user_places = layout.user_places;
     let places = user_places.at;
-    let Step::On(end) = user_lines(book, lines, sheet, &places[..users], has, roles) else {
+    let Some(end) = user_lines(book, lines, sheet, &places[..users], has, roles) else {
         clear_rows(has);
-        return Step::Off;
+        return None;
     };
-    let Step::On(next) = expect_byte(book, end, b'\n') else {
+    let Some(next) = expect_byte(book, end, b'\n') else {
         clear_rows(has);
-        return Step::Off;
+        return None;
     };
-    Step::On(next)
+    Some(next)
 }

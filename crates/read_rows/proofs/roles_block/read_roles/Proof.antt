@@ -24,13 +24,13 @@ returns c =
     )
 
 -- the call, from where the line of names has been read
-abbrev call : tie.In-On → tie.Start
+abbrev call : tie.In-Some → tie.Start
 call c = c.before.before.before.before.before
 
-heading : (c : tie.In-On)
+heading : (c : tie.In-Some)
     → HeadingAt (sheet_of (call c).args.sheet.now) (call c).args.book.now (call c).args.at
-    c.in-On.lines
-heading c = rw c.in-On.is at c.roles_heading.ensures
+    c.in-Some.lines
+heading c = rw c.in-Some.is at c.roles_heading.ensures
 
 role_lines_requires : tie.Need-role_lines-requires
 role_lines_requires c κs =
@@ -65,7 +65,7 @@ returns_3 c =
     let read = at_role_lines.before.before in
     let start = call read in
     heading_then_roles (sheet_of start.args.sheet.now) (heading read)
-    (rw (c.in-Roles.is, start.requires.0.1.permission_total) at at_role_lines.role_lines.ensures)
+    (rw (c.in-Some-role_lines.is, start.requires.0.1.permission_total) at at_role_lines.role_lines.ensures)
 
 pub read_roles_spec : {M : Type 1} → statement M
 read_roles_spec =

@@ -40,10 +40,10 @@ head c = c.before.before.before
 abbrev turn : tie.After-expect invariant_loop decreases_loop → tie.Else-r-eq-ROLE_LIMIT invariant_loop decreases_loop
 turn c = c.before.before.before.before.before
 
-abbrev looked : tie.In-On-expect invariant_loop decreases_loop → tie.After-expect invariant_loop decreases_loop
+abbrev looked : tie.In-Some-expect invariant_loop decreases_loop → tie.After-expect invariant_loop decreases_loop
 looked c = c.before
 
-abbrev read : tie.After-read_line invariant_loop decreases_loop → tie.In-On-expect invariant_loop decreases_loop
+abbrev read : tie.After-read_line invariant_loop decreases_loop → tie.In-Some-expect invariant_loop decreases_loop
 read c = c.before.before
 
 loop_holds : tie.Need-loop-end-init invariant_loop decreases_loop
@@ -54,13 +54,13 @@ loop_holds c =
 expect_byte_requires : tie.Need-expect_byte-requires invariant_loop decreases_loop
 expect_byte_requires c κs = c.loop-end.invariant.2.reads.within
 
-same_length : tie.Need-shape_of-gives-in-On invariant_loop decreases_loop
+same_length : tie.Need-shape_of-gives-in-Some invariant_loop decreases_loop
 same_length c = c.loop-end.invariant.1
 
-returns : tie.Need-returns-in-On invariant_loop decreases_loop
+returns : tie.Need-returns-in-Some invariant_loop decreases_loop
 returns c =
     let at_loop = c.before.before in
-    roles_end at_loop.loop-end.invariant.0 at_loop.loop-end.invariant.2 (rw c.in-On.is at
+    roles_end at_loop.loop-end.invariant.0 at_loop.loop-end.invariant.2 (rw c.in-Some.is at
     c.expect_byte.ensures)
 
 same_length_2 : tie.Need-shape_of-gives-then-r-eq-ROLE_LIMIT invariant_loop decreases_loop
@@ -118,13 +118,13 @@ returns_3 c =
     roles_off at_loop.loop-end.invariant.2 (no_end (turn here))
     (λ cells. misses_first (row_text (call at_loop).args.permissions cells) none)
 
-name_there : (c : tie.In-On-expect invariant_loop decreases_loop)
+name_there : (c : tie.In-Some-expect invariant_loop decreases_loop)
     → let at_loop = head (turn (looked c)) in
     Stands (call at_loop).args.book.now at_loop.loop-end.next (role_name at_loop.loop-end.r)
-    c.in-On-expect.cells
+    c.in-Some-expect.cells
 name_there c =
     let here = c.before in
-    rw (c.in-On-expect.is, named here) at here.expect.ensures
+    rw (c.in-Some-expect.is, named here) at here.expect.ensures
 
 read_line_requires : tie.Need-read_line-requires invariant_loop decreases_loop
 read_line_requires c κs =
@@ -171,7 +171,7 @@ loop_again c =
       omega (arith, below to_read),
       kept after,
       lines_more (call at_loop).requires.1 at_loop.loop-end.invariant.2 (name_there (read after))
-          (rw c.in-On-read_line.is at after.read_line.ensures),
+          (rw c.in-Some-read_line.is at after.read_line.ensures),
     )
 
 pub role_lines_spec : {M : Type 1} → statement M

@@ -13,12 +13,12 @@ returns c =
     no_word (sheet_of c.args.sheet.now) (rw c.in_default.is at c.expect.ensures)
 
 -- the call, from where the word has been read
-abbrev call : tie.In-On → tie.Start
+abbrev call : tie.In-Some → tie.Start
 call c = c.before.before.before.before.before.before
 
-word : (c : tie.In-On)
-    → Stands (call c).args.book.now (call c).args.at (ascii "role") c.in-On.names
-word c = rw c.in-On.is at c.expect.ensures
+word : (c : tie.In-Some)
+    → Stands (call c).args.book.now (call c).args.at (ascii "role") c.in-Some.names
+word c = rw c.in-Some.is at c.expect.ensures
 
 expect_name_requires : tie.Need-expect_name-requires
 expect_name_requires c κs = (word c.before).within

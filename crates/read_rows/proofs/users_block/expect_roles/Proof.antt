@@ -32,10 +32,10 @@ decreases_loop book at roles next₀ r₀ next r = roles - r
 abbrev call : tie.In-loop-r invariant_loop decreases_loop → tie.Start invariant_loop decreases_loop
 call c = c.before.before.before
 
-abbrev turn : tie.In-On invariant_loop decreases_loop → tie.In-loop-r invariant_loop decreases_loop
+abbrev turn : tie.In-Some invariant_loop decreases_loop → tie.In-loop-r invariant_loop decreases_loop
 turn c = c.before.before
 
-abbrev begun : tie.After-expect invariant_loop decreases_loop → tie.In-On invariant_loop decreases_loop
+abbrev begun : tie.After-expect invariant_loop decreases_loop → tie.In-Some invariant_loop decreases_loop
 begun c = c.before.before.before.before.before
 
 field : ℕ → Bytes
@@ -62,9 +62,9 @@ returns c =
     missing here (misses_first (role_name here.loop-r.r) (rw c.in_default.is at
     c.expect_byte.ensures))
 
-comma_there : (c : tie.In-On invariant_loop decreases_loop)
-    → Stands (call (turn c)).args.book.now (turn c).loop-r.next (comma ∷ []) c.in-On.start
-comma_there c = rw c.in-On.is at c.expect_byte.ensures
+comma_there : (c : tie.In-Some invariant_loop decreases_loop)
+    → Stands (call (turn c)).args.book.now (turn c).loop-r.next (comma ∷ []) c.in-Some.start
+comma_there c = rw c.in-Some.is at c.expect_byte.ensures
 
 below : (c : tie.In-loop-r invariant_loop decreases_loop) → c.loop-r.r < role_limit
 below c = omega (arith, (call c).requires.1, c.loop-r-test.true)
@@ -109,7 +109,7 @@ loop_again c =
     let here = turn (begun looked) in (
       omega (arith, here.loop-r-test.true),
       stands_more here.loop-r.r field here.loop-r.invariant.1 (stands_then (comma_there (begun looked))
-          (rw (c.in-On-expect.is, named looked) at looked.expect.ensures)),
+          (rw (c.in-Some-expect.is, named looked) at looked.expect.ensures)),
     )
 
 returns_3 : tie.Need-returns invariant_loop decreases_loop

@@ -27,14 +27,14 @@ returns c =
       start.requires.1.1,
     )
 
-heading : (c : tie.In-On)
+heading : (c : tie.In-Some)
     → let start = c.before.before.before.before.before in
     Stands start.args.book.now start.args.at (users_heading start.args.roles)
-    c.in-On.lines
-heading c = rw c.in-On.is at c.users_heading.ensures
+    c.in-Some.lines
+heading c = rw c.in-Some.is at c.users_heading.ensures
 
 -- the call, from where the line of names has been read
-abbrev call : tie.In-On → tie.Start
+abbrev call : tie.In-Some → tie.Start
 call c = c.before.before.before.before.before
 
 array_share_prefix_places : tie.Need-slice_bounds-places-end
@@ -69,18 +69,18 @@ returns_2 c =
     )
 
 -- where the line of names has been read, from where the lines of the users have been
-abbrev headed : tie.In-On-user_lines → tie.In-On
+abbrev headed : tie.In-Some-user_lines → tie.In-Some
 headed c =
     let at_user_lines = c.before.before.before in
     at_user_lines.before.before.before.before.before
 
-lines : (c : tie.In-On-user_lines)
+lines : (c : tie.In-Some-user_lines)
     → let start = call (headed c) in
     UsersBelow (sheet_of start.args.sheet.now).users start.args.book.now
-    (headed c).in-On.lines start.args.roles
+    (headed c).in-Some.lines start.args.roles
     c.user_lines.new.has
-    (user_count (sheet_of start.args.sheet.now)) c.in-On-user_lines.end
-lines c = rw c.in-On-user_lines.is at c.user_lines.ensures
+    (user_count (sheet_of start.args.sheet.now)) c.in-Some-user_lines.end
+lines c = rw c.in-Some-user_lines.is at c.user_lines.ensures
 
 expect_byte_requires : tie.Need-expect_byte-requires
 expect_byte_requires c κs = (lines c).lines.reads.within
@@ -102,7 +102,7 @@ returns_4 c =
     let read = c.before.before in
     let start = call (headed read) in
     users_then_end (sheet_of start.args.sheet.now) start.args.roles (heading (headed read)) (lines read)
-    (rw c.in-On-expect_byte.is at c.expect_byte.ensures)
+    (rw c.in-Some-expect_byte.is at c.expect_byte.ensures)
 
 pub read_users_spec : {M : Type 1} → statement M
 read_users_spec =

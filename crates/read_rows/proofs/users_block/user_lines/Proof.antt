@@ -26,10 +26,10 @@ call c = c.before.before.before.before.before
 abbrev turn : tie.After-expect_name invariant_loop decreases_loop → tie.In-loop-u invariant_loop decreases_loop
 turn c = c.before.before
 
-abbrev looked : tie.In-On invariant_loop decreases_loop → tie.After-expect_name invariant_loop decreases_loop
+abbrev looked : tie.In-Some invariant_loop decreases_loop → tie.After-expect_name invariant_loop decreases_loop
 looked c = c.before
 
-abbrev read : tie.After-read_line invariant_loop decreases_loop → tie.In-On invariant_loop decreases_loop
+abbrev read : tie.After-read_line invariant_loop decreases_loop → tie.In-Some invariant_loop decreases_loop
 read c = c.before.before
 
 loop_holds : tie.Need-loop-u-init invariant_loop decreases_loop
@@ -60,13 +60,13 @@ returns c =
     no_user_name (turn here).loop-u.invariant.2 (more (turn here))
     (rw (c.in_default.is, here.user_name_in-name.ensures) at here.expect_name.ensures)
 
-name_there : (c : tie.In-On invariant_loop decreases_loop)
+name_there : (c : tie.In-Some invariant_loop decreases_loop)
     → let at_loop = (turn (looked c)).before in
     SpelledAt (call at_loop).args.book.now at_loop.loop-u.next
-    (user_name (sheet_of (call at_loop).args.sheet.now) at_loop.loop-u.u) c.in-On.cells
+    (user_name (sheet_of (call at_loop).args.sheet.now) at_loop.loop-u.u) c.in-Some.cells
 name_there c =
     let here = c.before in
-    rw (c.in-On.is, here.user_name_in-name.ensures) at here.expect_name.ensures
+    rw (c.in-Some.is, here.user_name_in-name.ensures) at here.expect_name.ensures
 
 read_line_requires : tie.Need-read_line-requires invariant_loop decreases_loop
 read_line_requires c κs =
@@ -107,7 +107,7 @@ loop_again c =
       omega (arith, more here),
       kept after,
       users_more here.loop-u.invariant.2 (more here) (call here.before).requires.0.2 (name_there (read after))
-          (rw c.in-On-read_line.is at after.read_line.ensures),
+          (rw c.in-Some-read_line.is at after.read_line.ensures),
     )
 
 same_length_3 : tie.Need-shape_of-has invariant_loop decreases_loop

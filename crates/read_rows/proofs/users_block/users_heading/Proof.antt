@@ -11,10 +11,10 @@ use Rattle.read_rows.proofs.users_block.users_heading.Statement.{statement}
 use Rattle.read_rows.proofs.users_block.users_heading.Tie as tie
 
 -- the call, from where the word has been read, and that place from where the names have been
-abbrev call : tie.In-On → tie.Start
+abbrev call : tie.In-Some → tie.Start
 call c = c.before.before.before.before.before
 
-abbrev worded : tie.In-On-expect_roles → tie.In-On
+abbrev worded : tie.In-Some-expect_roles → tie.In-Some
 worded c = c.before.before
 
 returns : tie.Need-returns-in_default
@@ -23,9 +23,9 @@ returns c =
     (misses_first (role_fields c.args.roles) (rw c.in_default.is at
     c.expect.ensures))
 
-word : (c : tie.In-On)
-    → Stands (call c).args.book.now (call c).args.at (ascii "user") c.in-On.names
-word c = rw c.in-On.is at c.expect.ensures
+word : (c : tie.In-Some)
+    → Stands (call c).args.book.now (call c).args.at (ascii "user") c.in-Some.names
+word c = rw c.in-Some.is at c.expect.ensures
 
 expect_roles_requires : tie.Need-expect_roles-requires
 expect_roles_requires c κs = ((word c).within, (call c).requires.1)
@@ -37,12 +37,12 @@ returns_2 c =
     (misses_second (role_fields (call read).args.roles) (word read) (rw c.in_default-expect_roles.is at
     c.expect_roles.ensures))
 
-names : (c : tie.In-On-expect_roles)
+names : (c : tie.In-Some-expect_roles)
     → let start = call (worded c) in
     Stands start.args.book.now start.args.at (ascii "user" ++ role_fields start.args.roles)
-    c.in-On-expect_roles.end
+    c.in-Some-expect_roles.end
 names c =
-    stands_then (word (worded c)) (rw c.in-On-expect_roles.is at c.expect_roles.ensures)
+    stands_then (word (worded c)) (rw c.in-Some-expect_roles.is at c.expect_roles.ensures)
 
 expect_byte_requires : tie.Need-expect_byte-requires
 expect_byte_requires c κs = (names c).within
