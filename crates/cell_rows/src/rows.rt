@@ -11,6 +11,7 @@ use bits::WORD_BITS;
 use numbers::{CELL_WORDS, ROW_WORDS};
 
 // Rows with no cell set.
+#[tactic(auto, unfolding(spec::specs::Limits::user_limit, crate::specs::Rows::row_words))]
 pub fn no_rows() -> [u64; CELL_WORDS]
     ensures { result ≡ replicate (user_limit * row_words) 0 }
 {
@@ -27,31 +28,24 @@ pub fn mark(words: &mut [u64], n: usize)
 }
 
 // How many of the first `count` cells of a row stand in word k.
+#[tactic(auto, unfolding(crate::specs::Rows::row_words))]
 pub fn cells_in_word(count: usize, k: usize) -> usize
     requires { k < row_words }
     ensures { result ≡ in_word count k }
 {
-    let first = k * WORD_BITS;
-    if count <= first {
-        return 0;
-    }
-    if count - first < WORD_BITS {
-        return count - first;
-    }
-    WORD_BITS
+    count.saturating_sub(k * WORD_BITS).min(WORD_BITS)
 }
 
 // Whether row u has every cell of row r of what is asked.
+#[tactic(auto, unfolding(crate::specs::Rows::row_words, spec::specs::Vocabulary::every_below))]
 pub fn holds_row<'a>(rows: &'a [u64], asked: &'a [u64], u: usize, r: usize) -> bool
     requires { ((u + 1) * row_words ≤ length rows.now) × ((r + 1) * row_words ≤ length asked.now) }
     ensures { result ≡ holds_row rows.now asked.now u r }
 {
-    let mut k = 0;
-    while k < ROW_WORDS {
+    for k in 0..ROW_WORDS {
         if !bits::within(asked[r * ROW_WORDS + k], rows[u * ROW_WORDS + k]) {
             return false;
         }
-        k += 1;
     }
     true
 }
