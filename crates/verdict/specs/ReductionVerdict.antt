@@ -1,14 +1,13 @@
 -- What the code's answers say: the lowest cell of a range to which a grant is tied, and the verdict that the
 -- definition names. Assumes nothing.
-use Rattle.std.specs.Prelude.{ℕ, ◌≤◌, ◌<◌, ◌≡◌, ◌≢◌, Bool, false, List}
+use Rattle.std.specs.Prelude.{ℕ, ◌≤◌, ◌<◌, ◌≡◌, ◌≢◌, Bool, false, List, Option, Some, None}
 use Rattle.std.proofs.Math.Bool.{So}
 use Rattle.spec.specs.Sheet.{Sheet}
 use Rattle.spec.specs.Reduction.{stays, is_single, is_tied, verdict}
 use Rattle.spec.specs.Reduction as Reduction
 use Rattle.cells.specs.CellSets.{cell_grants}
 use Rattle.cell_rows.specs.CellPlaces.{grant_of, marked, Shown, Shows, Part, cells_of}
-use Rattle.verdict.specs.declared.judgement.Found.{Found}
-use Rattle.verdict.specs.declared.judgement.Found.TheVariants.{At, Nothing}
+use Rattle.numbers.specs.declared.numbers.CellNo.{CellNo}
 use Rattle.verdict.specs.declared.judgement.Verdict.{Verdict}
 use Rattle.verdict.specs.declared.judgement.Verdict.TheVariants.{Stays, Single, Tied}
 
@@ -24,9 +23,9 @@ pub record NoneIn (test : ℕ → Bool) (from to : ℕ) : Type 0 where
   pub fails : (m : ℕ) → from ≤ m → m < to → test m ≡ false
 
 -- the lowest cell that passes, if there is one
-abbrev pub FoundIn : (ℕ → Bool) → ℕ → ℕ → Found → Type 0
-FoundIn test from to (At n) = LowestIn test from to n.0
-FoundIn test from to Nothing = NoneIn test from to
+abbrev pub FoundIn : (ℕ → Bool) → ℕ → ℕ → Option CellNo → Type 0
+FoundIn test from to (Some n) = LowestIn test from to n.0
+FoundIn test from to None = NoneIn test from to
 
 -- the definition's verdict
 abbrev pub verdict_of : Verdict → Reduction.Verdict

@@ -42,6 +42,7 @@ fn suspects(columns: &[u64; PLACE_WORDS], users: usize, it: CellNo, other: CellN
 }
 
 // Whether the grants of user x in left that are in the row of user v all fit the grant at a cell.
+#[tactic(auto, unfolding(spec::specs::Limits::user_limit, cell_rows::specs::Rows::row_words))]
 fn row_fits<'a>(
     rows: &'a [u64; CELL_WORDS],
     left: &'a [u64; CELL_WORDS],
@@ -52,13 +53,11 @@ fn row_fits<'a>(
     requires { (it.0 < cell_limit) × (v.0 < user_limit) × (x.0 < user_limit) }
     ensures { result ≡ row_fits rows.now left.now it.0 v.0 x.0 }
 {
-    let mut d = 0;
-    while d < ROW_WORDS {
+    for d in 0..ROW_WORDS {
         let i = x.0 * ROW_WORDS + d;
         if !bits::within(left[i] & rows[v.0 * ROW_WORDS + d], fitting(rows, it, i)) {
             return false;
         }
-        d += 1;
     }
     true
 }
@@ -90,6 +89,7 @@ fn misfit_among<'a>(
 
 // The first user with a grant of left that fits the other grant and does not fit the grant at a cell, else the end of
 // the users.
+#[tactic(auto, unfolding(spec::specs::Limits::user_limit, cell_rows::specs::Rows::row_words, cell_rows::specs::Rows::row_bits))]
 pub fn misfit<'a>(
     rows: &'a [u64; CELL_WORDS],
     columns: &'a [u64; PLACE_WORDS],
@@ -103,14 +103,12 @@ pub fn misfit<'a>(
     ensures { NextFrom (misfit_at rows.now left.now it.0 other.0) 0 users result }
 {
     let v = user_of(other);
-    let mut j = 0;
-    while j * WORD_BITS < users {
+    for j in 0..users.div_ceil(WORD_BITS) {
         let some = suspects(columns, users, it, other, j);
         let q = misfit_among(rows, left, it, v, j * WORD_BITS, some);
         if q < WORD_BITS {
             return j * WORD_BITS + q;
         }
-        j += 1;
     }
     users
 }

@@ -20,21 +20,21 @@ fn has_any(w: u64) -> bool
 }
 
 // Whether user x has grants of left.
+#[tactic(auto, unfolding(spec::specs::Limits::user_limit, cell_rows::specs::Rows::row_words))]
 pub fn has_grants(left: &[u64; CELL_WORDS], x: UserNo) -> bool
     requires { x.0 < user_limit }
     ensures { result ≡ has_cells left.now x.0 }
 {
-    let mut d = 0;
-    while d < ROW_WORDS {
+    for d in 0..ROW_WORDS {
         if has_any(left[x.0 * ROW_WORDS + d]) {
             return true;
         }
-        d += 1;
     }
     false
 }
 
 // Whether the grants of user x in left are all in the row of user v.
+#[tactic(auto, unfolding(spec::specs::Limits::user_limit, cell_rows::specs::Rows::row_words))]
 fn in_row<'a>(
     rows: &'a [u64; CELL_WORDS],
     left: &'a [u64; CELL_WORDS],
@@ -44,12 +44,10 @@ fn in_row<'a>(
     requires { (v.0 < user_limit) × (x.0 < user_limit) }
     ensures { result ≡ in_row rows.now left.now v.0 x.0 }
 {
-    let mut d = 0;
-    while d < ROW_WORDS {
+    for d in 0..ROW_WORDS {
         if !bits::within(left[x.0 * ROW_WORDS + d], rows[v.0 * ROW_WORDS + d]) {
             return false;
         }
-        d += 1;
     }
     true
 }
@@ -97,6 +95,7 @@ fn inside_among<'a>(
 }
 
 // The users who have grants of left, all in the row of user v.
+#[tactic(auto, unfolding(spec::specs::Limits::user_limit))]
 pub fn insides<'a>(
     rows: &'a [u64; CELL_WORDS],
     columns: &'a [u64; PLACE_WORDS],
@@ -107,10 +106,8 @@ pub fn insides<'a>(
     ensures { MadeCells (may_tie rows.now left.now v.0) user_limit result }
 {
     let mut words = [0; COLUMN_WORDS];
-    let mut j = 0;
-    while j < COLUMN_WORDS {
+    for j in 0..COLUMN_WORDS {
         words[j] = inside_among(rows, columns, left, v, j);
-        j += 1;
     }
     words
 }

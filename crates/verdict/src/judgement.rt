@@ -18,13 +18,6 @@ use cells::permission_of;
 use fit::{COLUMN_WORDS, PLACE_WORDS, partners_in_column};
 use numbers::{CELL_WORDS, CellNo, ROW_WORDS, UserNo};
 
-// The cell that a grant is tied to, if there is one.
-#[derive(Clone, Copy)]
-pub enum Found {
-    At(CellNo),
-    Nothing,
-}
-
 // A grant stays, or is removed as single or tied to another.
 #[derive(Clone, Copy)]
 pub enum Verdict {
@@ -82,7 +75,7 @@ fn tie_in<'a>(
     users: usize,
     it: CellNo,
     i: usize,
-) -> Found
+) -> Option<CellNo>
     requires { (users ≤ user_limit) × (it.0 < cell_limit) × (i < users * row_words)
         × Columns rows.now columns.now }
     ensures { FoundIn (tie_at rows.now left.now users it.0) (i * word_bits)
@@ -93,14 +86,15 @@ fn tie_in<'a>(
         let other = i * WORD_BITS + bits::lowest(w);
         let x = misfit(rows, columns, left, users, it, CellNo(other));
         if x == users {
-            return Found::At(CellNo(other));
+            return Some(CellNo(other));
         }
         w = bits::apart(w, rows[x * ROW_WORDS + i % ROW_WORDS]);
     }
-    Found::Nothing
+    None
 }
 
 // The lowest cell of user x to which the grant at a cell is tied.
+#[tactic(auto, unfolding(spec::specs::Limits::user_limit, cell_rows::specs::Rows::row_words))]
 fn tie_of_user<'a>(
     rows: &'a [u64; CELL_WORDS],
     columns: &'a [u64; PLACE_WORDS],
@@ -108,24 +102,23 @@ fn tie_of_user<'a>(
     users: usize,
     it: CellNo,
     x: UserNo,
-) -> Found
+) -> Option<CellNo>
     requires { (users ≤ user_limit) × (it.0 < cell_limit) × (x.0 < users) × Columns rows.now columns.now }
     ensures { FoundIn (tie_at rows.now left.now users it.0) (x.0 * row_bits)
         ((x.0 + 1) * row_bits) result }
 {
-    let mut d = 0;
-    while d < ROW_WORDS {
+    for d in 0..ROW_WORDS {
         let found = tie_in(rows, columns, left, users, it, x.0 * ROW_WORDS + d);
-        if let Found::At(other) = found {
-            return Found::At(other);
+        if found.is_some() {
+            return found;
         }
-        d += 1;
     }
-    Found::Nothing
+    None
 }
 
 // The lowest cell to which the grant at a cell is tied, among those of the users at word j of the columns. Only a
 // user who holds its permission, and whose grants are all in its row, has one.
+#[tactic(auto, unfolding(spec::specs::Limits::user_limit, cell_rows::specs::Rows::row_words, cell_rows::specs::Rows::row_bits))]
 fn tie_among<'a>(
     rows: &'a [u64; CELL_WORDS],
     columns: &'a [u64; PLACE_WORDS],
@@ -134,7 +127,7 @@ fn tie_among<'a>(
     users: usize,
     it: CellNo,
     j: usize,
-) -> Found
+) -> Option<CellNo>
     requires { (users ≤ user_limit) × (it.0 < cell_limit) × (j * word_bits < users)
         × Part left.now rows.now
         × Columns rows.now columns.now × Insides rows.now left.now (it.0 / row_bits) inside.now
@@ -146,15 +139,16 @@ fn tie_among<'a>(
     while w != 0 {
         let x = j * WORD_BITS + bits::lowest(w);
         let found = tie_of_user(rows, columns, left, users, it, UserNo(x));
-        if let Found::At(other) = found {
-            return Found::At(other);
+        if found.is_some() {
+            return found;
         }
         w = bits::without_lowest(w);
     }
-    Found::Nothing
+    None
 }
 
 // The lowest cell of left to which the grant at a cell is tied.
+#[tactic(auto, unfolding(spec::specs::Limits::user_limit))]
 fn tie<'a>(
     rows: &'a [u64; CELL_WORDS],
     columns: &'a [u64; PLACE_WORDS],
@@ -162,21 +156,19 @@ fn tie<'a>(
     left: &'a [u64; CELL_WORDS],
     users: usize,
     it: CellNo,
-) -> Found
+) -> Option<CellNo>
     requires { (users ≤ user_limit) × (it.0 < cell_limit) × Part left.now rows.now
         × Columns rows.now columns.now
         × Insides rows.now left.now (it.0 / row_bits) inside.now × So (marked left.now it.0) }
     ensures { FoundIn (tie_at rows.now left.now users it.0) 0 (cells_of users) result }
 {
-    let mut j = 0;
-    while j * WORD_BITS < users {
+    for j in 0..users.div_ceil(WORD_BITS) {
         let found = tie_among(rows, columns, inside, left, users, it, j);
-        if let Found::At(other) = found {
-            return Found::At(other);
+        if found.is_some() {
+            return found;
         }
-        j += 1;
     }
-    Found::Nothing
+    None
 }
 
 // No other grant of left fits it: single; else it dominates another: tied to the lowest such.
@@ -196,7 +188,7 @@ pub fn judge<'a>(
         return Verdict::Single;
     }
     match tie(rows, columns, inside, left, users, it) {
-        Found::At(other) => Verdict::Tied(other),
-        Found::Nothing => Verdict::Stays,
+        Some(other) => Verdict::Tied(other),
+        None => Verdict::Stays,
     }
 }

@@ -1,7 +1,7 @@
 -- The search for the lowest tie in a word, and from user to user. The positions not yet tried are those of a word w:
 -- they are cells of left, and every other cell of the word is known to fail. So the lowest position of w, where it
 -- passes, is the lowest cell of all.
-use Rattle.std.specs.Prelude.{ℕ, ◌+◌, ◌-◌, ◌*◌, ◌/◌, ◌≤◌, ◌<◌, ◌≡◌, Bool, false, not, ◌&&◌, List, eqb}
+use Rattle.std.specs.Prelude.{ℕ, ◌+◌, ◌-◌, ◌*◌, ◌/◌, ◌≤◌, ◌<◌, ◌≡◌, Bool, false, not, ◌&&◌, List, eqb, true, Option, Some, None, is_some}
 use Rattle.std.proofs.Common.{add-sub_of_le, div-add-mod', le-div_iff_mul-le, div-lt_iff_lt-mul, suc-mul, arith, sym, ap, ◌∙◌, ⊎_elim}
 use Rattle.std.proofs.Math.Bool.{So, and_assoc}
 use Rattle.bits.specs.Bit.{bit, word_bits}
@@ -13,7 +13,8 @@ use Rattle.cell_rows.specs.Rows.{row_bits}
 use Rattle.cell_rows.specs.CellPlaces.{marked}
 use Rattle.cell_rows.specs.Laws.Width.{row_bits_pos, permission_below}
 use Rattle.verdict.specs.NearCells.{dominates_in, tie_test, tie_at, Untried}
-use Rattle.verdict.specs.ReductionVerdict.{LowestIn, NoneIn}
+use Rattle.numbers.specs.declared.numbers.CellNo.{CellNo}
+use Rattle.verdict.specs.ReductionVerdict.{LowestIn, NoneIn, FoundIn}
 
 -- what holds of each position of a word holds of its cells
 pub each_cell : (P : ℕ → Type 0) (i m : ℕ) → ((q : ℕ) → q < word_bits → P (i * word_bits + q)) → i * word_bits ≤ m
@@ -116,3 +117,16 @@ lowest_with_more more low =
 -- none, in a range that does not go further
 pub none_before : {test : ℕ → Bool} {from to end : ℕ} → to ≤ end → NoneIn test from end → NoneIn test from to
 none_before less none = record { fails = λ m begun within. none.fails m begun (omega (arith, within)) }
+
+-- what is found is the lowest of another range, if the lowest of the one is that of the other
+pub found_in : {test : ℕ → Bool} {from to low high : ℕ} (found : Option CellNo) → is_some found ≡ true
+    → FoundIn test from to found → ((n : ℕ) → LowestIn test from to n → LowestIn test low high n)
+    → FoundIn test low high found
+found_in (Some n) e lowest further = further n.0 lowest
+found_in None e fails further = cc
+
+-- nothing is found, so none passes
+pub none_found : {test : ℕ → Bool} {from to : ℕ} (found : Option CellNo) → is_some found ≡ false
+    → FoundIn test from to found → NoneIn test from to
+none_found (Some n) e lowest = cc
+none_found None e fails = fails

@@ -55,12 +55,12 @@ tie_requires c κs =
       s.requires.0.set,
     )
 
-returns_2 : tie.Need-returns-in-At
+returns_2 : tie.Need-returns-in-Some
 returns_2 c =
     let judged = c.before.before in
     let given = judged.requires.0 in
     let a = judged.args in
-    let low : LowestIn _ 0 _ _ = rw c.in-At.is at c.tie.ensures in
+    let low : LowestIn _ 0 _ _ = rw c.in-Some.is at c.tie.ensures in
     record {
       named = (low.within, tie_is_other a.rows.now a.left.now a.users a.it.0 low);
       right = λ sheet shown.
@@ -68,7 +68,7 @@ returns_2 c =
           (eqb-false _ 1 (sym (fitting_count judged.before sheet shown) ∙ judged.if-is_single.false)) low;
     }
 
-returns_3 : tie.Need-returns-in-Nothing
+returns_3 : tie.Need-returns-in-None
 returns_3 c =
     let judged = c.before.before in
     let given = judged.requires.0 in
@@ -77,7 +77,7 @@ returns_3 c =
       right = λ sheet shown.
           no_tie_found shown given.part given.within given.set refl
           (eqb-false _ 1 (sym (fitting_count judged.before sheet shown) ∙ judged.if-is_single.false))
-          (rw c.in-Nothing.is at c.tie.ensures);
+          (rw c.in-None.is at c.tie.ensures);
     }
 
 pub judge_spec : {M : Type 1} → statement M

@@ -1,0 +1,17 @@
+-- `verdict::judgement::tie_among`: the positions of w are the users still to be tried, and the others have no tie.
+use Rattle.std.proofs.Common.{ℕ, ◌+◌, ◌*◌, ◌<◌}
+use Rattle.std.proofs.Math.Bool.{So}
+use Rattle.bits.specs.Bit.{bit, word_bits}
+use Rattle.bits.specs.Laws.Walk.{Walk}
+use Rattle.verdict.specs.NearCells.{tie_at}
+use Rattle.verdict.specs.Laws.TieWalk.{NoneAt}
+use Rattle.verdict.proofs.judgement.tie_among.Given as goal
+
+abbrev pub invariant-loop-w : goal.invariant-loop-w
+invariant-loop-w l = record {
+  walk : Walk l.initial.w (NoneAt (tie_at l.rows l.left l.users l.it.0) l.users l.j) l.w;
+  within : (q : ℕ) → q < word_bits → So (bit l.initial.w q) → l.j * word_bits + q < l.users;
+}
+
+abbrev pub decreases-loop-w : goal.decreases-loop-w
+decreases-loop-w l = l.w
