@@ -1,6 +1,6 @@
 -- Reading block 1: two counts, each up to its comma, and a state up to the line feed. A count and a state hold
 -- neither, so each stands in a text in one way at most, and what follows them is known.
-use Rattle.std.specs.Prelude.{ℕ, ◌+◌, ◌≡◌, refl, [], ◌∷◌, ◌++◌, eqb}
+use Rattle.std.specs.Prelude.{ℕ, ◌+◌, ◌≡◌, refl, [], ◌∷◌, ◌++◌, eqb, Option, Some, None}
 use Rattle.std.proofs.Common.{add-one, ◌∙◌, append_assoc}
 use Rattle.std.proofs.Math.Bool.{So}
 use Rattle.spec.specs.Text.{ascii, Bytes, comma, line_feed}
@@ -12,14 +12,9 @@ use Rattle.places.specs.Places.{part}
 use Rattle.standing.specs.StandingCases.{standing_case}
 use Rattle.right.specs.WordLaws.{count_field, standing_word_field}
 use Rattle.text.specs.Line.{line_end}
-use Rattle.digits.specs.declared.digits.CountRead.TheVariants as digits
-use Rattle.read_fields.specs.declared.counts_block.CountField.{CountField}
-use Rattle.read_fields.specs.declared.counts_block.CountField.TheVariants as count
-use Rattle.read_fields.specs.declared.counts_block.StandingField.{StandingField}
-use Rattle.read_fields.specs.declared.counts_block.StandingField.TheVariants as state
+use Rattle.standing.specs.declared.standing.Standing.{Standing as StandingValue}
 use Rattle.book_lines.specs.declared.counts.Counts.{Counts}
 use Rattle.read_fields.specs.declared.counts_block.CountsRead.{CountsRead}
-use Rattle.read_fields.specs.declared.counts_block.CountsRead.TheVariants as counts
 use Rattle.steps.specs.Stands.{Stands}
 use Rattle.steps.specs.Steps.{Misses}
 use Rattle.steps.specs.Laws.Stands.{stands_then}
@@ -41,11 +36,11 @@ pub record CountAt (text : Bytes) (at n next : ℕ) : Type 0 where
   pub reads : Stands text at (count_text digits) next
 
 -- a step over a count
-abbrev pub CountReads : Bytes → ℕ → CountField → Type 0
-CountReads text at (count.Count n next) = CountAt text at n next
-CountReads text at count.Off = (digits : Bytes) → So (is_count digits) → Misses text at (count_text digits)
+abbrev pub CountReads : Bytes → ℕ → Option (ℕ × ℕ) → Type 0
+CountReads text at (Some (n, next)) = CountAt text at n next
+CountReads text at None = (digits : Bytes) → So (is_count digits) → Misses text at (count_text digits)
 
-pub count_at : {text : Bytes} {at to n : ℕ} → Ended text at comma to → digits.Count n ≡ count_read (part at to text)
+pub count_at : {text : Bytes} {at to n : ℕ} → Ended text at comma to → Some n ≡ count_read (part at to text)
     → CountAt text at n (to + 1)
 count_at {text} {at} {to} {n} p e =
     record {
@@ -60,7 +55,7 @@ pub no_comma_behind : {text : Bytes} {at : ℕ} → Unended text at comma → (d
 no_comma_behind u digits e =
     record { misses = λ rest there. u.none digits rest (there ∙ append_assoc digits (comma ∷ []) rest) }
 
-pub no_count : {text : Bytes} {at to : ℕ} → Ended text at comma to → digits.Off ≡ count_read (part at to text)
+pub no_count : {text : Bytes} {at to : ℕ} → Ended text at comma to → None ≡ count_read (part at to text)
     → (digits : Bytes) → So (is_count digits) → Misses text at (count_text digits)
 no_count {text} {at} {to} p e digits said =
     record {
@@ -81,9 +76,9 @@ abbrev pub standing_text : Standing → Bytes
 standing_text s = standing_word s ++ line_feed ∷ []
 
 -- a step over a state
-abbrev pub StandingReads : Bytes → ℕ → StandingField → Type 0
-StandingReads text at (state.State s next) = Stands text at (standing_text (standing_case s)) next
-StandingReads text at state.Off = (s : Standing) → Misses text at (standing_text s)
+abbrev pub StandingReads : Bytes → ℕ → Option (StandingValue × ℕ) → Type 0
+StandingReads text at (Some (s, next)) = Stands text at (standing_text (standing_case s)) next
+StandingReads text at None = (s : Standing) → Misses text at (standing_text s)
 
 pub no_standing : {text : Bytes} {at : ℕ} → Misses text at (ascii "witnessed\n") → Misses text at (ascii "searched\n")
     → Misses text at (ascii "open\n") → (s : Standing) → Misses text at (standing_text s)
@@ -114,9 +109,9 @@ NoCounts text at = (role_digits bound_digits : Bytes) (s : Standing) → So (is_
     → Misses text at (counts_part role_digits bound_digits s)
 
 -- a step over block 1 and the empty line behind it
-abbrev pub CountsReads : Bytes → ℕ → CountsRead → Type 0
-CountsReads text at (counts.Counts said next) = CountsAt text at said next
-CountsReads text at counts.Off = NoCounts text at
+abbrev pub CountsReads : Bytes → ℕ → Option CountsRead → Type 0
+CountsReads text at (Some r) = CountsAt text at r.counts r.next
+CountsReads text at None = NoCounts text at
 
 -- the bytes behind the line of names, behind the count of roles, behind the bound
 abbrev pub after_heading : Bytes → Bytes → Standing → Bytes

@@ -1,11 +1,9 @@
 -- Reading a name up to the byte that ends it, where the name is to be one of a list, in whatever case. Assumes nothing.
-use Rattle.std.specs.Prelude.{ℕ, ◌<◌, ◌≡◌, List, [], ◌∷◌, ◌++◌, eqb, length, get_or}
+use Rattle.std.specs.Prelude.{ℕ, ◌<◌, ◌≡◌, List, [], ◌∷◌, ◌++◌, eqb, length, get_or, Option, Some, None}
 use Rattle.spec.specs.Text.{Bytes, lowered}
 use Rattle.lists.specs.CutLaws.{Free}
 use Rattle.steps.specs.Stands.{Stands}
 use Rattle.steps.specs.Steps.{Misses}
-use Rattle.read_fields.specs.declared.witness_block.NameField.{NameField}
-use Rattle.read_fields.specs.declared.witness_block.NameField.TheVariants.{Name, Off}
 
 -- a name and the byte that ends it
 abbrev pub name_text : Bytes → ℕ → Bytes
@@ -25,6 +23,6 @@ NoName names text at end =
     → Free (eqb end) spelled → Misses text at (name_text spelled end)
 
 -- a step over a name
-abbrev pub NameReads : List Bytes → Bytes → ℕ → ℕ → NameField → Type 0
-NameReads names text at end (Name i next) = NameAt names text at end i next
-NameReads names text at end Off = NoName names text at end
+abbrev pub NameReads : List Bytes → Bytes → ℕ → ℕ → Option (ℕ × ℕ) → Type 0
+NameReads names text at end (Some (i, next)) = NameAt names text at end i next
+NameReads names text at end None = NoName names text at end

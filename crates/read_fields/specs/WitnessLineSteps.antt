@@ -1,14 +1,12 @@
 -- Reading a witness line: a user's name up to the comma, then a permission's name up to the line feed, each in whatever
 -- case. Neither byte stands in a name, so a line stands in a text in one way at most.
-use Rattle.std.specs.Prelude.{ℕ, ◌<◌, ◌≡◌, refl, [], ◌∷◌, ◌++◌, eqb}
+use Rattle.std.specs.Prelude.{ℕ, ◌<◌, ◌≡◌, refl, [], ◌∷◌, ◌++◌, eqb, Option, Some, None}
 use Rattle.std.proofs.Common.{append_assoc}
 use Rattle.spec.specs.Text.{Bytes, Line, comma, line_feed, lowered, line_text}
 use Rattle.spec.specs.Sheet.{Sheet, Grant, user_count, permission_count, user_name, permission_name}
 use Rattle.steps.specs.Laws.Aligned.{Aligned, aligned_then, ended_aligned}
 use Rattle.rules.specs.AcceptedFacts.{Lawful, name_field}
 use Rattle.read_fields.specs.declared.witness_block.WitnessLine.{WitnessLine}
-use Rattle.read_fields.specs.declared.witness_block.WitnessRead.{WitnessRead}
-use Rattle.read_fields.specs.declared.witness_block.WitnessRead.TheVariants as found
 use Rattle.steps.specs.Stands.{Stands}
 use Rattle.steps.specs.Steps.{Misses}
 use Rattle.steps.specs.Laws.Step.{misses_first, misses_after}
@@ -39,9 +37,9 @@ NoWitness sheet text at =
     (g : Grant) → Known sheet g → (fields : Line) → SpelledLine sheet g fields → Misses text at (line_text fields)
 
 -- a step over a line
-abbrev pub WitnessReads : Sheet → Bytes → ℕ → WitnessRead → Type 0
-WitnessReads sheet text at (found.Line line next) = WitnessAt sheet text at line next
-WitnessReads sheet text at found.Off = NoWitness sheet text at
+abbrev pub WitnessReads : Sheet → Bytes → ℕ → Option (WitnessLine × ℕ) → Type 0
+WitnessReads sheet text at (Some (line, next)) = WitnessAt sheet text at line next
+WitnessReads sheet text at None = NoWitness sheet text at
 
 -- the two fields of a line, each with the byte that ends it
 line_in_fields : (user permission : Bytes)

@@ -1,6 +1,6 @@
 -- Reading the witness lines up to the end of the book. A line is not empty and is followed by the same however it is
 -- read, so the lines of a text are known, and there are no more of them than bytes.
-use Rattle.std.specs.Prelude.{ℕ, ◌≤◌, ◌<◌, ◌≡◌, refl, Bool, true, false, List, [], ◌∷◌, ◌++◌, map, length, drop}
+use Rattle.std.specs.Prelude.{ℕ, ◌≤◌, ◌<◌, ◌≡◌, refl, List, [], ◌∷◌, ◌++◌, map, length, drop, Option, Some, None}
 use Rattle.std.proofs.Common.{arith, sym, ap, ◌∙◌, append_assoc, append-nil, ⊎_elim, length-append, length-drop, drop_of_length-le}
 use mathlib.Core.List.Memᴰ
 use Rattle.std.proofs.lemmas.List.{map-append, length-map}
@@ -12,7 +12,6 @@ use Rattle.lists.specs.EachLaws.{Each, each_none}
 use Rattle.rules.specs.AcceptedFacts.{Lawful}
 use Rattle.read_fields.specs.declared.witness_block.WitnessLine.{WitnessLine}
 use Rattle.read_fields.specs.declared.witness_block.Witness.{Witness}
-use Rattle.read_fields.specs.declared.witness_block.WitnessesRead.{WitnessesRead}
 use Rattle.steps.specs.Stands.{Stands}
 use Rattle.steps.specs.Steps.{Misses}
 use Rattle.steps.specs.Laws.Stands.{stands_nothing, stands_then}
@@ -39,13 +38,13 @@ pub record NoWitnesses (sheet : Sheet) (bytes : Bytes) : Type 0 where
   pub none : (grants : List Grant) → Each (Known sheet) grants → (lines : List Line) → SpellsLines sheet grants lines
       → bytes ≡ witness_texts lines → ⊥
 
-abbrev pub WitnessesIn : Sheet → Bytes → Bool → Witness → Type 0
-WitnessesIn sheet bytes true w = WitnessesAt sheet bytes w
-WitnessesIn sheet bytes false w = NoWitnesses sheet bytes × (w ≡ no_witness)
+abbrev pub WitnessesIn : Sheet → Bytes → Option Witness → Type 0
+WitnessesIn sheet bytes (Some w) = WitnessesAt sheet bytes w
+WitnessesIn sheet bytes None = NoWitnesses sheet bytes
 
 -- reading witness lines to the end
-abbrev pub WitnessLinesRead : Sheet → Bytes → ℕ → WitnessesRead → Type 0
-WitnessLinesRead sheet text at r = WitnessesIn sheet (drop at text) r.of_form r.witness
+abbrev pub WitnessLinesRead : Sheet → Bytes → ℕ → Option Witness → Type 0
+WitnessLinesRead sheet text at r = WitnessesIn sheet (drop at text) r
 
 -- reading block 4 to the end
 pub record WitnessPart (sheet : Sheet) (text : Bytes) (at : ℕ) (w : Witness) : Type 0 where
@@ -60,13 +59,9 @@ pub record NoWitnessPart (sheet : Sheet) (text : Bytes) (at : ℕ) : Type 0 wher
   pub none : (grants : List Grant) → Each (Known sheet) grants → (lines : List Line) → SpellsLines sheet grants lines
       → drop at text ≡ witness_part lines → ⊥
 
--- where there is no block 4, no line is answered
-abbrev PartIn : Sheet → Bytes → ℕ → Bool → Witness → Type 0
-PartIn sheet text at true w = WitnessPart sheet text at w
-PartIn sheet text at false w = NoWitnessPart sheet text at × (w ≡ no_witness)
-
-abbrev pub WitnessPartReads : Sheet → Bytes → ℕ → WitnessesRead → Type 0
-WitnessPartReads sheet text at r = PartIn sheet text at r.of_form r.witness
+abbrev pub WitnessPartReads : Sheet → Bytes → ℕ → Option Witness → Type 0
+WitnessPartReads sheet text at (Some w) = WitnessPart sheet text at w
+WitnessPartReads sheet text at None = NoWitnessPart sheet text at
 
 -- ---- lines one after the other
 
@@ -238,9 +233,9 @@ pub no_witness_heading : (sheet : Sheet) {text : Bytes} {at : ℕ} → Misses te
 no_witness_heading sheet m = record { none = λ grants k lines same e. m.misses (witness_texts lines) e }
 
 pub heading_then_lines : (sheet : Sheet) {text : Bytes} {at mid : ℕ} → Stands text at (ascii "user,permission\n") mid
-    → (ok : Bool) (w : Witness)
-    → WitnessesIn sheet (drop mid text) ok w → PartIn sheet text at ok w
-heading_then_lines sheet h true w p =
+    → (r : Option Witness)
+    → WitnessLinesRead sheet text mid r → WitnessPartReads sheet text at r
+heading_then_lines sheet h (Some w) p =
     record {
       grants = p.grants;
       known = p.known;
@@ -249,10 +244,8 @@ heading_then_lines sheet h true w p =
       same = p.same;
       there = h.reads ∙ ap (λ (l : Bytes). ascii "user,permission\n" ++ l) p.there;
     }
-heading_then_lines sheet h false w p = (
-  record {
-    none = λ grants k lines same e.
-        p.0.none grants k lines same (sym (stands_rest h (witness_texts lines) e));
-  },
-  p.1,
-)
+heading_then_lines sheet h None p =
+    record {
+      none = λ grants k lines same e.
+          p.none grants k lines same (sym (stands_rest h (witness_texts lines) e));
+    }

@@ -6,4 +6,4 @@ mod counts_block;
 mod witness_block;
 
 pub use counts_block::{CountsRead, read_counts};
-pub use witness_block::{Witness, WitnessLine, WitnessesRead, read_witness};
+pub use witness_block::{Witness, WitnessLine, read_witness};

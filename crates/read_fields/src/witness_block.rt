@@ -8,9 +8,9 @@ ghost use Rattle.read_fields.specs.WitnessList.{no_witness};
 ghost use Rattle.read_fields.specs.WitnessLineSteps.{WitnessReads};
 ghost use Rattle.read_fields.specs.WitnessSteps.{WitnessLinesRead, WitnessPartReads};
 
-use names::{Found, Layout, find_from};
+use names::{Layout, find_from};
 use numbers::{PermissionNo, ROLE_LIMIT, UserNo};
-use steps::{Step, expect, part_end};
+use steps::{expect, part_end};
 
 // The grant that a witness line names.
 #[derive(Clone, Copy)]
@@ -19,32 +19,11 @@ pub struct WitnessLine {
     pub permission: PermissionNo,
 }
 
-// What reading a name and the byte behind it finds: its number, and where to go on.
-#[derive(Clone, Copy)]
-pub enum NameField {
-    Name(usize, usize),
-    Off,
-}
-
-// What reading a witness line finds: its grant, and where to go on.
-#[derive(Clone, Copy)]
-pub enum WitnessRead {
-    Line(WitnessLine, usize),
-    Off,
-}
-
 // The witness: how many lines it has, and the grants of as many of the first as there can be roles.
 #[derive(Clone, Copy)]
 pub struct Witness {
     pub lines: usize,
     pub first: [WitnessLine; ROLE_LIMIT],
-}
-
-// A witness that was read to the end of the book, where the book is of the form.
-#[derive(Clone, Copy)]
-pub struct WitnessesRead {
-    pub of_form: bool,
-    pub witness: Witness,
 }
 
 impl Witness {
@@ -64,7 +43,7 @@ impl Witness {
 }
 
 // The number of the name that the byte `end` ends, among the names at these places of the sheet: the users' or the
-// permissions'. Those from number `first` on are looked at first.
+// permissions'; and the place behind that byte. Those from number `first` on are looked at first.
 fn name_field<'a, 'b>(
     book: &'a [u8],
     at: usize,
@@ -72,22 +51,18 @@ fn name_field<'a, 'b>(
     sheet: &'a [u8],
     places: &'b [u64],
     first: usize,
-) -> NameField
+) -> Option<(usize, usize)>
     requires { (at ≤ length book.now) × Inside sheet.now places.now
         × Apart sheet.now places.now (length places.now) }
     ensures { NameReads (all_names sheet.now places.now) book.now at end result }
 {
-    let Step::On(to) = part_end(book, at, end) else {
-        return NameField::Off;
-    };
-    let Found::At(i) = find_from(sheet, places, first, &book[at..to]) else {
-        return NameField::Off;
-    };
-    NameField::Name(i, to + 1)
+    let to = part_end(book, at, end)?;
+    let i = find_from(sheet, places, first, &book[at..to])?;
+    Some((i, to + 1))
 }
 
-// Reads a witness line: a user's name, a comma, a permission's name and a line feed. The users from number `first` on
-// are looked at first.
+// Reads a witness line: a user's name, a comma, a permission's name and a line feed; and where to go on. The users from
+// number `first` on are looked at first.
 fn witness_line<'a, 'b>(
     book: &'a [u8],
     at: usize,
@@ -95,23 +70,18 @@ fn witness_line<'a, 'b>(
     users: &'b [u64],
     permissions: &'b [u64],
     first: UserNo,
-) -> WitnessRead
+) -> Option<(WitnessLine, usize)>
     requires { (at ≤ length book.now) × UsersAt sheet.now users.now
         × PermissionsAt sheet.now permissions.now }
     ensures { WitnessReads (sheet_of sheet.now) book.now at result }
 {
-    let NameField::Name(user, start) = name_field(book, at, b',', sheet, users, first.0) else {
-        return WitnessRead::Off;
-    };
-    let NameField::Name(permission, next) = name_field(book, start, b'\n', sheet, permissions, 0)
-    else {
-        return WitnessRead::Off;
-    };
+    let (user, start) = name_field(book, at, b',', sheet, users, first.0)?;
+    let (permission, next) = name_field(book, start, b'\n', sheet, permissions, 0)?;
     let line = WitnessLine {
         user: UserNo(user),
         permission: PermissionNo(permission),
     };
-    WitnessRead::Line(line, next)
+    Some((line, next))
 }
 
 // Reads witness lines up to the end of the book. The grants of a witness are mostly in order, so a user is looked for
@@ -122,66 +92,38 @@ fn witness_lines<'a, 'b>(
     sheet: &'a [u8],
     users: &'b [u64],
     permissions: &'b [u64],
-) -> WitnessesRead
+) -> Option<Witness>
     requires { (at ≤ length book.now) × UsersAt sheet.now users.now
         × PermissionsAt sheet.now permissions.now }
     ensures { WitnessLinesRead (sheet_of sheet.now) book.now at result }
 {
-    let none = Witness::none();
-    let mut first = none.first;
-    let mut lines = 0;
+    let mut witness = Witness::none();
     let mut next = at;
     let mut last = UserNo(0);
     while next < book.len() {
-        let WitnessRead::Line(line, after) = witness_line(
-            book,
-            next,
-            sheet,
-            users,
-            permissions,
-            last,
-        ) else {
-            return WitnessesRead {
-                of_form: false,
-                witness: none,
-            };
-        };
-        if lines < ROLE_LIMIT {
-            first[lines] = line;
+        let (line, after) = witness_line(book, next, sheet, users, permissions, last)?;
+        if witness.lines < ROLE_LIMIT {
+            witness.first[witness.lines] = line;
         }
-        lines += 1;
+        witness.lines += 1;
         next = after;
-        let user = line.user;
-        last = user;
+        last = line.user;
     }
-    WitnessesRead {
-        of_form: true,
-        witness: Witness { lines, first },
-    }
+    Some(witness)
 }
 
 // Reads block 4, which ends the book.
-pub fn read_witness<'a>(book: &'a [u8], at: usize, sheet: &'a [u8], layout: Layout) -> WitnessesRead
+pub fn read_witness<'a>(
+    book: &'a [u8],
+    at: usize,
+    sheet: &'a [u8],
+    layout: Layout,
+) -> Option<Witness>
     requires { (at ≤ length book.now) × LaidOut sheet.now layout }
     ensures { WitnessPartReads (sheet_of sheet.now) book.now at result }
 {
-    let Step::On(lines) = expect(book, at, b"user,permission\n") else {
-        return WitnessesRead {
-            of_form: false,
-            witness: Witness::none(),
-        };
-    };
-    let users = layout.users;
-    let user_places = layout.user_places;
-    let users_at = user_places.at;
-    let permissions = layout.permissions;
-    let permission_places = layout.permission_places;
-    let permissions_at = permission_places.at;
-    witness_lines(
-        book,
-        lines,
-        sheet,
-        &users_at[..users],
-        &permissions_at[..permissions],
-    )
+    let lines = expect(book, at, b"user,permission\n")?;
+    let users = &layout.user_places.at[..layout.users];
+    let permissions = &layout.permission_places.at[..layout.permissions];
+    witness_lines(book, lines, sheet, users, permissions)
 }
