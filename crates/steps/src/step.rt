@@ -9,17 +9,11 @@ pub fn expect(text: &[u8], at: usize, word: &[u8]) -> Option<usize>
     requires { at ≤ length text.now }
     ensures { Expects text.now at word.now result }
 {
-    let mut i = 0;
-    while i < word.len() {
-        if text.len() <= at + i {
-            return None;
-        }
-        if text[at + i] != word[i] {
-            return None;
-        }
-        i += 1;
+    if text[at..].starts_with(word) {
+        Some(at + word.len())
+    } else {
+        None
     }
-    Some(at + i)
 }
 
 // Goes past one byte, where the text has it at this place.
@@ -41,12 +35,10 @@ pub fn part_end(text: &[u8], at: usize, end: u8) -> Option<usize>
     requires { at ≤ length text.now }
     ensures { PartEnd text.now at end result }
 {
-    let mut i = at;
-    while i < text.len() {
+    for i in at..text.len() {
         if text[i] == end {
             return Some(i);
         }
-        i += 1;
     }
     None
 }

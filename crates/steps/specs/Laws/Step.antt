@@ -1,14 +1,14 @@
 -- Steps one after the other. Bytes that stand at a place and bytes that stand where it goes on stand there together;
 -- and where the first or the second of two parts is missing, both together are. All of it is cancelling in front.
-use Rattle.std.specs.Prelude.{ℕ, suc, ◌+◌, ◌≤◌, ◌<◌, ◌≡◌, refl, length, drop, get_or, Option}
+use Rattle.std.specs.Prelude.{ℕ, ◌+◌, ◌≤◌, ◌<◌, ◌≡◌, length, drop, get_or, Option}
 use Rattle.std.specs.Prelude.{Some, None}
-use Rattle.std.proofs.Common.{add-one, arith, sym, ap, ◌∙◌, length-append, length-drop, drop_of_length-le, drop-cons}
+use Rattle.std.proofs.Common.{arith, sym, ap, ◌∙◌, length-append, length-drop, drop_of_length-le, drop-cons}
 use mathlib.Core.List.{◌∷◌, ◌++◌, append_assoc, append_cancel_left, nil≢cons, head-eq_of_cons-eq}
 use Rattle.spec.specs.Text.{Bytes}
 use Rattle.lists.specs.Listed.{listed, listed_more}
 use Rattle.steps.specs.Laws.Aligned.{Aligned, aligned_same, listed_next}
 use Rattle.steps.specs.Stands.{Stands}
-use Rattle.steps.specs.Laws.Stands.{stands_then, stands_byte}
+use Rattle.steps.specs.Laws.Stands.{stands_then}
 use Rattle.steps.specs.Steps.{Misses, Expects}
 
 -- what follows bytes that stand there is what the text goes on with
@@ -90,15 +90,3 @@ misses_byte text at b rest h other =
 -- nothing stands past the end
 pub misses_at_end : (text : Bytes) (at b : ℕ) (rest : Bytes) → length text ≤ at → Misses text at (b ∷ rest)
 misses_at_end text at b rest h = record { misses = λ more e. nil≢cons (sym (drop_of_length-le text h) ∙ e) }
-
--- ---- a word, byte by byte
-
--- with byte i of a word there, the rest of the word decides
-pub expects_next : (text word : Bytes) (at i : ℕ) → i < length word → at + i < length text → get_or text (at + i) 0 ≡
-    get_or word i 0
-    → (r : Option ℕ) → Expects text (at + (i + 1)) (drop (i + 1) word) r → Expects text (at + i) (drop i word) r
-expects_next text word at i h k same r e =
-    let later : at + (i + 1) ≡ suc (at + i) = omega arith in
-    rw (drop-cons word i 0 h, ← same)
-    (expects_then (drop (suc i) word) (stands_byte text (at + i) (get_or text (at + i) 0) k refl) r
-    (rw (later, add-one i) at e))
