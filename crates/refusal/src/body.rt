@@ -3,7 +3,7 @@ ghost use Rattle.std.specs.Prelude.{◌≡◌, suc, ◌+◌, ◌≤◌, ◌<◌,
 ghost use Rattle.spec.specs.Text.{lines_of};
 ghost use Rattle.refusal.specs.Body.{no_lines, add_read_line, body_of};
 
-use crate::fields::{Cells, both};
+use crate::fields::Cells;
 use crate::line::read_line;
 use spelling::name_length;
 
@@ -40,9 +40,9 @@ impl Body {
     {
         Self {
             users: self.users + 1,
-            names: both(self.names, named),
-            even: both(self.even, cells.count == width),
-            bits: both(self.bits, cells.bits),
+            names: self.names && named,
+            even: self.even && cells.count == width,
+            bits: self.bits && cells.bits,
             ones: self.ones + cells.ones,
         }
     }
@@ -55,6 +55,7 @@ pub fn read_body(s: &[u8], at: usize, width: usize) -> Body
 {
     let mut body = Body::none();
     let mut from = at;
+    // A line says where the next one starts.
     while from < s.len() {
         let line = read_line(s, from);
         let to = line.to;

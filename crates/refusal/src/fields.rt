@@ -1,7 +1,6 @@
 // What the fields after the first of a line say, taken together.
 ghost use Rattle.std.specs.Prelude.{◌≡◌, ◌&&◌, ◌≤◌, ◌<◌, ◌^◌};
 ghost use Rattle.spec.specs.Sheet.{is_one, is_bit};
-ghost use Rattle.bits.specs.Counting.{one_if};
 ghost use Rattle.refusal.specs.Cells.{no_cells, add_cell};
 
 use spelling::name_length;
@@ -30,15 +29,16 @@ impl Cells {
     }
 
     // These fields and one more.
+    #[tactic(auto, using(crate::specs::Laws::Cells::one_if_small, crate::specs::Laws::Cells::one_if_from))]
     pub fn with(self, field: &[u8]) -> Self
         requires { (self.count < 2 ^ 63) × (self.ones ≤ self.count) }
         ensures { result ≡ add_cell self field.now }
     {
         Self {
             count: self.count + 1,
-            names: both(self.names, name_length(field)),
-            bits: both(self.bits, is_bit(field)),
-            ones: self.ones + one_if(is_one(field)),
+            names: self.names && name_length(field),
+            bits: self.bits && is_bit(field),
+            ones: self.ones + usize::from(is_one(field)),
         }
     }
 }
@@ -54,22 +54,5 @@ pub fn is_one(field: &[u8]) -> bool
 fn is_bit(field: &[u8]) -> bool
     ensures { result ≡ is_bit field.now }
 {
-    if same_bytes(field, b"0") {
-        return true;
-    }
-    is_one(field)
-}
-
-// Whether two tests passed.
-pub fn both(a: bool, b: bool) -> bool
-    ensures { result ≡ (a && b) }
-{
-    if a { b } else { false }
-}
-
-// 1 where a test passed, and 0 where it failed.
-fn one_if(passed: bool) -> usize
-    ensures { result ≡ one_if passed }
-{
-    if passed { 1 } else { 0 }
+    same_bytes(field, b"0") || is_one(field)
 }

@@ -22,6 +22,7 @@ pub fn read_line(s: &[u8], at: usize) -> LineRead
     let mut cells = Cells::none();
     let mut last = name.last;
     let mut next = name.next;
+    // A field says whether it is the last, and where the next one starts.
     while !last {
         let field = next.field(s);
         let from = field.from;

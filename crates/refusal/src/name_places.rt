@@ -21,6 +21,7 @@ pub fn user_places(s: &[u8], at: usize) -> [u64; USER_LIMIT]
     let mut places = [0; USER_LIMIT];
     let mut n = 0;
     let mut from = at;
+    // A line says where the next one starts.
     while from < s.len() {
         let line = read_line(s, from);
         places[n] = place_of(from, line.to);
@@ -41,6 +42,7 @@ pub fn permission_places(s: &[u8]) -> [u64; USER_LIMIT]
     let mut n = 0;
     let mut last = first.last;
     let mut next = first.next;
+    // A field says whether it is the last, and where the next one starts.
     while !last {
         let field = next.field(s);
         places[n] = place_of(field.from, field.to);

@@ -1,4 +1,4 @@
-// The judgement of a sheet: the lowest number of a cause that applies, and 0 where none does.
+// The judgement of a sheet: the lowest number of a cause that applies.
 ghost use Rattle.std.specs.Prelude.{◌≡◌, ◌&&◌, ◌||◌, ◌≤◌, length, drop};
 ghost use mathlib.Core.List.{map, tail};
 ghost use Rattle.spec.specs.Vocabulary.{repeats};
@@ -7,52 +7,52 @@ ghost use Rattle.spec.specs.Text.{ascii, same_bytes, between, lines_of, same_nam
 ghost use Rattle.spec.specs.Sheet.{first_field};
 ghost use Rattle.spec.specs.Refusal.{bad_bytes, refusal};
 ghost use Rattle.places.specs.Places.{part};
+ghost use Rattle.numbers.specs.Refusal.{number_said};
 ghost use Rattle.refusal.specs.FirstLine.{line_fields};
 ghost use Rattle.refusal.specs.ReadLine.{ReadLine};
 
 use crate::body::read_body;
-use crate::fields::both;
 use crate::line::{LineRead, read_line};
 use crate::name_places::{permission_places, user_places};
 use buckets::repeated_in;
-use numbers::{GRANT_LIMIT, PERMISSION_LIMIT, SHEET_LIMIT, USER_LIMIT};
+use numbers::{GRANT_LIMIT, PERMISSION_LIMIT, Refusal, SHEET_LIMIT, USER_LIMIT};
 use spelling::{Kind, all_of, is_user, is_within};
 use text::LINE_FEED;
 
-// The lowest number of 1 to 9 that applies to the sheet, and 0 where none does.
-pub fn judge(s: &[u8]) -> usize
-    ensures { result ≡ refusal s.now }
+// Whether the sheet is accepted, and else the cause of the lowest number that applies.
+pub fn judge(s: &[u8]) -> Result<(), Refusal>
+    ensures { number_said result ≡ refusal s.now }
 {
     if SHEET_LIMIT < s.len() {
-        return 1;
+        return Err(Refusal::SheetTooLong);
     }
     if has_bad_bytes(s) {
-        return 2;
+        return Err(Refusal::BadBytes);
     }
     let head = read_line(s, 0);
     if !good_first_line(s, head) {
-        return 3;
+        return Err(Refusal::BadFirstLine);
     }
     let body = read_body(s, head.next, head.cells.count);
     if !is_within(1, USER_LIMIT, body.users) {
-        return 4;
+        return Err(Refusal::UserCount);
     }
-    if !both(head.cells.names, body.names) {
-        return 5;
+    if !head.cells.names || !body.names {
+        return Err(Refusal::NameLength);
     }
     if !body.even {
-        return 6;
+        return Err(Refusal::UnevenLine);
     }
     if !body.bits {
-        return 7;
+        return Err(Refusal::BadCell);
     }
     if has_name_twice(s, head, body.users) {
-        return 8;
+        return Err(Refusal::NameTwice);
     }
     if GRANT_LIMIT < body.ones {
-        return 9;
+        return Err(Refusal::TooManyGrants);
     }
-    0
+    Ok(())
 }
 
 // Whether the sheet is empty, its last byte is no line feed, or a byte is not allowed.
@@ -70,16 +70,14 @@ pub fn has_bad_bytes(s: &[u8]) -> bool
 }
 
 // Whether the first field of the first line is `user`, and as many fields follow as there can be permissions.
+#[tactic(auto, unfolding(spec::specs::Limits::permission_limit))]
 fn good_first_line(s: &[u8], head: LineRead) -> bool
     requires { head.to ≤ length s.now }
     ensures { result ≡ (same_bytes (part 0 head.to s.now) (ascii "user") && between 1 permission_limit
         head.cells.count) }
 {
     let to = head.to;
-    if is_user(&s[0..to]) {
-        return is_within(1, PERMISSION_LIMIT, head.cells.count);
-    }
-    false
+    is_user(&s[..to]) && is_within(1, PERMISSION_LIMIT, head.cells.count)
 }
 
 // Whether two of the users or two of the permissions have one name.

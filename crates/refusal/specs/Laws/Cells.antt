@@ -1,5 +1,6 @@
 -- Fields added one after the other say together what they say at once. Assumes nothing.
 use Rattle.std.specs.Prelude.{◌+◌, ◌≤◌, ◌≡◌, refl, Bool, true, false, ◌&&◌, [], ◌∷◌, length}
+use Rattle.std.specs.Int.{from_bool}
 use Rattle.std.proofs.Common.{zero-add, arith, sym, ◌∙◌}
 use Rattle.std.proofs.Math.Bool.{and-true, and_assoc}
 use Rattle.spec.specs.Vocabulary.{all}
@@ -13,6 +14,11 @@ use Rattle.refusal.specs.declared.fields.Cells.{Cells}
 pub one_if_small : (passed : Bool) → one_if passed ≤ 1
 one_if_small true = omega arith
 one_if_small false = omega arith
+
+-- what Rust makes of a `bool`
+pub one_if_from : (passed : Bool) → from_bool passed ≡ one_if passed
+one_if_from true = refl
+one_if_from false = refl
 
 -- what some fields say, and others after them
 abbrev joined_cells : Cells → Line → Cells
