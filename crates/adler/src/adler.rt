@@ -10,18 +10,9 @@ pub fn adler_32(s: &[u8]) -> u32
 {
     let mut low: u32 = 1;
     let mut high: u32 = 0;
-    let mut i = 0;
-    while i < s.len() {
-        low = (low + wide(s[i])) % ADLER_BASE;
+    for &b in s {
+        low = (low + u32::from(b)) % ADLER_BASE;
         high = (high + low) % ADLER_BASE;
-        i += 1;
     }
     high * 65_536 + low
-}
-
-// A byte as a number of 32 bits.
-fn wide(b: u8) -> u32
-    ensures { result ≡ b }
-{
-    b as u32
 }

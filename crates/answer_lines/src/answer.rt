@@ -7,7 +7,7 @@ ghost use Rattle.answer_lines.specs.LineOf.{answer_most, line_of};
 
 use crate::lines::{put_digest_line, put_line};
 use adler::adler_32;
-use answers::{LoadAnswer, Named, ReduceAnswer, SearchAnswer, WriteAnswer};
+use answers::{LoadAnswer, ReduceAnswer, SearchAnswer, WriteAnswer};
 use judging::Checked;
 use standing::Standing;
 
@@ -65,14 +65,11 @@ fn put_searched(out: &mut [u8], answer: SearchAnswer) -> usize
         answer.roles,
         answer.bound,
     ];
-    let named = answer.state;
-    match named {
-        Named::Nothing => put_line(out, b"search", &numbers, b"-"),
-        Named::State(standing) => match standing {
-            Standing::Witnessed => put_line(out, b"search", &numbers, b"witnessed"),
-            Standing::Searched => put_line(out, b"search", &numbers, b"searched"),
-            Standing::Open => put_line(out, b"search", &numbers, b"open"),
-        },
+    match answer.state {
+        None => put_line(out, b"search", &numbers, b"-"),
+        Some(Standing::Witnessed) => put_line(out, b"search", &numbers, b"witnessed"),
+        Some(Standing::Searched) => put_line(out, b"search", &numbers, b"searched"),
+        Some(Standing::Open) => put_line(out, b"search", &numbers, b"open"),
     }
 }
 

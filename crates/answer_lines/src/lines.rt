@@ -14,10 +14,8 @@ fn put_numbers(out: &mut [u8], numbers: &[usize]) -> usize
     ensures { Written (numbers_text numbers.now) out.old out.new result }
 {
     let mut at = 0;
-    let mut i = 0;
-    while i < numbers.len() {
-        at += decimal::put_counted(&mut out[at..], b" ", numbers[i]);
-        i += 1;
+    for &number in numbers {
+        at += decimal::put_counted(&mut out[at..], b" ", number);
     }
     at
 }

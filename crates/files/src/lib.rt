@@ -2,7 +2,7 @@
 
 #![tactic(auto)]
 
-ghost use Rattle.std.specs.Prelude.{◌≡◌, false};
+ghost use Rattle.std.specs.Prelude.{IfSome};
 ghost use Rattle.std.specs.Io.{ReadsAtMost};
 ghost use Rattle.io.specs.Counts.{IsPrefixLen};
 
@@ -17,19 +17,6 @@ const STANDARD_ERROR: i32 = 2;
 
 // The bytes of a path, at most.
 const PATH_LIMIT: usize = 4_096;
-
-// Whether a file could be read, and how many of its bytes are at the front of the buffer.
-#[derive(Clone, Copy)]
-pub struct FileRead {
-    pub readable: bool,
-    pub count: usize,
-}
-
-// A file that cannot be read.
-const UNREADABLE: FileRead = FileRead {
-    readable: false,
-    count: 0,
-};
 
 // Reads until the buffer is full, the file ends or a read fails, and answers how many bytes it put at the front.
 fn read_full<F: Read>(file: &mut F, buf: &mut [u8]) -> usize
@@ -67,21 +54,17 @@ fn fail(rt: &impl Eprint, path: &[u8], error: &Error) {
     let _said = eprintln!(rt; ": {error}");
 }
 
-// Reads the file of this name to its end, or until the buffer is full. A folder can be opened, and fails at the first
-// read. Standard error says why a file cannot be read. What a file has is no value that the contract could name: it
-// says the range of the count.
-pub fn read_file<R: Files + Eprint>(rt: &R, path: &[u8], buf: &mut [u8]) -> FileRead
-    ensures prefix_len { IsPrefixLen result.count buf.new }
-    ensures count_value { result.readable ≡ false → result.count ≡ 0 }
+// Reads the file of this name to its end, or until the buffer is full, and answers how many of its bytes are at the front
+// of the buffer; or nothing where it cannot be read, and standard error says why. A folder can be opened, and fails at
+// the first read. What a file has is no value that the contract could name: it says the range of the count.
+pub fn read_file<R: Files + Eprint>(rt: &R, path: &[u8], buf: &mut [u8]) -> Option<usize>
+    ensures prefix_len { IfSome result (λ count. IsPrefixLen count buf.new) }
 {
     match try_read(rt, path, buf) {
-        Ok(count) => FileRead {
-            readable: true,
-            count,
-        },
+        Ok(count) => Some(count),
         Err(error) => {
             fail(rt, path, &error);
-            UNREADABLE
+            None
         }
     }
 }
@@ -93,8 +76,8 @@ pub fn is_given(rt: &impl Env, i: usize) -> bool {
 }
 
 // Reads the file that an argument names.
-pub fn read_argument<R: Files + Env + Eprint>(rt: &R, i: usize, buf: &mut [u8]) -> FileRead
-    ensures { IsPrefixLen result.count buf.new }
+pub fn read_argument<R: Files + Env + Eprint>(rt: &R, i: usize, buf: &mut [u8]) -> Option<usize>
+    ensures { IfSome result (λ count. IsPrefixLen count buf.new) }
 {
     let mut path = [0u8; PATH_LIMIT];
     let length = rt.arg(i, &mut path).unwrap_or(0);

@@ -3,9 +3,8 @@
 ghost use Rattle.session.specs.CodeSession.{Sound};
 
 use crate::say::say;
-use crate::space::{Length, length_of, patterned};
+use crate::space::{length_of, patterned};
 use answer_lines::{Answer, admitted, written};
-use digits::BudgetRead;
 use numbers::{BOOK_LIMIT, SHEET_LIMIT};
 use session::Session;
 use std::rt::Files;
@@ -21,12 +20,10 @@ pub fn load<R: Files + Eprint>(rt: &R, session: Session, path: &[u8]) -> Session
     ensures { Sound result }
 {
     let mut text = [0u8; SHEET_BUFFER];
-    let read = files::read_file(rt, path, &mut text);
-    if !read.readable {
+    let Some(count) = files::read_file(rt, path, &mut text) else {
         say(Answer::NoCall);
         return session;
-    }
-    let count = read.count;
+    };
     let loaded = session.load(&text[..count]);
     let answer = loaded.answer;
     say(Answer::Loaded(answer));
@@ -47,7 +44,7 @@ pub fn search(session: Session, word: &[u8]) -> Session
     requires { Sound session }
     ensures { Sound result }
 {
-    let BudgetRead::Number(budget) = digits::read_budget(word) else {
+    let Some(budget) = digits::read_budget(word) else {
         say(Answer::NoCall);
         return session;
     };
@@ -69,7 +66,7 @@ pub fn write(session: Session, word: &[u8]) -> Session
     requires { Sound session }
     ensures { Sound result }
 {
-    let Length::Bytes(length) = length_of(word) else {
+    let Some(length) = length_of(word) else {
         say(Answer::NoCall);
         return session;
     };
@@ -83,12 +80,10 @@ pub fn check<'a, R: Files + Eprint>(rt: &R, sheet_path: &'a [u8], book_path: &'a
     let first = files::read_file(rt, sheet_path, &mut sheet);
     let mut book = [0u8; BOOK_BUFFER];
     let second = files::read_file(rt, book_path, &mut book);
-    if !first.readable || !second.readable {
+    let (Some(sheet_length), Some(book_length)) = (first, second) else {
         say(Answer::NoCall);
         return;
-    }
-    let sheet_length = first.count;
-    let book_length = second.count;
+    };
     say(Answer::Checked(checker::check(&sheet[..sheet_length], &book[..book_length])));
 }
 
@@ -105,7 +100,7 @@ pub fn admit<'a, R: Files + Eprint>(
     line_path: &'a [u8],
     word: &'a [u8],
 ) {
-    let Length::Bytes(length) = length_of(word) else {
+    let Some(length) = length_of(word) else {
         say(Answer::NoCall);
         return;
     };
@@ -115,13 +110,10 @@ pub fn admit<'a, R: Files + Eprint>(
     let second = files::read_file(rt, book_path, &mut book);
     let mut line = [0u8; SHEET_BUFFER];
     let third = files::read_file(rt, line_path, &mut line);
-    if !first.readable || !second.readable || !third.readable {
+    let (Some(sheet_length), Some(book_length), Some(line_length)) = (first, second, third) else {
         say(Answer::NoCall);
         return;
-    }
-    let sheet_length = first.count;
-    let book_length = second.count;
-    let line_length = third.count;
+    };
     let mut space = patterned();
     admit_into(
         &sheet[..sheet_length],

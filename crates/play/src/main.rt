@@ -30,14 +30,10 @@ use session::Session;
 fn main(rt: HostRuntime) {
     let mut session = Session::fresh();
     let mut line = [0u8; LINE_LIMIT];
-    let mut turns = u64::MAX;
-    while 0 < turns {
-        let read = read_line(&mut line);
-        if read.ended {
+    for _ in 0..u64::MAX {
+        let Some(count) = read_line(&mut line) else {
             return;
-        }
-        let count = read.count;
+        };
         session = answer(&rt, session, &line[..count]);
-        turns -= 1;
     }
 }

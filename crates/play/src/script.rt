@@ -12,17 +12,15 @@ use std::rt::Files;
 fn first_blank(line: &[u8]) -> usize
     ensures { IsPrefixLen result line.now }
 {
-    let mut i = 0;
-    while i < line.len() {
-        if line[i] == b' ' {
+    for (i, &b) in line.iter().enumerate() {
+        if b == b' ' {
             return i;
         }
-        i += 1;
     }
-    i
+    line.len()
 }
 
-// The call that the first word of a line names, where something stands behind it.
+// A call that has something behind its first word.
 #[derive(Clone, Copy)]
 enum Asked {
     Load,
@@ -30,26 +28,18 @@ enum Asked {
     Write,
     Check,
     Newcomer,
-    Nothing,
 }
 
-fn asked_by(word: &[u8]) -> Asked {
-    if check::same(word, b"load") {
-        return Asked::Load;
+// The call that the first word of a line names.
+fn asked_by(word: &[u8]) -> Option<Asked> {
+    match word {
+        b"load" => Some(Asked::Load),
+        b"search" => Some(Asked::Search),
+        b"write" => Some(Asked::Write),
+        b"check" => Some(Asked::Check),
+        b"newcomer" => Some(Asked::Newcomer),
+        _ => None,
     }
-    if check::same(word, b"search") {
-        return Asked::Search;
-    }
-    if check::same(word, b"write") {
-        return Asked::Write;
-    }
-    if check::same(word, b"check") {
-        return Asked::Check;
-    }
-    if check::same(word, b"newcomer") {
-        return Asked::Newcomer;
-    }
-    Asked::Nothing
 }
 
 // Checks the two files that are named.
@@ -112,18 +102,18 @@ pub fn answer<R: Files + Eprint>(rt: &R, session: Session, line: &[u8]) -> Sessi
     }
     let from = end + 1;
     match asked_by(&line[..end]) {
-        Asked::Load => calls::load(rt, session, &line[from..]),
-        Asked::Search => calls::search(session, &line[from..]),
-        Asked::Write => calls::write(session, &line[from..]),
-        Asked::Check => {
+        Some(Asked::Load) => calls::load(rt, session, &line[from..]),
+        Some(Asked::Search) => calls::search(session, &line[from..]),
+        Some(Asked::Write) => calls::write(session, &line[from..]),
+        Some(Asked::Check) => {
             check_files(rt, &line[from..]);
             session
         }
-        Asked::Newcomer => {
+        Some(Asked::Newcomer) => {
             admit_files(rt, &line[from..]);
             session
         }
-        Asked::Nothing => {
+        None => {
             say(Answer::NoCall);
             session
         }

@@ -3,30 +3,18 @@ ghost use Rattle.std.specs.Prelude.{◌≡◌, ◌<◌};
 ghost use Rattle.play.specs.Space.{Patterned, pattern, space_limit};
 ghost use Rattle.play.specs.Lengths.{LengthWithin};
 
-use digits::BudgetRead;
-
 // The bytes that can be lent, at most.
 const SPACE_LIMIT: usize = 262_144;
 
-// How many bytes are asked for: a number, and no more than there are, or not.
-#[derive(Clone, Copy)]
-pub enum Length {
-    Bytes(usize),
-    Off,
-}
-
-// The length that a word says.
-pub fn length_of(word: &[u8]) -> Length
+// The length that a word says: a number, and no more bytes than there are.
+pub fn length_of(word: &[u8]) -> Option<usize>
     ensures { LengthWithin result }
 {
-    let BudgetRead::Number(n) = digits::read_budget(word) else {
-        return Length::Off;
-    };
-    let length = n as usize;
+    let length = digits::read_budget(word)? as usize;
     if SPACE_LIMIT < length {
-        return Length::Off;
+        return None;
     }
-    Length::Bytes(length)
+    Some(length)
 }
 
 // The byte at a place before a call.
@@ -42,10 +30,8 @@ pub fn patterned() -> [u8; SPACE_LIMIT]
     ensures { Patterned result space_limit }
 {
     let mut space = [0u8; SPACE_LIMIT];
-    let mut i = 0;
-    while i < SPACE_LIMIT {
+    for i in 0..SPACE_LIMIT {
         space[i] = pattern_byte(i);
-        i += 1;
     }
     space
 }

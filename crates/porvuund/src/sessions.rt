@@ -9,7 +9,7 @@ ghost use Rattle.answers.specs.Said.{load_said, reduce_said, write_said, state_s
 ghost use Rattle.session.specs.CodeSession.{view, Sound};
 ghost use Rattle.porvuund.specs.SearchNumbers.{state_number, SearchesAs};
 
-use answers::{Named, WriteAnswer};
+use answers::WriteAnswer;
 use session::{Loaded, Reduced, Session};
 use standing::Standing;
 
@@ -36,16 +36,14 @@ pub struct SearchedNumbers {
 }
 
 // The number of a state.
-fn number_of(named: Named) -> u32
+fn number_of(named: Option<Standing>) -> u32
     ensures { result ≡ state_number (state_said named) }
 {
     match named {
-        Named::Nothing => 0,
-        Named::State(standing) => match standing {
-            Standing::Witnessed => 1,
-            Standing::Searched => 2,
-            Standing::Open => 3,
-        },
+        None => 0,
+        Some(Standing::Witnessed) => 1,
+        Some(Standing::Searched) => 2,
+        Some(Standing::Open) => 3,
     }
 }
 

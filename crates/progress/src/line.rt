@@ -5,7 +5,7 @@ ghost use Rattle.text.specs.Written.{Written};
 ghost use Rattle.answers.specs.Said.{state_said, search_said};
 ghost use Rattle.progress.specs.Parts.{gained_part, counts_part, speed_part, progress_most};
 
-use answers::{Named, SearchAnswer};
+use answers::SearchAnswer;
 use standing::Standing;
 
 // The bytes of a line, at most.
@@ -31,17 +31,15 @@ fn put_gained(out: &mut [u8], placed: u32, taken_back: u32) -> usize
 }
 
 // Writes the state, and the steps a second behind it.
-fn put_speed(out: &mut [u8], named: Named, speed: usize) -> usize
+fn put_speed(out: &mut [u8], named: Option<Standing>, speed: usize) -> usize
     requires { length (speed_part (state_said named) speed) ≤ length out.old }
     ensures { Written (speed_part (state_said named) speed) out.old out.new result }
 {
     match named {
-        Named::Nothing => decimal::put_counted(out, b", -, ", speed),
-        Named::State(standing) => match standing {
-            Standing::Witnessed => decimal::put_counted(out, b", witnessed, ", speed),
-            Standing::Searched => decimal::put_counted(out, b", searched, ", speed),
-            Standing::Open => decimal::put_counted(out, b", open, ", speed),
-        },
+        None => decimal::put_counted(out, b", -, ", speed),
+        Some(Standing::Witnessed) => decimal::put_counted(out, b", witnessed, ", speed),
+        Some(Standing::Searched) => decimal::put_counted(out, b", searched, ", speed),
+        Some(Standing::Open) => decimal::put_counted(out, b", open, ", speed),
     }
 }
 

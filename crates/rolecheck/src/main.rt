@@ -26,11 +26,9 @@ fn print_answer<R: Files + Env + Eprint>(rt: &R) {
     let first = read_argument(rt, 1, &mut sheet);
     let mut book = [0u8; BOOK_BUFFER];
     let second = read_argument(rt, 2, &mut book);
-    if !first.readable || !second.readable {
+    let (Some(sheet_length), Some(book_length)) = (first, second) else {
         return;
-    }
-    let sheet_length = first.count;
-    let book_length = second.count;
+    };
     let mut out = [0u8; CHECK_BUFFER];
     let count = outputs::check_output(&sheet[..sheet_length], &book[..book_length], &mut out);
     io::write_all(STANDARD_OUTPUT, &out[..count]);

@@ -5,9 +5,10 @@
 
 #![tactic(auto)]
 
+ghost use Rattle.std.specs.Prelude.{IfSome};
 ghost use Rattle.io.specs.Counts.{IsPrefixLen};
 
-use files::{FileRead, is_given, read_argument};
+use files::{is_given, read_argument};
 use numbers::{BOOK_LIMIT, SHEET_LIMIT};
 use std::env::Env;
 use std::rt::Files;
@@ -33,14 +34,11 @@ fn is_dash(rt: &impl Env, i: usize) -> bool {
 }
 
 // Reads the line: the file that the last argument names, or standard input.
-fn read_line<R: Files + Env + Eprint>(rt: &R, buf: &mut [u8]) -> FileRead
-    ensures { IsPrefixLen result.count buf.new }
+fn read_line<R: Files + Env + Eprint>(rt: &R, buf: &mut [u8]) -> Option<usize>
+    ensures { IfSome result (λ count. IsPrefixLen count buf.new) }
 {
     if is_dash(rt, 3) {
-        return FileRead {
-            readable: true,
-            count: io::read_full(STANDARD_INPUT, buf),
-        };
+        return Some(io::read_full(STANDARD_INPUT, buf));
     }
     read_argument(rt, 3, buf)
 }
@@ -53,12 +51,9 @@ fn print_answer<R: Files + Env + Eprint>(rt: &R) {
     let second = read_argument(rt, 2, &mut book);
     let mut line = [0u8; SHEET_BUFFER];
     let third = read_line(rt, &mut line);
-    if !first.readable || !second.readable || !third.readable {
+    let (Some(sheet_length), Some(book_length), Some(line_length)) = (first, second, third) else {
         return;
-    }
-    let sheet_length = first.count;
-    let book_length = second.count;
-    let line_length = third.count;
+    };
     let mut out = [0u8; BOOK_LIMIT];
     let count = outputs::newcomer_output(
         &sheet[..sheet_length],

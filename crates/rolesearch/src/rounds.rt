@@ -7,7 +7,7 @@ ghost use Rattle.answers.specs.Said.{state_said};
 ghost use Rattle.session.specs.CodeSession.{view, Sound};
 ghost use Rattle.rolesearch.specs.Rounds.{RoundsMade, steps_a_second};
 
-use answers::{Named, SearchAnswer};
+use answers::SearchAnswer;
 use digits::rounds_of;
 use numbers::BOOK_LIMIT;
 use outputs::{put_number_line, session_output};
@@ -35,25 +35,15 @@ struct Rounds {
 }
 
 // Whether a search answered `open`.
-fn is_open(named: Named) -> bool
+fn is_open(named: Option<Standing>) -> bool
     ensures { result ≡ says_open (state_said named) }
 {
-    match named {
-        Named::Nothing => false,
-        Named::State(standing) => match standing {
-            Standing::Witnessed => false,
-            Standing::Searched => false,
-            Standing::Open => true,
-        },
-    }
+    matches!(named, Some(Standing::Open))
 }
 
 // A time of the processor's clock, in ticks; 0 where it could not be read.
 fn ticks(time: Result<Duration>) -> u64 {
-    match time {
-        Ok(used) => u64::try_from(used.as_micros()).unwrap_or(0),
-        Err(_) => 0,
-    }
+    time.map_or(0, |used| u64::try_from(used.as_micros()).unwrap_or(0))
 }
 
 // Steps a second, of steps that were made between two times of the processor's clock: 0 where it did not move.
