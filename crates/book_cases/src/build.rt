@@ -14,8 +14,8 @@ fn put_byte(out: &mut [u8], at: usize, b: u8) -> usize {
 // A word.
 pub fn put(out: &mut [u8], at: usize, word: &[u8]) -> usize {
     let mut to = at;
-    for i in 0..word.len() {
-        to = put_byte(out, to, word[i]);
+    for &b in word {
+        to = put_byte(out, to, b);
     }
     to
 }
@@ -23,7 +23,7 @@ pub fn put(out: &mut [u8], at: usize, word: &[u8]) -> usize {
 // A word as many times as asked.
 pub fn put_times(out: &mut [u8], at: usize, word: &[u8], times: usize) -> usize {
     let mut to = at;
-    for i in 0..times {
+    for _ in 0..times {
         to = put(out, to, word);
     }
     to
@@ -34,8 +34,7 @@ fn place_of<'a>(text: &'a [u8], part: &'a [u8]) -> usize
     ensures { result ≤ length text.now }
 {
     let size = part.len();
-    let mut at = 0;
-    while at < text.len() {
+    for at in 0..text.len() {
         if text.len() - at < size {
             return text.len();
         }
@@ -43,9 +42,8 @@ fn place_of<'a>(text: &'a [u8], part: &'a [u8]) -> usize
         if text::same_bytes(&text[at..end], part) {
             return at;
         }
-        at += 1;
     }
-    at
+    text.len()
 }
 
 // A text with another part in place of the first such one. Where the text has none, the answer is the buffer's length.

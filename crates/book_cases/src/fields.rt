@@ -7,14 +7,12 @@ pub fn field_end(cases: &[u8], at: usize) -> usize
     requires { at ≤ length cases.now }
     ensures { (at ≤ result) × (result ≤ length cases.now) }
 {
-    let mut i = at;
-    while i < cases.len() {
+    for i in at..cases.len() {
         if cases[i] == b'|' {
             return i;
         }
-        i += 1;
     }
-    i
+    cases.len()
 }
 
 // Where the field behind one that ends at this place starts.
@@ -29,21 +27,17 @@ pub fn field_behind(cases: &[u8], end: usize) -> usize
 
 // The byte that a byte of a case stands for.
 fn meant(b: u8) -> u8 {
-    if b == b'\n' {
-        return b'|';
+    match b {
+        b'\n' => b'|',
+        b'/' => b'\n',
+        b'\\' => b'\r',
+        _ => b,
     }
-    if b == b'/' {
-        return b'\n';
-    }
-    if b == b'\\' {
-        return b'\r';
-    }
-    b
 }
 
 // Puts a bar behind the last field of each case too, and in place of what stands for another byte that byte.
 pub fn end_fields(cases: &mut [u8]) {
-    for i in 0..cases.len() {
-        cases[i] = meant(cases[i]);
+    for b in cases.iter_mut() {
+        *b = meant(*b);
     }
 }

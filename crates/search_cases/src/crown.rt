@@ -38,22 +38,18 @@ fn fits(g: usize, h: usize) -> bool {
 // The first word of a grant in the fit table.
 fn row(g: usize) -> u64 {
     let mut word = 0;
-    let mut h = 0;
-    while h < GRANTS {
+    for h in 0..GRANTS {
         if fits(g, h) {
             word = bits::with(word, h);
         }
-        h += 1;
     }
     word
 }
 
 pub fn table() -> [u64; TABLE_WORDS] {
     let mut words = [0u64; TABLE_WORDS];
-    let mut g = 0;
-    while g < GRANTS {
+    for g in 0..GRANTS {
         words[g * KERNEL_WORDS] = row(g);
-        g += 1;
     }
     words
 }

@@ -43,12 +43,10 @@ fn same_classes<'a>(a: &'a [u8; KERNEL_LIMIT], b: &'a [u8; KERNEL_LIMIT], count:
     requires { count ≤ search_limit }
     ensures { Tells result (latest_first a.now count ≡ latest_first b.now count) }
 {
-    let mut i = 0;
-    while i < count {
+    for i in 0..count {
         if a[i] != b[i] {
             return false;
         }
-        i += 1;
     }
     true
 }

@@ -58,14 +58,15 @@ impl Session {
         ensures sound { Sound result.session }
         ensures session_value { result.answer.number ≢ 0 → result.session ≡ self }
     {
-        let found = sheet::read(s);
-        let number = found.number;
-        if number != 0 {
-            return Loaded {
-                session: self,
-                answer: LoadAnswer::refused(number),
-            };
-        }
+        let found = match sheet::read(s) {
+            Ok(found) => found,
+            Err(refusal) => {
+                return Loaded {
+                    session: self,
+                    answer: LoadAnswer::refused(refusal.number()),
+                };
+            }
+        };
         let text = kept::copied(s);
         let layout = found.layout;
         let rows = found.rows;

@@ -31,7 +31,7 @@ impl Session {
         if !self.loaded {
             return Reduced {
                 session: self,
-                answer: ReduceAnswer::refused(10),
+                answer: ReduceAnswer::refused(Refusal::NoSheet.number()),
             };
         }
         if self.reduced {

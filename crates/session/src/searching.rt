@@ -5,7 +5,7 @@ ghost use Rattle.answers.specs.Said.{search_said};
 ghost use Rattle.session.specs.CodeSession.{view, Sound};
 
 use crate::Session;
-use crate::readiness::unready;
+use crate::readiness::ready;
 use answers::SearchAnswer;
 use moves::Sizes;
 
@@ -26,11 +26,10 @@ impl Session {
         ensures sound { Sound result.session }
         ensures session_value { result.answer.number ≢ 0 → result.session ≡ self }
     {
-        let number = unready(self.loaded, self.reduced);
-        if number != 0 {
+        if let Err(refusal) = ready(self.loaded, self.reduced) {
             return Searched {
                 session: self,
-                answer: SearchAnswer::refused(number),
+                answer: SearchAnswer::refused(refusal.number()),
             };
         }
         let from = self.position;

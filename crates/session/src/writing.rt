@@ -5,7 +5,7 @@ ghost use Rattle.answers.specs.Said.{write_said};
 ghost use Rattle.session.specs.CodeSession.{view, Sound};
 
 use crate::Session;
-use crate::readiness::unready;
+use crate::readiness::ready;
 use answers::WriteAnswer;
 
 impl Session {
@@ -15,9 +15,8 @@ impl Session {
         requires { Sound self }
         ensures { Writes (view self) out.old (write_said result) out.new (view self) }
     {
-        let number = unready(self.loaded, self.reduced);
-        if number != 0 {
-            return WriteAnswer::refused(number);
+        if let Err(refusal) = ready(self.loaded, self.reduced) {
+            return WriteAnswer::refused(refusal.number());
         }
         let size = self.prepared.kernel.size;
         let removals = self.prepared.reduced.count;

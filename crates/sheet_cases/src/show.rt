@@ -44,23 +44,23 @@ fn next_part(table: &[u8], at: usize) -> usize
     requires { at < length table.now }
     ensures { (at < result) × (result ≤ length table.now) }
 {
-    let mut i = at;
-    while i < table.len() {
-        i += 1;
-        if table[i - 1] == b';' {
-            return i;
+    for i in at..table.len() {
+        if table[i] == b';' {
+            return i + 1;
         }
     }
-    i
+    table.len()
 }
 
 // Writes what a sheet is, the number that is answered for it, and its counts where it is accepted.
 pub fn show<'a>(label: &'a [u8], s: &'a [u8]) {
     io::write_all(STANDARD_OUTPUT, label);
-    let read = sheet::read(s);
-    figure(b": ", read.number);
-    if read.number == 0 {
-        counts(read);
+    match sheet::read(s) {
+        Ok(read) => {
+            figure(b": ", 0);
+            counts(read);
+        }
+        Err(refusal) => figure(b": ", refusal.number()),
     }
     io::write_all(STANDARD_OUTPUT, b"\n");
 }

@@ -7,7 +7,7 @@ ghost use Rattle.spec.specs.Limits.{role_limit};
 ghost use Rattle.spec.specs.Sheet.{sheet_of};
 ghost use Rattle.book_lines.specs.RowsSaid.{CellsWithin};
 
-use book_lines::{Counts, Writing};
+use book_lines::Counts;
 use numbers::{CELL_WORDS, ROLE_WORDS, ROW_BITS, ROW_WORDS};
 use standing::Standing;
 
@@ -24,14 +24,12 @@ fn print<'a>(
 )
     requires { (counts.roles ≤ role_limit) × CellsWithin witness.now (sheet_of s.now) }
 {
-    let read = sheet::read(s);
-    if read.number != 0 {
+    let Ok(read) = sheet::read(s) else {
         return;
-    }
+    };
     let layout = read.layout;
     let mut out = [0u8; 1024];
-    let written = book::write_if_room(&mut out, s, layout, has, gives, witness, counts);
-    let Writing::Bytes(n) = written else {
+    let Ok(n) = book::write_if_room(&mut out, s, layout, has, gives, witness, counts) else {
         return;
     };
     io::write_all(STANDARD_OUTPUT, &out[..n]);
