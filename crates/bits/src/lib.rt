@@ -6,9 +6,11 @@
 
 #![tactic(auto)]
 
+mod in_order;
 mod position;
 mod whole;
 
+pub use in_order::{WordPositions, positions};
 pub use position::{has, with, without};
 pub use whole::{apart, count, full, lowest, lowest_from, within, without_lowest};
 

@@ -44,11 +44,12 @@ fn list_word(word: u64, i: usize, cells: &mut [u16; GRANT_LIMIT], start: usize) 
         → ListedTo left ((i + 1) * word_bits) cells.new result }
 {
     let mut size = start;
-    let mut w = word;
-    while w != 0 && size < GRANT_LIMIT {
-        cells[size] = (i * WORD_BITS + bits::lowest(w)) as u16;
+    for p in bits::positions(word) {
+        if size >= GRANT_LIMIT {
+            return size;
+        }
+        cells[size] = (i * WORD_BITS + p) as u16;
         size += 1;
-        w = bits::without_lowest(w);
     }
     size
 }
