@@ -45,10 +45,8 @@ fn put_role_lines(out: &mut [u8], gives: &[u64], roles: usize, permissions: usiz
         out.old out.new result }
 {
     let mut at = 0;
-    let mut i = 0;
-    while i < roles {
+    for i in 0..roles {
         at += put_role_line(&mut out[at..], gives, RoleNo(i), permissions);
-        i += 1;
     }
     at
 }

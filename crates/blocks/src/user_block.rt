@@ -30,11 +30,9 @@ fn put_user_lines<'a, 'b>(
         out.old out.new result }
 {
     let mut at = 0;
-    let mut i = 0;
-    while i < places.len() {
+    for i in 0..places.len() {
         let name = user_name_in(s, places, UserNo(i));
         at += put_named_line(&mut out[at..], name, has, i, roles);
-        i += 1;
     }
     at
 }

@@ -30,13 +30,11 @@ fn put_cell_lines<'a, 'b>(
         out.new result }
 {
     let mut at = 0;
-    let mut i = 0;
-    while i < cells.len() {
-        let cell = cells[i] as usize;
-        let name = user_name_in(s, users, user_of(CellNo(cell)));
-        let held = permission_name_in(s, permissions, permission_of(CellNo(cell)));
+    for number in cells {
+        let cell = CellNo(usize::from(*number));
+        let name = user_name_in(s, users, user_of(cell));
+        let held = permission_name_in(s, permissions, permission_of(cell));
         at += put_pair_line(&mut out[at..], name, held);
-        i += 1;
     }
     at
 }
