@@ -50,11 +50,8 @@ fn bytes_at(places: &[u64]) -> usize
     ensures { result ≡ bytes_at places.now }
 {
     let mut total = 0;
-    let mut i = 0;
-    while i < places.len() {
-        let place = places[i];
-        total += to_of(place) - from_of(place);
-        i += 1;
+    for place in places {
+        total += to_of(*place) - from_of(*place);
     }
     total
 }
@@ -85,13 +82,11 @@ fn witness_length<'a, 'b>(
     ensures { Measured (cell_lines (sheet_of s.now) cells.now) block_most result }
 {
     let mut total = 0;
-    let mut i = 0;
-    while i < cells.len() {
-        let cell = cells[i] as usize;
-        let name = user_name_in(s, users, user_of(CellNo(cell)));
-        let held = permission_name_in(s, permissions, permission_of(CellNo(cell)));
+    for number in cells {
+        let cell = CellNo(usize::from(*number));
+        let name = user_name_in(s, users, user_of(cell));
+        let held = permission_name_in(s, permissions, permission_of(cell));
         total += name.len() + held.len() + 2;
-        i += 1;
     }
     total
 }
