@@ -9,11 +9,11 @@ ghost use Rattle.book_lines.specs.Writing.{writing_said, Writes};
 
 use crate::book::write_book;
 use book_length::book_length;
-use book_lines::{Counts, Writing};
+use book_lines::Counts;
 use names::Layout;
-use numbers::{CELL_WORDS, ROLE_WORDS};
+use numbers::{CELL_WORDS, ROLE_WORDS, Refusal};
 
-// Writes the book where the buffer is long enough, and else leaves every byte of the buffer.
+// Writes the book where the buffer is long enough, and answers how long it is; else leaves every byte of the buffer.
 pub fn write_if_room<'a>(
     out: &mut [u8],
     s: &'a [u8],
@@ -22,7 +22,7 @@ pub fn write_if_room<'a>(
     gives: &'a [u64; ROLE_WORDS],
     witness: &'a [u16],
     counts: Counts,
-) -> Writing
+) -> Result<usize, Refusal>
     requires { LaidOut s.now layout × (counts.roles ≤ role_limit)
         × CellsWithin witness.now (sheet_of s.now) }
     ensures { Writes (rows_book s.now has.now gives.now witness.now
@@ -30,7 +30,7 @@ pub fn write_if_room<'a>(
         out.old (writing_said result) out.new }
 {
     if out.len() < book_length(s, layout, witness, counts) {
-        return Writing::TooShort;
+        return Err(Refusal::BufferTooShort);
     }
-    Writing::Bytes(write_book(out, s, layout, has, gives, witness, counts))
+    Ok(write_book(out, s, layout, has, gives, witness, counts))
 }

@@ -5,7 +5,7 @@ ghost use Rattle.spec.specs.Sheet.{sheet_of};
 ghost use Rattle.spec.specs.Refusal.{accepted};
 ghost use Rattle.book_lines.specs.Lines.{permissions_line};
 
-use steps::{Step, part_end};
+use steps::part_end;
 
 // The bytes of `user`, the first field of a sheet.
 const USER_BYTES: usize = 4;
@@ -16,7 +16,7 @@ pub fn permissions_line(sheet: &[u8]) -> &[u8]
     requires { So (accepted sheet.now) }
     ensures { result.now ≡ permissions_line (sheet_of sheet.now) }
 {
-    let Step::On(end) = part_end(sheet, USER_BYTES, b'\n') else {
+    let Some(end) = part_end(sheet, USER_BYTES, b'\n') else {
         return &sheet[..0];
     };
     let next_line = end + 1;

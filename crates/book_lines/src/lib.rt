@@ -9,10 +9,8 @@ mod counts;
 mod first_line;
 mod lines;
 mod role_names;
-mod writing;
 
 pub use counts::{Counts, put_counts};
 pub use first_line::permissions_line;
 pub use lines::{put_named_line, put_pair_line};
 pub use role_names::{ROLE_NAME_BYTES, put_role_fields, put_role_name};
-pub use writing::Writing;

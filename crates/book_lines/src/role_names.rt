@@ -26,10 +26,8 @@ pub fn put_role_fields(out: &mut [u8], roles: usize) -> usize
     ensures { Written (listed roles (λ r. behind_comma (role_name r))) out.old out.new result }
 {
     let mut at = 0;
-    let mut i = 0;
-    while i < roles {
+    for i in 0..roles {
         at += put_counted(&mut out[at..], b",R", i + 1);
-        i += 1;
     }
     at
 }

@@ -15,11 +15,11 @@ returns c =
     absurd (some_feed c.args.sheet.now c.requires (rw c.in_default.is at c.part_end.ensures))
 
 -- the call, from where the first line has been read
-abbrev call : tie.In-On → tie.Start
+abbrev call : tie.In-Some → tie.Start
 call c = c.before.before.before
 
-feed : (c : tie.In-On) → Ended (call c).args.sheet.now 4 line_feed c.in-On.end
-feed c = rw c.in-On.is at c.part_end.ensures
+feed : (c : tie.In-Some) → Ended (call c).args.sheet.now 4 line_feed c.in-Some.end
+feed c = rw c.in-Some.is at c.part_end.ensures
 
 returns_2 : tie.Need-returns
 returns_2 c =
