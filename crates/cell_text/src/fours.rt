@@ -33,10 +33,8 @@ pub fn put_fours(out: &mut [u8], word: u64, fours: usize) -> usize
 {
     let table = FOURS;
     let mut at = 0;
-    let mut i = 0;
-    while i < fours {
+    for i in 0..fours {
         at += put_four(&mut out[at..], &table, word >> (4 * i));
-        i += 1;
     }
     at
 }

@@ -12,6 +12,7 @@ use cell_rows::cells_in_word;
 use numbers::ROW_WORDS;
 
 // The cell of a row of words.
+#[tactic(auto, unfolding(cell_rows::specs::Rows::row_words, cell_rows::specs::Rows::row_bits))]
 pub fn cell_at(words: &[u64], row: usize, i: usize) -> bool
     requires { (i < row_bits) × ((row + 1) * row_words ≤ length words.now) }
     ensures { result ≡ cell words.now row i }
@@ -44,27 +45,24 @@ fn put_word(out: &mut [u8], word: u64, count: usize) -> usize
 {
     let fours = count / 4;
     let mut at = put_fours(out, word, fours);
-    let mut i = 4 * fours;
-    while i < count {
+    for i in 4 * fours..count {
         let cell = bits::has(word, i);
         at += put_cell(&mut out[at..], cell);
-        i += 1;
     }
     at
 }
 
 // Writes the first `count` cells of a row, a comma before each.
+#[tactic(auto, unfolding(cell_rows::specs::Rows::row_words))]
 pub fn put_cells(out: &mut [u8], words: &[u64], row: usize, count: usize) -> usize
     requires count_le_row_bits { (count ≤ row_bits) × ((row + 1) * row_words ≤ length words.now) }
     requires count_in_bounds { length (cells_text words.now row count) ≤ length out.old }
     ensures { Written (cells_text words.now row count) out.old out.new result }
 {
     let mut at = 0;
-    let mut k = 0;
-    while k < ROW_WORDS {
+    for k in 0..ROW_WORDS {
         let here = cells_in_word(count, k);
         at += put_word(&mut out[at..], words[row * ROW_WORDS + k], here);
-        k += 1;
     }
     at
 }
