@@ -3,7 +3,7 @@ ghost use Rattle.std.specs.Prelude.{◌≡◌};
 ghost use Rattle.spec.specs.Roles.{standing_of, bound_of};
 ghost use Rattle.standing.specs.StandingCases.{standing_case};
 
-#[derive(Clone, Copy)]
+#[derive(Clone, Copy, PartialEq, Eq)]
 pub enum Standing {
     Witnessed,
     Searched,
