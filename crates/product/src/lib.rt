@@ -1,7 +1,7 @@
 // The and/or product of a role set's two matrices as rows of words: a user's row role after role, as source document
 // 001 has it, and whether the rows of all users are a sheet's.
 
-#![tactic(auto)]
+#![tactic(auto, unfolding(cell_rows::specs::Rows::row_words))]
 
 mod agreement;
 mod role_steps;

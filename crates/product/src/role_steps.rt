@@ -34,10 +34,8 @@ fn take_role(
         × RowAfter has.now gives.now u.0 (role.0 + 1) row.new }
 {
     let all = all_if(owned);
-    let mut k = 0;
-    while k < ROW_WORDS {
-        row[k] = row[k] | (all & gives[role.0 * ROW_WORDS + k]);
-        k += 1;
+    for (k, word) in row.iter_mut().enumerate() {
+        *word |= all & gives[role.0 * ROW_WORDS + k];
     }
 }
 
@@ -54,12 +52,10 @@ fn take_word(row: &mut [u64; ROW_WORDS], has: &[u64], gives: &[u64], u: UserNo, 
     let first = j * WORD_BITS;
     let count = cells_in_word(r, j);
     let mut rest = has[u.0 * ROW_WORDS + j];
-    let mut b = 0;
-    while b < count {
+    for b in 0..count {
         let role = first + b;
         take_role(row, has, gives, u, RoleNo(role), rest % 2 == 1);
-        rest = rest / 2;
-        b += 1;
+        rest /= 2;
     }
 }
 
@@ -71,10 +67,8 @@ pub fn row_after(has: &[u64], gives: &[u64], u: UserNo, r: usize) -> [u64; ROW_W
     ensures { RowAfter has.now gives.now u.0 r result }
 {
     let mut row = [0; ROW_WORDS];
-    let mut j = 0;
-    while j < ROW_WORDS {
+    for j in 0..ROW_WORDS {
         take_word(&mut row, has, gives, u, j, r);
-        j += 1;
     }
     row
 }

@@ -1,23 +1,25 @@
 -- The product of two matrices of words beside the rows of a sheet, row by row and word by word. A user's row after all
 -- roles has the cells of the product, so a word of it is the sheet's word exactly where all its cells agree, since two
 -- words are one where their bits are. Cells beyond the permissions are set on neither side.
-use Prim.Native.Nat.{ℕ, ◌+◌, ◌*◌, ◌^◌, ◌≤◌, ◌<◌}
-use Rattle.std.proofs.Common.{arith, sym, ◌∙◌}
-use Rattle.std.specs.Prelude.{◌≡◌, false, List, [], get_or}
-use Rattle.std.proofs.Math.Path.{refl}
+use Prim.Native.Nat.{ℕ, ◌+◌, ◌*◌, ◌/◌, ◌%◌, ◌^◌, ◌≤◌, ◌<◌}
+use Rattle.std.proofs.Common.{div-add-mod', mod-lt, arith, sym, ap, ◌∙◌, lit<}
+use Rattle.std.specs.Prelude.{◌≡◌, false, List, [], length, get_or}
 use Rattle.std.proofs.Math.Logic.{⊎_elim}
 use Rattle.std.proofs.Math.Bool.{Bool, So, and-false, beq}
 use Rattle.std.proofs.Math.Arith.{digits_lt, digits_div, digits_mod}
 use Rattle.std.proofs.Math.ListN.{get_or-eq_default}
+use Rattle.std.proofs.lemmas.List.{ext_get_or}
+use Rattle.std.specs.Bool.{Decides}
 use Rattle.spec.specs.Vocabulary.{every_below}
 use Rattle.spec.specs.Sheet.{Sheet, user_count, permission_count, holds}
 use Rattle.spec.specs.RoleSet.{product}
 use Rattle.spec.specs.Refusal.{product_agrees}
-use Rattle.bits.specs.Truth.{fails_unless, same_truth, and_intro, beq_same, beq_refl}
-use Rattle.bits.specs.Laws.Below.{below_or_from, every_below_intro, every_below_elim, every_below_ext, every_below_add}
+use Rattle.bits.specs.Truth.{same_truth, beq_same, beq_refl}
+use Rattle.bits.specs.Laws.Below.{below_or_from, every_below_intro, every_below_elim, every_below_ext}
 use Rattle.bits.specs.Bit.{bit, word_bits}
 use Rattle.bits.specs.Laws.Bit.{bit_ext}
 use Rattle.cell_rows.specs.Rows.{row_words, row_bits, cell, RowsOf}
+use Rattle.cell_rows.specs.Laws.Width.{word_in_row}
 use Rattle.rules.specs.AcceptedFacts.{Lawful}
 use Rattle.product.specs.RowAfter.{roles_in, RowAfter}
 use Rattle.product.specs.RowAgrees.{cell_agrees, row_agrees}
@@ -34,43 +36,35 @@ module _ (rows has gives : List ℕ) (roles u : ℕ) where
   word_cell given k q h l =
       rw (← given.cells roles (k * word_bits + q) (digits_lt h l), digits_div k l, digits_mod k l)
 
-  -- the cells of the words below k agree
-  pub record WordsAgree (k : ℕ) : Type 0 where
-    pub cells : So (every_below (k * word_bits) (cell_agrees rows (roles_in has gives roles) u))
+  -- a user's row is a part of as many words of the sheet's rows exactly where all its cells agree
+  module _ {row part : List ℕ} (given : RowAfter has gives u roles row) (width : length row ≡ row_words)
+      (same_width : length part ≡ row_words)
+      (here : (k : ℕ) → k < row_words → get_or part k 0 ≡ get_or rows (u * row_words + k) 0) where
+    same_agrees : row ≡ part → So (row_agrees rows (roles_in has gives roles) u)
+    unfolding row_agrees
+    same_agrees same =
+        every_below_intro row_bits (cell_agrees rows (roles_in has gives roles) u)
+        (λ p l.
+        let h : p / word_bits < row_words = word_in_row p l in
+        ap (cell_agrees rows (roles_in has gives roles) u) (sym (div-add-mod' p word_bits))
+        ∙ word_cell given (p / word_bits) (p % word_bits) h (mod-lt p (lit< tt))
+        ∙ rw (ap (λ (words : List ℕ). get_or words (p / word_bits) 0) same ∙ here (p / word_bits) h)
+        (beq_refl (bit (get_or rows (u * row_words + p / word_bits) 0) (p % word_bits))))
 
-  pub words_start : WordsAgree 0
-  unfolding every_below
-  words_start = record { cells = refl }
-
-  pub words_more : {k : ℕ} {row : List ℕ} → WordsAgree k → RowAfter has gives u roles row → k < row_words
-      → get_or row k 0 ≡ get_or rows (u * row_words + k) 0 → WordsAgree (k + 1)
-  words_more {k} {row} a given h same =
-      let longer : (k + 1) * word_bits ≡ k * word_bits + word_bits = omega arith in
-      record {
-        cells =
-            rw (longer, every_below_add (k * word_bits) word_bits (cell_agrees rows (roles_in has gives roles) u))
-            (and_intro (every_below (k * word_bits) (cell_agrees rows (roles_in has gives roles) u))
-            (every_below word_bits (λ q. cell_agrees rows (roles_in has gives roles) u (k * word_bits + q))) a.cells
-            (every_below_intro word_bits (λ q. cell_agrees rows (roles_in has gives roles) u (k * word_bits + q))
-            (λ q l. word_cell given k q h l ∙ rw (← same) (beq_refl (bit (get_or row k 0) q)))));
-      }
-
-  pub words_end : {k : ℕ} → WordsAgree k → k ≡ row_words → So (row_agrees rows (roles_in has gives roles) u)
-  unfolding row_agrees row_bits
-  words_end a e = rw e at a.cells
-
-  -- a word that is another has a cell that does not agree
-  pub word_differs : {k : ℕ} {row : List ℕ} → RowAfter has gives u roles row → k < row_words
-      → get_or row k 0 < 2 ^ word_bits → get_or rows (u * row_words + k) 0 < 2 ^ word_bits
-      → (get_or row k 0 ≡ get_or rows (u * row_words + k) 0 → ⊥)
-      → row_agrees rows (roles_in has gives roles) u ≡ false
-  unfolding row_agrees row_bits
-  word_differs {k} {row} given h small other differ =
-      fails_unless (every_below (row_words * word_bits) (cell_agrees rows (roles_in has gives roles) u)) (λ all.
-      differ (bit_ext word_bits (get_or row k 0) (get_or rows (u * row_words + k) 0) small other (λ q l.
-      beq_same (bit (get_or row k 0) q) (bit (get_or rows (u * row_words + k) 0) q)
-      (sym (word_cell given k q h l)
-      ∙ every_below_elim (row_words * word_bits) (cell_agrees rows (roles_in has gives roles) u) all (digits_lt h l)))))
+    pub agrees_where_same : ((k : ℕ) → get_or row k 0 < 2 ^ word_bits) → ((k : ℕ) → get_or rows k 0 < 2 ^ word_bits)
+        → Decides (row_agrees rows (roles_in has gives roles) u) (row ≡ part)
+    unfolding row_agrees row_bits
+    agrees_where_same small other = (
+      (λ all. ext_get_or 0 row part (width ∙ sym same_width) (λ k l.
+          let h : k < row_words = omega arith in
+          bit_ext word_bits (get_or row k 0) (get_or rows (u * row_words + k) 0) (small k) (other (u * row_words + k))
+          (λ q m. beq_same (bit (get_or row k 0) q) (bit (get_or rows (u * row_words + k) 0) q)
+          (sym (word_cell given k q h m)
+          ∙ every_below_elim (row_words * word_bits) (cell_agrees rows (roles_in has gives roles) u) all
+          (digits_lt h m)))
+          ∙ sym (here k h))),
+      same_agrees,
+    )
 
 -- ---- the rows are the sheet's
 
