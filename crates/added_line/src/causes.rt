@@ -3,37 +3,39 @@ ghost use Rattle.std.specs.Prelude.{◌≡◌};
 ghost use Rattle.spec.specs.Refusal.{first_number};
 ghost use Rattle.spec.specs.Newcomer.{longer_causes};
 ghost use Rattle.names.specs.LaidOut.{LaidOut};
+ghost use Rattle.numbers.specs.Refusal.{number_said};
 
 use names::Layout;
-use numbers::{GRANT_LIMIT, SHEET_LIMIT};
+use numbers::{GRANT_LIMIT, Refusal, SHEET_LIMIT};
 use refusal::{has_bad_bytes, read_body};
 
-// The lowest of 1, 2, 5, 6, 7 and 9 that applies to an accepted sheet with a line added, and 0 where none does.
-pub fn judge_line<'a>(sheet: &'a [u8], layout: Layout, line: &'a [u8]) -> usize
+// Whether an accepted sheet with a line added is accepted but for names that stand twice and too many users, and else
+// the cause of the lowest number that applies.
+pub fn judge_line(sheet: &[u8], layout: Layout, line: &[u8]) -> Result<(), Refusal>
     requires { LaidOut sheet.now layout }
-    ensures { result ≡ first_number (longer_causes sheet.now line.now) }
+    ensures { number_said result ≡ first_number (longer_causes sheet.now line.now) }
 {
     if SHEET_LIMIT - sheet.len() < line.len() {
-        return 1;
+        return Err(Refusal::SheetTooLong);
     }
     if has_bad_bytes(line) {
-        return 2;
+        return Err(Refusal::BadBytes);
     }
     let body = read_body(line, 0, layout.permissions);
     if body.users != 1 {
-        return 2;
+        return Err(Refusal::BadBytes);
     }
     if !body.names {
-        return 5;
+        return Err(Refusal::NameLength);
     }
     if !body.even {
-        return 6;
+        return Err(Refusal::UnevenLine);
     }
     if !body.bits {
-        return 7;
+        return Err(Refusal::BadCell);
     }
     if GRANT_LIMIT < layout.grants + body.ones {
-        return 9;
+        return Err(Refusal::TooManyGrants);
     }
-    0
+    Ok(())
 }
