@@ -20,21 +20,20 @@ pub struct Kernel {
 }
 
 // The lowest cell from a place on that is set, else the end of the users' rows.
+#[tactic(auto, unfolding(spec::specs::Limits::user_limit, cell_rows::specs::Rows::row_words, cell_rows::specs::Rows::row_bits))]
 pub fn next_cell(words: &[u64; CELL_WORDS], users: usize, from: CellNo) -> CellNo
     requires { (users ≤ user_limit) × (from.0 ≤ users * row_bits) }
     ensures { NextFrom (marked words.now) from.0 (users * row_bits) result.0 }
 {
-    let mut n = from.0;
-    while n < users * ROW_BITS {
-        let i = n / WORD_BITS;
-        let p = bits::lowest_from(words[i], n % WORD_BITS);
+    let mut start = from.0 % WORD_BITS;
+    for i in from.0 / WORD_BITS..users * ROW_WORDS {
+        let p = bits::lowest_from(words[i], start);
         if p < WORD_BITS {
-            let found = i * WORD_BITS + p;
-            return CellNo(found);
+            return CellNo(i * WORD_BITS + p);
         }
-        n = (i + 1) * WORD_BITS;
+        start = 0;
     }
-    CellNo(n)
+    CellNo(users * ROW_BITS)
 }
 
 // The cells of word i of a set, put in behind those that are there, as far as there is room. How many there are then.
@@ -55,21 +54,21 @@ fn list_word(word: u64, i: usize, cells: &mut [u16; GRANT_LIMIT], start: usize) 
 }
 
 // The grants of a set in order. The set has no more of them than a sheet can have, and past them the array is 0.
+#[tactic(auto, unfolding(spec::specs::Limits::user_limit, spec::specs::Limits::grant_limit, cell_rows::specs::Rows::row_words, cell_rows::specs::Rows::row_bits))]
 pub fn listed(left: &[u64; CELL_WORDS], users: usize) -> Kernel
     requires { (users ≤ user_limit) × Roomy left.now (users * row_bits) }
     ensures { Listed left.now users result.cells result.size }
 {
     let mut cells = [0; GRANT_LIMIT];
     let mut size = 0;
-    let mut i = 0;
-    while i < users * ROW_WORDS {
+    for i in 0..users * ROW_WORDS {
         size = list_word(left[i], i, &mut cells, size);
-        i += 1;
     }
     Kernel { cells, size }
 }
 
 // The user of a cell.
+#[tactic(auto, unfolding(cell_rows::specs::Rows::row_words, cell_rows::specs::Rows::row_bits))]
 pub fn user_of(cell: CellNo) -> UserNo
     ensures { result.0 ≡ cell.0 / row_bits }
 {
@@ -77,6 +76,7 @@ pub fn user_of(cell: CellNo) -> UserNo
 }
 
 // The permission of a cell.
+#[tactic(auto, unfolding(cell_rows::specs::Rows::row_words, cell_rows::specs::Rows::row_bits))]
 pub fn permission_of(cell: CellNo) -> PermissionNo
     ensures { result.0 ≡ cell.0 % row_bits }
 {
@@ -84,15 +84,12 @@ pub fn permission_of(cell: CellNo) -> PermissionNo
 }
 
 // Whether a user holds a permission, as the rows say.
+#[tactic(auto, unfolding(cell_rows::specs::Rows::row_words))]
 pub fn holds(rows: &[u64], u: UserNo, p: PermissionNo) -> bool
     requires { u.0 * row_words + p.0 / word_bits < 2 ^ word_bits }
     ensures { result ≡ cell rows.now u.0 p.0 }
 {
     let p = p.0;
     let i = u.0 * ROW_WORDS + p / WORD_BITS;
-    if i < rows.len() {
-        bits::has(rows[i], p % WORD_BITS)
-    } else {
-        false
-    }
+    i < rows.len() && bits::has(rows[i], p % WORD_BITS)
 }

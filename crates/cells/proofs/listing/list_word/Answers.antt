@@ -3,7 +3,7 @@
 use Rattle.std.proofs.Common.{arith}
 use Rattle.spec.specs.Limits.{user_limit, grant_limit}
 use Rattle.cell_rows.specs.Rows.{row_words}
-use Rattle.cells.specs.KernelList.{word_starts, next_listed, word_listed, word_cut}
+use Rattle.cells.specs.KernelList.{next_listed, word_listed, word_cut}
 use Rattle.cells.proofs.listing.list_word.Goals as goal
 
 pub returns-then-size-ge-GRANT_LIMIT : goal.returns-then-size-ge-GRANT_LIMIT
