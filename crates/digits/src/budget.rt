@@ -16,9 +16,7 @@ pub fn read_budget(word: &[u8]) -> Option<u32>
     if word.len() == 0 {
         return None;
     }
-    let Some(n) = digits_of(word, BUDGET_CAP) else {
-        return None;
-    };
+    let n = digits_of(word, BUDGET_CAP)?;
     if n < BUDGET_CAP { Some(n as u32) } else { None }
 }
 
@@ -26,10 +24,7 @@ pub fn read_budget(word: &[u8]) -> Option<u32>
 pub fn budget_of(word: &[u8]) -> u32
     ensures { result ≡ budget_of (word.now ∷ []) }
 {
-    match read_budget(word) {
-        Some(n) => n,
-        None => 0,
-    }
+    read_budget(word).unwrap_or(0)
 }
 
 // The searches that the long search makes where no number of them is given.

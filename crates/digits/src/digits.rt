@@ -20,17 +20,11 @@ pub fn digits_of(field: &[u8], cap: usize) -> Option<usize>
     ensures { result ≡ digits_read cap 0 field.now }
 {
     let mut n = 0;
-    let mut i = 0;
-    while i < field.len() {
-        let b = field[i];
-        if b < b'0' {
+    for b in field {
+        if !b.is_ascii_digit() {
             return None;
         }
-        if b'9' < b {
-            return None;
-        }
-        n = with_digit(n, b, cap);
-        i += 1;
+        n = with_digit(n, *b, cap);
     }
     Some(n)
 }
