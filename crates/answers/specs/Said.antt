@@ -1,14 +1,15 @@
 -- The answers of the code as the calls have them. Assumes nothing.
-use Rattle.std.proofs.Math.Option.{Option, none, some}
+use Rattle.std.specs.Prelude.{Option, Some, None}
+use Rattle.std.proofs.Math.Option.{none, some}
+use Rattle.std.proofs.Math.Option as math
 use Rattle.spec.specs.Roles.{Standing}
 use Rattle.spec.specs.Calls.{LoadAnswer, ReduceAnswer, SearchAnswer, WriteAnswer}
 use Rattle.standing.specs.StandingCases.{standing_case}
+use Rattle.standing.specs.declared.standing.Standing.{Standing as StandingValue}
 use Rattle.answers.specs.declared.answer.LoadAnswer.{LoadAnswer as LoadValue}
 use Rattle.answers.specs.declared.answer.ReduceAnswer.{ReduceAnswer as ReduceValue}
 use Rattle.answers.specs.declared.answer.SearchAnswer.{SearchAnswer as SearchValue}
 use Rattle.answers.specs.declared.answer.WriteAnswer.{WriteAnswer as WriteValue}
-use Rattle.answers.specs.declared.answer.Named.{Named}
-use Rattle.answers.specs.declared.answer.Named.TheVariants as named
 
 abbrev pub load_said : LoadValue → LoadAnswer
 load_said a = record { number = a.number; users = a.users; permissions = a.permissions; grants = a.grants }
@@ -17,9 +18,9 @@ abbrev pub reduce_said : ReduceValue → ReduceAnswer
 reduce_said a = record { number = a.number; kernel = a.kernel; witness = a.witness }
 
 -- the state that is named
-abbrev pub state_said : Named → Option Standing
-state_said named.Nothing = none
-state_said (named.State s) = some (standing_case s)
+abbrev pub state_said : Option StandingValue → math.Option Standing
+state_said None = none
+state_said (Some s) = some (standing_case s)
 
 abbrev pub search_said : SearchValue → SearchAnswer
 search_said a =

@@ -6,8 +6,9 @@ ghost use Rattle.standing.specs.StandingCases.{standing_case};
 ghost use Rattle.book_lines.specs.Writing.{writing_said};
 ghost use Rattle.answers.specs.Said.{load_said, reduce_said, search_said, write_said};
 
-use book_lines::{Counts, Writing};
+use book_lines::Counts;
 use moves::Kinds;
+use numbers::Refusal;
 use standing::Standing;
 
 // A load's counts: users, permissions and grants.
@@ -29,14 +30,8 @@ pub struct ReduceAnswer {
     pub witness: usize,
 }
 
-// The state that a search names; a refused one names none.
-#[derive(Clone, Copy)]
-pub enum Named {
-    Nothing,
-    State(Standing),
-}
-
-// A search's steps, how many of them placed, took back and closed, its roles, bound and state.
+// A search's steps, how many of them placed, took back and closed, its roles, bound and state; a refused search names
+// no state.
 #[derive(Clone, Copy)]
 pub struct SearchAnswer {
     pub number: usize,
@@ -46,7 +41,7 @@ pub struct SearchAnswer {
     pub closed: u32,
     pub roles: usize,
     pub bound: usize,
-    pub state: Named,
+    pub state: Option<Standing>,
 }
 
 // A writing's byte count.
@@ -108,7 +103,7 @@ impl SearchAnswer {
             closed: 0,
             roles: 0,
             bound: 0,
-            state: Named::Nothing,
+            state: None,
         }
     }
 
@@ -125,7 +120,6 @@ impl SearchAnswer {
           standing = some (standing_case counts.standing);
         } }
     {
-        let standing = counts.standing;
         SearchAnswer {
             number: 0,
             steps,
@@ -134,7 +128,7 @@ impl SearchAnswer {
             closed: kinds.closed,
             roles: counts.roles,
             bound: counts.bound,
-            state: Named::State(standing),
+            state: Some(counts.standing),
         }
     }
 }
@@ -148,12 +142,12 @@ impl WriteAnswer {
     }
 
     // What writing a book answered: its byte count, or that the buffer is shorter than the book.
-    pub fn of(writing: Writing) -> WriteAnswer
-        ensures { write_said result ≡ writing_said writing }
+    pub fn of(written: Result<usize, Refusal>) -> WriteAnswer
+        ensures { write_said result ≡ writing_said written }
     {
-        match writing {
-            Writing::Bytes(count) => WriteAnswer { number: 0, count },
-            Writing::TooShort => WriteAnswer::refused(11),
+        match written {
+            Ok(count) => WriteAnswer { number: 0, count },
+            Err(refusal) => WriteAnswer::refused(refusal.number()),
         }
     }
 }

@@ -6,5 +6,5 @@
 mod answer;
 mod counts;
 
-pub use answer::{LoadAnswer, Named, ReduceAnswer, SearchAnswer, WriteAnswer};
+pub use answer::{LoadAnswer, ReduceAnswer, SearchAnswer, WriteAnswer};
 pub use counts::counts_at;
