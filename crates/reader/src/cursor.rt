@@ -1,12 +1,12 @@
 // A sheet is read from front to back, field after field and line after line: the loops keep a cursor by value, and a
 // reader that holds the sheet and its place gives the field that stands there.
-ghost use Rattle.std.specs.Prelude.{◌≡◌, not, ◌+◌, eqb, get_or, drop};
+ghost use Rattle.std.specs.Prelude.{◌≡◌, not, ◌+◌, ◌≤◌, eqb, length, get_or, drop};
 ghost use Rattle.spec.specs.Text.{comma};
 ghost use Rattle.lists.specs.Span.{span};
 ghost use Rattle.reader.specs.Fields.{field_read};
 ghost use Rattle.text.specs.Line.{separator};
 
-use text::{COMMA, is_separator};
+use text::{COMMA, is_separator, stands_at};
 
 // A place in a text.
 #[derive(Clone, Copy)]
@@ -57,7 +57,7 @@ fn next_field<'a>(reader: Reader<'a>) -> FieldRead
 fn read_field(s: &[u8], at: usize) -> FieldRead
     ensures { result ≡ field_read s.now at }
 {
-    let from = if at < s.len() { at } else { s.len() };
+    let from = at.min(s.len());
     let to = field_end(s, from);
     FieldRead {
         from,
@@ -69,21 +69,20 @@ fn read_field(s: &[u8], at: usize) -> FieldRead
 
 // Where the field that starts at `at` ends.
 fn field_end(s: &[u8], at: usize) -> usize
+    requires { at ≤ length s.now }
     ensures { result ≡ at + span separator (drop at s.now) }
 {
-    let mut i = at;
-    while i < s.len() {
+    for i in at..s.len() {
         if is_separator(s[i]) {
             return i;
         }
-        i += 1;
     }
-    i
+    s.len()
 }
 
 // Whether a field that ends at `to` is the last of its line: no comma stands there.
 fn ends_line(s: &[u8], to: usize) -> bool
     ensures { result ≡ not (eqb (get_or s.now to 0) comma) }
 {
-    if to < s.len() { s[to] != COMMA } else { true }
+    !stands_at(s, to, COMMA)
 }
