@@ -29,12 +29,10 @@ fn find_between<'a, 'b>(
     requires { Inside s.now places.now × (high ≤ length places.now) }
     ensures { FoundBetween s.now places.now name.now low high result }
 {
-    let mut i = low;
-    while i < high {
+    for i in low..high {
         if same_name(name, part_at(s, places, i)) {
             return Some(i);
         }
-        i += 1;
     }
     None
 }
