@@ -71,6 +71,7 @@ fn carry_out<'a>(
 }
 
 // All remaining grants are visited, in rising number, and each is judged against those remaining at that moment.
+#[tactic(auto, unfolding(spec::specs::Limits::user_limit, cell_rows::specs::Rows::row_words))]
 fn sweep<'a>(
     rows: &'a [u64; CELL_WORDS],
     columns: &'a [u64; PLACE_WORDS],
@@ -87,12 +88,10 @@ fn sweep<'a>(
         (work_of left.new removed.new partner.new result) }
 {
     let mut count = count;
-    let mut u = 0;
-    while u < users {
+    for u in 0..users {
         if has_grants(left, UserNo(u)) {
             let inside = insides(rows, columns, left, UserNo(u));
-            let mut d = 0;
-            while d < ROW_WORDS {
+            for d in 0..ROW_WORDS {
                 let i = u * ROW_WORDS + d;
                 let mut w = left[i];
                 while w != 0 {
@@ -101,15 +100,14 @@ fn sweep<'a>(
                     count = carry_out(left, removed, partner, count, CellNo(n), verdict);
                     w = bits::without_lowest(w);
                 }
-                d += 1;
             }
         }
-        u += 1;
     }
     count
 }
 
 // How many of the removals are singles.
+#[tactic(auto, unfolding(spec::specs::Limits::grant_limit))]
 fn count_singles<'a>(
     removed: &'a [u16; GRANT_LIMIT],
     partner: &'a [u16; GRANT_LIMIT],
@@ -119,12 +117,10 @@ fn count_singles<'a>(
     ensures { result ≡ length (singles_of (log_of removed.now partner.now count)) }
 {
     let mut singles = 0;
-    let mut i = 0;
-    while i < count {
+    for i in 0..count {
         if removed[i] == partner[i] {
             singles += 1;
         }
-        i += 1;
     }
     singles
 }

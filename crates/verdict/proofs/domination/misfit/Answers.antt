@@ -4,9 +4,6 @@ use Rattle.verdict.specs.Laws.Misfit.{suspects_word}
 use Rattle.verdict.specs.Laws.MisfitWalk.{first_misfit, no_misfit_then, no_misfit_first}
 use Rattle.verdict.proofs.domination.misfit.Goals as goal
 
-pub loop-j-init : goal.loop-j-init
-loop-j-init c n l = absurd (omega arith)
-
 pub returns-then-q-lt-WORD_BITS : goal.returns-then-q-lt-WORD_BITS
 returns-then-q-lt-WORD_BITS c =
     let a = c.args in

@@ -3,11 +3,8 @@ use Rattle.std.proofs.Common.{arith, ◌≡◌, zero-le}
 use Rattle.cell_rows.specs.Laws.Width.{rows_cells}
 use Rattle.verdict.specs.Misfits.{users_before}
 use Rattle.verdict.specs.Laws.NearTie.{none_then_none, none_then_lowest, lowest_with_more, found_in, none_found}
-use Rattle.verdict.specs.Laws.TieWalk.{none_at_first, before_within}
+use Rattle.verdict.specs.Laws.TieWalk.{before_within}
 use Rattle.verdict.proofs.judgement.tie.Goals as goal
-
-pub loop-j-init : goal.loop-j-init
-loop-j-init c = none_at_first c.args.users
 
 pub returns-then-is_some : goal.returns-then-is_some
 returns-then-is_some c =

@@ -13,10 +13,6 @@ use Rattle.verdict.specs.Laws.NearTie.{found_in, none_found}
 use Rattle.verdict.specs.Laws.TieWalk.{lowest_in_column, none_in_column}
 use Rattle.verdict.proofs.judgement.tie_among.Goals as goal
 
-pub holders-requires : goal.holders-requires
-unfolding row_words row_bits
-holders-requires c = omega (arith, c.permission_of.ensures)
-
 pub loop-w-init : goal.loop-w-init
 unfolding row_words row_bits
 loop-w-init c =
@@ -51,9 +47,6 @@ returns-then-is_some c =
     (λ n low. lowest_in_column (tie_at a.rows.now a.left.now a.users a.it.0) a.users a.j c.requires.2
     at.walk c.lowest.ensures
     (at.within c.lowest.result c.lowest.ensures.within (at.walk.kept c.lowest.result c.lowest.ensures.holds)) low)
-
-pub loop-w-smaller : goal.loop-w-smaller
-loop-w-smaller c = c.without_lowest-w.ensures.less
 
 pub loop-w-preserved : goal.loop-w-preserved
 loop-w-preserved c =

@@ -1,0 +1,32 @@
+-- `reduction::reduction::sweep`: after u users their cells were visited, of those that remained at first; within a
+-- user's row, after d words the cells of those words. Within a word, the cells still to be visited are at the
+-- positions of w, and remain. The users whose grants they can be tied to stay the same.
+use Rattle.std.proofs.Common.{◌*◌, get_or}
+use Rattle.cell_rows.specs.Rows.{row_words}
+use Rattle.verdict.specs.Insides.{Insides}
+use Rattle.verdict.specs.ReductionWork.{work_of, word_cells}
+use Rattle.reduction.specs.Laws.ReductionSweep.{Sweeping, SweepingUser, Swept}
+use Rattle.reduction.proofs.reduction.sweep.Given as goal
+
+abbrev pub invariant-loop-u : goal.invariant-loop-u
+invariant-loop-u l =
+    Swept l.rows l.users (l.u * row_words)
+    (work_of l.initial.left l.initial.removed l.initial.partner l.initial.count)
+    (work_of l.left l.removed l.partner l.count)
+
+abbrev pub invariant-loop-d : goal.invariant-loop-d
+invariant-loop-d l =
+    SweepingUser l.rows l.users l.u l.inside
+    (work_of l.initial.left l.initial.removed l.initial.partner l.initial.count)
+    (work_of l.left l.removed l.partner l.count) l.d
+
+abbrev pub invariant-loop-w : goal.invariant-loop-w
+invariant-loop-w l = record {
+  sweeping : Sweeping l.rows l.users l.i (word_cells l.i (get_or l.initial.left l.i 0))
+      (work_of l.initial.left l.initial.removed l.initial.partner l.initial.count)
+      (work_of l.left l.removed l.partner l.count) l.w;
+  insides : Insides l.rows l.left l.u l.inside;
+}
+
+abbrev pub decreases-loop-w : goal.decreases-loop-w
+decreases-loop-w l = l.w
