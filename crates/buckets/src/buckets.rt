@@ -34,10 +34,8 @@ fn bucket_of(name: &[u8]) -> usize
     ensures { result ≡ bucket_of name.now }
 {
     let mut h = 0;
-    let mut i = 0;
-    while i < name.len() {
-        h = (h * SPREAD + letter(name[i])) % BUCKETS;
-        i += 1;
+    for b in name {
+        h = (h * SPREAD + letter(*b)) % BUCKETS;
     }
     h
 }
@@ -84,13 +82,11 @@ fn meets_bucket<'a, 'b>(
     ensures { result ≡ meets_bucket s.now places.now table.now bucket words
         name.now }
 {
-    let mut k = 0;
-    while k < words {
+    for k in 0..words {
         let at = bucket * BUCKET_WORDS + k;
         if meets_word(s, places, table[at], k * WORD_BITS, name) {
             return true;
         }
-        k += 1;
     }
     false
 }
@@ -100,26 +96,24 @@ fn repeated_few<'a>(s: &'a [u8], places: &'a [u64]) -> bool
     requires { Inside s.now places.now × (length places.now ≤ word_bits) }
     ensures { result ≡ repeats same_name (all_names s.now places.now) }
 {
-    let mut i = 0;
-    while i < places.len() {
+    for i in 0..places.len() {
         let name = part_at(s, places, i);
         if meets_word(s, places, bits::full(i), 0, name) {
             return true;
         }
-        i += 1;
     }
     false
 }
 
 // Whether two names are equal, by buckets: the table has a bit for each name before number i, in the bucket of that
 // name.
+#[tactic(auto, using(crate::specs::Laws::Bucket::bucket_below), unfolding(spec::specs::Limits::user_limit))]
 fn repeated_by_buckets<'a>(s: &'a [u8], places: &'a [u64]) -> bool
     requires { Inside s.now places.now }
     ensures { result ≡ repeats same_name (all_names s.now places.now) }
 {
     let mut table = [0; TABLE_WORDS];
-    let mut i = 0;
-    while i < places.len() {
+    for i in 0..places.len() {
         let name = part_at(s, places, i);
         let bucket = bucket_of(name);
         let k = i / WORD_BITS;
@@ -128,7 +122,6 @@ fn repeated_by_buckets<'a>(s: &'a [u8], places: &'a [u64]) -> bool
         }
         let at = bucket * BUCKET_WORDS + k;
         table[at] = bits::with(table[at], i % WORD_BITS);
-        i += 1;
     }
     false
 }
@@ -139,7 +132,8 @@ pub fn repeated_in<'a>(s: &'a [u8], places: &'a [u64]) -> bool
     ensures { result ≡ repeats same_name (all_names s.now places.now) }
 {
     if places.len() <= FEW {
-        return repeated_few(s, places);
+        repeated_few(s, places)
+    } else {
+        repeated_by_buckets(s, places)
     }
-    repeated_by_buckets(s, places)
 }
