@@ -14,10 +14,6 @@ returns-then-out-book_length c =
 pub book_length-requires : goal.book_length-requires
 book_length-requires c = (c.requires.0, le_trans c.requires.1 roles_fit, c.requires.2)
 
-pub write_book-requires-clause-counts_in_bounds : goal.write_book-requires-clause-counts_in_bounds
-write_book-requires-clause-counts_in_bounds c =
-    omega (arith, c.if-out-book_length.false, c.book_length.ensures c.args.has.now c.args.gives.now)
-
 pub returns : goal.returns
 returns c =
     let a = c.args in
