@@ -61,6 +61,7 @@ fn better_in_word<'a>(
 }
 
 // The remaining grant with the fewest partners, the lowest on a tie.
+#[tactic(auto, unfolding(spec::specs::Limits::user_limit, cell_rows::specs::Rows::row_words))]
 pub fn fewest<'a>(
     left: &'a [u64; CELL_WORDS],
     counts: &'a [u16; CELL_LIMIT],
@@ -74,15 +75,14 @@ pub fn fewest<'a>(
         cell: CellNo(0),
         partners: 0,
     };
-    let mut i = 0;
-    while i < users * ROW_WORDS {
+    for i in 0..users * ROW_WORDS {
         best = better_in_word(best, left, counts, i);
-        i += 1;
     }
     best
 }
 
 // What is left for further choice once the grant at a cell is taken: the grants that do not fit it.
+#[tactic(auto, unfolding(spec::specs::Limits::user_limit, cell_rows::specs::Rows::row_words))]
 pub fn dropped<'a>(
     rows: &'a [u64; CELL_WORDS],
     left: &'a [u64; CELL_WORDS],
@@ -93,10 +93,8 @@ pub fn dropped<'a>(
     ensures { MadeCells (left_over rows.now left.now it.0) (cells_of users) result }
 {
     let mut words = [0; CELL_WORDS];
-    let mut i = 0;
-    while i < users * ROW_WORDS {
+    for i in 0..users * ROW_WORDS {
         words[i] = bits::apart(left[i], fitting(rows, it, i));
-        i += 1;
     }
     words
 }

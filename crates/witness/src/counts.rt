@@ -36,10 +36,8 @@ fn take_off_in_row(counts: &mut [u16; CELL_LIMIT], v: UserNo, own: &[u64; ROW_WO
     ensures { TakenOff (in_row v.0 own.now) (λ (n : ℕ). by) counts.old
         counts.new }
 {
-    let mut k = 0;
-    while k < ROW_WORDS {
-        take_off_at(counts, v.0 * ROW_WORDS + k, own[k], by);
-        k += 1;
+    for (k, some) in own.iter().enumerate() {
+        take_off_at(counts, v.0 * ROW_WORDS + k, *some, by);
     }
 }
 
@@ -115,11 +113,9 @@ fn take_off<'a>(
     if !has_any(&words) {
         return;
     }
-    let mut j = 0;
-    while j < COLUMN_WORDS {
+    for j in 0..COLUMN_WORDS {
         let some = union_of_row(columns, &words, 0, j);
         take_off_for_users(counts, rows, left, these, j, some);
-        j += 1;
     }
 }
 
@@ -139,12 +135,10 @@ pub fn recount<'a>(
         × ((n : ℕ) → marked rest.now n ≡ false
         → get_or counts.new n 0 ≡ get_or counts.old n 0) }
 {
-    let mut u = 0;
-    while u < users {
+    for u in 0..users {
         let user = UserNo(u);
         let words = row_apart(left, rest, user);
         let closed = SomeGrants { user, words };
         take_off(counts, rows, columns, rest, closed);
-        u += 1;
     }
 }

@@ -17,6 +17,7 @@ use fit::{COLUMN_WORDS, PLACE_WORDS};
 use numbers::{CELL_LIMIT, CELL_WORDS, PermissionNo, ROW_WORDS, USER_LIMIT, UserNo};
 
 // How many grants of each user have permissions that user v holds.
+#[tactic(auto, unfolding(spec::specs::Limits::user_limit))]
 fn shares_of<'a>(
     rows: &'a [u64; CELL_WORDS],
     left: &'a [u64; CELL_WORDS],
@@ -27,12 +28,10 @@ fn shares_of<'a>(
     ensures { SharesOf rows.now left.now v.0 users result }
 {
     let mut shares = [0; USER_LIMIT];
-    let mut u = 0;
-    while u < users {
+    for u in 0..users {
         let row = row_of(left, UserNo(u));
         let share = shared_by(rows, &row, v);
         shares[u] = share as u16;
-        u += 1;
     }
     shares
 }
@@ -53,16 +52,15 @@ fn sum_in_word(shares: &[u16; USER_LIMIT], j: usize, word: u64) -> u16
 }
 
 // The sum of the shares of the users who hold a permission.
+#[tactic(auto, unfolding(spec::specs::Limits::user_limit, cell_rows::specs::Rows::row_words, cell_rows::specs::Rows::row_bits))]
 fn sum_in_column(columns: &[u64; PLACE_WORDS], shares: &[u16; USER_LIMIT], p: PermissionNo) -> u16
     requires { (p.0 < row_bits) × Bounded shares.now }
     ensures { result ≡ gathered columns.now shares.now p.0 }
 {
     let mut sum = 0;
-    let mut j = 0;
-    while j < COLUMN_WORDS {
+    for j in 0..COLUMN_WORDS {
         let word = columns[p.0 * COLUMN_WORDS + j];
         sum += sum_in_word(shares, j, word);
-        j += 1;
     }
     sum
 }
@@ -103,10 +101,8 @@ fn count_in_row(
     ensures { ChangedAt (in_row v.0 row.now) (λ (n count : ℕ). gathered columns.now
         shares.now (n % row_bits)) counts.old counts.new }
 {
-    let mut k = 0;
-    while k < ROW_WORDS {
-        count_in_word(counts, columns, shares, v, k, row[k]);
-        k += 1;
+    for (k, word) in row.iter().enumerate() {
+        count_in_word(counts, columns, shares, v, k, *word);
     }
 }
 
@@ -143,10 +139,8 @@ pub fn first_counts<'a>(
         × ((n : ℕ) → marked left.now n ≡ false → get_or result n 0 ≡ 0) }
 {
     let mut counts = [0; CELL_LIMIT];
-    let mut v = 0;
-    while v < USER_LIMIT {
+    for v in 0..USER_LIMIT {
         count_user(&mut counts, rows, columns, left, users, UserNo(v));
-        v += 1;
     }
     counts
 }

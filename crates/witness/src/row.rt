@@ -9,20 +9,19 @@ ghost use Rattle.witness.specs.CountChange.{shared};
 use numbers::{CELL_WORDS, ROW_WORDS, UserNo};
 
 // The row of a user.
+#[tactic(auto, unfolding(spec::specs::Limits::user_limit, cell_rows::specs::Rows::row_words))]
 pub fn row_of(words: &[u64; CELL_WORDS], u: UserNo) -> [u64; ROW_WORDS]
     requires { u.0 < user_limit }
     ensures { MadeCells (cell words.now u.0) row_bits result }
 {
+    let first = u.0 * ROW_WORDS;
     let mut row = [0; ROW_WORDS];
-    let mut k = 0;
-    while k < ROW_WORDS {
-        row[k] = words[u.0 * ROW_WORDS + k];
-        k += 1;
-    }
+    row.copy_from_slice(&words[first..first + ROW_WORDS]);
     row
 }
 
 // What the row of user u has in the one set and not in the other.
+#[tactic(auto, unfolding(spec::specs::Limits::user_limit, cell_rows::specs::Rows::row_words))]
 pub fn row_apart<'a>(
     words: &'a [u64; CELL_WORDS],
     others: &'a [u64; CELL_WORDS],
@@ -33,16 +32,15 @@ pub fn row_apart<'a>(
         && not (cell others.now u.0 p)) row_bits result }
 {
     let mut row = [0; ROW_WORDS];
-    let mut k = 0;
-    while k < ROW_WORDS {
+    for (k, word) in row.iter_mut().enumerate() {
         let i = u.0 * ROW_WORDS + k;
-        row[k] = bits::apart(words[i], others[i]);
-        k += 1;
+        *word = bits::apart(words[i], others[i]);
     }
     row
 }
 
 // What the row of user u in the one set and the row of user v in the other have in common.
+#[tactic(auto, unfolding(spec::specs::Limits::user_limit, cell_rows::specs::Rows::row_words))]
 pub fn row_common<'a>(
     words: &'a [u64; CELL_WORDS],
     u: UserNo,
@@ -54,10 +52,8 @@ pub fn row_common<'a>(
         && cell others.now v.0 p) row_bits result }
 {
     let mut row = [0; ROW_WORDS];
-    let mut k = 0;
-    while k < ROW_WORDS {
-        row[k] = words[u.0 * ROW_WORDS + k] & others[v.0 * ROW_WORDS + k];
-        k += 1;
+    for (k, word) in row.iter_mut().enumerate() {
+        *word = words[u.0 * ROW_WORDS + k] & others[v.0 * ROW_WORDS + k];
     }
     row
 }
@@ -66,26 +62,18 @@ pub fn row_common<'a>(
 pub fn has_any(row: &[u64; ROW_WORDS]) -> bool
     ensures { result ≡ some_below row_words (λ (k : ℕ). not (eqb (get_or row.now k 0) 0)) }
 {
-    let mut k = 0;
-    while k < ROW_WORDS {
-        if row[k] != 0 {
-            return true;
-        }
-        k += 1;
-    }
-    false
+    row.iter().any(|word| *word != 0)
 }
 
 // How many permissions of a row user v holds.
+#[tactic(auto, unfolding(spec::specs::Limits::user_limit, cell_rows::specs::Rows::row_words))]
 pub fn shared_by(rows: &[u64; CELL_WORDS], row: &[u64; ROW_WORDS], v: UserNo) -> usize
     requires { v.0 < user_limit }
     ensures { result ≡ shared rows.now row.now v.0 }
 {
     let mut n = 0;
-    let mut k = 0;
-    while k < ROW_WORDS {
-        n += bits::count(row[k] & rows[v.0 * ROW_WORDS + k]);
-        k += 1;
+    for (k, word) in row.iter().enumerate() {
+        n += bits::count(*word & rows[v.0 * ROW_WORDS + k]);
     }
     n
 }

@@ -17,15 +17,14 @@ pub fn put_cell(words: &mut [u64; CELL_WORDS], cell: CellNo)
 }
 
 // How many cells of the users a set has.
+#[tactic(auto, unfolding(spec::specs::Limits::user_limit, cell_rows::specs::Rows::row_words))]
 pub fn counted(words: &[u64; CELL_WORDS], users: usize) -> usize
     requires { users ≤ user_limit }
     ensures { result ≡ count_below (cells_of users) (marked words.now) }
 {
     let mut n = 0;
-    let mut i = 0;
-    while i < users * ROW_WORDS {
-        n += bits::count(words[i]);
-        i += 1;
+    for word in &words[..users * ROW_WORDS] {
+        n += bits::count(*word);
     }
     n
 }

@@ -38,8 +38,7 @@ fn choose<'a>(
     }
     let mut counts = first_counts(rows, columns, kernel, users);
     let mut left = *kernel;
-    let mut count = 0;
-    while count < GRANT_LIMIT {
+    for _ in 0..GRANT_LIMIT {
         let best = fewest(&left, &counts, users);
         let cell = best.cell;
         if best.partners == 0 {
@@ -49,11 +48,11 @@ fn choose<'a>(
         let rest = dropped(rows, &left, users, cell);
         recount(&mut counts, rows, columns, &left, &rest, users);
         left = rest;
-        count += 1;
     }
 }
 
 // The cells of the grants that a log of removals has as single.
+#[tactic(auto, unfolding(spec::specs::Limits::grant_limit, spec::specs::Limits::user_limit, cell_rows::specs::Rows::row_words))]
 pub fn single_cells<'a>(
     removed: &'a [u16; GRANT_LIMIT],
     partner: &'a [u16; GRANT_LIMIT],
@@ -63,14 +62,12 @@ pub fn single_cells<'a>(
     ensures { CellsOf result (singles_of (log_of removed.now partner.now count)) }
 {
     let mut cells = [0; CELL_WORDS];
-    let mut i = 0;
-    while i < count {
+    for i in 0..count {
         let at = removed[i];
         if at == partner[i] {
             let cell = at as usize;
             put_cell(&mut cells, CellNo(cell));
         }
-        i += 1;
     }
     cells
 }

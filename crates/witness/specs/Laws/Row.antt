@@ -1,7 +1,11 @@
 -- The words of one row: a set of permissions.
-use Rattle.std.specs.Prelude.{ℕ, ◌+◌, ◌*◌, ◌/◌, ◌%◌, ◌<◌, ◌≡◌, false, not, ◌&&◌, List, eqb, get_or}
-use Rattle.std.proofs.Common.{ap, ◌∙◌, eqb-true}
+use Rattle.std.specs.Prelude.{ℕ, zero, suc, ◌+◌, ◌*◌, ◌/◌, ◌%◌, ◌≤◌, ◌<◌, ◌≡◌, refl, Bool, false, not, ◌&&◌, ◌||◌, List, eqb, length, get_or, take, drop}
+use Rattle.std.specs.List.{list_any}
+use Rattle.std.proofs.Common.{arith, ap, ◌∙◌, add-one, eqb-true, get_or-take, get_or-drop, length-take}
+use Rattle.std.proofs.Math.ListN.{get_or-eq_default}
+use Rattle.std.proofs.Math.Bool.{or_comm}
 use Rattle.std.proofs.lemmas.Bool.{not-false}
+use Rattle.std.proofs.lemmas.List.Folds.{list_any_more}
 use Rattle.std.proofs.Math.Arith.{digits_div, digits_mod}
 use Rattle.std.specs.Int.Bits.{bit_and}
 use Rattle.bits.specs.Counting.{some_below}
@@ -10,6 +14,7 @@ use Rattle.bits.specs.Bit.{bit, word_bits}
 use Rattle.bits.specs.Laws.Bit.{bit_of_and, bit_of_zero}
 use Rattle.cell_rows.specs.Rows.{row_words, row_bits, cell}
 use Rattle.cell_rows.specs.CellPlaces.{marked}
+use Rattle.cells.specs.MadeCells.{MadeCells}
 use Rattle.cell_rows.specs.Laws.Width.{word_in_row, cell_word, cell_position}
 use Rattle.fit.specs.Laws.FitWord.{marked_in_word}
 
@@ -38,3 +43,24 @@ pub shared_word : (rows row : List ℕ) (v k q : ℕ) → q < word_bits
 shared_word rows row v k q l =
     bit_of_and (get_or row k 0) (get_or rows (v * row_words + k) 0) q
     ∙ rw (marked_in_word row k q l, cell_in_word rows v k q l)
+
+-- the words of a row are those of its user
+pub row_taken : (words : List ℕ) (u : ℕ) → MadeCells (cell words u) row_bits
+    (take row_words (drop (u * row_words) words))
+unfolding row_bits row_words
+row_taken words u = record {
+  inside = λ n l. ap (λ w. bit w (n % word_bits)) (get_or-take 2 (drop (u * 2) words) (n / word_bits) 0 (word_in_row n l)
+      ∙ get_or-drop (u * 2) words (n / word_bits) 0);
+  outside = λ n l. rw (get_or-eq_default (take 2 (drop (u * 2) words)) 0 {n = n / word_bits} (simp length-take (omega arith)))
+      (bit_of_zero (n % word_bits));
+}
+
+-- what a list has among its first elements, by their places
+pub any_below : (p : ℕ → Bool) (xs : List ℕ) (n : ℕ) → n ≤ length xs
+    → list_any p (take n xs) ≡ some_below n (λ k. p (get_or xs k 0))
+unfolding some_below
+any_below p xs zero l = refl
+any_below p xs (suc n) l =
+    rw (add-one n) at (list_any_more p xs n 0 (omega arith))
+    ∙ or_comm (list_any p (take n xs)) (p (get_or xs n 0))
+    ∙ ap (λ b. p (get_or xs n 0) || b) (any_below p xs n (omega arith))
