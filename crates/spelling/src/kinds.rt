@@ -51,5 +51,5 @@ pub fn name_length(field: &[u8]) -> bool
 pub fn is_within(low: usize, high: usize, n: usize) -> bool
     ensures { result ≡ between low high n }
 {
-    low <= n && n <= high
+    (low..=high).contains(&n)
 }
