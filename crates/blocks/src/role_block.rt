@@ -16,8 +16,8 @@ use text::put_bytes;
 
 // Writes the line of names: `role`, and the permissions as they stand behind `user` in the sheet's own first line.
 fn put_role_heading(out: &mut [u8], s: &[u8]) -> usize
-    requires so { So (accepted s.now) }
-    requires s_in_bounds { length (line_text (role_heading (sheet_of s.now))) ≤ length out.old }
+    requires sheet { So (accepted s.now) }
+    requires room { length (line_text (role_heading (sheet_of s.now))) ≤ length out.old }
     ensures { Written (line_text (role_heading (sheet_of s.now))) out.old
         out.new result }
 {
@@ -27,8 +27,8 @@ fn put_role_heading(out: &mut [u8], s: &[u8]) -> usize
 
 // Writes the line of a role.
 fn put_role_line(out: &mut [u8], gives: &[u64], role: RoleNo, permissions: usize) -> usize
-    requires role_lt_row_bits { (role.0 < row_bits) × (permissions ≤ row_bits) × ((role.0 + 1) * row_words ≤ length gives.now) }
-    requires role_in_bounds { length (line_text (role_line gives.now permissions role.0)) ≤ length out.old }
+    requires within { (role.0 < row_bits) × (permissions ≤ row_bits) × ((role.0 + 1) * row_words ≤ length gives.now) }
+    requires room { length (line_text (role_line gives.now permissions role.0)) ≤ length out.old }
     ensures { Written (line_text (role_line gives.now permissions role.0)) out.old
         out.new result }
 {
@@ -39,8 +39,8 @@ fn put_role_line(out: &mut [u8], gives: &[u64], role: RoleNo, permissions: usize
 
 // Writes the lines of so many roles.
 fn put_role_lines(out: &mut [u8], gives: &[u64], roles: usize, permissions: usize) -> usize
-    requires roles_le_row_bits { (roles ≤ row_bits) × (permissions ≤ row_bits) × (roles * row_words ≤ length gives.now) }
-    requires r_in_bounds { length (listed roles (λ r. line_text (role_line gives.now permissions r))) ≤ length out.old }
+    requires within { (roles ≤ row_bits) × (permissions ≤ row_bits) × (roles * row_words ≤ length gives.now) }
+    requires room { length (listed roles (λ r. line_text (role_line gives.now permissions r))) ≤ length out.old }
     ensures { Written (listed roles (λ r. line_text (role_line gives.now permissions r)))
         out.old out.new result }
 {

@@ -23,7 +23,7 @@ fn put_user_lines<'a, 'b>(
 ) -> usize
     requires users_at { UsersAt s.now places.now × (roles ≤ row_bits)
         × (user_count (sheet_of s.now) * row_words ≤ length has.now) }
-    requires u_in_bounds { length (listed (user_count (sheet_of s.now))
+    requires room { length (listed (user_count (sheet_of s.now))
         (λ u. line_text (user_line (sheet_of s.now) has.now roles u))) ≤ length out.old }
     ensures { Written (listed (user_count (sheet_of s.now))
         (λ u. line_text (user_line (sheet_of s.now) has.now roles u)))

@@ -25,7 +25,7 @@ fn put_cell_lines<'a, 'b>(
 ) -> usize
     requires users_at { UsersAt s.now users.now × PermissionsAt s.now permissions.now
         × CellsWithin cells.now (sheet_of s.now) }
-    requires cells_in_bounds { length (cell_lines (sheet_of s.now) cells.now) ≤ length out.old }
+    requires room { length (cell_lines (sheet_of s.now) cells.now) ≤ length out.old }
     ensures { Written (cell_lines (sheet_of s.now) cells.now) out.old
         out.new result }
 {
