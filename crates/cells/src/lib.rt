@@ -1,6 +1,6 @@
 // Cells by number, sets of cells, and the cells of a set in order.
 
-#![tactic(auto)]
+#![tactic(auto, unfolding(spec::specs::Limits::user_limit, cell_rows::specs::Rows::row_words, cell_rows::specs::Rows::row_bits))]
 
 mod listing;
 

@@ -20,7 +20,6 @@ pub struct Kernel {
 }
 
 // The lowest cell from a place on that is set, else the end of the users' rows.
-#[tactic(auto, unfolding(spec::specs::Limits::user_limit, cell_rows::specs::Rows::row_words, cell_rows::specs::Rows::row_bits))]
 pub fn next_cell(words: &[u64; CELL_WORDS], users: usize, from: CellNo) -> CellNo
     requires { (users ≤ user_limit) × (from.0 ≤ users * row_bits) }
     ensures { NextFrom (marked words.now) from.0 (users * row_bits) result.0 }
@@ -54,7 +53,6 @@ fn list_word(word: u64, i: usize, cells: &mut [u16; GRANT_LIMIT], start: usize) 
 }
 
 // The grants of a set in order. The set has no more of them than a sheet can have, and past them the array is 0.
-#[tactic(auto, unfolding(spec::specs::Limits::user_limit, spec::specs::Limits::grant_limit, cell_rows::specs::Rows::row_words, cell_rows::specs::Rows::row_bits))]
 pub fn listed(left: &[u64; CELL_WORDS], users: usize) -> Kernel
     requires { (users ≤ user_limit) × Roomy left.now (users * row_bits) }
     ensures { Listed left.now users result.cells result.size }
@@ -68,7 +66,6 @@ pub fn listed(left: &[u64; CELL_WORDS], users: usize) -> Kernel
 }
 
 // The user of a cell.
-#[tactic(auto, unfolding(cell_rows::specs::Rows::row_words, cell_rows::specs::Rows::row_bits))]
 pub fn user_of(cell: CellNo) -> UserNo
     ensures { result.0 ≡ cell.0 / row_bits }
 {
@@ -76,7 +73,6 @@ pub fn user_of(cell: CellNo) -> UserNo
 }
 
 // The permission of a cell.
-#[tactic(auto, unfolding(cell_rows::specs::Rows::row_words, cell_rows::specs::Rows::row_bits))]
 pub fn permission_of(cell: CellNo) -> PermissionNo
     ensures { result.0 ≡ cell.0 % row_bits }
 {
@@ -84,7 +80,6 @@ pub fn permission_of(cell: CellNo) -> PermissionNo
 }
 
 // Whether a user holds a permission, as the rows say.
-#[tactic(auto, unfolding(cell_rows::specs::Rows::row_words))]
 pub fn holds(rows: &[u64], u: UserNo, p: PermissionNo) -> bool
     requires { u.0 * row_words + p.0 / word_bits < 2 ^ word_bits }
     ensures { result ≡ cell rows.now u.0 p.0 }
