@@ -1,7 +1,7 @@
 -- What the code has read of a book and what the book says. The counts are read up to a bound, the matrices are rows
 -- of words and the witness has the grants of its first lines; where the counts agree, that is all of them. So each of
 -- the three judgements by what was read is that by what is said.
-use Rattle.std.specs.Prelude.{ℕ, ◌*◌, ◌≤◌, ◌<◌, ◌≡◌, false, ◌&&◌, List, eqb, length}
+use Rattle.std.specs.Prelude.{ℕ, ◌*◌, ◌≤◌, ◌<◌, ◌≡◌, false, ◌&&◌, List, eqb, length, Result, Ok, Err}
 use Rattle.std.proofs.Common.{arith, ap}
 use Rattle.std.proofs.Math.Bool.{So}
 use Rattle.spec.specs.Vocabulary.{every_below}
@@ -14,6 +14,8 @@ use Rattle.spec.specs.Right.{BoundAgrees}
 use Rattle.spec.specs.Refusal.{bound_agrees, counts_agree, product_agrees, witness_agrees}
 use Rattle.spec.specs.Calls.{CheckAnswer, check_refused, check_counts}
 use Rattle.lists.specs.EachLaws.{Each}
+use Rattle.numbers.specs.Refusal.{number_of}
+use Rattle.numbers.specs.declared.refusal.Refusal.{Refusal}
 use Rattle.cell_rows.specs.Rows.{row_words, row_bits, cell, RowsOf}
 use Rattle.rules.specs.AcceptedFacts.{Lawful}
 use Rattle.product.specs.RowAfter.{roles_in}
@@ -33,6 +35,11 @@ use Rattle.right.specs.Judgement.{judged_number, answered}
 -- the answer that the code gives, as the definitions have it
 abbrev pub answer_of : Checked → CheckAnswer
 answer_of c = record { number = c.number; roles = c.roles; witness_lines = c.witness_lines }
+
+-- the answer for a book of so many roles and witness lines, by whether it was refused
+abbrev pub answer_as : {T : Type 0} → ℕ → ℕ → Result T Refusal → CheckAnswer
+answer_as roles lines (Ok value) = record { number = 0; roles = roles; witness_lines = lines }
+answer_as roles lines (Err cause) = check_refused (number_of cause)
 
 -- this is said
 pub record Says (sheet : Sheet) (counts : Counts) (roles : ℕ) (has gives : List ℕ) (w : Witness) (says : Said) : Type

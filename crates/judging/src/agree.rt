@@ -11,24 +11,9 @@ fn bound_agrees(standing: Standing, bound: usize, roles: usize, lines: usize) ->
     ensures { result ≡ bound_agrees (standing_case standing) bound roles lines }
 {
     match standing {
-        Standing::Witnessed => {
-            if bound != roles {
-                return false;
-            }
-            roles == lines
-        }
-        Standing::Searched => {
-            if bound != roles {
-                return false;
-            }
-            lines < roles
-        }
-        Standing::Open => {
-            if bound != lines {
-                return false;
-            }
-            lines < roles
-        }
+        Standing::Witnessed => bound == roles && roles == lines,
+        Standing::Searched => bound == roles && lines < roles,
+        Standing::Open => bound == lines && lines < roles,
     }
 }
 
@@ -37,9 +22,5 @@ pub fn counts_agree(counts: Counts, roles: usize, lines: usize) -> bool
     ensures { result ≡ (eqb counts.roles roles && bound_agrees (standing_case counts.standing) counts.bound
         roles lines) }
 {
-    if counts.roles != roles {
-        return false;
-    }
-    let standing = counts.standing;
-    bound_agrees(standing, counts.bound, roles, lines)
+    counts.roles == roles && bound_agrees(counts.standing, counts.bound, roles, lines)
 }

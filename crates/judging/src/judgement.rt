@@ -6,11 +6,13 @@ ghost use Rattle.spec.specs.Refusal.{accepted};
 ghost use Rattle.spec.specs.Calls.{check_refused};
 ghost use Rattle.cell_rows.specs.Rows.{row_words};
 ghost use Rattle.cells.specs.RowsRead.{RowsRead};
-ghost use Rattle.judging.specs.BookSays.{BookSays, answer_of, JudgedAs};
+ghost use Rattle.numbers.specs.Refusal.{number_of};
+ghost use Rattle.judging.specs.BookSays.{BookSays, answer_of, answer_as, JudgedAs};
 
 use crate::agree::counts_agree;
 use crate::witness_lines::witness_stands;
 use book_lines::Counts;
+use numbers::Refusal;
 use product::rows_agree;
 use read_fields::Witness;
 
@@ -24,20 +26,20 @@ pub struct Checked {
     pub witness_lines: usize,
 }
 
-// What was read of blocks 1 and 2: what block 1 says, how many roles block 2 has, and where to go on.
+// What is read of a book: what block 1 says, how many roles block 2 has, and the witness.
 #[derive(Clone, Copy)]
-pub struct Front {
+pub struct BookRead {
     pub counts: Counts,
     pub roles: usize,
-    pub next: usize,
+    pub witness: Witness,
 }
 
-// A number with counts 0.
-pub fn refused(number: usize) -> Checked
-    ensures { answer_of result ≡ check_refused number }
+// The number of a refusal with counts 0.
+pub fn refused(refusal: Refusal) -> Checked
+    ensures { answer_of result ≡ check_refused (number_of refusal) }
 {
     Checked {
-        number,
+        number: refusal.number(),
         roles: 0,
         witness_lines: 0,
     }
@@ -49,33 +51,27 @@ pub fn judge_book<'a>(
     sheet: &'a [u8],
     rows: &'a [u64],
     users: usize,
-    front: Front,
+    book: BookRead,
     has: &'a [u64],
     gives: &'a [u64],
-    witness: Witness,
-) -> Checked
+) -> Result<(), Refusal>
     requires so { So (accepted sheet.now) × RowsRead rows.now (sheet_of sheet.now)
         × (users ≡ user_count (sheet_of sheet.now)) }
-    requires book_says { BookSays (sheet_of sheet.now) front.counts front.roles has.now gives.now witness }
+    requires book_says { BookSays (sheet_of sheet.now) book.counts book.roles has.now gives.now book.witness }
     requires row_words_in_bounds { (users * row_words ≤ length rows.now) × (users * row_words ≤ length has.now)
-        × (front.roles * row_words ≤ length gives.now) }
-    ensures { JudgedAs (sheet_of sheet.now) front.counts front.roles has.now
-        gives.now witness (answer_of result) }
+        × (book.roles * row_words ≤ length gives.now) }
+    ensures { JudgedAs (sheet_of sheet.now) book.counts book.roles has.now gives.now book.witness
+        (answer_as book.roles book.witness.lines result) }
 {
-    let counts = front.counts;
-    let roles = front.roles;
-    if !counts_agree(counts, roles, witness.lines) {
-        return refused(13);
+    let roles = book.roles;
+    if !counts_agree(book.counts, roles, book.witness.lines) {
+        return Err(Refusal::BookCounts);
     }
     if !rows_agree(rows, has, gives, roles, users) {
-        return refused(14);
+        return Err(Refusal::BookProduct);
     }
-    if !witness_stands(rows, witness) {
-        return refused(15);
+    if !witness_stands(rows, book.witness) {
+        return Err(Refusal::BookWitness);
     }
-    Checked {
-        number: 0,
-        roles,
-        witness_lines: witness.lines,
-    }
+    Ok(())
 }

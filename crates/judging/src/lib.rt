@@ -7,4 +7,4 @@ mod agree;
 mod judgement;
 mod witness_lines;
 
-pub use judgement::{Checked, Front, judge_book, refused};
+pub use judgement::{BookRead, Checked, judge_book, refused};

@@ -65,14 +65,12 @@ fn fits_a_noted(
     ensures { result ≡ fits_noted rows.now taken.now owners.now line }
 {
     let permission = line.permission;
-    let mut k = 0;
-    while k < ROW_WORDS {
+    for k in 0..ROW_WORDS {
         let first = PermissionNo(k * WORD_BITS);
         let some = rows[line.user.0 * ROW_WORDS + k] & taken[k];
         if an_owner_holds(rows, owners, first, some, permission) {
             return true;
         }
-        k += 1;
     }
     false
 }
@@ -85,8 +83,7 @@ pub fn witness_stands(rows: &[u64], witness: Witness) -> bool
 {
     let mut taken = [0; ROW_WORDS];
     let mut owners = [0; ROW_BITS];
-    let mut j = 0;
-    while j < witness.lines {
+    for j in 0..witness.lines {
         let line = witness.first[j];
         if !held(rows, line) {
             return false;
@@ -97,7 +94,6 @@ pub fn witness_stands(rows: &[u64], witness: Witness) -> bool
         let permission = line.permission.0;
         mark(&mut taken, permission);
         owners[permission] = line.user.0;
-        j += 1;
     }
     true
 }
