@@ -1,13 +1,12 @@
 -- Cells that stand in a text, each a comma and `0` or `1`, and the word that says which of them are `1`. Assumes
 -- nothing.
 use Rattle.std.specs.Prelude.{ℕ, ◌+◌, ◌*◌, ◌≤◌, ◌<◌, ◌≡◌, Bool, true, false, ◌&&◌, ◌||◌, eqb, length, get_or}
+use Rattle.std.specs.Prelude.{Option, Some, None}
 use Prim.Native.Char.{code}
-use Rattle.std.proofs.Math.Bool.{So}
 use Rattle.spec.specs.Text.{Bytes, comma}
 use Rattle.bits.specs.Bit.{bit}
 use Rattle.lists.specs.Listed.{listed}
 use Rattle.cell_text.specs.CellsText.{cell_field}
-use Rattle.cells_read.specs.declared.line_cells.CellsWord.{CellsWord}
 
 -- the byte of a cell
 abbrev pub cell_byte : Bool → ℕ
@@ -33,8 +32,7 @@ pub record CellsIn (text : Bytes) (at count word : ℕ) : Type 0 where
   pub stand : CellsStand text at count (bit word)
   pub beyond : (q : ℕ) → count ≤ q → bit word q ≡ false
 
--- what reading so many cells gives: their word, or that no such cells stand there, and then no position
-pub record WordOfCells (text : Bytes) (at count : ℕ) (r : CellsWord) : Type 0 where
-  pub good : So r.good → CellsIn text at count r.word
-  pub off : r.good ≡ false → (ones : ℕ → Bool) → CellsStand text at count ones → ⊥
-  pub blank : r.good ≡ false → r.word ≡ 0
+-- what reading so many cells gives: their word, or that no such cells stand there
+abbrev pub WordOfCells : Bytes → ℕ → ℕ → Option ℕ → Type 0
+WordOfCells text at count (Some word) = CellsIn text at count word
+WordOfCells text at count None = (ones : ℕ → Bool) → CellsStand text at count ones → ⊥

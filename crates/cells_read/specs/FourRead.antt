@@ -1,6 +1,7 @@
 -- Four cells, each behind a comma, read from the eight bytes of one number, the lowest byte first; and the positions
 -- of twice four cells brought side by side. Assumes nothing.
 use Rattle.std.specs.Prelude.{ℕ, ◌+◌, ◌*◌, ◌/◌, ◌%◌, ◌^◌, ◌<◌, ◌≡◌, refl, Bool, true, false, ◌&&◌, eqb, get_or}
+use Rattle.std.specs.Prelude.{Option, Some, None}
 use Rattle.std.proofs.Common.{zero-mul, one-mul, arith, sym, ap, ◌∙◌, ⊎_elim, eqb-true, pow_pos}
 use Rattle.std.proofs.Math.Bool.{So, and-false}
 use Rattle.std.specs.Int.Bits.{bit_and, bit_or, and_lt, or_zero_r}
@@ -12,7 +13,6 @@ use Rattle.bits.specs.Counting.{one_if}
 use Rattle.bits.specs.Bit.{bit}
 use Rattle.cell_text.specs.FourCells.{four_word, one_if_small}
 use Rattle.spec.specs.Text.{Bytes}
-use Rattle.cells_read.specs.declared.line_cells.CellsWord.{CellsWord}
 
 -- four cells that are not set: the bytes `,0,0,0,0`
 abbrev pub no_cells : ℕ
@@ -49,12 +49,10 @@ SetsCells n = n ≡ four_set (bit n 8) (bit n 24) (bit n 40) (bit n 56)
 abbrev pub set_word : ℕ → ℕ
 set_word n = four_word (bit n 8) (bit n 24) (bit n 40) (bit n 56)
 
--- what the number of four cells has beyond that of cells that are not set; or that it is the number of no four cells,
--- and then nothing
-pub record SetOf (n : ℕ) (r : CellsWord) : Type 0 where
-  pub good : So r.good → (n ≡ no_cells + r.word) × SetsCells r.word
-  pub off : r.good ≡ false → (a b c d : Bool) → n ≡ no_cells + four_set a b c d → ⊥
-  pub blank : r.good ≡ false → r.word ≡ 0
+-- what the number of four cells has beyond that of cells that are not set; or that it is the number of no four cells
+abbrev pub SetOf : ℕ → Option ℕ → Type 0
+SetOf n (Some set) = (n ≡ no_cells + set) × SetsCells set
+SetOf n None = (a b c d : Bool) → n ≡ no_cells + four_set a b c d → ⊥
 
 -- a test that passes in both cases, and one of four truth values that passes in all sixteen
 abbrev each : (Bool → Bool) → Bool

@@ -1,12 +1,10 @@
 // Cells read eight at once: the eight bytes of each four as one number.
-ghost use Rattle.std.specs.Prelude.{◌≡◌, ◌+◌, ◌*◌, ◌^◌, ◌≤◌, ◌<◌, length};
+ghost use Rattle.std.specs.Prelude.{◌≡◌, ◌+◌, ◌*◌, ◌^◌, ◌≤◌, ◌<◌, length, IfSome};
 ghost use Rattle.std.specs.Int.Bits.{bit_or};
 ghost use Rattle.bits.specs.Counting.{one_if};
 ghost use Rattle.bits.specs.Bit.{bit, word_bits};
 ghost use Rattle.cells_read.specs.CellsWord.{WordOfCells};
 ghost use Rattle.cells_read.specs.FourRead.{four_set, SetsCells, set_word, FourBytes, EightBytes, SetOf};
-
-use crate::line_cells::CellsWord;
 
 // Four cells that are not set, each behind a comma: the bytes `,0,0,0,0`, the first the lowest.
 const NO_CELLS: u64 = 0x302c_302c_302c_302c;
@@ -31,21 +29,15 @@ fn kept_cells(n: u64) -> u64
 }
 
 // What the number of four cells has beyond `NO_CELLS`: the positions 8, 24, 40, 56 of those that are set, not yet side
-// by side. Where it is the number of no four cells, it is off.
-fn set_of(n: u64) -> CellsWord
+// by side; nothing where it is the number of no four cells.
+fn set_of(n: u64) -> Option<u64>
     ensures { SetOf n result }
 {
     let set = kept_cells(n);
     if n != NO_CELLS + set {
-        return CellsWord {
-            good: false,
-            word: 0,
-        };
+        return None;
     }
-    CellsWord {
-        good: true,
-        word: set,
-    }
+    Some(set)
 }
 
 // The positions of twice four cells, side by side, of two numbers that have no others. The second number's are moved up
@@ -78,76 +70,49 @@ fn eight_bytes(s: &[u8], at: usize) -> u64
 }
 
 // Reads four cells from a place on.
-fn four_cells(s: &[u8], at: usize) -> CellsWord
+fn four_cells(s: &[u8], at: usize) -> Option<u64>
     requires { at + 8 ≤ length s.now }
-    ensures { (result.word < 2 ^ 4) × WordOfCells s.now at 4 result }
+    ensures small { IfSome result (λ w. w < 2 ^ 4) }
+    ensures cells { WordOfCells s.now at 4 result }
 {
-    let set = set_of(eight_bytes(s, at));
-    if !set.good {
-        return set;
-    }
-    CellsWord {
-        good: true,
-        word: side_by_side(set.word, 0),
-    }
+    let set = set_of(eight_bytes(s, at))?;
+    Some(side_by_side(set, 0))
 }
 
 // Reads eight cells from a place on.
-fn eight_cells(s: &[u8], at: usize) -> CellsWord
+fn eight_cells(s: &[u8], at: usize) -> Option<u64>
     requires { at + 16 ≤ length s.now }
-    ensures { (result.word < 2 ^ 8) × WordOfCells s.now at 8 result }
+    ensures small { IfSome result (λ w. w < 2 ^ 8) }
+    ensures cells { WordOfCells s.now at 8 result }
 {
-    let first = set_of(eight_bytes(s, at));
-    if !first.good {
-        return first;
-    }
-    let second = set_of(eight_bytes(s, at + 8));
-    if !second.good {
-        return second;
-    }
-    CellsWord {
-        good: true,
-        word: side_by_side(first.word, second.word),
-    }
+    let first = set_of(eight_bytes(s, at))?;
+    let second = set_of(eight_bytes(s, at + 8))?;
+    Some(side_by_side(first, second))
 }
 
 // Reads so many times eight cells from a place on.
-fn eights_word(s: &[u8], at: usize, eights: usize) -> CellsWord
+fn eights_word(s: &[u8], at: usize, eights: usize) -> Option<u64>
     requires { (at + 2 * (8 * eights) ≤ length s.now) × (8 * eights ≤ word_bits) }
     ensures { WordOfCells s.now at (8 * eights) result }
 {
     let mut word = 0;
-    let mut i = 0;
-    while i < eights {
-        let eight = eight_cells(s, at + 16 * i);
-        if !eight.good {
-            return eight;
-        }
-        word = word | (eight.word << (8 * i));
-        i += 1;
+    for i in 0..eights {
+        let eight = eight_cells(s, at + 16 * i)?;
+        word |= eight << (8 * i);
     }
-    CellsWord { good: true, word }
+    Some(word)
 }
 
 // Reads so many times four cells from a place on: eight by eight, and the last four where the number of fours is odd.
-pub fn fours_word(s: &[u8], at: usize, fours: usize) -> CellsWord
+pub fn fours_word(s: &[u8], at: usize, fours: usize) -> Option<u64>
     requires { (at + 2 * (4 * fours) ≤ length s.now) × (4 * fours ≤ word_bits) }
     ensures { WordOfCells s.now at (4 * fours) result }
 {
     let eights = fours / 2;
-    let read = eights_word(s, at, eights);
-    if !read.good {
-        return read;
-    }
+    let word = eights_word(s, at, eights)?;
     if fours % 2 == 0 {
-        return read;
+        return Some(word);
     }
-    let last = four_cells(s, at + 16 * eights);
-    if !last.good {
-        return last;
-    }
-    CellsWord {
-        good: true,
-        word: read.word | (last.word << (8 * eights)),
-    }
+    let last = four_cells(s, at + 16 * eights)?;
+    Some(word | (last << (8 * eights)))
 }

@@ -6,46 +6,26 @@ ghost use Rattle.cells_read.specs.CellsWord.{cell_stands, WordOfCells};
 use crate::four_cells::fours_word;
 use text::COMMA;
 
-// Whether all cells stand there, and which of them are `1`. Where one does not stand there, the word is 0.
-#[derive(Clone, Copy)]
-pub struct CellsWord {
-    pub good: bool,
-    pub word: u64,
-}
-
-// Reads so many cells from a place on, each a comma and `0` or `1`.
-pub fn cells_word(s: &[u8], at: usize, count: usize) -> CellsWord
+// Reads so many cells from a place on, each a comma and `0` or `1`: the word that says which are `1`, where all stand
+// there.
+pub fn cells_word(s: &[u8], at: usize, count: usize) -> Option<u64>
     requires { (at ≤ length s.now) × (count ≤ word_bits) }
     ensures { WordOfCells s.now at count result }
 {
     if s.len() - at < 2 * count {
-        return CellsWord {
-            good: false,
-            word: 0,
-        };
+        return None;
     }
-    let fours = fours_word(s, at, count / 4);
-    if !fours.good {
-        return CellsWord {
-            good: false,
-            word: 0,
-        };
-    }
-    let mut word = fours.word;
-    let mut i = 4 * (count / 4);
-    while i < count {
+    let fours = count / 4;
+    let mut word = fours_word(s, at, fours)?;
+    for i in 4 * fours..count {
         let place = at + 2 * i;
         let cell = s[place + 1];
         if !is_cell(s[place], cell) {
-            return CellsWord {
-                good: false,
-                word: 0,
-            };
+            return None;
         }
         word = with_cell(word, i, cell);
-        i += 1;
     }
-    CellsWord { good: true, word }
+    Some(word)
 }
 
 // Whether two bytes are a comma and `0` or `1`.

@@ -9,6 +9,7 @@ use cell_rows::cells_in_word;
 use numbers::ROW_WORDS;
 
 // Reads so many cells into a row that has none set. Where they do not stand, the row may have some of them.
+#[tactic(auto, unfolding(cell_rows::specs::Rows::row_words))]
 pub fn read_cells(
     text: &[u8],
     at: usize,
@@ -21,16 +22,10 @@ pub fn read_cells(
     ensures { CellsRead text.now at row count rows.old rows.new result }
 {
     let mut next = at;
-    let mut k = 0;
-    while k < ROW_WORDS {
+    for k in 0..ROW_WORDS {
         let n = cells_in_word(count, k);
-        let read = cells_word(text, next, n);
-        if !read.good {
-            return None;
-        }
-        rows[row * ROW_WORDS + k] = read.word;
+        rows[row * ROW_WORDS + k] = cells_word(text, next, n)?;
         next += 2 * n;
-        k += 1;
     }
     Some(next)
 }

@@ -2,21 +2,18 @@
 -- are that many more. Assumes nothing.
 use Rattle.std.specs.Prelude.{ℕ, zero, suc, ◌+◌, ◌-◌, ◌*◌, ◌%◌, ◌^◌, ◌≤◌, ◌<◌, ◌≡◌, refl, Bool, true, false, ◌||◌}
 use Rattle.std.specs.Prelude.{length, get_or}
-use Rattle.std.proofs.Common.{mod-eq_of_lt, lt_of_lt_of_le, pow_pos, pow_mono, shl_lt, arith, sym, ap, ◌∙◌, ⊎_elim}
-use Rattle.std.proofs.Common.{true≢false}
+use Rattle.std.proofs.Common.{mod-eq_of_lt, lt_of_lt_of_le, pow_mono, shl_lt, arith, sym, ap, ◌∙◌, ⊎_elim}
 use Rattle.std.specs.Int.Bits.{bit_or}
 use Rattle.std.proofs.Math.Bool.{or-false}
 use Rattle.spec.specs.Text.{Bytes, comma}
-use Rattle.bits.specs.Truth.{not_both}
 use Rattle.bits.specs.Counting.{one_if}
 use Rattle.bits.specs.Laws.Below.{below_or_from}
 use Rattle.bits.specs.Bit.{bit}
 use Rattle.bits.specs.Laws.Bit.{bit_above, bit_of_or, bit_shift_left, bit_shift_left_low}
-use Rattle.cells_read.specs.CellsWord.{cell_byte, CellsStand, CellsIn, WordOfCells}
+use Rattle.cells_read.specs.CellsWord.{cell_byte, CellsStand, CellsIn}
 use Rattle.cell_text.specs.FourCells.{one_if_small}
 use Rattle.cells_read.specs.FourRead.{no_cells, four_set, FourBytes, EightBytes, SetsCells, set_word, set_says}
 use Rattle.cells_read.specs.FourRead.{word_small}
-use Rattle.cells_read.specs.declared.line_cells.CellsWord.{CellsWord}
 
 -- a cell's byte is the digit's
 byte_is : (b : Bool) → cell_byte b ≡ 48 + one_if b
@@ -146,20 +143,6 @@ module _ (text : Bytes) (at n : ℕ) (e : EightBytes text at n) where
   four_off none ones stand =
       none (ones 0) (ones 1) (ones 2) (ones 3)
       (e.sum ∙ stands_said text at e.low e.high low_there high_there ones stand)
-
--- what was read, where no such cells stand, and where they do
-pub read_off : {text : Bytes} {at count : ℕ} (r : CellsWord) → r.good ≡ false → r.word ≡ 0
-    → ((ones : ℕ → Bool) → CellsStand text at count ones → ⊥) → WordOfCells text at count r
-read_off r fails blank none =
-    record { good = λ p. absurd (not_both p fails); off = λ f. none; blank = λ f. blank }
-
-pub blank_small : (k : ℕ) {word : ℕ} → word ≡ 0 → word < 2 ^ k
-blank_small k blank = rw blank (pow_pos k)
-
-pub read_on : {text : Bytes} {at count word : ℕ} → CellsIn text at count word
-    → WordOfCells text at count (record { good = true; word = word })
-read_on stand =
-    record { good = λ p. stand; off = λ f. absurd (true≢false f); blank = λ f. absurd (true≢false f) }
 
 -- of cells that stand, so do the first
 pub stand_first : {text : Bytes} {at count : ℕ} {ones : ℕ → Bool} (i : ℕ) → i ≤ count → CellsStand text at count ones
