@@ -16,6 +16,7 @@ pub struct Places {
 
 impl Places {
     // Room for places, none of them noted.
+    #[tactic(auto, unfolding(spec::specs::Limits::user_limit))]
     pub fn none() -> Self
         ensures { result ≡ no_places }
     {
