@@ -7,13 +7,6 @@ ghost use Rattle.roles.specs.CellClasses.{ClassAt, ClassesAt, CellsBelow, classe
 
 use numbers::CELL_LIMIT;
 
-// A class number of one byte in two.
-fn wide(class: u8) -> u16
-    ensures { result ≡ class }
-{
-    class as u16
-}
-
 // Puts the classes of the kernel's grants into an array that has no class yet, each at its cell.
 fn place_kernel<'a>(class: &mut [u16; CELL_LIMIT], kernel: &'a [u16], placed: &'a [u8])
     requires { (length placed.now ≡ length kernel.now) × CellsBelow (length kernel.now) kernel.now
@@ -21,11 +14,8 @@ fn place_kernel<'a>(class: &mut [u16; CELL_LIMIT], kernel: &'a [u16], placed: &'
     ensures { ClassAt class.new (paired_in kernel.now placed.now
         (length kernel.now)) }
 {
-    let mut i = 0;
-    while i < kernel.len() {
-        let cell = kernel[i] as usize;
-        class[cell] = wide(placed[i]);
-        i += 1;
+    for (cell, number) in kernel.iter().zip(placed) {
+        class[*cell as usize] = u16::from(*number);
     }
 }
 
@@ -52,9 +42,7 @@ pub fn all_classes<'a>(
     let mut opened = total;
     let mut last = 0;
     let mut known = class[0];
-    let mut i = removed.len();
-    while 0 < i {
-        i -= 1;
+    for i in (0..removed.len()).rev() {
         let cell = removed[i] as usize;
         let tie = partner[i] as usize;
         if cell == tie {

@@ -37,6 +37,5 @@ pub fn counted(count: usize, role: RoleNo) -> usize
     requires { role.0 < row_bits }
     ensures { result ≡ max (suc role.0) count }
 {
-    let next = role.0 + 1;
-    if count < next { next } else { count }
+    count.max(role.0 + 1)
 }

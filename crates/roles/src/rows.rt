@@ -86,10 +86,8 @@ pub fn role_rows<'a>(
     let mut has = [0; CELL_WORDS];
     let mut gives = [0; ROLE_WORDS];
     let mut count = 0;
-    let mut i = 0;
-    while i < users * ROW_WORDS {
+    for i in 0..users * ROW_WORDS {
         count = word_roles(&mut table, &mut has, &mut gives, count, rows, class, i);
-        i += 1;
     }
     RoleMatrices { has, gives, count }
 }
