@@ -57,11 +57,11 @@ fn class_of_permission(table: &[u8; ROW_BITS], count: usize, permission: Permiss
 fn counted(count: usize, c: u8) -> usize
     ensures { result ≡ max (suc c) count }
 {
-    let next = c as usize + 1;
-    if count < next { next } else { count }
+    count.max(c as usize + 1)
 }
 
 // The grouping of the kernel by permission.
+#[tactic(auto, unfolding(spec::specs::Limits::grant_limit, cell_rows::specs::Rows::row_words, cell_rows::specs::Rows::row_bits))]
 fn grouped_by_permission(cells: &[u16]) -> Placement
     requires { length cells.now ≤ grant_limit }
     ensures { (result.used ≤ row_bits) × Placed (by_key (permission_at_cell cells.now)
@@ -71,16 +71,12 @@ fn grouped_by_permission(cells: &[u16]) -> Placement
     let mut table = [NO_CLASS; ROW_BITS];
     let mut classes = [0; GRANT_LIMIT];
     let mut count = 0;
-    let mut d = 0;
-    while d < cells.len() {
-        let at = cells[d] as usize;
-        let permission = permission_of(CellNo(at));
+    for (d, at) in cells.iter().enumerate() {
+        let permission = permission_of(CellNo(*at as usize));
         let c = class_of_permission(&table, count, permission);
-        let p = permission.0;
-        table[p] = c;
+        table[permission.0] = c;
         classes[d] = c;
         count = counted(count, c);
-        d += 1;
     }
     Placement {
         classes,
@@ -96,18 +92,17 @@ fn word_at(rows: &[u64], i: usize) -> u64
 }
 
 // Whether a user holds every permission that the members of class c ask.
+#[tactic(auto, unfolding(cell_rows::specs::Rows::row_words, cell_rows::specs::Rows::row_bits))]
 fn holds_asked<'a>(rows: &'a [u64], asked: &'a [u64; CLASS_WORDS], user: UserNo, c: usize) -> bool
     requires { (user.0 < user_room) × (c < row_bits) }
     ensures { result ≡ holds_row rows.now asked.now user.0 c }
 {
     let u = user.0;
-    let mut j = 0;
-    while j < ROW_WORDS {
+    for j in 0..ROW_WORDS {
         let held = word_at(rows, u * ROW_WORDS + j);
         if !bits::within(asked[c * ROW_WORDS + j], held) {
             return false;
         }
-        j += 1;
     }
     true
 }
@@ -133,11 +128,9 @@ fn allowed_to<'a>(
     ensures { AllowedTo rows.now asked.now user.0 most result }
 {
     let mut allowed = [0; ROW_WORDS];
-    let mut c = 0;
-    while c < most {
+    for c in 0..most {
         let yes = holds_asked(rows, asked, user, c);
         put_if(&mut allowed, c, yes);
-        c += 1;
     }
     allowed
 }
@@ -189,6 +182,7 @@ fn free_in_word(lacked: &[u64; CLASS_WORDS], word: u64, j: usize, permission: Pe
 }
 
 // The lowest allowed class with no member that lacks a permission, else as many as there can be.
+#[tactic(auto, unfolding(cell_rows::specs::Rows::row_words, cell_rows::specs::Rows::row_bits))]
 fn class_for<'a>(
     allowed: &'a [u64; ROW_WORDS],
     lacked: &'a [u64; CLASS_WORDS],
@@ -197,13 +191,11 @@ fn class_for<'a>(
     requires { permission.0 < row_bits }
     ensures { NextFrom (free allowed.now lacked.now permission.0) 0 row_bits result }
 {
-    let mut j = 0;
-    while j < ROW_WORDS {
-        let x = free_in_word(lacked, allowed[j], j, permission);
+    for (j, word) in allowed.iter().enumerate() {
+        let x = free_in_word(lacked, *word, j, permission);
         if x < WORD_BITS {
             return j * WORD_BITS + x;
         }
-        j += 1;
     }
     CLASS_LIMIT
 }
@@ -218,6 +210,7 @@ fn add_asked(asked: &mut [u64; CLASS_WORDS], c: usize, permission: PermissionNo)
 }
 
 // Adds to class c the permissions that a user lacks.
+#[tactic(auto, unfolding(cell_rows::specs::Rows::row_words, cell_rows::specs::Rows::row_bits))]
 fn add_lacked(rows: &[u64], lacked: &mut [u64; CLASS_WORDS], c: usize, user: UserNo)
     requires c_lt_row_bits { (c < row_bits) × (user.0 < user_room) }
     requires lacked_len { length lacked.old ≡ class_words }
@@ -225,16 +218,15 @@ fn add_lacked(rows: &[u64], lacked: &mut [u64; CLASS_WORDS], c: usize, user: Use
         row_bits }
 {
     let u = user.0;
-    let mut j = 0;
-    while j < ROW_WORDS {
+    for j in 0..ROW_WORDS {
         let held = word_at(rows, u * ROW_WORDS + j);
         let i = c * ROW_WORDS + j;
-        lacked[i] = lacked[i] | !held;
-        j += 1;
+        lacked[i] |= !held;
     }
 }
 
 // The grouping of the kernel by fit, given up where it needs more classes than most.
+#[tactic(auto, unfolding(spec::specs::Limits::grant_limit, cell_rows::specs::Rows::row_words, cell_rows::specs::Rows::row_bits))]
 fn grouped_by_fit<'a>(rows: &'a [u64], cells: &'a [u16], most: usize) -> Placement
     requires { (length cells.now ≤ grant_limit) × (most ≤ row_bits) }
     ensures placed_or_more { HeldCells rows.now cells.now
@@ -248,11 +240,10 @@ fn grouped_by_fit<'a>(rows: &'a [u64], cells: &'a [u16], most: usize) -> Placeme
     let mut allowed = [!0; ROW_WORDS];
     let mut latest = UserNo(0);
     let mut count = 0;
-    let mut d = 0;
-    while d < cells.len() {
-        let at = cells[d] as usize;
-        let user = user_of(CellNo(at));
-        let permission = permission_of(CellNo(at));
+    for (d, at) in cells.iter().enumerate() {
+        let it = CellNo(*at as usize);
+        let user = user_of(it);
+        let permission = permission_of(it);
         allowed = allowed_next(rows, &asked, allowed, latest, user, most);
         latest = user;
         let c = class_for(&allowed, &lacked, permission);
@@ -264,7 +255,6 @@ fn grouped_by_fit<'a>(rows: &'a [u64], cells: &'a [u16], most: usize) -> Placeme
         add_lacked(rows, &mut lacked, c, user);
         classes[d] = c as u8;
         count = counted(count, c as u8);
-        d += 1;
     }
     Placement {
         classes,
