@@ -13,13 +13,11 @@ use numbers::{GrantNo, KERNEL_WORDS, TABLE_WORDS};
 pub fn class_end(depth: usize, size: usize, used: usize, count: usize) -> usize
     ensures { result ≡ class_end depth size used count }
 {
-    if size <= depth {
-        return 0;
+    if depth < size && used < count {
+        (used + 1).min(count - 1)
+    } else {
+        0
     }
-    if count <= used {
-        return 0;
-    }
-    if used + 1 < count { used + 1 } else { used }
 }
 
 // The grants that fit one, as the fit table has them.
@@ -50,14 +48,11 @@ pub fn class_for<'a>(
     if end <= next {
         return end;
     }
-    let d = grant.0;
-    let fits = fitting(fit, GrantNo(d));
-    let mut c = next;
-    while c < end {
+    let fits = fitting(fit, grant);
+    for c in next..end {
         if members::of_class(members, c).within(fits) {
             return c;
         }
-        c += 1;
     }
     end
 }

@@ -53,10 +53,8 @@ pub fn gathered(classes: &[u8; KERNEL_LIMIT], depth: usize) -> [u64; TABLE_WORDS
     ensures { Gathered classes.now depth result }
 {
     let mut members = [0u64; TABLE_WORDS];
-    let mut i = 0;
-    while i < depth {
+    for i in 0..depth {
         set(&mut members, classes[i] as usize, GrantNo(i), true);
-        i += 1;
     }
     members
 }

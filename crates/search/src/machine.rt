@@ -94,6 +94,7 @@ impl Position {
         let mut members = moves::gathered(&classes, at.depth);
         let mut steps = 0;
         let mut kinds = Kinds::none();
+        // Counted by hand: a search that is finished stops before its budget, and answers how many steps it made.
         while steps < budget && !at.finished {
             steps += 1;
             let step = moves::advanced(at, &mut classes, &mut best, &mut members, fit, sizes);
