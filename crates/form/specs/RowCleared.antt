@@ -1,11 +1,15 @@
--- A row of words is cleared word by word: then it has no cell set, and every other row is as it was.
-use Rattle.std.specs.Prelude.{ℕ, ◌+◌, ◌-◌, ◌*◌, ◌/◌, ◌≤◌, ◌<◌, ◌≡◌, false, List, length, set}
-use Rattle.std.proofs.Common.{arith, ap, ◌∙◌, inl, inr, ⊎_elim}
+-- A row of words is cleared: then it has no cell set, and every other row is as it was.
+use Rattle.std.specs.Prelude.{ℕ, ◌+◌, ◌-◌, ◌*◌, ◌/◌, ◌%◌, ◌≤◌, ◌<◌, ◌≡◌, ◌≢◌, List, length, get_or, replicate}
+use Rattle.std.proofs.Common.{arith, sym, ap, ◌∙◌, ⊎_elim}
+use Rattle.std.proofs.lemmas.List.{places, get_or-replicate}
+use borrow.Rule.Slice.PartMut.{put_mid}
+use Rattle.std.proofs.Math.Arith.{digits_div}
 use Rattle.bits.specs.Laws.Below.{below_or_from}
 use Rattle.bits.specs.Laws.Bit.{bit_of_zero}
-use Rattle.bits.specs.Bit.{word_bits}
-use Rattle.cell_rows.specs.Rows.{row_words, row_bits, cell}
-use Rattle.cells_read.specs.RowGrown.{Blank, OthersKept, WordStored, word_stored}
+use Rattle.bits.specs.Bit.{bit, word_bits}
+use Rattle.cell_rows.specs.Rows.{row_words}
+use Rattle.cell_rows.specs.Laws.Width.{word_in_row}
+use Rattle.cells_read.specs.RowGrown.{Blank, OthersKept}
 
 -- a row has no cell set, and every other row is as it was
 pub record RowCleared (words after : List ℕ) (row : ℕ) : Type 0 where
@@ -17,29 +21,32 @@ pub cleared_after : {words mid after : List ℕ} {row : ℕ} → OthersKept word
 cleared_after kept cleared =
     record { blank = cleared.blank; others = λ u p d l. cleared.others u p d l ∙ kept u p d l }
 
--- the cells of the words below k are cleared
-pub record ClearedBelow (words after : List ℕ) (row k : ℕ) : Type 0 where
-  pub clear : (p : ℕ) → p < k * word_bits → cell after row p ≡ false
-  pub others : OthersKept words after row
+-- the words with those of a row all 0
+abbrev zeroed : List ℕ → ℕ → List ℕ
+zeroed words row = put_mid (row * row_words) row_words words (replicate row_words 0)
 
-pub cleared_more : {words mid : List ℕ} {row k : ℕ} → k < row_words → row * row_words + k < length mid
-    → ClearedBelow words mid row k → ClearedBelow words (set mid (row * row_words + k) 0) row (k + 1)
-unfolding row_bits
-cleared_more {mid = mid} {row} {k} h l so_far =
-    record {
-      clear = λ p m. ⊎_elim (old p) (new p m) (below_or_from p (k * word_bits));
-      others = λ u p d m. put.others u p (inl d) m ∙ so_far.others u p d m;
-    }
-  where
-    put : WordStored mid (set mid (row * row_words + k) 0) row k 0
-    put = word_stored mid row k 0 h l
+module _ (words : List ℕ) (row : ℕ) (room : (row + 1) * row_words ≤ length words) where
+  word_of_row : (k : ℕ) → k < row_words → get_or (zeroed words row) (row * row_words + k) 0 ≡ 0
+  word_of_row k l = let zero = get_or-replicate {A = ℕ} row_words k 0 0 l in grind (arith, places)
 
-    old : (p : ℕ) → p < k * word_bits → cell (set mid (row * row_words + k) 0) row p ≡ false
-    old p m = put.others row p (inr (λ e. let s : p / word_bits ≡ k = e in omega arith)) (omega arith)
-        ∙ so_far.clear p m
+  other_word : (i : ℕ) → ((k : ℕ) → k < row_words → i ≢ row * row_words + k)
+      → get_or (zeroed words row) i 0 ≡ get_or words i 0
+  other_word i apart =
+      ⊎_elim (λ (b : i < row * row_words). grind (arith, places))
+      (λ (h : row * row_words ≤ i). ⊎_elim
+      (λ (b : i < row * row_words + row_words). absurd (apart (i - row * row_words) (omega arith) (omega arith)))
+      (λ (past : row * row_words + row_words ≤ i). grind (arith, places))
+      (below_or_from i (row * row_words + row_words)))
+      (below_or_from i (row * row_words))
 
-    new : (p : ℕ) → p < (k + 1) * word_bits → k * word_bits ≤ p → cell (set mid (row * row_words + k) 0) row p ≡ false
-    new p m f =
-        let place : p ≡ k * word_bits + (p - k * word_bits) = omega arith in
-        ap (cell (set mid (row * row_words + k) 0) row) place ∙ put.here (p - k * word_bits) (omega arith)
-        ∙ bit_of_zero (p - k * word_bits)
+  pub row_cleared : {k n : ℕ} {now : List ℕ} → k ≡ row_words → n ≡ row_words → now ≡ replicate n 0
+      → RowCleared words (put_mid (row * row_words) k words now) row
+  row_cleared size total same =
+      rw (size, same, total) (record {
+        blank = record {
+          none = λ p l. ap (λ (w : ℕ). bit w (p % word_bits)) (word_of_row (p / word_bits) (word_in_row p l))
+              ∙ bit_of_zero (p % word_bits);
+        };
+        others = λ u p d l. ap (λ (w : ℕ). bit w (p % word_bits)) (other_word (u * row_words + p / word_bits) (λ k m e.
+            d (sym (digits_div u (word_in_row p l)) ∙ ap (λ (n : ℕ). n / row_words) e ∙ digits_div row m)));
+      })

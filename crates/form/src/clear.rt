@@ -9,21 +9,15 @@ use numbers::ROW_WORDS;
 pub fn clear_rows(rows: &mut [u64])
     ensures { rows.new ≡ replicate (length rows.old) 0 }
 {
-    let mut k = 0;
-    while k < rows.len() {
-        rows[k] = 0;
-        k += 1;
-    }
+    rows.fill(0);
 }
 
 // Clears a row.
+#[tactic(auto, unfolding(cell_rows::specs::Rows::row_words))]
 pub fn clear_row(rows: &mut [u64], row: usize)
     requires { (row + 1) * row_words ≤ length rows.old }
     ensures { RowCleared rows.old rows.new row }
 {
-    let mut k = 0;
-    while k < ROW_WORDS {
-        rows[row * ROW_WORDS + k] = 0;
-        k += 1;
-    }
+    let start = row * ROW_WORDS;
+    rows[start..start + ROW_WORDS].fill(0);
 }
