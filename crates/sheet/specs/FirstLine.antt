@@ -1,6 +1,6 @@
 -- The first line of a sheet as it stands in a text: `user`, the names of the permissions, each behind a comma, and
 -- the line feed. Assumes nothing.
-use Rattle.std.specs.Prelude.{ℕ, zero, suc, ◌≤◌, ◌<◌, ◌≡◌, Bool, not, ◌&&◌, ltb, length, drop}
+use Rattle.std.specs.Prelude.{ℕ, zero, suc, ◌≤◌, ◌<◌, ◌≡◌, Bool, not, ◌&&◌, ltb, length, drop, Option, Some, None}
 use mathlib.Core.List.{List, ◌∷◌, ◌++◌, Memᴰ}
 use Rattle.spec.specs.Limits.{permission_limit, user_limit}
 use Rattle.spec.specs.Text.{ascii, same_bytes, Bytes, line_text}
@@ -10,8 +10,6 @@ use Rattle.names.specs.NamesAt.{names_at}
 use Rattle.steps.specs.Stands.{Stands}
 use Rattle.sheet.specs.Spelled.{NameAt}
 use Rattle.sheet.specs.declared.first_line.FirstLine.{FirstLine}
-use Rattle.sheet.specs.declared.first_line.FirstLineRead.{FirstLineRead}
-use Rattle.sheet.specs.declared.first_line.FirstLineRead.TheVariants as read
 
 -- a text starts with `user`
 unfoldable pub says_user : Bytes → Bool
@@ -54,7 +52,7 @@ pub record FirstLineThere (text : Bytes) (places : List ℕ) (line : FirstLine) 
       → (line.permissions ≡ length names) × (drop line.next text ≡ rest)
 
 -- what reading the first line gives: such a line, or that the text starts with none
-abbrev pub FirstLineReads : Bytes → List ℕ → FirstLineRead → Type 0
-FirstLineReads text places (read.Line line) = FirstLineThere text places line
-FirstLineReads text places read.NoLine =
+abbrev pub FirstLineReads : Bytes → List ℕ → Option FirstLine → Type 0
+FirstLineReads text places (Some line) = FirstLineThere text places line
+FirstLineReads text places None =
     (names : List Bytes) (rest : Bytes) → NamesFit names → text ≡ line_text (ascii "user" ∷ names) ++ rest → ⊥

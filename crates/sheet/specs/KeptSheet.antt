@@ -1,5 +1,5 @@
 -- What was noted of a sheet that was read in one pass. Assumes nothing.
-use Rattle.std.specs.Prelude.{ℕ, ◌≤◌, List, length}
+use Rattle.std.specs.Prelude.{ℕ, ◌≤◌, List, length, Option, Some, None}
 use Rattle.std.proofs.Math.Bool.{So}
 use Rattle.spec.specs.Limits.{sheet_limit, grant_limit}
 use Rattle.spec.specs.Text.{Bytes}
@@ -7,8 +7,6 @@ use Rattle.spec.specs.Refusal.{accepted}
 use Rattle.sheet.specs.FirstLine.{NamesRoom, FirstLineStands}
 use Rattle.sheet.specs.UserLines.{Room, LinesNoted}
 use Rattle.sheet.specs.declared.kept.Counts.{Counts}
-use Rattle.sheet.specs.declared.kept.LinesRead.{LinesRead}
-use Rattle.sheet.specs.declared.kept.LinesRead.TheVariants as read
 
 -- there is room for as many names and rows as there can be, and nothing is noted yet
 pub record SheetRoom (permissions users words : List ℕ) : Type 0 where
@@ -41,7 +39,7 @@ notes_of permissions users words counts =
     record { permissions = permissions; users = users; words = words; counts = counts }
 
 -- what reading the lines of a sheet gives: how they stand, or that the sheet is not accepted
-abbrev pub SheetLines : Bytes → List ℕ → List ℕ → List ℕ → LinesRead → Type 0
-SheetLines text permissions users words (read.Lines counts) =
+abbrev pub SheetLines : Bytes → List ℕ → List ℕ → List ℕ → Option Counts → Type 0
+SheetLines text permissions users words (Some counts) =
     SheetStands text (notes_of permissions users words counts)
-SheetLines text permissions users words read.NoLines = So (accepted text) → ⊥
+SheetLines text permissions users words None = So (accepted text) → ⊥

@@ -1,5 +1,5 @@
 -- Names as parts of a text: fields that are names. Assumes nothing.
-use Rattle.std.specs.Prelude.{ℕ, ◌+◌, ◌≤◌, ◌<◌, Bool, true, false, ◌&&◌, length, drop}
+use Rattle.std.specs.Prelude.{ℕ, ◌+◌, ◌≤◌, ◌<◌, Bool, true, false, ◌&&◌, length, drop, Option, Some, None}
 use Rattle.spec.specs.Vocabulary.{all}
 use Rattle.spec.specs.Text.{Bytes, name_byte}
 use Rattle.spec.specs.Rules.{Name}
@@ -7,8 +7,6 @@ use Rattle.spec.specs.Refusal.{has_name_length}
 use Rattle.lists.specs.Span.{span}
 use Rattle.places.specs.Places.{part}
 use Rattle.text.specs.Line.{separator}
-use Rattle.sheet.specs.declared.spelled.NameRead.{NameRead}
-use Rattle.sheet.specs.declared.spelled.NameRead.TheVariants as read
 
 -- a field is a name
 abbrev pub is_name : Bytes → Bool
@@ -19,12 +17,12 @@ abbrev pub field_end : Bytes → ℕ → ℕ
 field_end text at = at + span separator (drop at text)
 
 -- a field that is a name or not, and where it ends
-abbrev pub name_said : Bool → ℕ → NameRead
-name_said true end = read.Name end
-name_said false end = read.NoName
+abbrev pub name_said : Bool → ℕ → Option ℕ
+name_said true end = Some end
+name_said false end = None
 
 -- what the field at a place is read as
-abbrev pub name_read : Bytes → ℕ → NameRead
+abbrev pub name_read : Bytes → ℕ → Option ℕ
 name_read text at = name_said (is_name (part at (field_end text at) text)) (field_end text at)
 
 -- a name stands in the text from one place up to another

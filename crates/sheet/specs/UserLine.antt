@@ -1,5 +1,5 @@
 -- The line of a user as it stands in a text: a name, a cell for each permission, and the line feed. Assumes nothing.
-use Rattle.std.specs.Prelude.{ℕ, ◌≤◌, ◌<◌, ◌≡◌, Bool, false, List, ◌∷◌, ◌++◌, length, drop}
+use Rattle.std.specs.Prelude.{ℕ, ◌≤◌, ◌<◌, ◌≡◌, Bool, false, List, ◌∷◌, ◌++◌, length, drop, Option, Some, None}
 use Rattle.spec.specs.Vocabulary.{list_of}
 use Rattle.spec.specs.Text.{Bytes, Line, line_text}
 use Rattle.spec.specs.Sheet.{cell_text}
@@ -10,8 +10,6 @@ use Rattle.places.specs.Places.{part}
 use Rattle.steps.specs.Stands.{Stands}
 use Rattle.sheet.specs.Spelled.{NameAt}
 use Rattle.sheet.specs.declared.user_line.UserLine.{UserLine}
-use Rattle.sheet.specs.declared.user_line.UserLineRead.{UserLineRead}
-use Rattle.sheet.specs.declared.user_line.UserLineRead.TheVariants as read
 
 -- a user's name stands in the text, and no cell past the permissions is set
 pub record UserAt (text : Bytes) (width from to : ℕ) (ones : ℕ → Bool) : Type 0 where
@@ -39,7 +37,7 @@ pub record LineStands (text : Bytes) (at width row : ℕ) (words after : List �
       → drop line.next text ≡ rest
 
 -- what reading the line of a user gives: the line that stands there, or that none does
-abbrev pub UserLineReads : Bytes → ℕ → ℕ → ℕ → List ℕ → List ℕ → UserLineRead → Type 0
-UserLineReads text at width row words after (read.Line line) = LineStands text at width row words after line
-UserLineReads text at width row words after read.NoLine =
+abbrev pub UserLineReads : Bytes → ℕ → ℕ → ℕ → List ℕ → List ℕ → Option UserLine → Type 0
+UserLineReads text at width row words after (Some line) = LineStands text at width row words after line
+UserLineReads text at width row words after None =
     (name : Bytes) (ones : ℕ → Bool) (rest : Bytes) → Spells text at width name ones rest → ⊥

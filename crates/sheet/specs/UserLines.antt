@@ -1,6 +1,6 @@
 -- The lines of users one after the other, their names at noted places and their cells in rows of words. Assumes
 -- nothing.
-use Rattle.std.specs.Prelude.{ℕ, ◌*◌, ◌≤◌, ◌<◌, ◌≡◌, Bool, length, drop}
+use Rattle.std.specs.Prelude.{ℕ, ◌*◌, ◌≤◌, ◌<◌, ◌≡◌, Bool, length, drop, Option, Some, None}
 use mathlib.Core.List.{List, ◌++◌, Memᴰ}
 use Rattle.spec.specs.Vocabulary.{list_of}
 use Rattle.spec.specs.Limits.{user_limit}
@@ -11,8 +11,7 @@ use Rattle.cell_rows.specs.Rows.{row_words, cell}
 use Rattle.places.specs.Places.{from_at, to_at, BlankPast}
 use Rattle.steps.specs.Stands.{Stands}
 use Rattle.sheet.specs.UserLine.{UserAt, line_of}
-use Rattle.sheet.specs.declared.user_lines.UserLinesRead.{UserLinesRead}
-use Rattle.sheet.specs.declared.user_lines.UserLinesRead.TheVariants as read
+use Rattle.sheet.specs.declared.user_lines.UserLines.{UserLines}
 
 -- there is room for as many users as there can be, and no place is noted and no cell is set yet
 pub record Room (places words : List ℕ) : Type 0 where
@@ -54,9 +53,9 @@ pub record Fit (width : ℕ) (names : List Bytes) (rows : List (List Bool)) : Ty
   pub even : (row : List Bool) → Memᴰ row rows → length row ≡ width
 
 -- what reading the lines of the users gives: those up to the end of the text, or that no such lines stand there
-abbrev pub UserLinesReads : Bytes → ℕ → ℕ → List ℕ → List ℕ → UserLinesRead → Type 0
-UserLinesReads text start width places words (read.Lines lines) =
+abbrev pub UserLinesReads : Bytes → ℕ → ℕ → List ℕ → List ℕ → Option UserLines → Type 0
+UserLinesReads text start width places words (Some lines) =
     LinesNoted text start width places words lines.users lines.grants (length text)
-UserLinesReads text start width places words read.NoLines =
+UserLinesReads text start width places words None =
     (names : List Bytes) (rows : List (List Bool)) → Fit width names rows
     → drop start text ≡ text_of (user_lines names rows) → ⊥

@@ -3,7 +3,7 @@ ghost use Rattle.std.specs.Prelude.{◌≡◌, ◌≤◌, length};
 ghost use Rattle.spec.specs.Limits.{sheet_limit};
 ghost use Rattle.sheet.specs.FirstLine.{says_user, NamesRoom, FirstLineReads};
 
-use crate::spelled::{NameRead, read_name};
+use crate::spelled::read_name;
 use numbers::{PERMISSION_LIMIT, USER_LIMIT};
 use places::place_of;
 use spelling::is_user;
@@ -16,45 +16,37 @@ pub struct FirstLine {
     pub next: usize,
 }
 
-// What the first line is read as: such a line with some names and no more than there can be permissions, or not.
-#[derive(Clone, Copy)]
-pub enum FirstLineRead {
-    Line(FirstLine),
-    NoLine,
-}
-
 // How many bytes `user` has.
 const USER_LENGTH: usize = 4;
 
-// Reads the first line, and notes where the names stand.
-pub fn read_first_line(s: &[u8], places: &mut [u64; USER_LIMIT]) -> FirstLineRead
+// Reads the first line, and notes where the names stand: some names and no more than there can be permissions.
+pub fn read_first_line(s: &[u8], places: &mut [u64; USER_LIMIT]) -> Option<FirstLine>
     requires { (length s.now ≤ sheet_limit) × NamesRoom places.old }
     ensures { FirstLineReads s.now places.new result }
 {
     if !starts_with_user(s) {
-        return FirstLineRead::NoLine;
+        return None;
     }
     let mut count = 0;
     let mut at = USER_LENGTH;
+    // A name says where the next one starts.
     while stands_at(s, at, COMMA) {
         if count == PERMISSION_LIMIT {
-            return FirstLineRead::NoLine;
+            return None;
         }
         let start = at + 1;
-        let NameRead::Name(to) = read_name(s, start) else {
-            return FirstLineRead::NoLine;
-        };
+        let to = read_name(s, start)?;
         places[count] = place_of(start, to);
         count += 1;
         at = to;
     }
     if count == 0 {
-        return FirstLineRead::NoLine;
+        return None;
     }
     if !stands_at(s, at, LINE_FEED) {
-        return FirstLineRead::NoLine;
+        return None;
     }
-    FirstLineRead::Line(FirstLine {
+    Some(FirstLine {
         permissions: count,
         next: at + 1,
     })
@@ -64,8 +56,5 @@ pub fn read_first_line(s: &[u8], places: &mut [u64; USER_LIMIT]) -> FirstLineRea
 fn starts_with_user(s: &[u8]) -> bool
     ensures { result ≡ says_user s.now }
 {
-    if s.len() < USER_LENGTH {
-        return false;
-    }
-    is_user(&s[0..USER_LENGTH])
+    USER_LENGTH <= s.len() && is_user(&s[..USER_LENGTH])
 }

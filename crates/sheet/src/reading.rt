@@ -1,66 +1,54 @@
-// Reading a sheet: the number for which it is refused, and of a sheet that is not refused its layout and its rows.
-ghost use Rattle.std.specs.Prelude.{◌≡◌, ◌<◌};
+// Reading a sheet: the cause for which it is refused, or its layout and its rows.
+ghost use Rattle.std.specs.Prelude.{◌≡◌, ◌≢◌, IfOk, MatchOption};
 ghost use Rattle.spec.specs.Sheet.{sheet_of};
 ghost use Rattle.spec.specs.Refusal.{refusal};
+ghost use Rattle.numbers.specs.Refusal.{number_of, number_said};
 ghost use Rattle.names.specs.LaidOut.{LaidOut};
 ghost use Rattle.cells.specs.RowsRead.{RowsRead};
-ghost use Rattle.sheet.specs.OnlyNames.{OnlyNames, refused_as};
+ghost use Rattle.sheet.specs.OnlyNames.{OnlyNames};
+ghost use Rattle.sheet.specs.Laws.KeptRead.{KeptAs};
 
-use crate::kept::{LinesRead, are_apart, read_lines};
+use crate::kept::{are_apart, read_lines};
 use cell_rows::no_rows;
 use names::Layout;
-use numbers::{CELL_WORDS, USER_LIMIT};
+use numbers::{CELL_WORDS, Refusal, USER_LIMIT};
 use places::Places;
 use refusal::judge;
 
-// What a sheet's bytes were read as. Where the number is not 0, the layout is that of nothing and no cell is set.
+// What an accepted sheet's bytes were read as.
 #[derive(Clone, Copy)]
 pub struct SheetRead {
-    pub number: usize,
     pub layout: Layout,
     pub rows: [u64; CELL_WORDS],
 }
 
-impl SheetRead {
-    // What a sheet is read as that is refused for this number.
-    fn refused(number: usize) -> Self
-        ensures { result ≡ refused_as number }
-    {
-        Self {
-            number,
-            layout: Layout::none(),
-            rows: [0; CELL_WORDS],
-        }
+// The layout of the sheet and its rows, or the cause of the lowest number of 1 to 9 that applies. A sheet that keeps
+// all rules is read in one pass, and only one that does not is judged cause by cause.
+pub fn read(s: &[u8]) -> Result<SheetRead, Refusal>
+    ensures number_value { number_said result ≡ refusal s.now }
+    ensures laid_out { IfOk result (λ read. LaidOut s.now read.layout × RowsRead read.rows (sheet_of s.now)
+        × OnlyNames read.layout) }
+{
+    match read_kept(s) {
+        Some(read) => Ok(read),
+        None => Err(cause_of(s)),
     }
 }
 
-// The lowest number of 1 to 9 that applies to the sheet, or 0 with its layout and its rows. A sheet that keeps all
-// rules is read in one pass, and only one that does not is judged cause by cause.
-pub fn read(s: &[u8]) -> SheetRead
-    ensures number_value { result.number ≡ refusal s.now }
-    ensures laid_out { result.number ≡ 0 → LaidOut s.now result.layout
-        × RowsRead result.rows (sheet_of s.now)
-        × OnlyNames result.layout }
-    ensures value { 0 < result.number → result ≡ refused_as result.number }
+// A sheet that keeps all rules, read in one pass.
+fn read_kept(s: &[u8]) -> Option<SheetRead>
+    ensures { MatchOption result (refusal s.now ≢ 0) (λ read. KeptAs s.now read.layout read.rows) }
 {
     let mut permission_places = [0; USER_LIMIT];
     let mut user_places = [0; USER_LIMIT];
     let mut rows = no_rows();
-    let LinesRead::Lines(counts) = read_lines(
-        s,
-        &mut permission_places,
-        &mut user_places,
-        &mut rows,
-    ) else {
-        return SheetRead::refused(judge(s));
-    };
+    let counts = read_lines(s, &mut permission_places, &mut user_places, &mut rows)?;
     let users = counts.users;
     let permissions = counts.permissions;
     if !are_apart(s, &user_places[..users], &permission_places[..permissions]) {
-        return SheetRead::refused(judge(s));
+        return None;
     }
-    SheetRead {
-        number: 0,
+    Some(SheetRead {
         layout: Layout {
             users,
             permissions,
@@ -71,5 +59,13 @@ pub fn read(s: &[u8]) -> SheetRead
             },
         },
         rows,
-    }
+    })
+}
+
+// The cause for which a sheet is refused.
+fn cause_of(s: &[u8]) -> Refusal
+    requires { refusal s.now ≢ 0 }
+    ensures { number_of result ≡ refusal s.now }
+{
+    judge(s).unwrap_err()
 }

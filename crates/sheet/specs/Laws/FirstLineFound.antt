@@ -1,7 +1,7 @@
 -- The first line that a sheet starts with is found: behind `user` the names are read one by one, while a comma stands
 -- there a name is left, and behind the last name stands the line feed. Assumes nothing.
 use Rattle.std.specs.Prelude.{ℕ, suc, ◌+◌, ◌≤◌, ◌<◌, ◌≡◌, refl, false, not, ◌&&◌, List, [], ◌∷◌, ◌++◌, map, eqb, ltb}
-use Rattle.std.specs.Prelude.{length, get_or, drop}
+use Rattle.std.specs.Prelude.{length, get_or, drop, Some}
 use Rattle.std.proofs.Common.{arith, sym, ap, ◌∙◌, ⊎_elim, append_assoc, eqb-true, le-ltb, drop_of_length-le}
 use Rattle.std.proofs.Common.{length-append, drop-cons}
 use Rattle.std.proofs.Math.Bool.{So}
@@ -16,7 +16,6 @@ use Rattle.sheet.specs.Spelled.{name_read}
 use Rattle.sheet.specs.Laws.Spelled.{behind, name_found}
 use Rattle.sheet.specs.Laws.UserLineFound.{Behind, byte_found}
 use Rattle.sheet.specs.FirstLine.{says_user, NamesFit}
-use Rattle.sheet.specs.declared.spelled.NameRead.TheVariants.{Name}
 
 -- names, each behind a comma
 abbrev pub behind_commas : List Bytes → Bytes
@@ -106,7 +105,7 @@ module _ (text : Bytes) (n at : ℕ) (left : NamesLeft text n at) (names : List 
       behind text at (comma ∷ []) (get_or names n [] ++ (behind_commas (drop (suc n) names) ++ line_feed ∷ rest))
       (before_name below)
 
-  pub next_name : So (ltb at (length text) && eqb (get_or text at 0) comma) → name_read text (at + 1) ≡ Name next_end
+  pub next_name : So (ltb at (length text) && eqb (get_or text at 0) comma) → name_read text (at + 1) ≡ Some next_end
   next_name found =
       let below = name_below found in
       let b = names_behind (drop (suc n) names) rest in
@@ -135,7 +134,7 @@ module _ (text : Bytes) (n at : ℕ) (left : NamesLeft text n at) (names : List 
 -- a name that was read leaves the others
 pub names_left_next : (text : Bytes) (n at end : ℕ) → NamesLeft text n at
     → So (ltb at (length text) && eqb (get_or text at 0) comma)
-    → Name end ≡ name_read text (at + 1) → NamesLeft text (suc n) end
+    → Some end ≡ name_read text (at + 1) → NamesLeft text (suc n) end
 names_left_next text n at end left found named names rest fit e =
     let same : end ≡ at + 1 + length (get_or names n []) = cc (next_name text n at left names rest fit e found) in
     (name_below text n at left names rest fit e found, rw same (behind_next text n at left names rest fit e found))

@@ -10,8 +10,8 @@ use Rattle.spec.specs.Rules.{user_lines}
 use Rattle.spec.specs.Refusal.{refusal, accepted}
 use Rattle.bits.specs.Truth.{and_intro}
 use Rattle.text.specs.Laws.Lowered.{apart_names}
-use Rattle.names.specs.NamesAt.{Inside, all_names}
-use Rattle.names.specs.Laws.NamesAt.{placed_names, placed_inside}
+use Rattle.names.specs.NamesAt.{all_names}
+use Rattle.names.specs.Laws.NamesAt.{placed_names}
 use Rattle.rules.specs.SheetLines.{sheet_text_lines}
 use Rattle.rules.specs.Accepted.{accepted_keeps}
 use Rattle.rules.specs.AcceptedFacts.{accepted_lawful}
@@ -19,7 +19,7 @@ use Rattle.sheet.specs.FirstLine.{NamesFit}
 use Rattle.sheet.specs.UserLines.{Fit}
 use Rattle.sheet.specs.KeptSheet.{Notes, LinesStand, SheetStands}
 use Rattle.sheet.specs.Laws.KeptSheet.{noted, users_placed, permissions_placed, noted_grants, noted_users}
-use Rattle.sheet.specs.Laws.KeptSheet.{noted_permissions, noted_said}
+use Rattle.sheet.specs.Laws.KeptSheet.{noted_said}
 use Rattle.sheet.specs.Laws.KeptRead.{apart}
 
 module _ (text : Bytes) (p : So (accepted text)) where
@@ -68,17 +68,6 @@ module _ (text : Bytes) (p : So (accepted text)) where
 
 -- so a sheet whose lines are found is accepted exactly where no name stands twice
 module _ (text : Bytes) (n : Notes) (s : SheetStands text n) where
-  pub kept_inside : Inside text (take n.counts.users n.users)
-      × Inside text (take n.counts.permissions n.permissions)
-  unfolding permission_limit user_limit
-  kept_inside = (
-    placed_inside text (take n.counts.users n.users) (noted text n).users (users_placed text n s.stand)
-        (omega (arith, noted_users text n s.stand, s.stand.lines.few)),
-    placed_inside text (take n.counts.permissions n.permissions) (noted text n).permissions
-        (permissions_placed text n s.stand)
-        (omega (arith, noted_permissions text n s.stand, s.stand.first.few)),
-  )
-
   -- the names at the places are those noted
   pub kept_names : (all_names text (take n.counts.users n.users) ≡ (noted text n).users)
       × (all_names text (take n.counts.permissions n.permissions) ≡ (noted text n).permissions)

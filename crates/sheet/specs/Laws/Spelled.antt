@@ -1,6 +1,6 @@
 -- Names of a text that are read: what is read as a name stands there, and a name that stands before a comma or a line
 -- feed is read, with its end. Assumes nothing.
-use Rattle.std.specs.Prelude.{ℕ, suc, ◌+◌, ◌-◌, ◌≤◌, min, ◌≡◌, refl, Bool, true, false, eqb, length, drop}
+use Rattle.std.specs.Prelude.{ℕ, suc, ◌+◌, ◌-◌, ◌≤◌, min, ◌≡◌, refl, Bool, true, false, eqb, length, drop, Option, Some, None}
 use Rattle.std.proofs.Common.{arith, sym, ap, ◌∙◌, ne_eqb, length-take, length-drop, drop-drop}
 use Rattle.std.proofs.Math.Bool.{So}
 use mathlib.Core.List.{[], ◌∷◌, ◌++◌, Memᴰ}
@@ -20,8 +20,6 @@ use Rattle.reader.specs.Fields.{field_from, field_read}
 use Rattle.text.specs.Line.{separator}
 use Rattle.text.specs.Laws.Byte.{name_byte_no_comma, name_byte_no_line_feed}
 use Rattle.sheet.specs.Spelled.{is_name, field_end, name_said, name_read, NameAt}
-use Rattle.sheet.specs.declared.spelled.NameRead.{NameRead}
-use Rattle.sheet.specs.declared.spelled.NameRead.TheVariants as read
 
 -- ---- what is read as a name
 
@@ -32,16 +30,16 @@ field_ends text at h =
     let e : min at (length text) ≡ at = omega arith in
     rw e
 
-said_name : (b : Bool) (end k : ℕ) → read.Name end ≡ name_said b k → So b × (end ≡ k)
+said_name : (b : Bool) (end k : ℕ) → Some end ≡ name_said b k → So b × (end ≡ k)
 said_name true end k e = (refl, (cc))
 said_name false end k e = absurd (let z : ◌≡◌ {A = ℕ} 0 1 = cc in omega arith)
 
 -- it is not read as none
-pub read_or_not : (r : NameRead) (end : ℕ) → read.NoName ≡ r → r ≡ read.Name end → ⊥
+pub read_or_not : (r : Option ℕ) (end : ℕ) → None ≡ r → r ≡ Some end → ⊥
 read_or_not r end e f = let z : ◌≡◌ {A = ℕ} 0 1 = cc in omega arith
 
 -- a name that is read stands there
-pub name_stands : (text : Bytes) (at end : ℕ) → at ≤ length text → read.Name end ≡ name_read text at
+pub name_stands : (text : Bytes) (at end : ℕ) → at ≤ length text → Some end ≡ name_read text at
     → NameAt text at end
 unfolding name_limit
 name_stands text at end h e =
@@ -83,10 +81,10 @@ span_of_name (c ∷ name) b rest spelled ends =
     ∙ ap suc (span_of_name name b rest (λ d m. spelled d (Memᴰ.tail m)) ends)
 
 pub name_found : (text : Bytes) (at : ℕ) (name : Bytes) (b : ℕ) (rest : Bytes) → Name name → So (separator b)
-    → drop at text ≡ name ++ b ∷ rest → name_read text at ≡ read.Name (at + length name)
+    → drop at text ≡ name ++ b ∷ rest → name_read text at ≡ Some (at + length name)
 unfolding name_limit
 name_found text at name b rest n f e =
-    ap (λ (said : Bool). name_said said (field_end text at)) good ∙ ap (λ (k : ℕ). read.Name k) ends
+    ap (λ (said : Bool). name_said said (field_end text at)) good ∙ ap (λ (k : ℕ). Some k) ends
   where
     ends : field_end text at ≡ at + length name
     ends = ap (λ (l : Bytes). at + span separator l) e ∙ ap (λ (k : ℕ). at + k) (span_of_name name b rest n.spelled

@@ -1,6 +1,6 @@
 -- The line of a user that stands in a text is found, and what follows it. Assumes nothing.
 use Rattle.std.specs.Prelude.{ℕ, zero, suc, ◌+◌, ◌*◌, ◌≤◌, ◌<◌, ◌≡◌, refl, Bool, ◌&&◌, List, [], ◌∷◌, ◌++◌, eqb, ltb}
-use Rattle.std.specs.Prelude.{length, get_or, drop}
+use Rattle.std.specs.Prelude.{length, get_or, drop, Some}
 use Rattle.std.proofs.Common.{arith, add-one, sym, ap, ◌∙◌, append_assoc, lt-ltb, eq-eqb, length-drop, get_or-drop}
 use Rattle.std.proofs.Math.Bool.{So}
 use Rattle.spec.specs.Text.{Bytes, comma, line_feed}
@@ -20,7 +20,6 @@ use Rattle.steps.specs.Steps.{Misses}
 use Rattle.steps.specs.Laws.Stands.{stands_then, stands_found, stands_part}
 use Rattle.steps.specs.Laws.Step.{stands_place}
 use Rattle.sheet.specs.Laws.Spelled.{behind, name_stands, name_found}
-use Rattle.sheet.specs.declared.spelled.NameRead.TheVariants.{Name}
 
 -- fields behind commas and a line feed start with a byte that ends a field
 pub record Behind (text : Bytes) : Type 0 where
@@ -53,7 +52,7 @@ module _ (text : Bytes) (at width : ℕ) (name : Bytes) (ones : ℕ → Bool) (r
       ∙ append_assoc (name ++ cells_text width ones) (line_feed ∷ []) rest ∙ append_assoc name (cells_text width ones)
       (line_feed ∷ rest)
 
-  pub line_name_found : name_read text at ≡ Name (at + length name)
+  pub line_name_found : name_read text at ≡ Some (at + length name)
   line_name_found =
       let b = fields_behind width (λ i. cell_text (ones i)) rest in
       name_found text at name b.byte b.rest line.named b.ends
@@ -86,7 +85,7 @@ cells_end {row = row} {width} {after = after} r =
 
 -- a name, cells and a line feed are such a line
 pub line_stands : {text : Bytes} {at width row to end : ℕ} {words after : List ℕ} → at ≤ length text
-    → Name to ≡ name_read text at → RowRead text to row width words after end
+    → Some to ≡ name_read text at → RowRead text to row width words after end
     → So (ltb end (length text) && eqb (get_or text end 0) line_feed)
     → LineStands text at width row words after (record { to = to; next = end + 1 })
 line_stands {text} {at} {width} {row} {to} {end} {after = after} h named cells p =

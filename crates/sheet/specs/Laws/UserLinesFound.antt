@@ -1,6 +1,6 @@
 -- The lines of users that a text is made of are found one by one: while bytes are left a line is left, and it is
 -- read. Assumes nothing.
-use Rattle.std.specs.Prelude.{ℕ, suc, ◌≤◌, ◌<◌, ◌≡◌, Bool, false, List, [], map, length, get_or, drop}
+use Rattle.std.specs.Prelude.{ℕ, suc, ◌≤◌, ◌<◌, ◌≡◌, Bool, false, List, [], map, length, get_or, drop, None}
 use Rattle.std.proofs.Common.{arith, sym, ap, ◌∙◌, ⊎_elim, length-drop, drop_of_length-le, drop-cons}
 use Rattle.spec.specs.Vocabulary.{list_of}
 use Rattle.spec.specs.Limits.{user_limit}
@@ -13,8 +13,6 @@ use Rattle.lists.specs.ListOfLaws.{list_of_places, map_list_of}
 use Rattle.sheet.specs.UserLine.{Spells, LineStands, UserLineReads}
 use Rattle.sheet.specs.UserLines.{Fit, UserLinesReads}
 use Rattle.sheet.specs.declared.user_line.UserLine.{UserLine}
-use Rattle.sheet.specs.declared.user_line.UserLineRead.TheVariants.{NoLine}
-use Rattle.sheet.specs.declared.user_lines.UserLinesRead.TheVariants.{NoLines}
 
 -- of any lines that the text is made of from `start` on, all but the first n are left from `at` on
 abbrev pub LinesLeft : Bytes → ℕ → ℕ → ℕ → ℕ → Type 0
@@ -74,7 +72,7 @@ left_next text start width n at left h line stands names rows fit e =
 
 -- and where no line was read, the text is made of no such lines
 pub no_line_left : (text : Bytes) (start width n at : ℕ) → LinesLeft text start width n at → at < length text
-    → UserLineReads text at width n [] [] NoLine → UserLinesReads text start width [] [] NoLines
+    → UserLineReads text at width n [] [] None → UserLinesReads text start width [] [] None
 no_line_left text start width n at left h none names rows fit e =
     none (get_or names n []) (λ i. get_or (get_or rows n []) i false)
     (text_of (user_lines (drop (suc n) names) (drop (suc n) rows)))
