@@ -31,28 +31,23 @@ fn role_lines(book: &[u8], at: usize, gives: &mut [u64], permissions: usize) -> 
     ensures { RoleLinesRead book.now at permissions gives.new result }
 {
     let mut next = at;
-    let mut r = 0;
-    loop {
+    for r in 0..ROLE_LIMIT {
         if let Some(end) = expect_byte(book, next, b'\n') {
             return Some(RolesRead {
                 roles: r,
                 next: end,
             });
         }
-        if r == ROLE_LIMIT {
-            return None;
-        }
         let mut name = [0u8; ROLE_NAME_BYTES];
         let n = put_role_name(&mut name, RoleNo(r));
-        let Some(cells) = expect(book, next, &name[..n]) else {
-            return None;
-        };
-        let Some(after) = read_line(book, cells, gives, r, permissions) else {
-            return None;
-        };
-        next = after;
-        r += 1;
+        let cells = expect(book, next, &name[..n])?;
+        next = read_line(book, cells, gives, r, permissions)?;
     }
+    let end = expect_byte(book, next, b'\n')?;
+    Some(RolesRead {
+        roles: ROLE_LIMIT,
+        next: end,
+    })
 }
 
 // Reads the line of names of block 2: `role`, and the sheet's own first line from behind its `user` on, which has the
@@ -62,9 +57,7 @@ fn roles_heading<'a>(book: &'a [u8], at: usize, sheet: &'a [u8]) -> Option<usize
     requires { (at ≤ length book.now) × So (accepted sheet.now) }
     ensures { HeadingReads (sheet_of sheet.now) book.now at result }
 {
-    let Some(names) = expect(book, at, b"role") else {
-        return None;
-    };
+    let names = expect(book, at, b"role")?;
     expect_name(book, names, permissions_line(sheet))
 }
 
@@ -81,9 +74,7 @@ pub fn read_roles<'a>(
     requires row_words_in_bounds { (role_limit * row_words ≤ length gives.old) × AllBlank gives.old }
     ensures { RolesReads (sheet_of sheet.now) book.now at gives.new result }
 {
-    let Some(lines) = roles_heading(book, at, sheet) else {
-        return None;
-    };
+    let lines = roles_heading(book, at, sheet)?;
     let Some(read) = role_lines(book, lines, gives, layout.permissions) else {
         clear_rows(gives);
         return None;

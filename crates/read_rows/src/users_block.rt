@@ -21,18 +21,11 @@ fn expect_roles(book: &[u8], at: usize, roles: usize) -> Option<usize>
     ensures { Expects book.now at (role_fields roles) result }
 {
     let mut next = at;
-    let mut r = 0;
-    while r < roles {
-        let Some(start) = expect_byte(book, next, b',') else {
-            return None;
-        };
+    for r in 0..roles {
+        let start = expect_byte(book, next, b',')?;
         let mut name = [0u8; ROLE_NAME_BYTES];
         let n = put_role_name(&mut name, RoleNo(r));
-        let Some(after) = expect(book, start, &name[..n]) else {
-            return None;
-        };
-        next = after;
-        r += 1;
+        next = expect(book, start, &name[..n])?;
     }
     Some(next)
 }
@@ -42,12 +35,8 @@ fn users_heading(book: &[u8], at: usize, roles: usize) -> Option<usize>
     requires { (at ≤ length book.now) × (roles ≤ role_limit) }
     ensures { Expects book.now at (users_heading roles) result }
 {
-    let Some(names) = expect(book, at, b"user") else {
-        return None;
-    };
-    let Some(end) = expect_roles(book, names, roles) else {
-        return None;
-    };
+    let names = expect(book, at, b"user")?;
+    let end = expect_roles(book, names, roles)?;
     expect_byte(book, end, b'\n')
 }
 
@@ -67,17 +56,10 @@ fn user_lines<'a, 'b>(
     ensures { UserLinesRead (sheet_of sheet.now) book.now at roles has.new result }
 {
     let mut next = at;
-    let mut u = 0;
-    while u < places.len() {
+    for u in 0..places.len() {
         let name = names::user_name_in(sheet, places, UserNo(u));
-        let Some(cells) = expect_name(book, next, name) else {
-            return None;
-        };
-        let Some(after) = read_line(book, cells, has, u, roles) else {
-            return None;
-        };
-        next = after;
-        u += 1;
+        let cells = expect_name(book, next, name)?;
+        next = read_line(book, cells, has, u, roles)?;
     }
     Some(next)
 }
@@ -96,9 +78,7 @@ pub fn read_users<'a>(
     requires row_words_in_bounds { (layout.users * row_words ≤ length has.old) × AllBlank has.old }
     ensures { UsersReads (sheet_of sheet.now) book.now at roles has.new result }
 {
-    let Some(lines) = users_heading(book, at, roles) else {
-        return None;
-    };
+    let lines = users_heading(book, at, roles)?;
     let users = layout.users;
     let user_places = layout.user_places;
     let places = user_places.at;
