@@ -1,6 +1,6 @@
 -- The walk that finds the grant with the fewest partners: the cells passed give the grants seen, each with the count
 -- of those that fit it. Of a word the lowest position is passed next.
-use Rattle.std.specs.Prelude.{ℕ, ◌+◌, ◌*◌, ◌/◌, ◌%◌, ◌≤◌, ◌<◌, ◌≡◌, refl, false, not, ◌&&◌, List, ◌∷◌, [], map, eqb, length, get_or}
+use Rattle.std.specs.Prelude.{ℕ, ◌+◌, ◌*◌, ◌/◌, ◌%◌, ◌≤◌, ◌<◌, ◌≡◌, refl, false, not, ◌&&◌, List, ◌∷◌, [], map, eqb, length, get_or, Option, Some}
 use Rattle.std.proofs.Common.{add-zero, add-one, arith, sym, ap, ◌∙◌, ⊎_elim, eq-eqb, ne_eqb}
 use Rattle.std.proofs.Math.Bool.{So, and-true, and-false}
 use Rattle.std.proofs.lemmas.List.{map-append}
@@ -33,7 +33,7 @@ abbrev pub partner_count : Sheet → List ℕ → Grant → ℕ
 partner_count sheet left g = length (partners sheet (cell_grants sheet left) g)
 
 -- the best of the cells below n
-pub record Walked (rows left : List ℕ) (users : ℕ) (best : Choice) (n : ℕ) : Type 0 where
+pub record Walked (rows left : List ℕ) (users : ℕ) (best : Option Choice) (n : ℕ) : Type 0 where
   pub standing : ChoiceWithin left (users * row_bits) best
   pub so_far :
       (sheet : Sheet) → Shown rows users sheet → Part left rows
@@ -47,7 +47,7 @@ module _ (rows left : List ℕ) (users : ℕ) where
     so_far = λ sheet shown part. none_seen (partner_count sheet left);
   }
 
-  module _ (best : Choice) (n : ℕ) (walked : Walked rows left users best n) where
+  module _ (best : Option Choice) (n : ℕ) (walked : Walked rows left users best n) where
     -- cells that are not set are passed
     pub walk_passes : (m : ℕ) → n ≤ m → Skipped (marked left) n m → Walked rows left users best m
     walk_passes m l skipped = record {
@@ -57,14 +57,14 @@ module _ (rows left : List ℕ) (users : ℕ) where
 
     pub walk_goes_on : users ≤ user_limit → (counts : List ℕ) → Counted rows left users counts → n < users * row_bits
         → So (marked left n)
-        → Walked rows left users (better_of best n (get_or counts n 0)) (n + 1)
+        → Walked rows left users (Some (better_of best n (get_or counts n 0))) (n + 1)
     walk_goes_on few counts counted inside p = record {
       standing = better_standing left (users * row_bits) best walked.standing n (get_or counts n 0) inside p;
       so_far = λ sheet shown part.
           rw (add-one n, passing_next n (marked left) p, map-append grant_of (passing_below n (marked left)) (n ∷ []))
-          (one_more_seen (partner_count sheet left) (map grant_of (passing_below n (marked left))) best
-          (walked.so_far sheet shown part) n (get_or counts n 0)
-          (counted_grants few shown part counted n inside p ∙ partners_one_fewer shown part n inside p));
+          (one_more_seen (partner_count sheet left) (map grant_of (passing_below n (marked left))) n (get_or counts n 0)
+          (counted_grants few shown part counted n inside p ∙ partners_one_fewer shown part n inside p) best
+          (walked.so_far sheet shown part));
     }
 
     pub walk_ends : n ≡ users * row_bits → Fewest rows left users best
@@ -78,7 +78,7 @@ module _ (rows left : List ℕ) (users : ℕ) where
 -- ---- a word
 
 -- the cells of word i are passed below a position, and w has those from there on
-pub record InWord (rows left : List ℕ) (users i w : ℕ) (best : Choice) : Type 0 where
+pub record InWord (rows left : List ℕ) (users i w : ℕ) (best : Option Choice) : Type 0 where
   pub from : ℕ
   pub not_past : from ≤ word_bits
   pub done : (q : ℕ) → q < from → bit w q ≡ false
@@ -86,7 +86,7 @@ pub record InWord (rows left : List ℕ) (users i w : ℕ) (best : Choice) : Typ
   pub walked : Walked rows left users best (i * word_bits + from)
 
 module _ (rows left : List ℕ) (users i : ℕ) where
-  pub word_starts : (best : Choice) → Walked rows left users best (i * word_bits) → InWord rows left users i
+  pub word_starts : (best : Option Choice) → Walked rows left users best (i * word_bits) → InWord rows left users i
       (get_or left i 0) best
   word_starts best walked = record {
     from = 0;
@@ -97,7 +97,7 @@ module _ (rows left : List ℕ) (users i : ℕ) where
   }
 
   -- no cell of the word is set between the walk and a position below which w has none
-  skipped_in_word : (w : ℕ) (best : Choice) (in_word : InWord rows left users i w best) (end : ℕ) → end ≤ word_bits
+  skipped_in_word : (w : ℕ) (best : Option Choice) (in_word : InWord rows left users i w best) (end : ℕ) → end ≤ word_bits
       → ((q : ℕ) → q < end → bit w q ≡ false) → Skipped (marked left) (i * word_bits + in_word.from)
       (i * word_bits + end)
   skipped_in_word w best in_word end l none m k h =
@@ -105,10 +105,10 @@ module _ (rows left : List ℕ) (users i : ℕ) where
       let position : i * word_bits + m % word_bits ≡ m = omega arith in
       rw word (sym (in_word.ahead (m % word_bits) (omega arith)) ∙ none (m % word_bits) (omega arith))
 
-  pub word_goes_on : {w low rest : ℕ} (best : Choice) → InWord rows left users i w best → Lowest word_bits (bit w) low
+  pub word_goes_on : {w low rest : ℕ} (best : Option Choice) → InWord rows left users i w best → Lowest word_bits (bit w) low
       → LowestDropped w rest
       → users ≤ user_limit → i < users * row_words → (counts : List ℕ) → Counted rows left users counts
-      → InWord rows left users i rest (better_of best (i * word_bits + low) (get_or counts (i * word_bits + low) 0))
+      → InWord rows left users i rest (Some (better_of best (i * word_bits + low) (get_or counts (i * word_bits + low) 0)))
   word_goes_on {w} {low} {rest} best in_word is-low dropped few inside counts counted = record {
     from = low + 1;
     not_past = omega (arith, is-low.within);
@@ -135,7 +135,7 @@ module _ (rows left : List ℕ) (users i : ℕ) where
       next : i * word_bits + (low + 1) ≡ i * word_bits + low + 1
       next = omega arith
 
-  pub word_ends : (best : Choice) → InWord rows left users i 0 best → Walked rows left users best ((i + 1) * word_bits)
+  pub word_ends : (best : Option Choice) → InWord rows left users i 0 best → Walked rows left users best ((i + 1) * word_bits)
   word_ends best in_word =
       let end : (i + 1) * word_bits ≡ i * word_bits + word_bits = omega arith in
       rw end (walk_passes rows left users best (i * word_bits + in_word.from) in_word.walked

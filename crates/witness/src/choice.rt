@@ -14,7 +14,7 @@ use bits::WORD_BITS;
 use fit::fitting;
 use numbers::{CELL_LIMIT, CELL_WORDS, CellNo, ROW_WORDS};
 
-// A grant by its cell, and how many remaining grants fit it, itself among them: none at all where there is no grant.
+// A grant by its cell, and how many remaining grants fit it, itself among them.
 #[derive(Clone, Copy)]
 pub struct Choice {
     pub cell: CellNo,
@@ -22,27 +22,24 @@ pub struct Choice {
 }
 
 // The choice so far, unless the grant at a cell has fewer partners.
-fn better(best: Choice, cell: CellNo, count: u16) -> Choice
+fn better(best: Option<Choice>, cell: CellNo, count: u16) -> Choice
     ensures { result ≡ better_of best cell.0 count }
 {
     let partners = count as usize;
-    if best.partners == 0 {
-        return Choice { cell, partners };
-    }
-    if partners < best.partners {
-        Choice { cell, partners }
-    } else {
-        best
+    match best {
+        Some(best) if best.partners <= partners => best,
+        _ => Choice { cell, partners },
     }
 }
 
 // The choice so far, unless a grant of word i has fewer partners, by the counts of the grants that fit.
+#[tactic(auto, unfolding(spec::specs::Limits::user_limit, cell_rows::specs::Rows::row_words))]
 fn better_in_word<'a>(
-    best: Choice,
+    best: Option<Choice>,
     left: &'a [u64; CELL_WORDS],
     counts: &'a [u16; CELL_LIMIT],
     i: usize,
-) -> Choice
+) -> Option<Choice>
     requires { i < cell_words }
     ensures { (rows : List ℕ) (users : ℕ) → users ≤ user_limit → i < users * row_words
         → Counted rows left.now users counts.now
@@ -54,27 +51,24 @@ fn better_in_word<'a>(
     let mut w = left[i];
     while w != 0 {
         let n = from + bits::lowest(w);
-        it = better(it, CellNo(n), counts[n]);
+        it = Some(better(it, CellNo(n), counts[n]));
         w = bits::without_lowest(w);
     }
     it
 }
 
-// The remaining grant with the fewest partners, the lowest on a tie.
+// The remaining grant with the fewest partners, the lowest on a tie, if any grant remains.
 #[tactic(auto, unfolding(spec::specs::Limits::user_limit, cell_rows::specs::Rows::row_words))]
 pub fn fewest<'a>(
     left: &'a [u64; CELL_WORDS],
     counts: &'a [u16; CELL_LIMIT],
     users: usize,
-) -> Choice
+) -> Option<Choice>
     requires { users ≤ user_limit }
     ensures { (rows : List ℕ) → Counted rows left.now users counts.now
         → Fewest rows left.now users result }
 {
-    let mut best = Choice {
-        cell: CellNo(0),
-        partners: 0,
-    };
+    let mut best = None;
     for i in 0..users * ROW_WORDS {
         best = better_in_word(best, left, counts, i);
     }

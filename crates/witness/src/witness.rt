@@ -39,13 +39,11 @@ fn choose<'a>(
     let mut counts = first_counts(rows, columns, kernel, users);
     let mut left = *kernel;
     for _ in 0..GRANT_LIMIT {
-        let best = fewest(&left, &counts, users);
-        let cell = best.cell;
-        if best.partners == 0 {
+        let Some(best) = fewest(&left, &counts, users) else {
             return;
-        }
-        put_cell(cells, cell);
-        let rest = dropped(rows, &left, users, cell);
+        };
+        put_cell(cells, best.cell);
+        let rest = dropped(rows, &left, users, best.cell);
         recount(&mut counts, rows, columns, &left, &rest, users);
         left = rest;
     }

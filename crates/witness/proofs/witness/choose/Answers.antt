@@ -1,6 +1,6 @@
 -- `witness::choose`: from an empty set none is taken. Else each turn takes the grant with the fewest partners among those
 -- left, as the definition does. The turns end when none is left, or with as many as a sheet can have grants.
-use Rattle.std.proofs.Common.{◌≡◌, ◌-◌, ◌∙◌, suc, ◌+◌, refl, arith, eq-eqb, ne_eqb}
+use Rattle.std.proofs.Common.{◌≡◌, ◌-◌, suc, ◌+◌, refl, arith}
 use Rattle.std.proofs.Math.Nat.{sub-zero}
 use Rattle.spec.specs.Limits.{grant_limit}
 use Rattle.cell_rows.specs.Rows.{row_words, row_bits}
@@ -32,25 +32,24 @@ loop-init c = (
   λ sheet shown part. rw (sub-zero grant_limit) (greedy_starts sheet _ _ _ part),
 )
 
-pub returns-then-best-eq0 : goal.returns-then-best-eq0
-returns-then-best-eq0 c sheet shown part =
+pub returns-in_default : goal.returns-in_default
+returns-in_default c sheet shown part =
     let at = c.loop in
     let greedy = at.invariant.2 sheet shown part in
-    let found = (c.fewest-best.ensures _ at.invariant.1).is_fewest sheet shown greedy.left_part in
+    let none = (c.in_default.ensures _ at.invariant.1).is_fewest sheet shown greedy.left_part in
     greedy_ends sheet _ _ _ at.left at.cells _ greedy
-    (none_taken sheet (grant_limit - at.counter) (cell_grants sheet at.left)
-    (found ∙ rw (eq-eqb _ _ c.if-best-eq0.true)))
+    (none_taken sheet (grant_limit - at.counter) (cell_grants sheet at.left) none)
 
 pub put_cell-requires : goal.put_cell-requires
 unfolding row_bits row_words
 put_cell-requires c =
-    let within = (c.fewest-best.ensures _ c.loop.invariant.1).standing.within (omega arith) in
+    let within = (c.in-Some.ensures _ c.loop.invariant.1).standing.within in
     (omega (arith, within), c.loop.invariant.0)
 
 pub dropped-rest-requires : goal.dropped-rest-requires
 unfolding row_bits row_words
 dropped-rest-requires c =
-    let within = (c.fewest-best.ensures _ c.loop.invariant.1).standing.within (omega arith) in
+    let within = (c.in-Some.ensures _ c.loop.invariant.1).standing.within in
     (c.requires.0, omega (arith, within))
 
 pub recount-requires : goal.recount-requires
@@ -67,15 +66,14 @@ pub loop-preserved : goal.loop-preserved
 unfolding grant_limit
 loop-preserved c =
     let at = c.loop in
-    let fewest = c.fewest-best in
-    let best = fewest.ensures _ at.invariant.1 in
+    let best = c.in-Some.ensures _ at.invariant.1 in
     let more : grant_limit - at.counter ≡ suc (grant_limit - (at.counter + 1)) = omega arith in (
       c.put_cell.ensures.0,
       c.recount.ensures.0,
       λ sheet shown part.
           let greedy = rw more at (at.invariant.2 sheet shown part) in
-          greedy_goes_on shown _ _ at.left at.cells _ greedy fewest.result.cell.0 (best.standing.is_set (omega arith))
-          (best.is_fewest sheet shown greedy.left_part ∙ rw (ne_eqb _ _ c.if-best-eq0.false)) _ c.dropped-rest.ensures _
+          greedy_goes_on shown _ _ at.left at.cells _ greedy c.in-Some.best.cell.0 best.standing.is_set
+          (best.is_fewest sheet shown greedy.left_part) _ c.dropped-rest.ensures _
           c.put_cell.ensures.1,
     )
 
