@@ -1,13 +1,12 @@
 -- A grouping in the making: the classes of the first numbers stand in an array, with their count. Each next number
 -- takes the class that the grouping gives it, so the array holds the grouping of one number more. There are never
 -- more classes than numbers, which bounds each class.
-use Rattle.std.specs.Prelude.{ℕ, suc, ◌≤◌, ◌<◌, max, ◌≡◌, refl, ◌⊎◌, Bool, List, [], length, set}
-use Rattle.std.proofs.Common.{arith, ⊎_elim, le-leb}
-use Rattle.std.proofs.lemmas.Bool.{lt-leb}
-use Rattle.spec.specs.Cover.{used, grouping, fewer}
+use Rattle.std.specs.Prelude.{ℕ, suc, ◌≤◌, ◌<◌, max, ◌≡◌, refl, Bool, List, [], length, set, Option, Some, None}
+use Rattle.spec.specs.Cover.{used, grouping}
 use Rattle.lists.specs.GrownLaws.{grown_used_le}
 use Rattle.lists.specs.GroupingLaws.{class_taken, grouping_length, grouping_grown}
 use Rattle.lists.specs.LatestFirst.{latest_first, latest_first_next}
+use Rattle.cover.specs.declared.cover.Placement.{Placement}
 
 -- a placement of d numbers as their classes in an array, and the count of the classes
 pub record Placed (placement classes : List ℕ) (d count : ℕ) : Type 0 where
@@ -40,22 +39,7 @@ module _ (together : ℕ → ℕ → Bool) (classes : List ℕ) (d count : ℕ) 
     one_placed {c} e l =
         record { so_far = rw (latest_first_next classes d c l, p.so_far, e); in_use = rw (p.in_use, e) }
 
--- ---- the one of two with fewer classes
-
--- a placement, or one that was given up since it has more classes than another, as the count says
-abbrev pub PlacedOrMore : List ℕ → List ℕ → ℕ → ℕ → ℕ → Type 0
-PlacedOrMore placement classes d count most =
-    Placed placement classes d count ⊎ ((most < count) × (most < used placement))
-
-module _ (p q : List ℕ) (n : ℕ) {s t : List ℕ} {a b : ℕ} (sooner : PlacedOrMore p s n a b) (later : Placed q t n b)
-  where
-    pub sooner_is_fewer : a ≤ b → Placed (fewer p q) s n a
-    sooner_is_fewer l = ⊎_elim placed (λ more. absurd (omega (arith, more.0))) sooner
-      where
-        placed : Placed p s n a → Placed (fewer p q) s n a
-        placed whole = rw (le-leb (used p) (used q) (rw (whole.in_use, later.in_use) at l)) whole
-
-    pub later_is_fewer : b < a → Placed (fewer p q) t n b
-    later_is_fewer l =
-        rw (lt-leb (used p) (used q) (⊎_elim (λ whole. rw (whole.in_use, later.in_use) at l)
-        (λ more. rw later.in_use at more.1) sooner)) later
+-- a placement, or none since it has more classes than most
+abbrev pub PlacedOrMore : List ℕ → Option Placement → ℕ → ℕ → Type 0
+PlacedOrMore placement None d most = most < used placement
+PlacedOrMore placement (Some p) d most = Placed placement p.classes d p.used

@@ -1,5 +1,5 @@
 // The first cover: the first best of the groupings of the kernel in grant order.
-ghost use Rattle.std.specs.Prelude.{◌≡◌, true, List, map, ℕ, suc, ◌<◌, ◌≤◌, ◌^◌, max, length, get_or, take};
+ghost use Rattle.std.specs.Prelude.{◌≡◌, true, List, map, ℕ, suc, ◌<◌, ◌≤◌, ◌^◌, max, length, get_or, take, IfSome};
 ghost use Rattle.spec.specs.Limits.{grant_limit};
 ghost use Rattle.spec.specs.Sheet.{Sheet};
 ghost use Rattle.spec.specs.Reduction.{kernel};
@@ -20,6 +20,7 @@ ghost use Rattle.cover.specs.CoverWords.{LacksAdded};
 ghost use Rattle.cover.specs.CoverFree.{free, free_in_word};
 ghost use Rattle.cover.specs.CoverAllowed.{AllowedTo};
 ghost use Rattle.cover.specs.CoverPlaced.{Placed, PlacedOrMore};
+ghost use Rattle.cover.specs.declared.cover.Placement.{Placement};
 
 use bits::WORD_BITS;
 use cell_rows::mark;
@@ -225,14 +226,14 @@ fn add_lacked(rows: &[u64], lacked: &mut [u64; CLASS_WORDS], c: usize, user: Use
     }
 }
 
-// The grouping of the kernel by fit, given up where it needs more classes than most.
+// The grouping of the kernel by fit, or none where it needs more classes than most.
 #[tactic(auto, unfolding(spec::specs::Limits::grant_limit, cell_rows::specs::Rows::row_words, cell_rows::specs::Rows::row_bits))]
-fn grouped_by_fit<'a>(rows: &'a [u64], cells: &'a [u16], most: usize) -> Placement
+fn grouped_by_fit<'a>(rows: &'a [u64], cells: &'a [u16], most: usize) -> Option<Placement>
     requires { (length cells.now ≤ grant_limit) × (most ≤ row_bits) }
     ensures placed_or_more { HeldCells rows.now cells.now
         → PlacedOrMore (grouping (fit_at_cells rows.now cells.now) (length cells.now))
-        result.classes (length cells.now) result.used most }
-    ensures blank_from { BlankFrom (length cells.now) result.classes }
+        result (length cells.now) most }
+    ensures blank_from { IfSome result (λ (p : Placement). BlankFrom (length cells.now) p.classes) }
 {
     let mut asked = [0; CLASS_WORDS];
     let mut lacked = [0; CLASS_WORDS];
@@ -248,32 +249,30 @@ fn grouped_by_fit<'a>(rows: &'a [u64], cells: &'a [u16], most: usize) -> Placeme
         latest = user;
         let c = class_for(&allowed, &lacked, permission);
         if c >= most {
-            let used = c + 1;
-            return Placement { classes, used };
+            return None;
         }
         add_asked(&mut asked, c, permission);
         add_lacked(rows, &mut lacked, c, user);
         classes[d] = c as u8;
         count = counted(count, c as u8);
     }
-    Placement {
+    Some(Placement {
         classes,
         used: count,
-    }
+    })
 }
 
-// The one of two placements with fewer classes, the earlier on a tie.
-fn with_fewer(earlier: Placement, later: Placement) -> Placement
-    ensures by_index { (n : ℕ) (p q : List ℕ) → PlacedOrMore p earlier.classes n earlier.used later.used
+// The one of two placements with fewer classes, the earlier on a tie. Where there is no earlier one, it has more.
+fn with_fewer(earlier: Option<Placement>, later: Placement) -> Placement
+    ensures by_index { (n : ℕ) (p q : List ℕ) → PlacedOrMore p earlier n later.used
         → Placed q later.classes n later.used
         → Placed (fewer p q) result.classes n result.used }
-    ensures by_index_2 { (n : ℕ) → BlankFrom n earlier.classes → BlankFrom n later.classes
-        → BlankFrom n result.classes }
+    ensures by_index_2 { (n : ℕ) → IfSome earlier (λ (p : Placement). BlankFrom n p.classes)
+        → BlankFrom n later.classes → BlankFrom n result.classes }
 {
-    if earlier.used <= later.used {
-        earlier
-    } else {
-        later
+    match earlier {
+        Some(earlier) if earlier.used <= later.used => earlier,
+        _ => later,
     }
 }
 

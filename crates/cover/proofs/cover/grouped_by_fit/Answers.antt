@@ -1,10 +1,10 @@
 -- `cover::grouped_by_fit`: each grant in turn takes the class that the grouping gives it, since the words say which
 -- classes it can join. What it asks and what its user lacks is then added to that class. Where the class is past most,
 -- so is the count of the whole grouping.
-use Rattle.std.proofs.Common.{◌≡◌, ◌<◌, refl, ◌∙◌, inl, inr, arith, mod-lt, length, get_or, length-set}
+use Rattle.std.proofs.Common.{◌≡◌, ◌<◌, refl, ◌∙◌, arith, mod-lt, length, get_or, length-set}
 use Rattle.spec.specs.Limits.{grant_limit}
 use Rattle.cell_rows.specs.Rows.{row_words, row_bits}
-use Rattle.cells.specs.Blank.{zeros_blank, set_blank, later_blank}
+use Rattle.cells.specs.Blank.{zeros_blank, set_blank}
 use Rattle.cell_rows.specs.Laws.Width.{row_bits_pos}
 use Rattle.cover.specs.CoverRelation.{user_has_room}
 use Rattle.cover.specs.CoverMembers.{class_words}
@@ -31,21 +31,15 @@ allowed_next-allowed-requires c =
 pub class_for-c-requires : goal.class_for-c-requires
 class_for-c-requires c = rw c.permission_of-permission.ensures (mod-lt _ row_bits_pos)
 
-pub overflow_add-used : goal.overflow_add-used
-unfolding row_bits row_words
-overflow_add-used c = omega (arith, c.class_for-c.ensures.not_past)
-
 pub returns-then-c-most : goal.returns-then-c-most
 returns-then-c-most c =
     let next = rw c.user_of-user.ensures at c.allowed_next-allowed.ensures in
     let found = rw c.permission_of-permission.ensures at c.class_for-c.ensures in
     record {
-      placed_or_more = λ held. inr (
-        omega arith,
-        more_classes c.requires.1 (next_user next (c.loop-d.invariant.3 held)) found (length c.args.cells.now)
-            (omega arith) (omega arith),
-      );
-      blank_from = later_blank (omega arith) c.loop-d.invariant.4;
+      placed_or_more = λ held.
+          more_classes c.requires.1 (next_user next (c.loop-d.invariant.3 held)) found (length c.args.cells.now)
+          (omega arith) (omega arith);
+      blank_from = tt;
     }
 
 pub add_asked-requires : goal.add_asked-requires
@@ -88,6 +82,6 @@ pub returns : goal.returns
 returns c =
     let e : c.loop-d.d ≡ length c.args.cells.now = omega arith in
     record {
-      placed_or_more = λ held. inl (rw e at (c.loop-d.invariant.3 held).placed);
+      placed_or_more = λ held. rw e at (c.loop-d.invariant.3 held).placed;
       blank_from = rw e at c.loop-d.invariant.4;
     }
