@@ -1,7 +1,7 @@
 -- The four readings of a book, one after the other. What follows a block is known, so where one of the blocks is
 -- missing, nothing that can be said is written as this book; and where all four are there, what was read is said, and
 -- is written as this book.
-use Rattle.std.specs.Prelude.{ℕ, ◌≤◌, ◌<◌, ◌≡◌, refl, List, ◌++◌, drop}
+use Rattle.std.specs.Prelude.{ℕ, ◌≤◌, ◌<◌, ◌≡◌, refl, List, ◌++◌, drop, Option, Some, None}
 use native.Mathlib.Omega.{arith}
 use Rattle.std.proofs.Common.{sym, ◌∙◌}
 use Rattle.std.proofs.Math.Path.{ap}
@@ -26,6 +26,7 @@ use Rattle.read_rows.specs.RoleSteps.{RolesPart, NoRolesPart, roles_part_once}
 use Rattle.read_rows.specs.UserSteps.{UsersPart, NoUsersPart, users_parts_aligned}
 use Rattle.read_fields.specs.WitnessSteps.{WitnessPart, NoWitnessPart, grants_few}
 use Rattle.right.specs.Judgement.{Unwritten, WrittenAs}
+use Rattle.judging.specs.declared.judgement.BookRead.{BookRead}
 use Rattle.judging.specs.BookSays.{Says, BookSays}
 
 -- blocks 1 and 2 were read
@@ -33,6 +34,19 @@ pub record FrontRead (sheet : Sheet) (book : Bytes) (counts : Counts) (gives : L
   pub second : ℕ
   pub counts_at : CountsAt book 0 counts second
   pub roles_at : RolesPart sheet book second gives roles next
+
+-- all four blocks were read
+pub record AllRead (sheet : Sheet) (book : Bytes) (has gives : List ℕ) (r : BookRead) : Type 0 where
+  pub third : ℕ
+  pub front : FrontRead sheet book r.counts gives r.roles third
+  pub fourth : ℕ
+  pub users : UsersPart sheet book third r.roles has fourth
+  pub last : WitnessPart sheet book fourth r.witness
+
+-- reading the four blocks
+abbrev pub BlocksReads : Sheet → Bytes → List ℕ → List ℕ → Option BookRead → Type 0
+BlocksReads sheet book has gives (Some r) = AllRead sheet book has gives r
+BlocksReads sheet book has gives None = Unwritten sheet book
 
 -- what a book would be that is written, in whatever case its names are spelled
 record Writing (sheet : Sheet) (book : Bytes) : Type 0 where

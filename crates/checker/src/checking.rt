@@ -1,25 +1,33 @@
 // The check of a book against a sheet.
 ghost use Rattle.spec.specs.Calls.{Checks};
 ghost use Rattle.judging.specs.BookSays.{answer_of};
+ghost use Rattle.checker.specs.ReadAs.{book_answer};
 
 use crate::reading::read_book;
-use judging::{Checked, refused};
-use numbers::ROLE_WORDS;
+use judging::{BookRead, Checked, refused};
+use numbers::{ROLE_WORDS, Refusal};
+
+// Reads and judges the sheet, then the book.
+fn read_both<'a>(sheet: &'a [u8], book: &'a [u8]) -> Result<BookRead, Refusal>
+    ensures { Checks sheet.now book.now (book_answer result) }
+{
+    let read = sheet::read(sheet)?;
+    let mut has = cell_rows::no_rows();
+    let mut gives = [0; ROLE_WORDS];
+    read_book(sheet, read.layout, &read.rows, book, &mut has, &mut gives)
+}
 
 // Whether a book is right for a sheet: the lowest of document 01's numbers that applies, with counts 0; or 0, with
 // the roles and the witness lines. The sheet is judged first.
 pub fn check<'a>(sheet: &'a [u8], book: &'a [u8]) -> Checked
     ensures { Checks sheet.now book.now (answer_of result) }
 {
-    let read = sheet::read(sheet);
-    let number = read.number;
-    if number != 0 {
-        return refused(number);
+    match read_both(sheet, book) {
+        Ok(read) => Checked {
+            number: 0,
+            roles: read.roles,
+            witness_lines: read.witness.lines,
+        },
+        Err(refusal) => refused(refusal),
     }
-    let layout = read.layout;
-    let rows = read.rows;
-    let mut has = cell_rows::no_rows();
-    let mut gives = [0; ROLE_WORDS];
-    let found = read_book(sheet, layout, &rows, book, &mut has, &mut gives);
-    found.checked
 }

@@ -6,4 +6,4 @@ mod checking;
 mod reading;
 
 pub use checking::check;
-pub use reading::{BookRead, read_book};
+pub use reading::read_book;

@@ -45,8 +45,8 @@ pub fn refused(refusal: Refusal) -> Checked
     }
 }
 
-// Judges what was read of a book that is of the form, by 13, 14 and 15 in turn. The rows are those of the sheet, and
-// the users as many.
+// Judges what was read of a book that is of the form: its counts, its product and its witness in turn. The rows are
+// those of the sheet, and the users as many.
 pub fn judge_book<'a>(
     sheet: &'a [u8],
     rows: &'a [u64],
