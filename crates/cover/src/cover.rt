@@ -89,7 +89,7 @@ fn grouped_by_permission(cells: &[u16]) -> Placement
 fn word_at(rows: &[u64], i: usize) -> u64
     ensures { result ≡ get_or rows.now i 0 }
 {
-    if i < rows.len() { rows[i] } else { 0 }
+    rows.get(i).copied().unwrap_or(0)
 }
 
 // Whether a user holds every permission that the members of class c ask.
@@ -264,10 +264,10 @@ fn grouped_by_fit<'a>(rows: &'a [u64], cells: &'a [u16], most: usize) -> Option<
 
 // The one of two placements with fewer classes, the earlier on a tie. Where there is no earlier one, it has more.
 fn with_fewer(earlier: Option<Placement>, later: Placement) -> Placement
-    ensures by_index { (n : ℕ) (p q : List ℕ) → PlacedOrMore p earlier n later.used
+    ensures placed { (n : ℕ) (p q : List ℕ) → PlacedOrMore p earlier n later.used
         → Placed q later.classes n later.used
         → Placed (fewer p q) result.classes n result.used }
-    ensures by_index_2 { (n : ℕ) → IfSome earlier (λ (p : Placement). BlankFrom n p.classes)
+    ensures blank_from { (n : ℕ) → IfSome earlier (λ (p : Placement). BlankFrom n p.classes)
         → BlankFrom n later.classes → BlankFrom n result.classes }
 {
     match earlier {

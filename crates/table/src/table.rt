@@ -61,6 +61,7 @@ fn line_word<'a>(rows: &'a [u64], cells: &'a [u16], from: usize, line: Line) -> 
 }
 
 // The permissions of the first cells, as a row.
+#[tactic(auto, unfolding(cell_rows::specs::Rows::row_words, cell_rows::specs::Rows::row_bits))]
 fn permissions_among(cells: &[u16], count: usize) -> [u64; ROW_WORDS]
     requires { count ≤ length cells.now }
     ensures { (p : ℕ) → marked result p ≡ some_below count (λ (i : ℕ). eqb p (get_or cells.now i 0
@@ -75,6 +76,7 @@ fn permissions_among(cells: &[u16], count: usize) -> [u64; ROW_WORDS]
 }
 
 // For each permission of a row, the cells of a word whose users hold it.
+#[tactic(auto, unfolding(cell_rows::specs::Rows::row_words, cell_rows::specs::Rows::row_bits))]
 fn columns<'a>(
     rows: &'a [u64],
     cells: &'a [u16],
@@ -123,6 +125,7 @@ fn held_again<'a>(last: HolderCells, rows: &'a [u64], cells: &'a [u16], it: Cell
 }
 
 // How many grants of so many a table has room for.
+#[tactic(auto, unfolding(crate::specs::TableWords::table_row))]
 fn limited(size: usize) -> usize
     ensures { (result ≤ size) × (result ≤ table_limit) × (result < table_limit → result ≡ size) }
 {
@@ -131,6 +134,7 @@ fn limited(size: usize) -> usize
 
 // The fit table of the grants at some cells, as far as it has room: those that fit a grant are the cells whose
 // permissions its user holds and whose users hold its permission.
+#[tactic(auto, unfolding(crate::specs::TableWords::table_row, cell_rows::specs::Rows::row_words, cell_rows::specs::Rows::row_bits))]
 fn table_of<'a>(rows: &'a [u64], cells: &'a [u16]) -> [u64; TABLE_WORDS]
     ensures { (users : ℕ) (sheet : Sheet) → Shown rows.now users sheet
         → Table sheet (map grant_of cells.now) result }

@@ -9,10 +9,6 @@ use Rattle.table.proofs.table.columns.Goals.{then-has, else-has}
 pub loop-p-init : goal.loop-p-init
 loop-p-init c = record { column = λ p l m. absurd (omega arith) }
 
-pub line_word-requires : goal.line_word-requires
-unfolding row_bits row_words
-line_word-requires c = (omega arith, omega arith)
-
 pub loop-p-preserved : goal.loop-p-preserved
 unfolding row_bits row_words
 loop-p-preserved c =

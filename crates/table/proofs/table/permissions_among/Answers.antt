@@ -12,10 +12,6 @@ pub loop-at-init : goal.loop-at-init
 unfolding some_below row_words
 loop-at-init c = (refl, no_cells row_words)
 
-pub mark-requires : goal.mark-requires
-unfolding row_bits row_words
-mark-requires c = omega (arith, c.permission_of.ensures, c.loop-at.invariant.0)
-
 pub loop-at-preserved : goal.loop-at-preserved
 loop-at-preserved c =
     let put = c.mark.ensures in

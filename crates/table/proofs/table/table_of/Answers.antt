@@ -10,14 +10,6 @@ use Rattle.table.specs.Laws.Table.{table_of}
 use Rattle.table.specs.Laws.TablePart.{nothing_filled, grant_filled, all_filled}
 use Rattle.table.proofs.table.table_of.Goals as goal
 
-pub columns-low-requires : goal.columns-low-requires
-unfolding table_row
-columns-low-requires c = omega arith
-
-pub columns-high-requires : goal.columns-high-requires
-unfolding table_row
-columns-high-requires c = omega arith
-
 pub loop-i-init : goal.loop-i-init
 unfolding table_row
 loop-i-init c = (
@@ -30,30 +22,6 @@ loop-i-init c = (
 within : (i count : ℕ) (cells : List ℕ) → (count ≤ length cells) × (count ≤ table_limit) × (count < table_limit
     → count ≡ length cells) → i < length (take count cells) → i < count
 within i count cells few l = omega (arith, length-take-le count cells few.0)
-
-pub bounds-low-p : goal.bounds-low-p
-unfolding row_bits row_words
-bounds-low-p c = omega (arith, c.permission_of-p.ensures)
-
-pub offset_bounds-words-i : goal.offset_bounds-words-i
-unfolding table_row
-offset_bounds-words-i c = omega (arith, within _ _ _ c.limited-count.ensures c.loop-i-test.true)
-
-pub bounds-words-i : goal.bounds-words-i
-unfolding table_row
-bounds-words-i c = omega (arith, within _ _ _ c.limited-count.ensures c.loop-i-test.true)
-
-pub bounds-high-p : goal.bounds-high-p
-unfolding row_bits row_words
-bounds-high-p c = omega (arith, c.permission_of-p.ensures)
-
-pub offset_bounds-words-i-in-loop-i : goal.offset_bounds-words-i-in-loop-i
-unfolding table_row
-offset_bounds-words-i-in-loop-i c = omega (arith, within _ _ _ c.limited-count.ensures c.loop-i-test.true)
-
-pub bounds-words-i-in-loop-i : goal.bounds-words-i-in-loop-i
-unfolding table_row
-bounds-words-i-in-loop-i c = omega (arith, within _ _ _ c.limited-count.ensures c.loop-i-test.true)
 
 pub loop-i-preserved : goal.loop-i-preserved
 unfolding table_row row_bits row_words
