@@ -18,22 +18,17 @@ pub fn read_line(s: &[u8], at: usize) -> LineRead
     requires { at ≤ length s.now }
     ensures { ReadLine s.now at result }
 {
-    let name = Cursor { at }.field(s);
+    let mut field = Cursor { at }.field(s);
+    let to = field.to;
     let mut cells = Cells::none();
-    let mut last = name.last;
-    let mut next = name.next;
     // A field says whether it is the last, and where the next one starts.
-    while !last {
-        let field = next.field(s);
-        let from = field.from;
-        let to = field.to;
-        cells = cells.with(&s[from..to]);
-        last = field.last;
-        next = field.next;
+    while !field.last {
+        field = field.next.field(s);
+        cells = cells.with(&s[field.from..field.to]);
     }
     LineRead {
-        to: name.to,
+        to,
         cells,
-        next: next.at,
+        next: field.next.at,
     }
 }

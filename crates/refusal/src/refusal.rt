@@ -89,11 +89,11 @@ fn has_name_twice(s: &[u8], head: LineRead, users: usize) -> bool
     ensures { result ≡ (repeats same_name (map first_field (lines_of (drop head.next s.now)))
         || repeats same_name (tail (line_fields s.now))) }
 {
-    let user_places = user_places(s, head.next);
+    let user_places = user_places(s, head.next, users);
     if repeated_in(s, &user_places[..users]) {
         return true;
     }
     let permissions = head.cells.count;
-    let permission_places = permission_places(s);
+    let permission_places = permission_places(s, permissions);
     repeated_in(s, &permission_places[..permissions])
 }

@@ -45,10 +45,17 @@ noting_fields_goes_on room text places n next noting few =
       left = fields_go_on text 0 n next noting.left;
     }
 
--- at the end of the line all fields are noted
-pub noting_fields_ends : (room : ℕ) (text : Bytes) (places : List ℕ) (n next : ℕ) → FieldsNoted room text places n
-    true next
-    → PlacedBelow (length (fields_after text 0)) text places (fields_after text 0)
-noting_fields_ends room text places n next noting =
+-- while fewer fields are noted than there are, the line goes on
+pub noting_fields_left : (room : ℕ) (text : Bytes) (places : List ℕ) (n : ℕ) (last : Bool) (next : ℕ)
+    → FieldsNoted room text places n last next → n < length (fields_after text 0)
+    → FieldsNoted room text places n false next
+noting_fields_left room text places n true next noting h =
     let all : length (fields_after text 0) ≤ n = fields_end text 0 n next noting.left in
-    record { each = λ i l. noting.noted.each i (omega arith) }
+    absurd (omega arith)
+noting_fields_left room text places n false next noting h = noting
+
+-- at the end of the line all fields are noted
+pub noting_fields_ends : (room : ℕ) (text : Bytes) (places : List ℕ) (n : ℕ) (last : Bool) (next : ℕ)
+    → FieldsNoted room text places n last next → n ≡ length (fields_after text 0)
+    → PlacedBelow (length (fields_after text 0)) text places (fields_after text 0)
+noting_fields_ends room text places n last next noting e = rw (← e) noting.noted

@@ -5,7 +5,7 @@ use Rattle.std.proofs.Common.{not-suc-le-zero, arith, sym, ap, ◌∙◌, ⊎_el
 use Rattle.std.proofs.Math.ListN.{get_or-map}
 use Rattle.spec.specs.Text.{Bytes, lines_of}
 use Rattle.spec.specs.Sheet.{first_field}
-use Rattle.bits.specs.Laws.Below.{last_or_below}
+use Rattle.bits.specs.Laws.Below.{last_or_below, below_or_from}
 use Rattle.lists.specs.DropLaws.{left_below, left_first, left_rest, none_left}
 use Rattle.refusal.specs.FirstLine.{line_fields}
 use Rattle.refusal.specs.ReadLine.{ReadLine}
@@ -85,13 +85,19 @@ module _ (room : ℕ) (text : Bytes) (at : ℕ) (places : List ℕ) (n from : �
           → lines_of (drop (from_at (note_place places n from r.to) i) text) ≡ drop i (lines_of (drop at text))
       earlier i l = rw (place_stays places n from r.to i l) (noting.noted.starts i l)
 
+-- while fewer names are noted than there are lines, a line is left
+pub noting_left : (room : ℕ) (text : Bytes) (at : ℕ) (places : List ℕ) (n from : ℕ) → Noting room text at places n from
+    → n < length (lines_of (drop at text)) → from < length text
+noting_left room text at places n from noting h = ⊎_elim (λ l. l) past (below_or_from from (length text))
+  where
+    past : length text ≤ from → from < length text
+    past l =
+        let nothing : drop n (lines_of (drop at text)) ≡ [] = sym noting.lines_to_come ∙ rw (drop_of_length-le text l)
+        in
+        let all : length (lines_of (drop at text)) ≤ n = none_left (lines_of (drop at text)) n nothing in
+        absurd (omega arith)
+
 -- past the last line all names are noted
 pub noting_ends : (room : ℕ) (text : Bytes) (at : ℕ) (places : List ℕ) (n from : ℕ) → Noting room text at places n from
-    → length text ≤ from → UserPlaces text at places
-noting_ends room text at places n from noting h =
-    let nothing : drop n (lines_of (drop at text)) ≡ [] = sym noting.lines_to_come ∙ rw (drop_of_length-le text h) in
-    let all : length (lines_of (drop at text)) ≤ n = none_left (lines_of (drop at text)) n nothing in
-    record {
-      names = record { each = λ i l. noting.noted.names.each i (omega arith) };
-      starts = λ i l. noting.noted.starts i (omega arith);
-    }
+    → n ≡ length (lines_of (drop at text)) → UserPlaces text at places
+noting_ends room text at places n from noting e = rw (← e) noting.noted
