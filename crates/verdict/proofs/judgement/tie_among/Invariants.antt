@@ -1,4 +1,5 @@
--- `verdict::judgement::tie_among`: the positions of w are the users still to be tried, and the others have no tie.
+-- `verdict::judgement::tie_among`: the positions of w are the users still to be tried, and the others have no tie. All
+-- positions that w had are of users.
 use Rattle.std.proofs.Common.{ℕ, ◌+◌, ◌*◌, ◌<◌}
 use Rattle.std.proofs.Math.Bool.{So}
 use Rattle.bits.specs.Bit.{bit, word_bits}
