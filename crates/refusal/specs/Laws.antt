@@ -4,6 +4,7 @@ pub mod Cells
 pub mod ReadLine
 pub mod Body
 pub mod Ones
+pub mod BadBytes
 pub mod Judge
 pub mod UserPlaces
 pub mod FieldsLeft

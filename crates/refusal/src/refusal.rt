@@ -17,7 +17,6 @@ use crate::name_places::{permission_places, user_places};
 use buckets::repeated_in;
 use numbers::{GRANT_LIMIT, PERMISSION_LIMIT, Refusal, SHEET_LIMIT, USER_LIMIT};
 use spelling::{Kind, all_of, is_user, is_within};
-use text::LINE_FEED;
 
 // Whether the sheet is accepted, and else the cause of the lowest number that applies.
 pub fn judge(s: &[u8]) -> Result<(), Refusal>
@@ -56,17 +55,11 @@ pub fn judge(s: &[u8]) -> Result<(), Refusal>
 }
 
 // Whether the sheet is empty, its last byte is no line feed, or a byte is not allowed.
+#[tactic(auto, using(crate::specs::Laws::BadBytes::bad_as_ended))]
 pub fn has_bad_bytes(s: &[u8]) -> bool
     ensures { result ≡ bad_bytes s.now }
 {
-    if s.len() == 0 {
-        return true;
-    }
-    let last = s.len() - 1;
-    if s[last] != LINE_FEED {
-        return true;
-    }
-    !all_of(s, Kind::Sheet)
+    !s.ends_with(b"\n") || !all_of(s, Kind::Sheet)
 }
 
 // Whether the first field of the first line is `user`, and as many fields follow as there can be permissions.
