@@ -45,6 +45,7 @@ pub struct Placement {
 }
 
 // The class of a permission: the one that the table has, else the next one.
+#[tactic(auto, unfolding(cell_rows::specs::Rows::row_words, cell_rows::specs::Rows::row_bits))]
 fn class_of_permission(table: &[u8; ROW_BITS], count: usize, permission: PermissionNo) -> u8
     requires { (count < 2 ^ 8) × (permission.0 < row_bits) }
     ensures { result ≡ class_from row_bits table.now count permission.0 }
@@ -109,6 +110,7 @@ fn holds_asked<'a>(rows: &'a [u64], asked: &'a [u64; CLASS_WORDS], user: UserNo,
 }
 
 // Puts class c in a set of classes if told so.
+#[tactic(auto, unfolding(cell_rows::specs::Rows::row_words, cell_rows::specs::Rows::row_bits))]
 fn put_if(allowed: &mut [u64; ROW_WORDS], c: usize, yes: bool)
     requires { (c < row_bits) × (length allowed.old ≡ row_words) }
     ensures { CellAdded allowed.old allowed.new 0 c yes }
@@ -157,6 +159,7 @@ fn allowed_next<'a>(
 }
 
 // Whether a member of class c lacks a permission.
+#[tactic(auto, unfolding(cell_rows::specs::Rows::row_words, cell_rows::specs::Rows::row_bits))]
 fn is_lacked(lacked: &[u64; CLASS_WORDS], c: usize, permission: PermissionNo) -> bool
     requires { (c < row_bits) × (permission.0 < row_bits) }
     ensures { result ≡ cell lacked.now c permission.0 }
@@ -167,6 +170,7 @@ fn is_lacked(lacked: &[u64; CLASS_WORDS], c: usize, permission: PermissionNo) ->
 
 // The lowest position of word j of the allowed classes whose class has no member that lacks a permission, else the
 // end of the word.
+#[tactic(auto, unfolding(cell_rows::specs::Rows::row_words, cell_rows::specs::Rows::row_bits))]
 fn free_in_word(lacked: &[u64; CLASS_WORDS], word: u64, j: usize, permission: PermissionNo) -> usize
     requires { (j < row_words) × (permission.0 < row_bits) }
     ensures { NextFrom (free_in_word word lacked.now permission.0 j) 0 word_bits result }
@@ -202,6 +206,7 @@ fn class_for<'a>(
 }
 
 // Adds a permission to what class c asks.
+#[tactic(auto, unfolding(cell_rows::specs::Rows::row_words, cell_rows::specs::Rows::row_bits))]
 fn add_asked(asked: &mut [u64; CLASS_WORDS], c: usize, permission: PermissionNo)
     requires c_lt_row_bits { (c < row_bits) × (permission.0 < row_bits) }
     requires asked_len { length asked.old ≡ class_words }
@@ -291,6 +296,7 @@ fn best_of<'a>(rows: &'a [u64], cells: &'a [u16]) -> Placement
 }
 
 // The first best grouping of the kernel of the sheet that the rows show. Past the kernel the classes are 0.
+#[tactic(auto, unfolding(spec::specs::Limits::grant_limit))]
 pub fn first_best(rows: &[u64; CELL_WORDS], grants: Kernel) -> Placement
     requires { KernelListed rows.now grants.cells grants.size }
     ensures by_index { (users : ℕ) (sheet : Sheet) → Shown rows.now users sheet

@@ -34,6 +34,7 @@ pub enum Line {
 }
 
 // Whether a cell is one of them.
+#[tactic(auto, unfolding(cell_rows::specs::Rows::row_words, cell_rows::specs::Rows::row_bits))]
 fn on_line(rows: &[u64], at: CellNo, line: Line) -> bool
     requires { LineWithin line }
     ensures { result ≡ on_line rows.now line at.0 }
@@ -104,6 +105,7 @@ struct HolderCells {
 }
 
 // The user of a cell, and the cells whose permissions that user holds.
+#[tactic(auto, unfolding(crate::specs::TableWords::table_row, cell_rows::specs::Rows::row_words, cell_rows::specs::Rows::row_bits))]
 fn held_by<'a>(rows: &'a [u64], cells: &'a [u16], it: CellNo) -> HolderCells
     ensures { HeldBy rows.now cells.now (it.0 / row_bits) result }
 {
@@ -156,6 +158,7 @@ fn table_of<'a>(rows: &'a [u64], cells: &'a [u16]) -> [u64; TABLE_WORDS]
 }
 
 // The fit table of the kernel of the sheet that the rows show, or of its first grants if it has more than KERNEL_LIMIT.
+#[tactic(auto, unfolding(spec::specs::Limits::grant_limit))]
 pub fn fit_table(rows: &[u64; CELL_WORDS], grants: Kernel) -> [u64; TABLE_WORDS]
     requires { KernelListed rows.now grants.cells grants.size }
     ensures { (users : ℕ) (sheet : Sheet) → Shown rows.now users sheet

@@ -1,6 +1,6 @@
 -- `table::table_of`: grant by grant its two words are put in; past the last grant the words stay 0, and nothing fits
 -- there.
-use Rattle.std.proofs.Common.{◌≡◌, ◌*◌, ◌≤◌, ◌<◌, ℕ, List, arith, ◌∙◌, eq-eqb, length, take}
+use Rattle.std.proofs.Common.{◌≡◌, ◌*◌, ◌<◌, ℕ, arith, ◌∙◌, eq-eqb}
 use Rattle.std.proofs.lemmas.List.{length-take-le, get_or-take, length-set, length-replicate}
 use Rattle.bits.specs.Laws.Below.{some_below_intro}
 use Rattle.cell_rows.specs.Rows.{row_words, row_bits}
@@ -18,18 +18,14 @@ loop-i-init c = (
   nothing_filled _ _,
 )
 
--- the next grant is among the first cells, so that there is room for it
-within : (i count : ℕ) (cells : List ℕ) → (count ≤ length cells) × (count ≤ table_limit) × (count < table_limit
-    → count ≡ length cells) → i < length (take count cells) → i < count
-within i count cells few l = omega (arith, length-take-le count cells few.0)
-
 pub loop-i-preserved : goal.loop-i-preserved
 unfolding table_row row_bits row_words
 loop-i-preserved c =
     let i = c.loop-i.i in
     let p = c.permission_of-p.result.0 in
     let few = c.limited-count.ensures in
-    let there : i < c.limited-count.result = within _ _ _ few c.loop-i-test.true in
+    let there : i < c.limited-count.result =
+    omega (arith, length-take-le c.limited-count.result c.args.cells.now few.0) in
     let same = rw get_or-take at c.permission_of-p.ensures in
     let held = rw get_or-take at c.held_again-last.ensures in
     let inside : p < row_bits = omega (arith, c.permission_of-p.ensures) in
