@@ -15,6 +15,7 @@ use fit::{COLUMN_WORDS, PLACE_WORDS, union_of_row};
 use numbers::{CELL_LIMIT, CELL_WORDS, ROW_WORDS, UserNo};
 
 // Takes a number off the counts at the positions of some in word m.
+#[tactic(auto, unfolding(spec::specs::Limits::user_limit, cell_rows::specs::Rows::row_words))]
 fn take_off_at(counts: &mut [u16; CELL_LIMIT], m: usize, some: u64, by: u16)
     requires { (m < cell_words) × (length counts.old ≡ cell_limit)
         × Enough (at_position m some) (λ (n : ℕ). by) counts.old }
@@ -72,6 +73,7 @@ fn take_off_for_user<'a>(
 }
 
 // The same for the users at the positions of some in word j of a column.
+#[tactic(auto, unfolding(spec::specs::Limits::user_limit))]
 fn take_off_for_users<'a>(
     counts: &mut [u16; CELL_LIMIT],
     rows: &'a [u64; CELL_WORDS],

@@ -37,6 +37,7 @@ fn shares_of<'a>(
 }
 
 // The sum of the shares at the positions of a word, as word j of a column.
+#[tactic(auto, unfolding(spec::specs::Limits::user_limit))]
 fn sum_in_word(shares: &[u16; USER_LIMIT], j: usize, word: u64) -> u16
     requires { (j < column_words) × Bounded shares.now }
     ensures { result ≡ word_sum (λ (q : ℕ). get_or shares.now (j * word_bits + q) 0) word }
@@ -66,6 +67,7 @@ fn sum_in_column(columns: &[u64; PLACE_WORDS], shares: &[u16; USER_LIMIT], p: Pe
 }
 
 // Puts in the counts at the positions of a word, which is word k of user v's row.
+#[tactic(auto, unfolding(spec::specs::Limits::user_limit, cell_rows::specs::Rows::row_words, cell_rows::specs::Rows::row_bits))]
 fn count_in_word(
     counts: &mut [u16; CELL_LIMIT],
     columns: &[u64; PLACE_WORDS],

@@ -8,6 +8,7 @@ use cell_rows::mark;
 use numbers::{CELL_WORDS, CellNo, ROW_WORDS};
 
 // Puts a cell into a set.
+#[tactic(auto, unfolding(spec::specs::Limits::user_limit, cell_rows::specs::Rows::row_words))]
 pub fn put_cell(words: &mut [u64; CELL_WORDS], cell: CellNo)
     requires { (cell.0 < cell_limit) × (length words.old ≡ cell_words) }
     ensures { (length words.new ≡ cell_words)

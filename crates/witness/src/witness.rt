@@ -79,6 +79,7 @@ pub struct Witness {
 }
 
 // The witness of the sheet that the rows show: the grants taken from its kernel and all its singles.
+#[tactic(auto, unfolding(spec::specs::Limits::user_limit, cell_rows::specs::Rows::row_words))]
 pub fn witness_of<'a>(
     rows: &'a [u64; CELL_WORDS],
     columns: &'a [u64; PLACE_WORDS],

@@ -6,9 +6,6 @@ use Rattle.witness.proofs.choice.better_in_word.Goals as goal
 pub loop-w-init : goal.loop-w-init
 loop-w-init c rows users few inside counted walked = word_starts _ _ _ _ _ walked
 
-pub loop-w-smaller : goal.loop-w-smaller
-loop-w-smaller c = c.without_lowest-w.ensures.less
-
 pub loop-w-preserved : goal.loop-w-preserved
 loop-w-preserved c rows users few inside counted walked =
     let at = c.loop-w in
