@@ -20,11 +20,11 @@ pub struct Counts {
 
 // Reads a sheet line by line, where its lines are such as the rules ask for and within all limits, and notes where its
 // names stand and the words of its cells. Whether a name stands twice is not asked here.
-pub fn read_lines<'a>(
+pub fn read_lines(
     s: &[u8],
-    permissions: &'a mut [u64; USER_LIMIT],
-    users: &'a mut [u64; USER_LIMIT],
-    rows: &'a mut [u64; CELL_WORDS],
+    permissions: &mut [u64; USER_LIMIT],
+    users: &mut [u64; USER_LIMIT],
+    rows: &mut [u64; CELL_WORDS],
 ) -> Option<Counts>
     requires { SheetRoom permissions.old users.old rows.old }
     ensures { SheetLines s.now permissions.new users.new rows.new result }
@@ -48,7 +48,7 @@ pub fn read_lines<'a>(
 }
 
 // Whether no two users and no two permissions have one name.
-pub fn are_apart<'a>(s: &'a [u8], users: &'a [u64], permissions: &'a [u64]) -> bool
+pub fn are_apart(s: &[u8], users: &[u64], permissions: &[u64]) -> bool
     requires { Inside s.now users.now × Inside s.now permissions.now }
     ensures { result ≡ (not (repeats same_name (all_names s.now users.now))
         && not (repeats same_name (all_names s.now permissions.now))) }

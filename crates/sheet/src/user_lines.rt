@@ -30,12 +30,12 @@ fn cells_set(rows: &[u64], row: usize) -> usize
 
 // Reads the lines from a place on, each with so many cells, and notes where the names stand and which cells are set:
 // all are lines of users and no more than there can be users, or there are none.
-pub fn read_user_lines<'a>(
+pub fn read_user_lines(
     s: &[u8],
     start: usize,
     width: usize,
-    places: &'a mut [u64; USER_LIMIT],
-    rows: &'a mut [u64; CELL_WORDS],
+    places: &mut [u64; USER_LIMIT],
+    rows: &mut [u64; CELL_WORDS],
 ) -> Option<UserLines>
     requires { (start ≤ length s.now) × (width ≤ row_bits) × (length s.now ≤ sheet_limit)
         × Room places.old rows.old }
