@@ -21,16 +21,15 @@ pub const COLUMN_WORDS: usize = USER_LIMIT / WORD_BITS;
 pub const PLACE_WORDS: usize = ROW_BITS * COLUMN_WORDS;
 
 // Puts a user into the columns of the permissions at the positions of a word, which is word k of a row.
+#[tactic(auto, unfolding(spec::specs::Limits::user_limit, cell_rows::specs::Rows::row_words, cell_rows::specs::Rows::row_bits))]
 fn put_in_columns(columns: &mut [u64; PLACE_WORDS], user: UserNo, k: usize, some: u64)
     requires { (user.0 < user_limit) × (k < row_words) × (length columns.old ≡ row_bits * column_words) }
     ensures { PutIn user.0 k some columns.old columns.new }
 {
     let u = user.0;
     let from = k * WORD_BITS;
-    let mut w = some;
-    while w != 0 {
-        mark(columns, (from + bits::lowest(w)) * USER_LIMIT + u);
-        w = bits::without_lowest(w);
+    for p in bits::positions(some) {
+        mark(columns, (from + p) * USER_LIMIT + u);
     }
 }
 
@@ -59,16 +58,15 @@ pub fn columns_of(rows: &[u64; CELL_WORDS]) -> [u64; PLACE_WORDS]
 }
 
 // Word j of the columns of the permissions at the positions of a word, which is word k of a row, all together.
+#[tactic(auto, unfolding(spec::specs::Limits::user_limit, cell_rows::specs::Rows::row_words))]
 fn union_of(columns: &[u64; PLACE_WORDS], word: u64, k: usize, j: usize) -> u64
     requires { (k < row_words) × (j < column_words) }
     ensures { (t : ℕ) → bit result t ≡ in_union columns.now word k j t }
 {
     let from = k * WORD_BITS;
     let mut some = 0;
-    let mut w = word;
-    while w != 0 {
-        some = some | columns[(from + bits::lowest(w)) * COLUMN_WORDS + j];
-        w = bits::without_lowest(w);
+    for p in bits::positions(word) {
+        some |= columns[(from + p) * COLUMN_WORDS + j];
     }
     some
 }
@@ -107,6 +105,7 @@ fn near_in_row<'a>(
 
 // The count so far, and how many grants of left fit the grant at a cell, of the users at the positions of some. The
 // count ends once it reaches most.
+#[tactic(auto, unfolding(spec::specs::Limits::user_limit, cell_rows::specs::Rows::row_words, cell_rows::specs::Rows::row_bits))]
 fn partners_among<'a>(
     rows: &'a [u64; CELL_WORDS],
     left: &'a [u64; CELL_WORDS],
@@ -122,11 +121,11 @@ fn partners_among<'a>(
         (from + q))) result }
 {
     let mut n = start;
-    let mut w = some;
-    while w != 0 && n < most {
-        let u = from + bits::lowest(w);
-        n += near_in_row(rows, left, it, UserNo(u));
-        w = bits::without_lowest(w);
+    for p in bits::positions(some) {
+        if n >= most {
+            return n;
+        }
+        n += near_in_row(rows, left, it, UserNo(from + p));
     }
     n
 }
