@@ -5,7 +5,7 @@ use Rattle.spec.specs.Calls.{check}
 use Rattle.spec.specs.Newcomer.{Admission, longer, given_sheet, newcomer}
 use Rattle.longer.specs.Addable.{Addable}
 use Rattle.checker.specs.ReadAs.{ReadAs}
-use Rattle.checker.specs.declared.reading.BookRead.{BookRead}
+use Rattle.judging.specs.declared.judgement.BookRead.{BookRead}
 
 -- the text is the longer sheet, with so many users before the newcomer; the line can be added, the book is accepted,
 -- and this is what was read of it

@@ -5,6 +5,7 @@ ghost use Rattle.spec.specs.Refusal.{first_number};
 ghost use Rattle.spec.specs.Newcomer.{Admission, longer_causes, Admits};
 ghost use Rattle.cells.specs.RowsRead.{RowsRead};
 ghost use Rattle.names.specs.LaidOut.{LaidOut};
+ghost use Rattle.book_lines.specs.Writing.{writing_said};
 ghost use Rattle.answers.specs.Said.{write_said};
 ghost use Rattle.newcomer.specs.Ready.{Ready, SomeReady};
 
@@ -13,16 +14,17 @@ use crate::longer_text::put_longer;
 use crate::new_counts::counts_with;
 use crate::taken::name_taken;
 use added_line::judge_line;
-use admitting::{RolesAdmitted, admit};
+use admitting::admit;
 use answers::WriteAnswer;
 use book::write_if_room;
 use cell_rows::no_rows;
-use checker::{BookRead, read_book};
+use checker::read_book;
+use judging::BookRead;
 use names::Layout;
-use numbers::{CELL_WORDS, ROLE_WORDS, SHEET_LIMIT, USER_LIMIT, UserNo};
+use numbers::{CELL_WORDS, ROLE_WORDS, Refusal, SHEET_LIMIT, USER_LIMIT, UserNo};
 
-// Puts the newcomer among the roles of a book that was read, and writes the new book of the longer sheet, or refuses it
-// by 19 or 11. The newcomer is the longer sheet's last user.
+// Puts the newcomer among the roles of a book that was read, and writes the new book of the longer sheet; or refuses it
+// where there is no room for a new role, or none in the buffer. The newcomer is the longer sheet's last user.
 fn write_new<'a>(
     text: &'a [u8],
     users: usize,
@@ -30,24 +32,27 @@ fn write_new<'a>(
     has: &mut [u64; CELL_WORDS],
     gives: &mut [u64; ROLE_WORDS],
     out: &mut [u8],
-) -> WriteAnswer
+) -> Result<usize, Refusal>
     requires { SomeReady text.now users read has.old gives.old }
     ensures { (lent : Admission) → Ready lent text.now users read has.old
         gives.old
-        → Admits lent out.old (write_said result) out.new }
+        → Admits lent out.old (writing_said result) out.new }
 {
-    let longer = sheet::read(text);
-    let rows = longer.rows;
-    let before = read.checked.roles;
-    let RolesAdmitted::Roles(roles) = admit(&rows, UserNo(users), has, gives, before) else {
-        return WriteAnswer::refused(19);
-    };
-    let witness = read.witness;
-    let lines = witness.lines;
+    let longer = sheet::read(text)?;
+    let admitted = admit(&longer.rows, UserNo(users), has, gives, read.roles);
+    let roles = admitted.ok_or(Refusal::RolesFull)?;
+    let lines = read.witness.lines;
     let counts = counts_with(read.counts, roles, lines);
-    let cells = witness_cells(witness);
-    let layout = longer.layout;
-    WriteAnswer::of(write_if_room(out, text, layout, has, gives, &cells[..lines], counts))
+    let cells = witness_cells(read.witness);
+    write_if_room(
+        out,
+        text,
+        longer.layout,
+        has,
+        gives,
+        &cells[..lines],
+        counts,
+    )
 }
 
 // Reads and judges the book of a sheet to which a line can be added, then the newcomer's name and the room for one user
@@ -59,32 +64,52 @@ fn admit_line<'a>(
     book: &'a [u8],
     line: &'a [u8],
     out: &mut [u8],
-) -> WriteAnswer
+) -> Result<usize, Refusal>
     requires { LaidOut sheet.now layout × RowsRead rows.now (sheet_of sheet.now)
         × (first_number (longer_causes sheet.now line.now) ≡ 0) }
     ensures { Admits (record {
       sheet = sheet.entry.now;
       book = book.now;
       line = line.now;
-    }) out.old (write_said result) out.new }
+    }) out.old (writing_said result) out.new }
 {
     let mut has = no_rows();
     let mut gives = [0; ROLE_WORDS];
-    let read = read_book(sheet, layout, rows, book, &mut has, &mut gives);
-    let number = read.checked.number;
-    if number != 0 {
-        return WriteAnswer::refused(number);
-    }
+    let read = read_book(sheet, layout, rows, book, &mut has, &mut gives)?;
     if name_taken(sheet, layout, line) {
-        return WriteAnswer::refused(17);
+        return Err(Refusal::NameTaken);
     }
-    let users = layout.users;
-    if users == USER_LIMIT {
-        return WriteAnswer::refused(18);
+    if layout.users == USER_LIMIT {
+        return Err(Refusal::UsersFull);
     }
     let mut text = [0; SHEET_LIMIT];
     let length = put_longer(&mut text, sheet, line);
-    write_new(&text[..length], users, read, &mut has, &mut gives, out)
+    write_new(
+        &text[..length],
+        layout.users,
+        read,
+        &mut has,
+        &mut gives,
+        out,
+    )
+}
+
+// Reads and judges the sheet and the line that is added to it, then the book, and writes the new book.
+fn write_with_line<'a>(
+    sheet: &'a [u8],
+    book: &'a [u8],
+    line: &'a [u8],
+    out: &mut [u8],
+) -> Result<usize, Refusal>
+    ensures { Admits (record {
+      sheet = sheet.entry.now;
+      book = book.now;
+      line = line.now;
+    }) out.old (writing_said result) out.new }
+{
+    let read = sheet::read(sheet)?;
+    judge_line(sheet, read.layout, line)?;
+    admit_line(sheet, read.layout, &read.rows, book, line, out)
 }
 
 // The book of a sheet with a user line added, from a book that is right for the sheet, at the front of the buffer; or
@@ -96,16 +121,5 @@ pub fn newcomer<'a>(sheet: &'a [u8], book: &'a [u8], line: &'a [u8], out: &mut [
       line = line.now;
     }) out.old (write_said result) out.new }
 {
-    let read = sheet::read(sheet);
-    let number = read.number;
-    if number != 0 {
-        return WriteAnswer::refused(number);
-    }
-    let layout = read.layout;
-    let number = judge_line(sheet, layout, line);
-    if number != 0 {
-        return WriteAnswer::refused(number);
-    }
-    let rows = read.rows;
-    admit_line(sheet, layout, &rows, book, line, out)
+    WriteAnswer::of(write_with_line(sheet, book, line, out))
 }

@@ -10,11 +10,9 @@ pub fn witness_cells(witness: Witness) -> [u16; ROLE_LIMIT]
     ensures { CellsOf witness witness.lines result }
 {
     let mut cells = [0; ROLE_LIMIT];
-    let mut j = 0;
-    while j < witness.lines {
+    for j in 0..witness.lines {
         let line = witness.first[j];
         cells[j] = (line.user.0 * ROW_BITS + line.permission.0) as u16;
-        j += 1;
     }
     cells
 }

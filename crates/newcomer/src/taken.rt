@@ -5,7 +5,7 @@ ghost use Rattle.spec.specs.Form.{known};
 ghost use Rattle.names.specs.LaidOut.{LaidOut};
 ghost use Rattle.longer.specs.OneLine.{added_name};
 
-use names::{Found, Layout, find_from};
+use names::{Layout, find_from};
 use reader::Cursor;
 
 // Whether a user of the sheet has the name that a line begins with.
@@ -13,13 +13,7 @@ pub fn name_taken<'a>(sheet: &'a [u8], layout: Layout, line: &'a [u8]) -> bool
     requires { LaidOut sheet.now layout }
     ensures { result ≡ known (sheet_of sheet.now).users (added_name line.now) }
 {
-    let name = Cursor { at: 0 }.field(line);
-    let to = name.to;
-    let users = layout.users;
-    let user_places = layout.user_places;
-    let places = user_places.at;
-    match find_from(sheet, &places[..users], 0, &line[..to]) {
-        Found::At(_) => true,
-        Found::Nothing => false,
-    }
+    let to = Cursor { at: 0 }.field(line).to;
+    let users = &layout.user_places.at[..layout.users];
+    find_from(sheet, users, 0, &line[..to]).is_some()
 }

@@ -30,7 +30,7 @@ use Rattle.admitted.specs.RolesAdmitting.{count_admitting}
 use Rattle.admitted.specs.SaidAdmitting.{few_with_new}
 use Rattle.admitted.specs.SameText.{same_said_same_text}
 use Rattle.admitted.specs.SameAdmitting.{GivesSame, some_left_over_same, same_admitting}
-use Rattle.checker.specs.declared.reading.BookRead.{BookRead}
+use Rattle.judging.specs.declared.judgement.BookRead.{BookRead}
 use Rattle.admitting.specs.RowsAdmitted.{no_room, AdmittedAt}
 use Rattle.newcomer.specs.NewCounts.{new_counts}
 use Rattle.newcomer.specs.Ready.{Ready}
@@ -47,7 +47,7 @@ module _ {lent : Admission} {text : Bytes} {users : ℕ} {read : BookRead} {has 
     (ready : Ready lent text users read has gives) where
   -- the role set that was read
   abbrev roles : RoleSet
-  roles = roles_in has gives read.checked.roles
+  roles = roles_in has gives read.roles
 
   abbrev new : Bool
   new = some_left_over (sheet_of text) users roles
@@ -106,24 +106,24 @@ module _ {lent : Admission} {text : Bytes} {users : ℕ} {read : BookRead} {has 
     abbrev new_role_counts : Counts
     new_role_counts = record { roles = count; bound = read.witness.lines; standing = standing.Open }
 
-    roles_before : read.counts.roles ≡ read.checked.roles
+    roles_before : read.counts.roles ≡ read.roles
     roles_before =
         ready.as_read.says_read.role_number
-        ∙ ap capped (count_read ready) ∙ small_read read.checked.roles (few_roles ready)
+        ∙ ap capped (count_read ready) ∙ small_read read.roles (few_roles ready)
 
     bound_before : read.counts.bound ≡ (book_says ready).bound
     bound_before =
         ready.as_read.says_read.bound_number
         ∙ small_read (book_says ready).bound (omega (arith, bound_read ready, few_roles ready))
 
-    count_told : count ≡ cond new (suc read.checked.roles) read.checked.roles
+    count_told : count ≡ cond new (suc read.roles) read.roles
     count_told = joined.at.total ∙ count_admitting (sheet_of text) users roles
 
     -- there are as many roles as before exactly where nothing is left over
     as_many_as_before : eqb count read.counts.roles ≡ not new
     as_many_as_before = choose new count_told
       where
-        choose : (t : Bool) → count ≡ cond t (suc read.checked.roles) read.checked.roles
+        choose : (t : Bool) → count ≡ cond t (suc read.roles) read.roles
             → eqb count read.counts.roles ≡ not t
         choose true e = ne_eqb count read.counts.roles (λ z. omega (arith, e, roles_before))
         choose false e = eq-eqb count read.counts.roles (e ∙ sym roles_before)
@@ -131,7 +131,7 @@ module _ {lent : Admission} {text : Bytes} {users : ℕ} {read : BookRead} {has 
     pub counted_roles : counts.roles ≡ count
     counted_roles = rw as_many_as_before (choose new count_told)
       where
-        choose : (t : Bool) → count ≡ cond t (suc read.checked.roles) read.checked.roles
+        choose : (t : Bool) → count ≡ cond t (suc read.roles) read.roles
             → (cond (not t) read.counts new_role_counts).roles ≡ count
         choose true e = refl
         choose false e = roles_before ∙ sym e
@@ -209,4 +209,4 @@ module _ {lent : Admission} {text : Bytes} {users : ℕ} {read : BookRead} {has 
     -- there is a place for each role
     pub room_for_roles : counts.roles ≤ role_limit
     room_for_roles =
-        rw (counted_roles ∙ count_told) (few_with_new new read.checked.roles (few_roles ready) joined.room)
+        rw (counted_roles ∙ count_told) (few_with_new new read.roles (few_roles ready) joined.room)

@@ -26,7 +26,7 @@ use Rattle.read_fields.specs.WitnessList.{named_grant}
 use Rattle.read_fields.specs.WitnessLineSteps.{Known}
 use Rattle.judging.specs.BookSays.{Says}
 use Rattle.judging.specs.WitnessWords.{line_of}
-use Rattle.checker.specs.declared.reading.BookRead.{BookRead}
+use Rattle.judging.specs.declared.judgement.BookRead.{BookRead}
 use Rattle.admitting.specs.RowsAdmitted.{AdmitReady}
 use Rattle.newcomer.specs.WitnessCells.{LinesKept}
 use Rattle.newcomer.specs.Ready.{Ready}
@@ -67,25 +67,25 @@ module _ {lent : Admission} {text : Bytes} {users : ℕ} {read : BookRead} {has 
   abbrev pub book_says : Said
   book_says = ready.as_read.says
 
-  says : Says (given_sheet lent) read.counts read.checked.roles has gives read.witness book_says
+  says : Says (given_sheet lent) read.counts read.roles has gives read.witness book_says
   says = ready.as_read.says_read
 
   same : SaysSame (given_sheet lent) (said (given_sheet lent) lent.book) book_says
   same = ready.as_read.same
 
-  pub roles_read : book_says.roles.count ≡ read.checked.roles
+  pub roles_read : book_says.roles.count ≡ read.roles
   roles_read = ap (λ roles. roles.count) says.matrices
 
-  pub few_roles : read.checked.roles ≤ role_limit
+  pub few_roles : read.roles ≤ role_limit
   few_roles = says.few
 
   -- its count is that of its roles, and neither its bound nor its witness lines are more
-  pub count_read : book_says.count ≡ read.checked.roles
+  pub count_read : book_says.count ≡ read.roles
   count_read =
       sym same.count ∙ ready.as_read.right.counts.roles ∙ same.roles ∙ roles_read
 
-  no_more_than_roles : (book_says.bound ≤ read.checked.roles)
-      × (length book_says.witness ≤ read.checked.roles)
+  no_more_than_roles : (book_says.bound ≤ read.roles)
+      × (length book_says.witness ≤ read.roles)
   no_more_than_roles =
       let read_said = said (given_sheet lent) lent.book in
       let most =
@@ -94,7 +94,7 @@ module _ {lent : Admission} {text : Bytes} {users : ℕ} {read : BookRead} {has 
       let roles = same.roles ∙ roles_read in
       (omega (arith, most.0, roles, same.bound), omega (arith, most.1, roles, ap length same.witness))
 
-  pub bound_read : book_says.bound ≤ read.checked.roles
+  pub bound_read : book_says.bound ≤ read.roles
   bound_read = no_more_than_roles.0
 
   -- ---- the witness
@@ -128,7 +128,7 @@ module _ {lent : Admission} {text : Bytes} {users : ℕ} {read : BookRead} {has 
   -- ---- the matrices
 
   pub admit_ready : {rows : List ℕ} → RowsRead rows (sheet_of text) → AdmitReady (sheet_of text) rows users has gives
-      read.checked.roles
+      read.roles
   admit_ready shown =
       record {
         lawful = accepted_lawful text text_accepted;
