@@ -64,6 +64,7 @@ fn row_fits<'a>(
 
 // The first position of some whose user has a grant of left in the row of user v that does not fit the grant at a
 // cell, else the end of a word.
+#[tactic(auto, unfolding(spec::specs::Limits::user_limit))]
 fn misfit_among<'a>(
     rows: &'a [u64; CELL_WORDS],
     left: &'a [u64; CELL_WORDS],
@@ -76,13 +77,10 @@ fn misfit_among<'a>(
     ensures { NextFrom (λ (q : ℕ). bit some q && not (row_fits rows.now left.now
         it.0 v.0 (from + q))) 0 word_bits result }
 {
-    let mut w = some;
-    while w != 0 {
-        let q = bits::lowest(w);
+    for q in bits::positions(some) {
         if !row_fits(rows, left, it, v, UserNo(from + q)) {
             return q;
         }
-        w = bits::without_lowest(w);
     }
     WORD_BITS
 }

@@ -70,6 +70,7 @@ fn is_inside<'a>(
 
 // The users at word j of the columns who have grants of left, all in the row of user v. They hold permissions of that
 // row.
+#[tactic(auto, unfolding(spec::specs::Limits::user_limit, cell_rows::specs::Rows::row_words))]
 fn inside_among<'a>(
     rows: &'a [u64; CELL_WORDS],
     columns: &'a [u64; PLACE_WORDS],
@@ -83,13 +84,10 @@ fn inside_among<'a>(
         → bit result q ≡ may_tie rows.now left.now v.0 (j * word_bits + q) }
 {
     let mut inside = union_of_row(columns, rows, v.0, j);
-    let mut w = inside;
-    while w != 0 {
-        let q = bits::lowest(w);
+    for q in bits::positions(inside) {
         if !is_inside(rows, left, v, UserNo(j * WORD_BITS + q)) {
             inside = bits::without(inside, q);
         }
-        w = bits::without_lowest(w);
     }
     inside
 }

@@ -82,6 +82,7 @@ fn tie_in<'a>(
         ((i + 1) * word_bits) result }
 {
     let mut w = candidates(left, it, i);
+    // Not by an iterator: a step takes more positions away than the lowest.
     while w != 0 {
         let other = i * WORD_BITS + bits::lowest(w);
         let x = misfit(rows, columns, left, users, it, CellNo(other));
@@ -135,14 +136,12 @@ fn tie_among<'a>(
     ensures { FoundIn (tie_at rows.now left.now users it.0)
         (users_before users j * row_bits) (users_before users (j + 1) * row_bits) result }
 {
-    let mut w = holders(columns, users, permission_of(it), j) & inside[j];
-    while w != 0 {
-        let x = j * WORD_BITS + bits::lowest(w);
-        let found = tie_of_user(rows, columns, left, users, it, UserNo(x));
+    let some = holders(columns, users, permission_of(it), j) & inside[j];
+    for q in bits::positions(some) {
+        let found = tie_of_user(rows, columns, left, users, it, UserNo(j * WORD_BITS + q));
         if found.is_some() {
             return found;
         }
-        w = bits::without_lowest(w);
     }
     None
 }
