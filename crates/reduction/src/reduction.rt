@@ -93,12 +93,10 @@ fn sweep<'a>(
             let inside = insides(rows, columns, left, UserNo(u));
             for d in 0..ROW_WORDS {
                 let i = u * ROW_WORDS + d;
-                let mut w = left[i];
-                while w != 0 {
-                    let n = i * WORD_BITS + bits::lowest(w);
+                for q in bits::positions(left[i]) {
+                    let n = i * WORD_BITS + q;
                     let verdict = judge(rows, columns, &inside, left, users, CellNo(n));
                     count = carry_out(left, removed, partner, count, CellNo(n), verdict);
-                    w = bits::without_lowest(w);
                 }
             }
         }

@@ -42,45 +42,45 @@ loop-d-init c =
 pub judge-verdict-requires : goal.judge-verdict-requires
 unfolding row_words
 judge-verdict-requires c =
-    let at = c.loop-w.invariant in
-    let low = c.lowest.ensures in (
+    let at = c.loop-q.invariant in
+    let low = c.in-Some.ensures.steps.lowest in (
       record {
         shows = at.sweeping.ready.shows;
         part = at.sweeping.ready.part;
-        within = below c.loop-u.u c.loop-d.d c.lowest.result (omega arith) (omega arith) low.within;
-        set = at.sweeping.set c.lowest.result low.within low.holds;
+        within = below c.loop-u.u c.loop-d.d c.in-Some.q (omega arith) (omega arith) low.within;
+        set = at.sweeping.set c.in-Some.q low.within low.holds;
       },
       c.requires.1,
-      rw (of_user c.loop-u.u c.loop-d.d c.lowest.result (omega arith) low.within) at.insides,
+      rw (of_user c.loop-u.u c.loop-d.d c.in-Some.q (omega arith) low.within) at.insides,
     )
 
 pub carry_out-count-requires : goal.carry_out-count-requires
 unfolding row_words
 carry_out-count-requires c =
-    let at = c.loop-w.invariant.sweeping in
-    let low = c.lowest.ensures in
-    carriable at.ready (below c.loop-u.u c.loop-d.d c.lowest.result (omega arith) (omega arith) low.within)
-    (at.set c.lowest.result low.within low.holds) c.judge-verdict.result c.judge-verdict.ensures
+    let at = c.loop-q.invariant.sweeping in
+    let low = c.in-Some.ensures.steps.lowest in
+    carriable at.ready (below c.loop-u.u c.loop-d.d c.in-Some.q (omega arith) (omega arith) low.within)
+    (at.set c.in-Some.q low.within low.holds) c.judge-verdict.result c.judge-verdict.ensures
 
-pub loop-w-preserved : goal.loop-w-preserved
+pub loop-q-preserved : goal.loop-q-preserved
 unfolding row_words
-loop-w-preserved c =
-    let at = c.loop-w.invariant in
-    let low = c.lowest.ensures in
+loop-q-preserved c =
+    let at = c.loop-q.invariant in
+    let low = c.in-Some.ensures.steps.lowest in
     let seen = visited at.sweeping.ready
-    (below c.loop-u.u c.loop-d.d c.lowest.result (omega arith) (omega arith) low.within)
-    (at.sweeping.set c.lowest.result low.within low.holds) c.judge-verdict.result c.judge-verdict.ensures
+    (below c.loop-u.u c.loop-d.d c.in-Some.q (omega arith) (omega arith) low.within)
+    (at.sweeping.set c.in-Some.q low.within low.holds) c.judge-verdict.result c.judge-verdict.ensures
     c.carry_out-count.ensures in
     record {
-      sweeping = sweeping_next at.sweeping low seen c.without_lowest-w.ensures;
-      insides = insides_kept (of_user c.loop-u.u c.loop-d.d c.lowest.result (omega arith) low.within) at.insides seen;
+      sweeping = sweeping_next at.sweeping low seen c.in-Some.ensures.steps.dropped;
+      insides = insides_kept (of_user c.loop-u.u c.loop-d.d c.in-Some.q (omega arith) low.within) at.insides seen;
     }
 
 pub loop-d-preserved : goal.loop-d-preserved
 unfolding row_words
 loop-d-preserved c =
-    user_next_word c.loop-d.invariant (sweeping_done (rw c.loop-w-test.false at c.loop-w.invariant.sweeping))
-    c.loop-w.invariant.insides
+    user_next_word c.loop-d.invariant (sweeping_done (rw c.in-None.ensures.steps.0 at c.loop-q.invariant.sweeping))
+    c.loop-q.invariant.insides
 
 pub loop-u-preserved : goal.loop-u-preserved
 unfolding row_words

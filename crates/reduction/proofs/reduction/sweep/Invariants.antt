@@ -1,6 +1,6 @@
 -- `reduction::reduction::sweep`: after u users their cells were visited, of those that remained at first; within a
 -- user's row, after d words the cells of those words. Within a word, the cells still to be visited are at the
--- positions of w, and remain. The users whose grants they can be tied to stay the same.
+-- positions that are left, and remain. The users whose grants they can be tied to stay the same.
 use Rattle.std.proofs.Common.{◌*◌, get_or}
 use Rattle.cell_rows.specs.Rows.{row_words}
 use Rattle.verdict.specs.Insides.{Insides}
@@ -20,13 +20,10 @@ invariant-loop-d l =
     (work_of l.initial.left l.initial.removed l.initial.partner l.initial.count)
     (work_of l.left l.removed l.partner l.count) l.d
 
-abbrev pub invariant-loop-w : goal.invariant-loop-w
-invariant-loop-w l = record {
+abbrev pub invariant-loop-q : goal.invariant-loop-q
+invariant-loop-q l = record {
   sweeping : Sweeping l.rows l.users l.i (word_cells l.i (get_or l.initial.left l.i 0))
       (work_of l.initial.left l.initial.removed l.initial.partner l.initial.count)
-      (work_of l.left l.removed l.partner l.count) l.w;
+      (work_of l.left l.removed l.partner l.count) l.q-iterator.left;
   insides : Insides l.rows l.left l.u l.inside;
 }
-
-abbrev pub decreases-loop-w : goal.decreases-loop-w
-decreases-loop-w l = l.w
