@@ -8,6 +8,7 @@ ghost use Rattle.session.specs.CodeSession.{view, Sound};
 use crate::Session;
 use answers::ReduceAnswer;
 use moves::Sizes;
+use numbers::Refusal;
 use search::Position;
 
 // The session after a reduction, and what the reduction answers.
