@@ -30,20 +30,6 @@ returns-in_err-witness c =
     (record { second = c.in_ok-first.first.next; counts_at = c.in_ok-first.ensures; roles_at = c.in_ok-second.ensures })
     _ c.in_ok-fourth_at.ensures c.in_err-witness.ensures)
 
-pub returns : goal.returns
-returns c =
-    record {
-      third = c.in_ok-second.second.next;
-      front = record {
-        second = c.in_ok-first.first.next;
-        counts_at = c.in_ok-first.ensures;
-        roles_at = c.in_ok-second.ensures;
-      };
-      fourth = c.in_ok-fourth_at.fourth_at;
-      users = c.in_ok-fourth_at.ensures;
-      last = c.in_ok-witness.ensures;
-    }
-
 pub read_roles-requires-clause-row_words_in_bounds : goal.read_roles-requires-clause-row_words_in_bounds
 unfolding role_limit row_words
 read_roles-requires-clause-row_words_in_bounds c = (omega (arith, c.told-gives), c.requires.2)
