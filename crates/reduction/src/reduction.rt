@@ -8,7 +8,8 @@ ghost use Rattle.cell_rows.specs.CellPlaces.{marked, Shows, cells_of};
 ghost use Rattle.fit.specs.Columns.{Columns};
 ghost use Rattle.reduction.specs.CarriedOut.{Carriable, CarriedOut};
 ghost use Rattle.reduction.specs.ReductionResult.{ReducedFrom};
-ghost use Rattle.verdict.specs.ReductionWork.{work_of, WorkReady, Visited, Removable, Removed};
+ghost use Rattle.reduction.specs.WorkAt.{work_at};
+ghost use Rattle.verdict.specs.ReductionWork.{WorkReady, Visited, Removable, Removed};
 
 use bits::WORD_BITS;
 use fit::PLACE_WORDS;
@@ -27,100 +28,83 @@ pub struct Reduced {
     pub singles: usize,
 }
 
-// One grant is removed, with the partner that it is tied to, or itself. How many removals there are then.
-fn remove<'a>(
-    left: &'a mut [u64; CELL_WORDS],
-    removed: &'a mut [u16; GRANT_LIMIT],
-    partner: &'a mut [u16; GRANT_LIMIT],
+// The work: the cells that remain, and the removals so far, written as in the result.
+struct Work {
+    left: [u64; CELL_WORDS],
+    removed: [u16; GRANT_LIMIT],
+    partner: [u16; GRANT_LIMIT],
     count: usize,
-    it: CellNo,
-    other: CellNo,
-) -> usize
-    requires { Removable it.0 other.0 (work_of left.old removed.old partner.old count) }
-    ensures { Removed it.0 other.0 (work_of left.old removed.old
-        partner.old count)
-        (work_of left.new removed.new partner.new result) }
-{
-    let at = it.0;
-    let i = at / WORD_BITS;
-    left[i] = bits::without(left[i], at % WORD_BITS);
-    removed[count] = at as u16;
-    partner[count] = other.0 as u16;
-    count + 1
 }
 
-// What is judged of the grant at a cell is carried out. How many removals there are then.
-fn carry_out<'a>(
-    left: &'a mut [u64; CELL_WORDS],
-    removed: &'a mut [u16; GRANT_LIMIT],
-    partner: &'a mut [u16; GRANT_LIMIT],
-    count: usize,
-    it: CellNo,
-    verdict: Verdict,
-) -> usize
-    requires { Carriable it.0 verdict (work_of left.old removed.old partner.old count) }
-    ensures { CarriedOut it.0 verdict (work_of left.old removed.old
-        partner.old count)
-        (work_of left.new removed.new partner.new result) }
-{
-    match verdict {
-        Verdict::Stays => count,
-        Verdict::Single => remove(left, removed, partner, count, it, it),
-        Verdict::Tied(other) => remove(left, removed, partner, count, it, other),
+impl Work {
+    // One grant is removed, with the partner that it is tied to, or itself.
+    #[tactic(auto, unfolding(spec::specs::Limits::user_limit, spec::specs::Limits::grant_limit, cell_rows::specs::Rows::row_words))]
+    fn remove(&mut self, it: CellNo, other: CellNo)
+        requires { Removable it.0 other.0 (work_at self.old) }
+        ensures { Removed it.0 other.0 (work_at self.old) (work_at self.new) }
+    {
+        let at = it.0;
+        let i = at / WORD_BITS;
+        self.left[i] = bits::without(self.left[i], at % WORD_BITS);
+        self.removed[self.count] = at as u16;
+        self.partner[self.count] = other.0 as u16;
+        self.count += 1;
     }
-}
 
-// All remaining grants are visited, in rising number, and each is judged against those remaining at that moment.
-#[tactic(auto, unfolding(spec::specs::Limits::user_limit, cell_rows::specs::Rows::row_words))]
-fn sweep<'a>(
-    rows: &'a [u64; CELL_WORDS],
-    columns: &'a [u64; PLACE_WORDS],
-    left: &'a mut [u64; CELL_WORDS],
-    removed: &'a mut [u16; GRANT_LIMIT],
-    partner: &'a mut [u16; GRANT_LIMIT],
-    users: usize,
-    count: usize,
-) -> usize
-    requires { WorkReady rows.now users (work_of left.old removed.old partner.old count)
-        × Columns rows.now columns.now }
-    ensures { Visited rows.now users (passing_below (cells_of users) (marked left.old))
-        (work_of left.old removed.old partner.old count)
-        (work_of left.new removed.new partner.new result) }
-{
-    let mut count = count;
-    for u in 0..users {
-        if has_grants(left, UserNo(u)) {
-            let inside = insides(rows, columns, left, UserNo(u));
-            for d in 0..ROW_WORDS {
-                let i = u * ROW_WORDS + d;
-                for q in bits::positions(left[i]) {
-                    let n = i * WORD_BITS + q;
-                    let verdict = judge(rows, columns, &inside, left, users, CellNo(n));
-                    count = carry_out(left, removed, partner, count, CellNo(n), verdict);
+    // What is judged of the grant at a cell is carried out.
+    fn carry_out(&mut self, it: CellNo, verdict: Verdict)
+        requires { Carriable it.0 verdict (work_at self.old) }
+        ensures { CarriedOut it.0 verdict (work_at self.old) (work_at self.new) }
+    {
+        match verdict {
+            Verdict::Stays => {}
+            Verdict::Single => self.remove(it, it),
+            Verdict::Tied(other) => self.remove(it, other),
+        }
+    }
+
+    // All remaining grants are visited, in rising number, and each is judged against those remaining at that moment.
+    #[tactic(auto, unfolding(spec::specs::Limits::user_limit, cell_rows::specs::Rows::row_words))]
+    fn sweep<'a>(
+        &mut self,
+        rows: &'a [u64; CELL_WORDS],
+        columns: &'a [u64; PLACE_WORDS],
+        users: usize,
+    )
+        requires { WorkReady rows.now users (work_at self.old) × Columns rows.now columns.now }
+        ensures { Visited rows.now users (passing_below (cells_of users) (marked self.old.left))
+            (work_at self.old) (work_at self.new) }
+    {
+        for u in 0..users {
+            if has_grants(&self.left, UserNo(u)) {
+                let inside = insides(rows, columns, &self.left, UserNo(u));
+                for d in 0..ROW_WORDS {
+                    let i = u * ROW_WORDS + d;
+                    for q in bits::positions(self.left[i]) {
+                        let n = i * WORD_BITS + q;
+                        let verdict = judge(rows, columns, &inside, &self.left, users, CellNo(n));
+                        self.carry_out(CellNo(n), verdict);
+                    }
                 }
             }
         }
     }
-    count
-}
 
-// How many of the removals are singles.
-#[tactic(auto, unfolding(spec::specs::Limits::grant_limit))]
-fn count_singles<'a>(
-    removed: &'a [u16; GRANT_LIMIT],
-    partner: &'a [u16; GRANT_LIMIT],
-    count: usize,
-) -> usize
-    requires { count ≤ grant_limit }
-    ensures { result ≡ length (singles_of (log_of removed.now partner.now count)) }
-{
-    let mut singles = 0;
-    for i in 0..count {
-        if removed[i] == partner[i] {
-            singles += 1;
+    // How many of the removals are singles.
+    #[tactic(auto, unfolding(spec::specs::Limits::grant_limit))]
+    fn singles(&self) -> usize
+        requires { self.now.count ≤ grant_limit }
+        ensures { result
+            ≡ length (singles_of (log_of self.now.removed self.now.partner self.now.count)) }
+    {
+        let mut singles = 0;
+        for i in 0..self.count {
+            if self.removed[i] == self.partner[i] {
+                singles += 1;
+            }
         }
+        singles
     }
-    singles
 }
 
 // The reduction of the sheet that the rows show, by their columns: sweeps repeat until one removes nothing. Past the
@@ -133,26 +117,26 @@ pub fn reduce<'a>(
     requires { Shows rows.now users × Columns rows.now columns.now }
     ensures { ReducedFrom rows.now users result }
 {
-    let mut left = *rows;
-    let mut removed = [0; GRANT_LIMIT];
-    let mut partner = [0; GRANT_LIMIT];
-    let mut count = 0;
+    let mut work = Work {
+        left: *rows,
+        removed: [0; GRANT_LIMIT],
+        partner: [0; GRANT_LIMIT],
+        count: 0,
+    };
     loop {
-        let before = count;
-        count = sweep(
-            rows,
-            columns,
-            &mut left,
-            &mut removed,
-            &mut partner,
-            users,
-            before,
-        );
-        if count == before {
+        let before = work.count;
+        work.sweep(rows, columns, users);
+        if work.count == before {
             break;
         }
     }
-    let singles = count_singles(&removed, &partner, count);
+    let singles = work.singles();
+    let Work {
+        left,
+        removed,
+        partner,
+        count,
+    } = work;
     Reduced {
         left,
         removed,

@@ -1,4 +1,4 @@
--- `reduction::reduction::sweep`: the lowest cell is visited next, and dropped.
+-- `reduction::reduction::Work::sweep`: the lowest cell is visited next, and dropped.
 use Rattle.std.proofs.Common.{arith, ◌≡◌, ℕ, ◌+◌, ◌*◌, ◌/◌, ◌<◌, sym, ap, ◌∙◌}
 use Rattle.std.proofs.Math.Arith.{digits_lt, digits_div}
 use Rattle.bits.specs.Bit.{word_bits}
@@ -9,8 +9,8 @@ use Rattle.verdict.specs.Laws.Inside.{insides_found, insides_kept}
 use Rattle.verdict.specs.Laws.ReductionWork.{visited_ready}
 use Rattle.reduction.specs.Laws.CarryOut.{carriable, visited}
 use Rattle.reduction.specs.Laws.ReductionSweep.{sweeping_next, sweeping_done, user_at_first, user_next_word, user_done, swept_none, swept_no_cells}
-use Rattle.reduction.proofs.reduction.sweep.Goals as goal
-use Rattle.reduction.proofs.reduction.sweep.Goals.{then-has_grants+else-loop-d-test, else-has_grants}
+use Rattle.reduction.proofs.reduction.Work.sweep.Goals as goal
+use Rattle.reduction.proofs.reduction.Work.sweep.Goals.{then-has_grants+else-loop-d-test, else-has_grants}
 
 -- the cell at position q of word d of user u's row is one of the users' cells, and of that user's
 below : (u d q : ℕ) {users : ℕ} → u < users → d < row_words → q < word_bits
@@ -54,9 +54,9 @@ judge-verdict-requires c =
       rw (of_user c.loop-u.u c.loop-d.d c.in-Some.q (omega arith) low.within) at.insides,
     )
 
-pub carry_out-count-requires : goal.carry_out-count-requires
+pub carry_out-requires : goal.carry_out-requires
 unfolding row_words
-carry_out-count-requires c =
+carry_out-requires c =
     let at = c.loop-q.invariant.sweeping in
     let low = c.in-Some.ensures.steps.lowest in
     carriable at.ready (below c.loop-u.u c.loop-d.d c.in-Some.q (omega arith) (omega arith) low.within)
@@ -70,7 +70,7 @@ loop-q-preserved c =
     let seen = visited at.sweeping.ready
     (below c.loop-u.u c.loop-d.d c.in-Some.q (omega arith) (omega arith) low.within)
     (at.sweeping.set c.in-Some.q low.within low.holds) c.judge-verdict.result c.judge-verdict.ensures
-    c.carry_out-count.ensures in
+    c.carry_out.ensures in
     record {
       sweeping = sweeping_next at.sweeping low seen c.in-Some.ensures.steps.dropped;
       insides = insides_kept (of_user c.loop-u.u c.loop-d.d c.in-Some.q (omega arith) low.within) at.insides seen;
@@ -87,9 +87,9 @@ unfolding row_words
 loop-u-preserved c =
     let at = c.loop-u in
     elim c.if-has_grants.branch [
-      | then-has_grants+else-loop-d-test w ↦ rw (w.left-is, w.removed-is, w.partner-is, w.count-is)
+      | then-has_grants+else-loop-d-test w ↦ rw (w.self-is)
           (user_done (omega arith) (omega arith) w.loop-d.invariant at.invariant)
-      | else-has_grants w ↦ rw (w.left-is, w.removed-is, w.partner-is, w.count-is)
+      | else-has_grants w ↦ rw (w.self-is)
           (swept_no_cells at.u (visited_ready c.requires.0 at.invariant) at.invariant
           (sym c.has_grants.ensures ∙ w.if-has_grants.false))
     ]
