@@ -24,9 +24,7 @@ fn held(rows: &[u64], line: WitnessLine) -> bool
     requires { LineWithin rows.now line }
     ensures { result ≡ line_held rows.now line }
 {
-    let user = line.user;
-    let permission = line.permission;
-    holds(rows, user, permission)
+    holds(rows, line.user, line.permission)
 }
 
 // Whether the user noted for one of the permissions at the positions of some holds a permission. `first` is the
@@ -64,11 +62,10 @@ fn fits_a_noted(
     requires { LineWithin rows.now line × NotedWithin rows.now taken.now owners.now }
     ensures { result ≡ fits_noted rows.now taken.now owners.now line }
 {
-    let permission = line.permission;
     for k in 0..ROW_WORDS {
         let first = PermissionNo(k * WORD_BITS);
         let some = rows[line.user.0 * ROW_WORDS + k] & taken[k];
-        if an_owner_holds(rows, owners, first, some, permission) {
+        if an_owner_holds(rows, owners, first, some, line.permission) {
             return true;
         }
     }
