@@ -65,12 +65,7 @@ impl Work {
 
     // All remaining grants are visited, in rising number, and each is judged against those remaining at that moment.
     #[tactic(auto, unfolding(spec::specs::Limits::user_limit, cell_rows::specs::Rows::row_words))]
-    fn sweep<'a>(
-        &mut self,
-        rows: &'a [u64; CELL_WORDS],
-        columns: &'a [u64; PLACE_WORDS],
-        users: usize,
-    )
+    fn sweep(&mut self, rows: &[u64; CELL_WORDS], columns: &[u64; PLACE_WORDS], users: usize)
         requires { WorkReady rows.now users (work_at self.old) × Columns rows.now columns.now }
         ensures { Visited rows.now users (passing_below (cells_of users) (marked self.old.left))
             (work_at self.old) (work_at self.new) }
