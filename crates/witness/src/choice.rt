@@ -48,11 +48,9 @@ fn better_in_word<'a>(
 {
     let from = i * WORD_BITS;
     let mut it = best;
-    let mut w = left[i];
-    while w != 0 {
-        let n = from + bits::lowest(w);
+    for p in bits::positions(left[i]) {
+        let n = from + p;
         it = Some(better(it, CellNo(n), counts[n]));
-        w = bits::without_lowest(w);
     }
     it
 }

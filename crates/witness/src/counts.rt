@@ -22,11 +22,8 @@ fn take_off_at(counts: &mut [u16; CELL_LIMIT], m: usize, some: u64, by: u16)
     ensures { TakenOff (at_position m some) (λ (n : ℕ). by) counts.old
         counts.new }
 {
-    let mut w = some;
-    while w != 0 {
-        let n = m * WORD_BITS + bits::lowest(w);
-        counts[n] -= by;
-        w = bits::without_lowest(w);
+    for p in bits::positions(some) {
+        counts[m * WORD_BITS + p] -= by;
     }
 }
 
@@ -89,11 +86,8 @@ fn take_off_for_users<'a>(
         these.user.0 these.words) counts.old counts.new }
 {
     let from = j * WORD_BITS;
-    let mut w = some;
-    while w != 0 {
-        let v = from + bits::lowest(w);
-        take_off_for_user(counts, rows, left, these, UserNo(v));
-        w = bits::without_lowest(w);
+    for p in bits::positions(some) {
+        take_off_for_user(counts, rows, left, these, UserNo(from + p));
     }
 }
 

@@ -44,10 +44,8 @@ fn sum_in_word(shares: &[u16; USER_LIMIT], j: usize, word: u64) -> u16
 {
     let from = j * WORD_BITS;
     let mut sum = 0;
-    let mut w = word;
-    while w != 0 {
-        sum += shares[from + bits::lowest(w)];
-        w = bits::without_lowest(w);
+    for p in bits::positions(word) {
+        sum += shares[from + p];
     }
     sum
 }
@@ -81,13 +79,10 @@ fn count_in_word(
         columns.now shares.now (n % row_bits)) counts.old counts.new }
 {
     let from = k * WORD_BITS;
-    let mut w = word;
-    while w != 0 {
-        let q = bits::lowest(w);
+    let m = v.0 * ROW_WORDS + k;
+    for q in bits::positions(word) {
         let sum = sum_in_column(columns, shares, PermissionNo(from + q));
-        let m = v.0 * ROW_WORDS + k;
         counts[m * WORD_BITS + q] = sum;
-        w = bits::without_lowest(w);
     }
 }
 
