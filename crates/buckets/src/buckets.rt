@@ -58,13 +58,10 @@ fn meets_word<'a, 'b>(
     requires { (p : ℕ) → p < word_bits → So (bit word p) → PartThere s.now places.now (first + p) }
     ensures { result ≡ meets_word s.now places.now word first name.now }
 {
-    let mut w = word;
-    while w != 0 {
-        let i = first + bits::lowest(w);
-        if same_name(part_at(s, places, i), name) {
+    for p in bits::positions(word) {
+        if same_name(part_at(s, places, first + p), name) {
             return true;
         }
-        w = bits::without_lowest(w);
     }
     false
 }
