@@ -175,13 +175,10 @@ fn free_in_word(lacked: &[u64; CLASS_WORDS], word: u64, j: usize, permission: Pe
     requires { (j < row_words) × (permission.0 < row_bits) }
     ensures { NextFrom (free_in_word word lacked.now permission.0 j) 0 word_bits result }
 {
-    let mut rest = word;
-    while rest != 0 {
-        let x = bits::lowest(rest);
+    for x in bits::positions(word) {
         if !is_lacked(lacked, j * WORD_BITS + x, permission) {
             return x;
         }
-        rest = bits::without_lowest(rest);
     }
     WORD_BITS
 }
