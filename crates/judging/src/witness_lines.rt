@@ -1,30 +1,22 @@
 // Whether a witness stands: every grant is held, and no two on different lines fit.
-ghost use Rattle.std.specs.Prelude.{◌≡◌, ◌+◌, ◌*◌, ◌≤◌, ◌<◌, length};
+ghost use Rattle.std.specs.Prelude.{◌≡◌, ◌+◌, ◌≤◌, ◌<◌};
 ghost use Rattle.bits.specs.Bit.{word_bits};
-ghost use Rattle.cell_rows.specs.Rows.{row_words, row_bits, cell};
+ghost use Rattle.cell_rows.specs.Rows.{row_bits};
 ghost use Rattle.judging.specs.WitnessWords.{LineWithin, LinesWithin, line_held, lines_stand};
 ghost use Rattle.judging.specs.NotedLines.{OwnersWithin, NotedWithin, some_owner, fits_noted};
 
 use bits::WORD_BITS;
 use cell_rows::mark;
 use cell_text::cell_at;
-use numbers::{PermissionNo, ROW_BITS, ROW_WORDS, UserNo};
+use numbers::{PermissionNo, ROW_BITS, ROW_WORDS};
 use read_fields::{Witness, WitnessLine};
-
-// Whether a user holds a permission.
-fn holds(rows: &[u64], user: UserNo, permission: PermissionNo) -> bool
-    requires { ((user.0 + 1) * row_words ≤ length rows.now) × (permission.0 < row_bits) }
-    ensures { result ≡ cell rows.now user.0 permission.0 }
-{
-    cell_at(rows, user.0, permission.0)
-}
 
 // Whether the grant of a line is held.
 fn held(rows: &[u64], line: WitnessLine) -> bool
     requires { LineWithin rows.now line }
     ensures { result ≡ line_held rows.now line }
 {
-    holds(rows, line.user, line.permission)
+    cell_at(rows, line.user.0, line.permission.0)
 }
 
 // Whether the user noted for one of the permissions at the positions of some holds a permission. `first` is the
@@ -40,13 +32,11 @@ fn an_owner_holds(
         × OwnersWithin rows.now owners.now first.0 some }
     ensures { result ≡ some_owner rows.now owners.now first.0 permission.0 some }
 {
-    let mut left = some;
-    while left != 0 {
-        let owner = owners[first.0 + bits::lowest(left)];
-        if holds(rows, UserNo(owner), permission) {
+    for p in bits::positions(some) {
+        let owner = owners[first.0 + p];
+        if cell_at(rows, owner, permission.0) {
             return true;
         }
-        left = bits::without_lowest(left);
     }
     false
 }
