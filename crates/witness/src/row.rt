@@ -7,6 +7,7 @@ ghost use Rattle.cells.specs.MadeCells.{MadeCells};
 ghost use Rattle.witness.specs.CountChange.{shared};
 
 use numbers::{CELL_WORDS, ROW_WORDS, UserNo};
+use std::array;
 
 // The row of a user.
 #[tactic(auto, unfolding(spec::specs::Limits::user_limit, cell_rows::specs::Rows::row_words))]
@@ -14,10 +15,7 @@ pub fn row_of(words: &[u64; CELL_WORDS], u: UserNo) -> [u64; ROW_WORDS]
     requires { u.0 < user_limit }
     ensures { MadeCells (cell words.now u.0) row_bits result }
 {
-    let first = u.0 * ROW_WORDS;
-    let mut row = [0; ROW_WORDS];
-    row.copy_from_slice(&words[first..first + ROW_WORDS]);
-    row
+    array::from_fn(|k| words[u.0 * ROW_WORDS + k])
 }
 
 // What the row of user u has in the one set and not in the other.
@@ -31,12 +29,10 @@ pub fn row_apart<'a>(
     ensures { MadeCells (λ (p : ℕ). cell words.now u.0 p
         && not (cell others.now u.0 p)) row_bits result }
 {
-    let mut row = [0; ROW_WORDS];
-    for (k, word) in row.iter_mut().enumerate() {
+    array::from_fn(|k| {
         let i = u.0 * ROW_WORDS + k;
-        *word = bits::apart(words[i], others[i]);
-    }
-    row
+        bits::apart(words[i], others[i])
+    })
 }
 
 // What the row of user u in the one set and the row of user v in the other have in common.
@@ -51,11 +47,7 @@ pub fn row_common<'a>(
     ensures { MadeCells (λ (p : ℕ). cell words.now u.0 p
         && cell others.now v.0 p) row_bits result }
 {
-    let mut row = [0; ROW_WORDS];
-    for (k, word) in row.iter_mut().enumerate() {
-        *word = words[u.0 * ROW_WORDS + k] & others[v.0 * ROW_WORDS + k];
-    }
-    row
+    array::from_fn(|k| words[u.0 * ROW_WORDS + k] & others[v.0 * ROW_WORDS + k])
 }
 
 // Whether a row has any permission.

@@ -1,7 +1,7 @@
 -- The words of one row: a set of permissions.
-use Rattle.std.specs.Prelude.{ℕ, zero, suc, ◌+◌, ◌*◌, ◌/◌, ◌%◌, ◌≤◌, ◌<◌, ◌≡◌, refl, Bool, false, not, ◌&&◌, ◌||◌, List, eqb, length, get_or, take, drop}
+use Rattle.std.specs.Prelude.{ℕ, zero, suc, ◌+◌, ◌*◌, ◌/◌, ◌%◌, ◌≤◌, ◌<◌, ◌≡◌, refl, Bool, false, not, ◌&&◌, ◌||◌, List, eqb, length, get_or, take}
 use Rattle.std.specs.List.{list_any}
-use Rattle.std.proofs.Common.{arith, ap, ◌∙◌, add-one, eqb-true, get_or-take, get_or-drop, length-take}
+use Rattle.std.proofs.Common.{arith, ap, ◌∙◌, add-one, eqb-true}
 use Rattle.std.proofs.Math.ListN.{get_or-eq_default}
 use Rattle.std.proofs.Math.Bool.{or_comm}
 use Rattle.std.proofs.lemmas.Bool.{not-false}
@@ -15,6 +15,7 @@ use Rattle.bits.specs.Laws.Bit.{bit_of_and, bit_of_zero}
 use Rattle.cell_rows.specs.Rows.{row_words, row_bits, cell}
 use Rattle.cell_rows.specs.CellPlaces.{marked}
 use Rattle.cells.specs.MadeCells.{MadeCells}
+use Rattle.cells.specs.Laws.MadeCells.{all_made}
 use Rattle.cell_rows.specs.Laws.Width.{word_in_row, cell_word, cell_position}
 use Rattle.fit.specs.Laws.FitWord.{marked_in_word}
 
@@ -44,16 +45,21 @@ shared_word rows row v k q l =
     bit_of_and (get_or row k 0) (get_or rows (v * row_words + k) 0) q
     ∙ rw (marked_in_word row k q l, cell_in_word rows v k q l)
 
--- the words of a row are those of its user
-pub row_taken : (words : List ℕ) (u : ℕ) → MadeCells (cell words u) row_bits
-    (take row_words (drop (u * row_words) words))
+-- a row is made by its two words
+pub row_made : (test : ℕ → Bool) (row : List ℕ) → length row ≡ row_words
+    → ((q : ℕ) → q < word_bits → bit (get_or row 0 0) q ≡ test (0 * word_bits + q))
+    → ((q : ℕ) → q < word_bits → bit (get_or row 1 0) q ≡ test (1 * word_bits + q)) → MadeCells test row_bits row
 unfolding row_bits row_words
-row_taken words u = record {
-  inside = λ n l. ap (λ w. bit w (n % word_bits)) (get_or-take 2 (drop (u * 2) words) (n / word_bits) 0 (word_in_row n l)
-      ∙ get_or-drop (u * 2) words (n / word_bits) 0);
-  outside = λ n l. rw (get_or-eq_default (take 2 (drop (u * 2) words)) 0 {n = n / word_bits} (simp length-take (omega arith)))
-      (bit_of_zero (n % word_bits));
-}
+row_made test row long low high =
+    all_made test 2 row record {
+      made = words_made;
+      rest = λ s l. get_or-eq_default row 0 (omega (arith, long));
+    }
+  where
+    words_made : (s q : ℕ) → s < 2 → q < word_bits → bit (get_or row s 0) q ≡ test (s * word_bits + q)
+    words_made zero q l k = low q k
+    words_made (suc zero) q l k = high q k
+    words_made (suc (suc s)) q l k = absurd (omega arith)
 
 -- what a list has among its first elements, by their places
 pub any_below : (p : ℕ → Bool) (xs : List ℕ) (n : ℕ) → n ≤ length xs

@@ -1,23 +1,24 @@
 -- `row::row_apart`: a word of the row has the positions that only the first of the words has.
-use Rattle.std.proofs.Common.{◌≡◌, not, ◌&&◌, arith, sym, ◌∙◌}
+use Rattle.std.proofs.Common.{rules, ◌≡◌, ◌+◌, ◌*◌, ◌&&◌, not, ℕ, get_or, sym, ◌∙◌}
 use Rattle.std.proofs.Math.Path.{ap₂}
-use Rattle.cell_rows.specs.Rows.{row_words, row_bits}
-use Rattle.cells.specs.Laws.MadeCells.{one_made, all_made}
-use Rattle.witness.specs.Laws.Row.{cell_in_word}
+use Rattle.bits.specs.Bit.{bit}
+use Rattle.cell_rows.specs.Rows.{row_words}
+use Rattle.witness.specs.Laws.Row.{cell_in_word, row_made}
 use Rattle.witness.proofs.row.row_apart.Goals as goal
 
-pub loop-k-preserved : goal.loop-k-preserved
-unfolding row_words
-loop-k-preserved c =
-    let a = c.args in
-    let at = c.loop-k in
-    one_made _ at.k at.word-items _ at.invariant (omega arith)
-    (λ q l. c.apart.ensures.1 q
-    ∙ sym (ap₂ (λ b d. b && not d) (cell_in_word a.words.now a.u.0 at.k q l) (cell_in_word a.others.now a.u.0 at.k q l)))
-
 pub returns : goal.returns
-unfolding row_bits row_words
+unfolding row_words
 returns c =
-    let at = c.loop-k in
-    let end : at.k ≡ row_words = omega arith in
-    rw end at (all_made _ at.k at.word-items at.invariant)
+    let words = c.args.words.now in
+    let others = c.args.others.now in
+    let u = c.args.u.0 in
+    let row = c.from_fn.result in
+    let low : (q : ℕ)
+    → bit (get_or row 0 0) q ≡ (bit (get_or words (u * row_words + 0) 0) q && not (bit (get_or others (u * row_words + 0) 0) q)) =
+    search rules in
+    let high : (q : ℕ)
+    → bit (get_or row 1 0) q ≡ (bit (get_or words (u * row_words + 1) 0) q && not (bit (get_or others (u * row_words + 1) 0) q)) =
+    search rules in
+    row_made _ row c.from_fn.ensures.items.long
+    (λ q l. low q ∙ sym (ap₂ (λ b d. b && not d) (cell_in_word words u 0 q l) (cell_in_word others u 0 q l)))
+    (λ q l. high q ∙ sym (ap₂ (λ b d. b && not d) (cell_in_word words u 1 q l) (cell_in_word others u 1 q l)))
