@@ -60,14 +60,12 @@ fn word_roles<'a>(
         has.new gives.new result }
 {
     let mut known = count;
-    let mut left = rows[i];
-    while left != 0 {
-        let cell = i * WORD_BITS + bits::lowest(left);
+    for p in bits::positions(rows[i]) {
+        let cell = i * WORD_BITS + p;
         let of_class = class[cell] as usize;
         let role = role_for(table, known, of_class);
         put_in_role(has, gives, CellNo(cell), role);
         known = counted(known, role);
-        left = bits::without_lowest(left);
     }
     known
 }
