@@ -28,6 +28,6 @@ pub fn check<'a>(sheet: &'a [u8], book: &'a [u8]) -> Checked
             roles: read.roles,
             witness_lines: read.witness.lines,
         },
-        Err(refusal) => refused(refusal),
+        Err(refusal) => refused(refusal.number()),
     }
 }

@@ -6,7 +6,6 @@ ghost use Rattle.spec.specs.Refusal.{accepted};
 ghost use Rattle.spec.specs.Calls.{check_refused};
 ghost use Rattle.cell_rows.specs.Rows.{row_words};
 ghost use Rattle.cells.specs.RowsRead.{RowsRead};
-ghost use Rattle.numbers.specs.Refusal.{number_of};
 ghost use Rattle.judging.specs.BookSays.{BookSays, answer_of, answer_as, JudgedAs};
 
 use crate::agree::counts_agree;
@@ -34,12 +33,12 @@ pub struct BookRead {
     pub witness: Witness,
 }
 
-// The number of a refusal with counts 0.
-pub fn refused(refusal: Refusal) -> Checked
-    ensures { answer_of result ≡ check_refused (number_of refusal) }
+// A number with counts 0.
+pub fn refused(number: usize) -> Checked
+    ensures { answer_of result ≡ check_refused number }
 {
     Checked {
-        number: refusal.number(),
+        number,
         roles: 0,
         witness_lines: 0,
     }

@@ -26,7 +26,7 @@ counts_at-counts-requires c =
     let reduced = ready s c.in_default.ensures refl in
     let ran = c.search-ran.ensures in
     let on = ran_in (c.requires.held reduced) c.args.budget c.search-ran.result ran.kernel_value ran.position_stands
-            ran.position_value in
+    ran.position_value in
     few_roles_held on.holds
 
 pub returns-clause-searches : goal.returns-clause-searches
@@ -35,7 +35,7 @@ returns-clause-searches c =
     let reduced = ready s c.in_default.ensures refl in
     let ran = c.search-ran.ensures in
     let on = ran_in (c.requires.held reduced) c.args.budget c.search-ran.result ran.kernel_value ran.position_stands
-            ran.position_value in
+    ran.position_value in
     let counts = c.counts_at-counts in
     searches_held on reduced (counts_held on.holds counts.result counts.ensures) (search_said c.found.result)
     c.found.ensures
@@ -46,5 +46,5 @@ returns-clause-sound c =
     let reduced = ready s c.in_default.ensures refl in
     let ran = c.search-ran.ensures in
     let on = ran_in (c.requires.held reduced) c.args.budget c.search-ran.result ran.kernel_value ran.position_stands
-            ran.position_value in
+    ran.position_value in
     reduced_sound on.holds reduced
