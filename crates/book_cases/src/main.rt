@@ -15,7 +15,7 @@ mod show;
 mod texts;
 
 use fields::end_fields;
-use show::{Damages, show_cases, show_long, show_long_sheet};
+use show::{damaged_book, damaged_sheet, own_texts, show_cases, show_long, show_long_sheet};
 
 // The descriptor of standard input.
 const STANDARD_INPUT: i32 = 0;
@@ -31,37 +31,37 @@ fn main() {
 }
 
 fn show_all(cases: &[u8]) {
-    let own = show_cases(Damages::Book, cases, 0);
-    let sheets = show_cases(Damages::Nothing, cases, own);
+    let own = show_cases(damaged_book, cases, 0);
+    let sheets = show_cases(own_texts, cases, own);
     show_long_sheet(b"a sheet of 65537 bytes", 65_537);
-    let others = show_cases(Damages::Sheet, cases, sheets);
-    let lines = show_cases(Damages::Nothing, cases, others);
+    let others = show_cases(damaged_sheet, cases, sheets);
+    let lines = show_cases(own_texts, cases, others);
     let counts = show_lines(cases, lines);
     let products = show_counts(cases, counts);
     show_long_counts();
-    let witnesses = show_cases(Damages::Book, cases, products);
-    let twice = show_cases(Damages::Book, cases, witnesses);
-    let several = show_cases(Damages::Nothing, cases, twice);
-    show_cases(Damages::Book, cases, several);
+    let witnesses = show_cases(damaged_book, cases, products);
+    let twice = show_cases(damaged_book, cases, witnesses);
+    let several = show_cases(own_texts, cases, twice);
+    show_cases(damaged_book, cases, several);
 }
 
 // Damaged lines. Answers where the next group starts.
 fn show_lines(cases: &[u8], at: usize) -> usize {
-    let headings = show_cases(Damages::Book, cases, at);
-    let roles = show_cases(Damages::Book, cases, headings);
-    let more = show_cases(Damages::Book, cases, roles);
-    let users = show_cases(Damages::Nothing, cases, more);
-    show_cases(Damages::Book, cases, users)
+    let headings = show_cases(damaged_book, cases, at);
+    let roles = show_cases(damaged_book, cases, headings);
+    let more = show_cases(damaged_book, cases, roles);
+    let users = show_cases(own_texts, cases, more);
+    show_cases(damaged_book, cases, users)
 }
 
 // Damaged and wrong counts, and damaged witness lines. Answers where the next group starts.
 fn show_counts(cases: &[u8], at: usize) -> usize {
-    let witness = show_cases(Damages::Book, cases, at);
+    let witness = show_cases(damaged_book, cases, at);
     show_zeros(b"a book of 131073 bytes", b"2", 130_940, b",2,");
-    let wrong = show_cases(Damages::Book, cases, witness);
-    let bounds = show_cases(Damages::Book, cases, wrong);
-    let long = show_cases(Damages::Book, cases, bounds);
-    show_cases(Damages::Book, cases, long)
+    let wrong = show_cases(damaged_book, cases, witness);
+    let bounds = show_cases(damaged_book, cases, wrong);
+    let long = show_cases(damaged_book, cases, bounds);
+    show_cases(damaged_book, cases, long)
 }
 
 fn show_long_counts() {

@@ -11,13 +11,8 @@ const STANDARD_OUTPUT: i32 = 1;
 // Room for a book above the limit.
 const SPACE: usize = 132_000;
 
-// What a case damages: the book of document 01, its sheet, or nothing, where it has a sheet and a book of its own.
-#[derive(Clone, Copy)]
-pub enum Damages {
-    Book,
-    Sheet,
-    Nothing,
-}
+// Room for the book or the sheet with one part replaced, before the other is.
+const DAMAGED_SPACE: usize = 1024;
 
 // Writes what is checked, and the number, the roles and the witness lines that are answered.
 pub fn show<'a>(what: &'a [u8], sheet: &'a [u8], book: &'a [u8]) {
@@ -59,55 +54,46 @@ fn show_sheet<'a>(what: &'a [u8], space: &'a [u8], n: usize) {
     }
 }
 
-// Checks the book or the sheet of document 01 with one part replaced, against the other of the two.
-fn show_damaged<'a>(of: Damages, what: &'a [u8], text: &'a [u8], old: &'a [u8], new: &'a [u8]) {
-    let mut space = [0u8; SPACE];
-    let n = damaged(&mut space, text, old, new);
-    match of {
-        Damages::Book => show_book(what, &SHEET, &space, n),
-        Damages::Sheet => show_sheet(what, &space, n),
-        Damages::Nothing => unmade(what),
-    }
-}
-
-// Checks it with two parts replaced.
-fn show_both<'a>(
-    of: Damages,
-    what: &'a [u8],
+// The text with two parts replaced, at the front of the buffer; or the buffer's length where none was made.
+fn damaged_twice<'a>(
+    out: &mut [u8],
     text: &'a [u8],
     old: &'a [u8],
     new: &'a [u8],
     other: &'a [u8],
     with: &'a [u8],
-) {
-    let mut space = [0u8; 1024];
+) -> usize {
+    let mut space = [0u8; DAMAGED_SPACE];
     let n = damaged(&mut space, text, old, new);
     if n < space.len() {
-        show_damaged(of, what, &space[..n], other, with);
-    } else {
-        unmade(what);
+        return damaged(out, &space[..n], other, with);
     }
+    out.len()
 }
 
-// Checks what the fields of a case say.
-fn show_fields<'a>(
-    of: Damages,
-    what: &'a [u8],
-    old: &'a [u8],
-    new: &'a [u8],
-    other: &'a [u8],
-    with: &'a [u8],
-) {
-    match of {
-        Damages::Book => show_both(of, what, &BOOK, old, new, other, with),
-        Damages::Sheet => show_both(of, what, &SHEET, old, new, other, with),
-        Damages::Nothing => show(what, old, new),
-    }
+// A case of a damaged book: checks the book of document 01 with two parts replaced, against its sheet.
+pub fn damaged_book(what: &[u8], old: &[u8], new: &[u8], other: &[u8], with: &[u8]) {
+    let mut space = [0u8; SPACE];
+    let n = damaged_twice(&mut space, &BOOK, old, new, other, with);
+    show_book(what, &SHEET, &space, n);
 }
 
-// The case that starts at this place. Answers where the next one starts.
-fn show_case(of: Damages, cases: &[u8], at: usize) -> usize
-    requires { at ≤ length cases.now }
+// A case of a damaged sheet: checks the book of document 01 against its sheet with two parts replaced.
+pub fn damaged_sheet(what: &[u8], old: &[u8], new: &[u8], other: &[u8], with: &[u8]) {
+    let mut space = [0u8; SPACE];
+    let n = damaged_twice(&mut space, &SHEET, old, new, other, with);
+    show_sheet(what, &space, n);
+}
+
+// A case with a sheet and a book of its own.
+pub fn own_texts(what: &[u8], sheet: &[u8], book: &[u8], _other: &[u8], _with: &[u8]) {
+    show(what, sheet, book);
+}
+
+// Checks the fields of the case that starts at this place. Answers where the next one starts.
+fn show_case<F: Fn(&[u8], &[u8], &[u8], &[u8], &[u8])>(check: &F, cases: &[u8], at: usize) -> usize
+    requires at_within { at ≤ length cases.now }
+    requires callable { F.IsAlwaysCallable check.now }
 {
     let what = field_end(cases, at);
     let old = field_behind(cases, what);
@@ -118,8 +104,7 @@ fn show_case(of: Damages, cases: &[u8], at: usize) -> usize
     let other_end = field_end(cases, other);
     let with = field_behind(cases, other_end);
     let with_end = field_end(cases, with);
-    show_fields(
-        of,
+    check(
         &cases[at..what],
         &cases[old..old_end],
         &cases[new..new_end],
@@ -129,18 +114,25 @@ fn show_case(of: Damages, cases: &[u8], at: usize) -> usize
     field_behind(cases, with_end)
 }
 
-// The cases of the group whose heading starts at this place, as long as one starts behind the other. Answers where the
-// next group starts.
-pub fn show_cases(of: Damages, cases: &[u8], heading: usize) -> usize {
+// Checks the fields of each case of the group whose heading starts at this place, as long as one starts behind the
+// other. Answers where the next group starts.
+pub fn show_cases<F: Fn(&[u8], &[u8], &[u8], &[u8], &[u8])>(
+    check: F,
+    cases: &[u8],
+    heading: usize,
+) -> usize
+    requires { F.IsAlwaysCallable check }
+{
     if cases.len() <= heading {
         return heading;
     }
     let mut at = field_behind(cases, field_end(cases, heading));
+    // A case says where the next one starts.
     while at < cases.len() {
         if cases[at] == b'#' {
             return at;
         }
-        let next = show_case(of, cases, at);
+        let next = show_case(&check, cases, at);
         if next <= at {
             return at;
         }
@@ -163,7 +155,9 @@ pub fn show_long<'a>(
     let end = put_times(&mut space, words, word, times);
     let n = put(&mut space, end, tail);
     if n < space.len() {
-        show_damaged(Damages::Book, what, &BOOK, old, &space[..n]);
+        let mut book = [0u8; SPACE];
+        let size = damaged(&mut book, &BOOK, old, &space[..n]);
+        show_book(what, &SHEET, &book, size);
     } else {
         unmade(what);
     }
