@@ -6,9 +6,10 @@ ghost use Rattle.cells.specs.MadeCells.{MadeCells};
 ghost use Rattle.admitting.specs.LeftRow.{not_taken};
 
 use numbers::{CELL_WORDS, ROW_WORDS, UserNo};
+use std::array;
 
 // A row with what a user holds and what is not taken.
-#[tactic(auto, unfolding(spec::specs::Limits::user_limit))]
+#[tactic(auto, unfolding(spec::specs::Limits::user_limit, cell_rows::specs::Rows::row_words))]
 pub fn left_row<'a>(
     rows: &'a [u64; CELL_WORDS],
     user: UserNo,
@@ -17,9 +18,5 @@ pub fn left_row<'a>(
     requires { user.0 < user_limit }
     ensures { MadeCells (not_taken rows.now user.0 taken.now) row_bits result }
 {
-    let mut left = [0; ROW_WORDS];
-    for k in 0..ROW_WORDS {
-        left[k] = bits::apart(rows[user.0 * ROW_WORDS + k], taken[k]);
-    }
-    left
+    array::from_fn(|k| bits::apart(rows[user.0 * ROW_WORDS + k], taken[k]))
 }
