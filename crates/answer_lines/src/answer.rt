@@ -9,7 +9,6 @@ use crate::lines::{put_digest_line, put_line};
 use adler::adler_32;
 use answers::{LoadAnswer, ReduceAnswer, SearchAnswer, WriteAnswer};
 use judging::Checked;
-use standing::Standing;
 
 // The bytes of an answer, at most.
 pub const ANSWER_BUFFER: usize = 192;
@@ -65,12 +64,11 @@ fn put_searched(out: &mut [u8], answer: SearchAnswer) -> usize
         answer.roles,
         answer.bound,
     ];
-    match answer.state {
-        None => put_line(out, b"search", &numbers, b"-"),
-        Some(Standing::Witnessed) => put_line(out, b"search", &numbers, b"witnessed"),
-        Some(Standing::Searched) => put_line(out, b"search", &numbers, b"searched"),
-        Some(Standing::Open) => put_line(out, b"search", &numbers, b"open"),
-    }
+    let word: &[u8] = match answer.state {
+        None => b"-",
+        Some(standing) => standing.word(),
+    };
+    put_line(out, b"search", &numbers, word)
 }
 
 // Writes the line of an answer.

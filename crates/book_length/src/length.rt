@@ -23,15 +23,11 @@ use standing::Standing;
 // The first words of the three headings with their line feeds, and the three empty lines.
 const HEADINGS: usize = 29;
 
-// How long the state is as the last field of a line.
+// How long the state is as the last field of a line: its word, the comma and the line feed.
 fn standing_length(standing: Standing) -> usize
     ensures { Measured (standing_text (standing_case standing)) piece_most result }
 {
-    match standing {
-        Standing::Witnessed => b",witnessed\n".len(),
-        Standing::Searched => b",searched\n".len(),
-        Standing::Open => b",open\n".len(),
-    }
+    standing.word().len() + 2
 }
 
 // How long block 1 is.

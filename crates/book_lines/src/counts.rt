@@ -6,7 +6,7 @@ ghost use Rattle.text.specs.Written.{Written};
 
 use decimal::put_counted;
 use standing::Standing;
-use text::put_bytes;
+use text::put_field;
 
 // What block 1 says.
 #[derive(Clone, Copy)]
@@ -21,11 +21,9 @@ fn put_standing(out: &mut [u8], standing: Standing) -> usize
     requires { length (standing_text (standing_case standing)) ≤ length out.old }
     ensures { Written (standing_text (standing_case standing)) out.old out.new result }
 {
-    match standing {
-        Standing::Witnessed => put_bytes(out, b",witnessed\n"),
-        Standing::Searched => put_bytes(out, b",searched\n"),
-        Standing::Open => put_bytes(out, b",open\n"),
-    }
+    let end = put_field(out, standing.word());
+    out[end] = b'\n';
+    end + 1
 }
 
 // Writes block 1.

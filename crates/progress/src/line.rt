@@ -35,12 +35,13 @@ fn put_speed(out: &mut [u8], named: Option<Standing>, speed: usize) -> usize
     requires { length (speed_part (state_said named) speed) ≤ length out.old }
     ensures { Written (speed_part (state_said named) speed) out.old out.new result }
 {
-    match named {
-        None => decimal::put_counted(out, b", -, ", speed),
-        Some(Standing::Witnessed) => decimal::put_counted(out, b", witnessed, ", speed),
-        Some(Standing::Searched) => decimal::put_counted(out, b", searched, ", speed),
-        Some(Standing::Open) => decimal::put_counted(out, b", open, ", speed),
-    }
+    let word: &[u8] = match named {
+        None => b"-",
+        Some(standing) => standing.word(),
+    };
+    let state = text::put_bytes(out, b", ");
+    let end = state + text::put_bytes(&mut out[state..], word);
+    end + decimal::put_counted(&mut out[end..], b", ", speed)
 }
 
 // Writes the front of the line: the steps so far, the depth gained, the roles and the bound.

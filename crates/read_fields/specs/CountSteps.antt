@@ -1,10 +1,10 @@
 -- Reading block 1: two counts, each up to its comma, and a state up to the line feed. A count and a state hold
 -- neither, so each stands in a text in one way at most, and what follows them is known.
 use Rattle.std.specs.Prelude.{ℕ, ◌+◌, ◌≡◌, refl, [], ◌∷◌, ◌++◌, eqb, Option, Some, None}
-use Rattle.std.proofs.Common.{add-one, ◌∙◌, append_assoc}
+use Rattle.std.proofs.Common.{add-one, sym, ◌∙◌, append_assoc}
 use Rattle.std.proofs.Math.Bool.{So}
 use Rattle.spec.specs.Text.{ascii, Bytes, comma, line_feed}
-use Rattle.spec.specs.Roles.{Standing, witnessed, searched, unsettled}
+use Rattle.spec.specs.Roles.{Standing}
 use Rattle.spec.specs.Decimal.{is_count}
 use Rattle.spec.specs.Book.{standing_word}
 use Rattle.steps.specs.Laws.Aligned.{Aligned, aligned_same, aligned_then, ended_aligned}
@@ -80,11 +80,25 @@ abbrev pub StandingReads : Bytes → ℕ → Option (StandingValue × ℕ) → T
 StandingReads text at (Some (s, next)) = Stands text at (standing_text (standing_case s)) next
 StandingReads text at None = (s : Standing) → Misses text at (standing_text s)
 
-pub no_standing : {text : Bytes} {at : ℕ} → Misses text at (ascii "witnessed\n") → Misses text at (ascii "searched\n")
-    → Misses text at (ascii "open\n") → (s : Standing) → Misses text at (standing_text s)
-no_standing a b c witnessed = a
-no_standing a b c searched = b
-no_standing a b c unsettled = c
+pub no_line_feed_behind : {text : Bytes} {at : ℕ} → Unended text at line_feed → (s : Standing)
+    → Misses text at (standing_text s)
+no_line_feed_behind u s =
+    record {
+      misses = λ rest there.
+          u.none (standing_word s) rest (there ∙ append_assoc (standing_word s) (line_feed ∷ []) rest);
+    }
+
+-- a part that is the word of no state
+pub other_word : {text : Bytes} {at to : ℕ} → Ended text at line_feed to → (s : Standing)
+    → (part at to text ≡ standing_word s → ⊥)
+    → Misses text at (standing_text s)
+other_word p s other =
+    record {
+      misses = λ rest there.
+          other
+          (sym (ended_once p (standing_word s) rest (standing_word_field s).no_line_feed
+          (there ∙ append_assoc (standing_word s) (line_feed ∷ []) rest)).0);
+    }
 
 standings_aligned : (s t : Standing) → Aligned (standing_text s) (standing_text t)
 standings_aligned s t =

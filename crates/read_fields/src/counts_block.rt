@@ -29,14 +29,14 @@ fn standing_field(book: &[u8], at: usize) -> Option<(Standing, usize)>
     requires { at ≤ length book.now }
     ensures { StandingReads book.now at result }
 {
-    if let Some(next) = expect(book, at, b"witnessed\n") {
-        return Some((Standing::Witnessed, next));
+    let to = part_end(book, at, b'\n')?;
+    let word = &book[at..to];
+    for standing in [Standing::Witnessed, Standing::Searched, Standing::Open] {
+        if word == standing.word() {
+            return Some((standing, to + 1));
+        }
     }
-    if let Some(next) = expect(book, at, b"searched\n") {
-        return Some((Standing::Searched, next));
-    }
-    let next = expect(book, at, b"open\n")?;
-    Some((Standing::Open, next))
+    None
 }
 
 // Reads block 1 and the empty line behind it.

@@ -100,6 +100,7 @@ fn witness_lines<'a, 'b>(
     let mut witness = Witness::none();
     let mut next = at;
     let mut last = UserNo(0);
+    // Counted by hand: a line says where the next one starts.
     while next < book.len() {
         let (line, after) = witness_line(book, next, sheet, users, permissions, last)?;
         if witness.lines < ROLE_LIMIT {

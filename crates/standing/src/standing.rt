@@ -1,6 +1,7 @@
 // The state that a search names and a book says, and the bound beside it.
-ghost use Rattle.std.specs.Prelude.{◌≡◌};
+ghost use Rattle.std.specs.Prelude.{◌≡◌, ◌≤◌, length};
 ghost use Rattle.spec.specs.Roles.{standing_of, bound_of};
+ghost use Rattle.spec.specs.Book.{standing_word};
 ghost use Rattle.standing.specs.StandingCases.{standing_case};
 
 #[derive(Clone, Copy, PartialEq, Eq)]
@@ -8,6 +9,20 @@ pub enum Standing {
     Witnessed,
     Searched,
     Open,
+}
+
+impl Standing {
+    // The word that a book and an answer spell, of nine bytes at most.
+    pub fn word(self) -> &'static [u8]
+        ensures spelt { result.now ≡ standing_word (standing_case self) }
+        ensures short { length result.now ≤ 9 }
+    {
+        match self {
+            Standing::Witnessed => b"witnessed",
+            Standing::Searched => b"searched",
+            Standing::Open => b"open",
+        }
+    }
 }
 
 // The state of a book with so many roles, beside w witness grants.
