@@ -15,6 +15,7 @@ use fit::{COLUMN_WORDS, PLACE_WORDS, fitting};
 use numbers::{CELL_WORDS, CellNo, PermissionNo, ROW_WORDS, UserNo};
 
 // Word j of the column of a permission, as far as the users go.
+#[tactic(auto, unfolding(spec::specs::Limits::user_limit, cell_rows::specs::Rows::row_words, cell_rows::specs::Rows::row_bits))]
 pub fn holders(columns: &[u64; PLACE_WORDS], users: usize, p: PermissionNo, j: usize) -> u64
     requires { (users ≤ user_limit) × (p.0 < row_bits) × (j * word_bits < users) }
     ensures { (q : ℕ) → q < word_bits → bit result q ≡ is_holder columns.now users p.0 j q }
@@ -29,6 +30,7 @@ pub fn holders(columns: &[u64; PLACE_WORDS], users: usize, p: PermissionNo, j: u
 
 // Word j of the column of the other grant's permission, without users who cannot have a grant that fits it and not
 // the grant at a cell: where both have one user, those who hold both permissions.
+#[tactic(auto, unfolding(spec::specs::Limits::user_limit, cell_rows::specs::Rows::row_words, cell_rows::specs::Rows::row_bits))]
 fn suspects(columns: &[u64; PLACE_WORDS], users: usize, it: CellNo, other: CellNo, j: usize) -> u64
     requires { (users ≤ user_limit) × (j * word_bits < users) }
     ensures { (q : ℕ) → q < word_bits

@@ -35,6 +35,7 @@ fn is_one(w: u64) -> bool
 }
 
 // Whether no other grant of left fits the grant at a cell, which is one of left. All grants of its word do.
+#[tactic(auto, unfolding(spec::specs::Limits::user_limit, cell_rows::specs::Rows::row_words))]
 fn is_single<'a>(
     rows: &'a [u64; CELL_WORDS],
     columns: &'a [u64; PLACE_WORDS],
@@ -53,6 +54,7 @@ fn is_single<'a>(
 }
 
 // The positions of word i whose cells of left are other than the grant at a cell.
+#[tactic(auto, unfolding(spec::specs::Limits::user_limit, cell_rows::specs::Rows::row_words))]
 fn candidates(left: &[u64; CELL_WORDS], it: CellNo, i: usize) -> u64
     requires { i < cell_words }
     ensures { (q : ℕ) → q < word_bits → bit result q ≡ (marked left.now (i * word_bits + q)
@@ -68,6 +70,7 @@ fn candidates(left: &[u64; CELL_WORDS], it: CellNo, i: usize) -> u64
 
 // The lowest cell of word i to which the grant at a cell is tied. A user who keeps it from one candidate keeps it
 // from all whose permissions that user holds.
+#[tactic(auto, unfolding(spec::specs::Limits::user_limit, cell_rows::specs::Rows::row_words))]
 fn tie_in<'a>(
     rows: &'a [u64; CELL_WORDS],
     columns: &'a [u64; PLACE_WORDS],
