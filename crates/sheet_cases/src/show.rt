@@ -28,6 +28,7 @@ pub fn show_longer(label: &[u8], users: usize, permissions: usize, grants: usize
 // Judges each sheet of a table: what it is and the sheet, both ended by a semicolon.
 pub fn show_each(table: &[u8]) {
     let mut at = 0;
+    // Where a sheet ends says where the next one starts.
     while at < table.len() {
         let sheet = next_part(table, at);
         if sheet == table.len() {
