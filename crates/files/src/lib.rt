@@ -23,6 +23,7 @@ fn read_full<F: Read>(file: &mut F, buf: &mut [u8]) -> usize
     ensures { IsPrefixLen result buf.new }
 {
     let mut done = 0;
+    // A read says how many bytes it put, which may be fewer than there is room for.
     while done < buf.len() {
         let Ok(n) = file.read(&mut buf[done..]) else {
             break;

@@ -118,6 +118,7 @@ pub fn reduce<'a>(
         partner: [0; GRANT_LIMIT],
         count: 0,
     };
+    // How many sweeps there are shows only as they are made: the last one removes nothing.
     loop {
         let before = work.count;
         work.sweep(rows, columns, users);

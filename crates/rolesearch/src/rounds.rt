@@ -73,6 +73,7 @@ fn search_rounds(rt: &HostRuntime, from: Session, rounds: u32) -> Rounds
     let mut searches = 0;
     let mut so_far = 0;
     let mut goes_on = true;
+    // A search that does not answer `open` ends them before the rounds do.
     while searches < rounds && goes_on {
         searches += 1;
         let began = ticks(rt.process_cpu_time());
@@ -82,8 +83,7 @@ fn search_rounds(rt: &HostRuntime, from: Session, rounds: u32) -> Rounds
         let answer = searched.answer;
         so_far += answer.steps as usize;
         report(so_far, answer, speed(answer.steps, began, ended));
-        let named = answer.state;
-        goes_on = is_open(named);
+        goes_on = is_open(answer.state);
     }
     Rounds {
         session,

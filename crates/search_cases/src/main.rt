@@ -69,6 +69,7 @@ fn many_searches(fit: &[u64; TABLE_WORDS]) {
     let mut taken_back = 0;
     let mut closed = 0;
     let mut searches = 0;
+    // The searches end before their limit where the machine is finished.
     while searches < MOST && !position.cursor.finished {
         let ran = position.search(fit, crown::SIZES, PART);
         position = ran.position;

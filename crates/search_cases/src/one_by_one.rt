@@ -24,6 +24,7 @@ pub fn steps_from(from: Position, fit: &[u64; TABLE_WORDS], budget: u32) -> Ran
     let mut position = from;
     let mut steps = 0;
     let mut kinds = Kinds::none();
+    // A finished search stops before its budget.
     while steps < budget && !position.cursor.finished {
         steps += 1;
         let stepped = position.step(fit, crown::SIZES);
