@@ -16,6 +16,7 @@ pub fn first_classes(classes: &[u8; GRANT_LIMIT]) -> [u8; KERNEL_LIMIT]
 }
 
 // The best placement of a kernel: the position's, or the first one where the kernel is too great to be searched.
+#[tactic(auto, unfolding(spec::specs::Limits::search_limit))]
 pub fn best_of<'a>(first: &'a [u8], best: &'a [u8], size: usize) -> &'a [u8]
     requires { size ≤ length (best_classes first.now best.now size) }
     ensures { result.now ≡ take size (best_classes first.now best.now size) }

@@ -26,6 +26,7 @@ pub struct Prepared {
 
 impl Prepared {
     // Nothing found yet: the parts of a session whose sheet is not reduced, or which has none.
+    #[tactic(auto, unfolding(spec::specs::Limits::user_limit, spec::specs::Limits::grant_limit, cell_rows::specs::Rows::row_words, table::specs::TableWords::table_row))]
     pub fn none() -> Prepared
         ensures { result ≡ nothing_prepared }
     {

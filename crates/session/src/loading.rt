@@ -22,6 +22,7 @@ pub struct Loaded {
 }
 
 // Where the search stands while no sheet is reduced: no grant, no class.
+#[tactic(auto, unfolding(spec::specs::Limits::search_limit))]
 fn no_position() -> Position
     ensures { result ≡ no_position }
 {
