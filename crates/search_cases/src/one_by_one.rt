@@ -40,6 +40,7 @@ pub fn steps_from(from: Position, fit: &[u64; TABLE_WORDS], budget: u32) -> Ran
 }
 
 // Whether the first grants are placed alike.
+#[tactic(auto, unfolding(spec::specs::Limits::search_limit))]
 fn same_classes<'a>(a: &'a [u8; KERNEL_LIMIT], b: &'a [u8; KERNEL_LIMIT], count: usize) -> bool
     requires { count ≤ search_limit }
     ensures { Tells result (latest_first a.now count ≡ latest_first b.now count) }
