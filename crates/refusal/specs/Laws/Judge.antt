@@ -28,19 +28,19 @@ use Rattle.refusal.specs.declared.body.Body.{Body}
 -- ---- the causes in turn
 
 -- the number of the first cause that applies, from a number on
-abbrev causes_from_9 : Bytes → ℕ
+abbrev pub causes_from_9 : Bytes → ℕ
 causes_from_9 text = refuse_if (too_many_grants (sheet_of text)) 9 0
 
-abbrev causes_from_8 : Bytes → ℕ
+abbrev pub causes_from_8 : Bytes → ℕ
 causes_from_8 text = refuse_if (name_twice (sheet_of text)) 8 (causes_from_9 text)
 
-abbrev causes_from_7 : Bytes → ℕ
+abbrev pub causes_from_7 : Bytes → ℕ
 causes_from_7 text = refuse_if (bad_cell (lines_of text)) 7 (causes_from_8 text)
 
-abbrev causes_from_6 : Bytes → ℕ
+abbrev pub causes_from_6 : Bytes → ℕ
 causes_from_6 text = refuse_if (uneven_line (lines_of text)) 6 (causes_from_7 text)
 
-abbrev causes_from_5 : Bytes → ℕ
+abbrev pub causes_from_5 : Bytes → ℕ
 causes_from_5 text = refuse_if (bad_name (sheet_of text)) 5 (causes_from_6 text)
 
 abbrev pub causes_from_4 : Bytes → ℕ
@@ -52,7 +52,7 @@ causes_from_3 text = refuse_if (bad_first_line (lines_of text)) 3 (causes_from_4
 abbrev pub causes_from_2 : Bytes → ℕ
 causes_from_2 text = refuse_if (bad_bytes text) 2 (causes_from_3 text)
 
-refusal_in_turn : (text : Bytes) → refusal text ≡ refuse_if (too_long text) 1 (causes_from_2 text)
+pub refusal_in_turn : (text : Bytes) → refusal text ≡ refuse_if (too_long text) 1 (causes_from_2 text)
 unfolding refusal
 refusal_in_turn text = refl
 
@@ -91,7 +91,7 @@ all_map test f (a ∷ rest) = ap (λ (t : Bool). test (f a) && t) (all_map test 
 -- ---- what was read of a text with some byte
 
 -- the first line of a text with some byte is read
-record HeadRead (text : Bytes) (head : LineRead) : Type 0 where
+pub record HeadRead (text : Bytes) (head : LineRead) : Type 0 where
   pub some_byte : bad_bytes text ≡ false
   pub first : ReadLine text 0 head
 
@@ -108,7 +108,7 @@ lines_read (b ∷ rest) head e read =
     first_line_read b rest ∙ ap (λ (after : Bytes). line_fields (b ∷ rest) ∷ lines_of after) read.after
 
 module _ (text : Bytes) (head : LineRead) (r : HeadRead text head) where
-  text_lines : lines_of text ≡ line_fields text ∷ lines_after text head
+  pub text_lines : lines_of text ≡ line_fields text ∷ lines_after text head
   text_lines = lines_read text head r.some_byte r.first
 
   first_total : length (line_fields text) ≡ suc head.cells.count
@@ -116,7 +116,7 @@ module _ (text : Bytes) (head : LineRead) (r : HeadRead text head) where
       sym (length_tail (line_fields text) (parted_some (eqb comma) (take (span (eqb line_feed) text) text)))
       ∙ ap (λ cells. suc cells.count) (sym r.first.cells)
 
-  cause_3 : bad_first_line (lines_of text)
+  pub cause_3 : bad_first_line (lines_of text)
       ≡ not (same_bytes (part 0 head.to text) (ascii "user") && between 1 permission_limit head.cells.count)
   unfolding bad_first_line
   cause_3 = rw (
@@ -126,20 +126,20 @@ module _ (text : Bytes) (head : LineRead) (r : HeadRead text head) where
     r.first.name.reads,
   )
 
-  cause_8 : name_twice (sheet_of text)
+  pub cause_8 : name_twice (sheet_of text)
       ≡ (repeats same_name (map first_field (lines_after text head)) || repeats same_name (tail (line_fields text)))
   unfolding name_twice sheet_of
   cause_8 = rw text_lines
 
 -- the causes 4 to 7 and 9, by what the first line and the lines after it say
-record BodyTold (text : Bytes) (head : LineRead) (body : Body) : Type 0 where
+pub record BodyTold (text : Bytes) (head : LineRead) (body : Body) : Type 0 where
   pub line_count : bad_line_count (lines_of text) ≡ not (between 1 user_limit body.users)
   pub names : bad_name (sheet_of text) ≡ not (head.cells.names && body.names)
   pub even : uneven_line (lines_of text) ≡ not body.even
   pub cells : bad_cell (lines_of text) ≡ not body.bits
   pub grants : too_many_grants (sheet_of text) ≡ ltb grant_limit body.ones
 
-body_told : (text : Bytes) (head : LineRead) (r : HeadRead text head) (body : Body)
+pub body_told : (text : Bytes) (head : LineRead) (r : HeadRead text head) (body : Body)
     → body ≡ body_of head.cells.count (lines_after text head) → BodyTold text head body
 unfolding bad_line_count bad_name uneven_line bad_cell too_many_grants sheet_of
 body_told text head r body others =
