@@ -1,14 +1,12 @@
 -- The parts of a fit table's words. A word has the cells from a place on. Those that fit the grant at a cell are the
 -- ones whose permissions its user holds and whose users hold its permission: the first are the same for all grants of
 -- a user, the second for all grants of a permission.
-use Rattle.std.specs.Prelude.{ℕ, ◌+◌, ◌*◌, ◌/◌, ◌%◌, ◌^◌, ◌<◌, ◌≤◌, Bool, ◌&&◌, List, ltb, length, get_or}
+use Rattle.std.specs.Prelude.{ℕ, ◌+◌, ◌/◌, ◌%◌, ◌<◌, ◌≤◌, Bool, ◌&&◌, List, ltb, length, get_or}
 use Rattle.std.proofs.Math.Bool.{So}
 use Rattle.bits.specs.Bit.{word_bits}
 use Rattle.cell_rows.specs.Rows.{row_bits, cell}
 use Rattle.cell_rows.specs.CellPlaces.{marked}
 use Rattle.table.specs.TableWords.{FirstBits}
-use Rattle.table.specs.declared.table.Line.{Line}
-use Rattle.table.specs.declared.table.Line.TheVariants.{Column, Row}
 
 -- how many of the cells from a place on are in a word
 pub record CellsFrom (size from count : ℕ) : Type 0 where
@@ -16,19 +14,9 @@ pub record CellsFrom (size from count : ℕ) : Type 0 where
   pub there : (q : ℕ) → q < count → from + q < size
   pub all : (q : ℕ) → q < word_bits → count ≤ q → size ≤ from + q
 
--- the permission has a place in a row, and the user's first cell has a number that is one of the machine's
-abbrev pub LineWithin : Line → Type 0
-LineWithin (Column p) = p.0 < row_bits
-LineWithin (Row u) = u.0 * row_bits < 2 ^ word_bits
-
--- the cell n is on the line: its user holds the permission, or the user holds its permission
-abbrev pub on_line : List ℕ → Line → ℕ → Bool
-on_line rows (Column p) n = cell rows (n / row_bits) p.0
-on_line rows (Row u) n = cell rows u.0 (n % row_bits)
-
--- there is such a cell, and it is on the line
-abbrev pub on_line_from : List ℕ → List ℕ → ℕ → Line → ℕ → Bool
-on_line_from rows cells from line q = ltb (from + q) (length cells) && on_line rows line (get_or cells (from + q) 0)
+-- there is such a cell, and it passes a test
+abbrev pub passed_from : (ℕ → Bool) → List ℕ → ℕ → ℕ → Bool
+passed_from test cells from q = ltb (from + q) (length cells) && test (get_or cells (from + q) 0)
 
 -- the user of a cell holds the permission p
 abbrev pub user_holds_at : List ℕ → List ℕ → ℕ → ℕ → ℕ → Bool

@@ -1,5 +1,6 @@
 // The fit table of a kernel that can be searched: bit j of grant i's words says that grants i and j fit.
-ghost use Rattle.std.specs.Prelude.{◌≡◌, map, ℕ, ◌/◌, ◌%◌, ◌≤◌, ◌<◌, eqb, length, get_or, take};
+ghost use Rattle.std.specs.Prelude.{◌≡◌, map, ℕ, Bool, ◌/◌, ◌%◌, ◌≤◌, ◌<◌, eqb, length, get_or, take};
+ghost use Rattle.numbers.specs.declared.numbers.CellNo.{CellNo};
 ghost use Rattle.bits.specs.Counting.{some_below};
 ghost use Rattle.spec.specs.Sheet.{Sheet};
 ghost use Rattle.spec.specs.Reduction.{kernel};
@@ -8,7 +9,7 @@ ghost use Rattle.cell_rows.specs.Rows.{row_bits};
 ghost use Rattle.cell_rows.specs.CellPlaces.{grant_of, marked, Shown};
 ghost use Rattle.cells.specs.KernelArray.{KernelListed};
 ghost use Rattle.table.specs.TableWords.{table_limit, FirstBits, Table};
-ghost use Rattle.table.specs.TableParts.{CellsFrom, LineWithin, on_line, on_line_from, ColumnsOf};
+ghost use Rattle.table.specs.TableParts.{CellsFrom, passed_from, ColumnsOf};
 ghost use Rattle.table.specs.TableHeld.{HeldBy};
 
 use bits::WORD_BITS;
@@ -26,35 +27,17 @@ fn cells_from(size: usize, from: usize) -> usize
     size.saturating_sub(from).min(WORD_BITS)
 }
 
-// Some cells: those whose users hold a permission, or those whose permissions a user holds.
-#[derive(Clone, Copy)]
-pub enum Line {
-    Column(PermissionNo),
-    Row(UserNo),
-}
-
-// Whether a cell is one of them.
-#[tactic(auto, unfolding(cell_rows::specs::Rows::row_words, cell_rows::specs::Rows::row_bits))]
-fn on_line(rows: &[u64], at: CellNo, line: Line) -> bool
-    requires { LineWithin line }
-    ensures { result ≡ on_line rows.now line at.0 }
-{
-    match line {
-        Line::Column(p) => holds(rows, user_of(at), p),
-        Line::Row(u) => holds(rows, u, permission_of(at)),
-    }
-}
-
-// Those of them that are in a word.
-fn line_word<'a>(rows: &'a [u64], cells: &'a [u16], from: usize, line: Line) -> u64
-    requires { (from < table_limit) × LineWithin line }
-    ensures { FirstBits (on_line_from rows.now cells.now from line) word_bits result }
+// Those of the cells of a word that a test passes.
+fn passing_word<F: Fn(CellNo) -> bool>(cells: &[u16], from: usize, passes: F) -> u64
+    requires { (from < table_limit) × F.IsAlwaysCallable passes }
+    ensures { (test : ℕ → Bool) → ((at : CellNo) (r : Bool) → F.post passes at r → r ≡ test at.0)
+        → FirstBits (passed_from test cells.now from) word_bits result }
 {
     let count = cells_from(cells.len(), from);
     let mut word = 0;
     for q in 0..count {
         let at = cells[from + q] as usize;
-        if on_line(rows, CellNo(at), line) {
+        if passes(CellNo(at)) {
             word = bits::with(word, q);
         }
     }
@@ -90,7 +73,8 @@ fn columns<'a>(
     let mut words = [0; ROW_BITS];
     for (p, word) in words.iter_mut().enumerate() {
         if bits::has(some[p / WORD_BITS], p % WORD_BITS) {
-            *word = line_word(rows, cells, from, Line::Column(PermissionNo(p)));
+            let held = PermissionNo(p);
+            *word = passing_word(cells, from, |at| holds(rows, user_of(at), held));
         }
     }
     words
@@ -110,8 +94,8 @@ fn held_by<'a>(rows: &'a [u64], cells: &'a [u16], it: CellNo) -> HolderCells
     ensures { HeldBy rows.now cells.now (it.0 / row_bits) result }
 {
     let user = user_of(it);
-    let low = line_word(rows, cells, 0, Line::Row(user));
-    let high = line_word(rows, cells, WORD_BITS, Line::Row(user));
+    let low = passing_word(cells, 0, |at| holds(rows, user, permission_of(at)));
+    let high = passing_word(cells, WORD_BITS, |at| holds(rows, user, permission_of(at)));
     HolderCells { user, low, high }
 }
 

@@ -1,7 +1,7 @@
 -- `table::columns`: permission by permission, its column is made where it is in the row.
-use Rattle.std.proofs.Common.{◌≡◌, arith, sym, ◌∙◌}
+use Rattle.std.proofs.Common.{◌≡◌, ◌/◌, arith, rules, sym, ◌∙◌}
 use Rattle.std.proofs.lemmas.List.{set-get_or}
-use Rattle.cell_rows.specs.Rows.{row_words, row_bits}
+use Rattle.cell_rows.specs.Rows.{row_words, row_bits, cell}
 use Rattle.table.specs.Laws.TablePart.{column_put_in, column_left_out}
 use Rattle.table.proofs.table.columns.Goals as goal
 use Rattle.table.proofs.table.columns.Goals.{then-has, else-has}
@@ -16,7 +16,8 @@ loop-p-preserved c =
     let told = c.has.ensures in
     elim c.if-has.branch [
       | then-has w ↦
-          rw w.word-items-is (column_put_in at.invariant _ (omega arith) w.line_word.ensures)
+          rw w.word-items-is (column_put_in at.invariant _ (omega arith)
+          (w.passing_word.ensures (λ n. cell c.args.rows.now (n / row_bits) at.p) (λ n r says. search rules)))
       | else-has w ↦
           rw (w.word-items-is, set-get_or) (column_left_out at.invariant (sym told ∙ w.if-has.false))
     ]
