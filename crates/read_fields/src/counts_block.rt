@@ -29,11 +29,11 @@ fn standing_field(book: &[u8], at: usize) -> Option<(Standing, usize)>
     requires { at ≤ length book.now }
     ensures { StandingReads book.now at result }
 {
-    let to = part_end(book, at, b'\n')?;
-    let word = &book[at..to];
     for standing in [Standing::Witnessed, Standing::Searched, Standing::Open] {
-        if word == standing.word() {
-            return Some((standing, to + 1));
+        if let Some(end) = expect(book, at, standing.word()) {
+            if let Some(next) = expect_byte(book, end, b'\n') {
+                return Some((standing, next));
+            }
         }
     }
     None
