@@ -8,7 +8,10 @@ pub fn put_bytes(out: &mut [u8], bytes: &[u8]) -> usize
     requires { length bytes.now ≤ length out.old }
     ensures { Written bytes.now out.old out.new result }
 {
-    out[..bytes.len()].copy_from_slice(bytes);
+    // Byte after byte: the library copies one lent slice into another by `memmove`, which the archive for C would need.
+    for i in 0..bytes.len() {
+        out[i] = bytes[i];
+    }
     bytes.len()
 }
 
