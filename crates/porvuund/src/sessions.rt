@@ -54,6 +54,8 @@ pub fn porvuund_fresh() -> Session
     Session::fresh()
 }
 
+// Put into the place of its call: a session is large, and is moved once more by each call that stands.
+#[inline(always)]
 pub fn porvuund_load(session: Session, sheet: &[u8]) -> Loaded
     requires { Sound session }
     ensures loads { Loads (view session) sheet.now (load_said result.answer) (view result.session) }

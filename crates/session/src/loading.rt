@@ -53,6 +53,7 @@ impl Session {
     }
 
     // Takes in a sheet and leaves it not reduced, or refuses it and leaves the session as it was.
+    #[inline(always)]
     pub fn load(self, s: &[u8]) -> Loaded
         requires { Sound self }
         ensures loads { Loads (view self) s.now (load_said result.answer) (view result.session) }
