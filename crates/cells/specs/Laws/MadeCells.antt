@@ -1,7 +1,9 @@
 -- Sets of cells made word by word: the first words say what a test says of their cells, and the others are 0. When
--- all are made, the set has exactly the cells that pass.
-use Rattle.std.specs.Prelude.{ℕ, ◌+◌, ◌*◌, ◌/◌, ◌%◌, ◌≤◌, ◌<◌, ◌≡◌, Bool, false, List, length, get_or, set, replicate}
-use Rattle.std.proofs.Common.{mod-lt, div-add-mod', div-lt_iff_lt-mul, le-div_iff_mul-le, arith, sym, ap, ◌∙◌, ⊎_elim, lit<, get_or-set_same, get_or-set_other}
+-- all are made, the set has exactly the cells that pass. Where a call at each index gave the words, all are made.
+use Rattle.std.specs.Prelude.{ℕ, zero, suc, ◌+◌, ◌*◌, ◌/◌, ◌%◌, ◌≤◌, ◌<◌, ◌≡◌, Bool, false, List, length, get_or, set, replicate}
+use Rattle.std.specs.Fn.{Mut, Called}
+use Rattle.std.specs.Array.{IsFromFnResult, IsFromFnResultFrom}
+use Rattle.std.proofs.Common.{mod-lt, div-add-mod', div-lt_iff_lt-mul, le-div_iff_mul-le, arith, sym, ap, subst, ◌∙◌, ⊎_elim, lit<, get_or-set_same, get_or-set_other}
 use Rattle.std.proofs.Math.Bool.{So}
 use Rattle.std.proofs.lemmas.List.{length-replicate, get_or-replicate}
 use Rattle.std.proofs.Math.ListN.{get_or-eq_default}
@@ -50,6 +52,38 @@ all_made test i words m = record {
       ∙ ap test (div-add-mod' n word_bits);
   outside = λ n l. rw (m.rest (n / word_bits) ((le-div_iff_mul-le (lit< tt)).1 l)) (bit_of_zero (n % word_bits));
 }
+
+-- ---- by a call at each index, as `array::from_fn` makes them: each leaves what is called as it was
+
+module _ {F : Type 0} (g : Mut F (ℕ × Unit {0}) ℕ) (f : F) (test : ℕ → Bool) (words : List ℕ)
+    (says : (k w : ℕ) (f' : F) → Called g f (k, tt) w f'
+    → ((q : ℕ) → q < word_bits → bit w q ≡ test (k * word_bits + q)) × (f' ≡ f)) where
+  -- each word from the i-th on
+  word_called : (i n : ℕ) → IsFromFnResultFrom g f words i n → (s q : ℕ) → i ≤ s → s < i + n → q < word_bits
+      → bit (get_or words s 0) q ≡ test (s * word_bits + q)
+  word_called i zero gave s q h l k = absurd (omega arith)
+  word_called i (suc n) (f', w, here, call, gave) s q h l k =
+      let told = says i w f' call in
+      ⊎_elim
+      (λ (first : s < i + 1).
+      let same : s ≡ i = omega arith in rw (same, here.1 0) (told.0 q k))
+      (λ (later : i + 1 ≤ s).
+      word_called (i + 1) n (subst (λ (e : F). IsFromFnResultFrom g e words (i + 1) n) told.1 gave) s q later
+      (omega arith) k)
+      (below_or_from s (i + 1))
+
+-- so all are made, however many they are
+pub all_called : {F : Type 0} {g : Mut F (ℕ × Unit {0}) ℕ} {f : F} {test : ℕ → Bool} {words : List ℕ} {n : ℕ}
+    → ((k w : ℕ) (f' : F) → Called g f (k, tt) w f'
+    → ((q : ℕ) → q < word_bits → bit w q ≡ test (k * word_bits + q)) × (f' ≡ f))
+    → IsFromFnResult g f words n → MadeCells test (n * word_bits) words
+all_called {F} {g} {f} {test} {words} {n} says gave =
+    all_made test n words record {
+      made = λ s q l k. word_called g f test words says 0 n gave.each s q (omega arith) (omega arith) k;
+      rest = λ s l. get_or-eq_default words 0 (omega (arith, gave.long));
+    }
+
+-- ---- a part of the rows
 
 -- what passes only where a cell of the rows is set makes a part of them
 pub made_part : (test : ℕ → Bool) (end : ℕ) (words rows : List ℕ) → MadeCells test end words

@@ -2,7 +2,6 @@
 use Rattle.std.specs.Prelude.{ℕ, zero, suc, ◌+◌, ◌*◌, ◌/◌, ◌%◌, ◌≤◌, ◌<◌, ◌≡◌, refl, Bool, false, not, ◌&&◌, ◌||◌, List, eqb, length, get_or, take}
 use Rattle.std.specs.List.{list_any}
 use Rattle.std.proofs.Common.{arith, ap, ◌∙◌, add-one, eqb-true}
-use Rattle.std.proofs.Math.ListN.{get_or-eq_default}
 use Rattle.std.proofs.Math.Bool.{or_comm}
 use Rattle.std.proofs.lemmas.Bool.{not-false}
 use Rattle.std.proofs.lemmas.List.Folds.{list_any_more}
@@ -14,8 +13,6 @@ use Rattle.bits.specs.Bit.{bit, word_bits}
 use Rattle.bits.specs.Laws.Bit.{bit_of_and, bit_of_zero}
 use Rattle.cell_rows.specs.Rows.{row_words, row_bits, cell}
 use Rattle.cell_rows.specs.CellPlaces.{marked}
-use Rattle.cells.specs.MadeCells.{MadeCells}
-use Rattle.cells.specs.Laws.MadeCells.{all_made}
 use Rattle.cell_rows.specs.Laws.Width.{word_in_row, cell_word, cell_position}
 use Rattle.fit.specs.Laws.FitWord.{marked_in_word}
 
@@ -44,22 +41,6 @@ pub shared_word : (rows row : List ℕ) (v k q : ℕ) → q < word_bits
 shared_word rows row v k q l =
     bit_of_and (get_or row k 0) (get_or rows (v * row_words + k) 0) q
     ∙ rw (marked_in_word row k q l, cell_in_word rows v k q l)
-
--- a row is made by its two words
-pub row_made : (test : ℕ → Bool) (row : List ℕ) → length row ≡ row_words
-    → ((q : ℕ) → q < word_bits → bit (get_or row 0 0) q ≡ test (0 * word_bits + q))
-    → ((q : ℕ) → q < word_bits → bit (get_or row 1 0) q ≡ test (1 * word_bits + q)) → MadeCells test row_bits row
-unfolding row_bits row_words
-row_made test row long low high =
-    all_made test 2 row record {
-      made = words_made;
-      rest = λ s l. get_or-eq_default row 0 (omega (arith, long));
-    }
-  where
-    words_made : (s q : ℕ) → s < 2 → q < word_bits → bit (get_or row s 0) q ≡ test (s * word_bits + q)
-    words_made zero q l k = low q k
-    words_made (suc zero) q l k = high q k
-    words_made (suc (suc s)) q l k = absurd (omega arith)
 
 -- what a list has among its first elements, by their places
 pub any_below : (p : ℕ → Bool) (xs : List ℕ) (n : ℕ) → n ≤ length xs

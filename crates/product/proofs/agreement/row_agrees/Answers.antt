@@ -20,7 +20,7 @@ unfolding row_words
 returns c =
     let a = c.args in
     let at = a.u.0 * row_words in
-    let size : at + 2 - at ≡ row_words = omega arith in
+    let size : at + row_words - at ≡ row_words = omega arith in
     let room : at + row_words ≤ length a.rows.now = omega arith in
     same_from_decides _ _ (slice_eq-Decides Decides-eqb _ _ _ (rw size at c.eq.ensures))
     (agrees_where_same a.rows.now a.has.now a.gives.now a.roles a.u.0 c.row_after-after.ensures (search rules)

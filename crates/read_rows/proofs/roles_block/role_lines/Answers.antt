@@ -56,5 +56,5 @@ returns-in_err-end c =
 pub returns : goal.returns
 unfolding role_limit
 returns c =
-    let all : c.loop-r.r ≡ 128 = omega arith in
+    let all : c.loop-r.r ≡ role_limit = omega arith in
     rw all at (roles_end (omega arith) c.loop-r.invariant c.in_ok-end.ensures)

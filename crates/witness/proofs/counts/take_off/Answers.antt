@@ -18,7 +18,7 @@ returns-then-not-has_any c =
 pub union_of_row-some-requires : goal.union_of_row-some-requires
 unfolding user_limit row_words
 union_of_row-some-requires c =
-    let sized : length c.args.these.words ≡ 2 = search rules in
+    let sized : length c.args.these.words ≡ row_words = search rules in
     (omega arith, omega arith)
 
 pub take_off_for_users-requires : goal.take_off_for_users-requires

@@ -12,6 +12,6 @@ unfolding row_words
 returns c =
     let row = c.args.row.now in
     let found : c.any.result ≡ list_any (λ w. not (eqb w 0)) row = grind (arith, common_steps) in
-    let whole : take 2 row ≡ row = rw c.told-row at (take-length row) in
+    let whole : take row_words row ≡ row = rw c.told-row at (take-length row) in
     found ∙ sym (ap (list_any (λ w. not (eqb w 0))) whole)
-    ∙ any_below (λ w. not (eqb w 0)) row 2 (omega arith)
+    ∙ any_below (λ w. not (eqb w 0)) row row_words (omega arith)

@@ -20,15 +20,15 @@ overflow_add-n c =
     let few : c.count-n.result ≤ word_bits = rw c.count-n.ensures (count_below_le word_bits _) in
     let so_far : c.loop-word.n ≤ c.loop-word.word-index * word_bits =
     rw c.loop-word.invariant (count_below_le (c.loop-word.word-index * word_bits) _) in
-    omega (arith, few, so_far, length-take-le (c.args.users * 2) c.args.words.now (omega arith))
+    omega (arith, few, so_far, length-take-le (c.args.users * row_words) c.args.words.now (omega arith))
 
 pub loop-word-preserved : goal.loop-word-preserved
 unfolding user_limit row_words
 loop-word-preserved c =
     let words = c.args.words.now in
     let at = c.loop-word in
-    let inside : at.word-index < c.args.users * 2 =
-    omega (arith, length-take-le (c.args.users * 2) words (omega arith)) in
+    let inside : at.word-index < c.args.users * row_words =
+    omega (arith, length-take-le (c.args.users * row_words) words (omega arith)) in
     let here = rw get_or-take at c.count-n.ensures in
     rw (count_next_word (marked words) at.word-index _ (λ q l. sym (marked_in_word words at.word-index q l)))
     (omega (arith, at.invariant, here))
@@ -38,6 +38,6 @@ unfolding user_limit row_words
 returns c =
     let at = c.loop-word in
     let so_far : at.n ≡ count_below (at.word-index * word_bits) (marked c.args.words.now) = at.invariant in
-    let end : at.word-index ≡ c.args.users * 2 =
-    omega (arith, length-take-le (c.args.users * 2) c.args.words.now (omega arith)) in
+    let end : at.word-index ≡ c.args.users * row_words =
+    omega (arith, length-take-le (c.args.users * row_words) c.args.words.now (omega arith)) in
     rw end at so_far
