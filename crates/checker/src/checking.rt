@@ -11,15 +11,10 @@ use numbers::{ROLE_WORDS, Refusal};
 fn read_both<'a>(sheet: &'a [u8], book: &'a [u8]) -> Result<BookRead, Refusal>
     ensures { Checks sheet.now book.now (book_answer result) }
 {
-    let read = sheet::read(sheet);
-    // The rows are lent from where they were read: `?` would move them.
-    let found = match &read {
-        Ok(found) => found,
-        Err(refusal) => return Err(*refusal),
-    };
+    let read = sheet::read(sheet)?;
     let mut has = cell_rows::no_rows();
     let mut gives = [0; ROLE_WORDS];
-    read_book(sheet, found.layout, &found.rows, book, &mut has, &mut gives)
+    read_book(sheet, read.layout, &read.rows, book, &mut has, &mut gives)
 }
 
 // Whether a book is right for a sheet: the lowest of document 01's numbers that applies, with counts 0; or 0, with

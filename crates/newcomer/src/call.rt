@@ -38,12 +38,7 @@ fn write_new<'a>(
         gives.old
         → Admits lent out.old (writing_said result) out.new }
 {
-    let read_longer = sheet::read(text);
-    // The rows are lent from where they were read: `?` would move them.
-    let longer = match &read_longer {
-        Ok(longer) => longer,
-        Err(refusal) => return Err(*refusal),
-    };
+    let longer = sheet::read(text)?;
     let admitted = admit(&longer.rows, UserNo(users), has, gives, read.roles);
     let roles = admitted.ok_or(Refusal::RolesFull)?;
     let lines = read.witness.lines;
@@ -112,14 +107,9 @@ fn write_with_line<'a>(
       line = line.now;
     }) out.old (writing_said result) out.new }
 {
-    let read = sheet::read(sheet);
-    // The rows are lent from where they were read: `?` would move them.
-    let found = match &read {
-        Ok(found) => found,
-        Err(refusal) => return Err(*refusal),
-    };
-    judge_line(sheet, found.layout, line)?;
-    admit_line(sheet, found.layout, &found.rows, book, line, out)
+    let read = sheet::read(sheet)?;
+    judge_line(sheet, read.layout, line)?;
+    admit_line(sheet, read.layout, &read.rows, book, line, out)
 }
 
 // The book of a sheet with a user line added, from a book that is right for the sheet, at the front of the buffer; or

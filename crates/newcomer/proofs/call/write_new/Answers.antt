@@ -16,12 +16,11 @@ use Rattle.newcomer.specs.Laws.ReadyFacts.{admit_ready}
 use Rattle.newcomer.specs.Laws.NewBook.{refused_for_roles, only_the_buffer, rows_are_the_new_book, room_for_roles}
 use Rattle.newcomer.proofs.call.write_new.Goals as goal
 
-pub returns-in-Err : goal.returns-in-Err
-returns-in-Err c lent ready =
+pub returns-in_err-longer : goal.returns-in_err-longer
+returns-in_err-longer c lent ready =
     absurd
-    (number_some c.in-Err.refusal
-    (rw c.in-Err.is at c.read-read_longer.ensures.number_value
-    ∙ eqb-true (refusal c.args.text.now) 0 (text_accepted ready)))
+    (number_some c.in_err-longer.field-0.0
+    (c.in_err-longer.ensures.number_value ∙ eqb-true (refusal c.args.text.now) 0 (text_accepted ready)))
 
 pub admit-admitted-requires : goal.admit-admitted-requires
 admit-admitted-requires c = (room_for_the_user c.requires.ready, few_roles c.requires.ready)
@@ -29,11 +28,10 @@ admit-admitted-requires c = (room_for_the_user c.requires.ready, few_roles c.req
 pub returns-in_err-roles : goal.returns-in_err-roles
 returns-in_err-roles c lent ready =
     let cause : c.in_err-roles.field-0.0 ≡ RolesFull = grind arith in
-    let laid = rw c.in-Ok.is at c.read-read_longer.ensures.laid_out in
     let none =
     rw c.in_err-roles.ensures.ok_part at
-    (c.admit-admitted.ensures (sheet_of c.args.text.now) (admit_ready ready laid.1)) in
-    let p = err_from_is_err_and c.from_residual.result c.from_residual.ensures.1 in
+    (c.admit-admitted.ensures (sheet_of c.args.text.now) (admit_ready ready c.in_ok-longer.ensures.laid_out.1)) in
+    let p = err_from_is_err_and c.from_residual-in_err-roles.result c.from_residual-in_err-roles.ensures.1 in
     rw (p.1, p.2, cause)
     (refused_by lent c.args.out.now (refused_for_roles ready c.args.out.now none) (λ z. omega arith) refl)
 
@@ -43,11 +41,10 @@ witness_cells-cells-requires c = lines_kept c.requires.ready
 pub write_if_room-requires : goal.write_if_room-requires
 write_if_room-requires c =
     let ready = c.requires.ready in
-    let laid = rw c.in-Ok.is at c.read-read_longer.ensures.laid_out in
     let at =
     rw c.in_ok-roles.ensures.ok_part at
-    (c.admit-admitted.ensures (sheet_of c.args.text.now) (admit_ready ready laid.1)) in (
-      laid.0,
+    (c.admit-admitted.ensures (sheet_of c.args.text.now) (admit_ready ready c.in_ok-longer.ensures.laid_out.1)) in (
+      c.in_ok-longer.ensures.laid_out.0,
       omega (
         arith,
         ap (λ (counts : Counts). counts.roles) c.counts_with-counts.ensures,
@@ -61,10 +58,9 @@ pub returns : goal.returns
 returns c lent ready =
     let text = c.args.text.now in
     let buffer = c.args.out.now in
-    let laid = rw c.in-Ok.is at c.read-read_longer.ensures.laid_out in
     let at =
     rw c.in_ok-roles.ensures.ok_part at
-    (c.admit-admitted.ensures (sheet_of text) (admit_ready ready laid.1)) in
+    (c.admit-admitted.ensures (sheet_of text) (admit_ready ready c.in_ok-longer.ensures.laid_out.1)) in
     let has = c.admit-admitted.new.has in
     let gives = c.admit-admitted.new.gives in
     let cells = take c.args.read.witness.lines c.witness_cells-cells.result in
