@@ -1,7 +1,12 @@
 // Loads: a sheet taken in, or refused.
 ghost use Rattle.std.specs.Prelude.{◌≡◌, ◌≢◌};
-ghost use Rattle.spec.specs.Session.{fresh};
-ghost use Rattle.spec.specs.Calls.{Loads};
+ghost use Rattle.spec.specs.Sheet.{sheet_of};
+ghost use Rattle.spec.specs.Refusal.{refusal};
+ghost use Rattle.spec.specs.Session.{fresh, read};
+ghost use Rattle.spec.specs.Calls.{Loads, load_counts};
+ghost use Rattle.names.specs.LaidOut.{LaidOut};
+ghost use Rattle.cells.specs.RowsRead.{RowsRead};
+ghost use Rattle.sheet.specs.OnlyNames.{OnlyNames};
 ghost use Rattle.answers.specs.Said.{load_said};
 ghost use Rattle.session.specs.CodeSession.{no_position, view, Sound};
 
@@ -12,6 +17,7 @@ use names::Layout;
 use numbers::{CELL_WORDS, KERNEL_LIMIT, SHEET_LIMIT};
 use preparing::Prepared;
 use search::Position;
+use sheet::SheetRead;
 
 // The session after a load, and what the load answers.
 #[repr(C)]
@@ -60,15 +66,27 @@ impl Session {
         ensures sound { Sound result.session }
         ensures session_value { result.answer.number ≢ 0 → result.session ≡ self }
     {
-        let found = match sheet::read(s) {
-            Ok(found) => found,
-            Err(refusal) => {
-                return Loaded {
-                    session: self,
-                    answer: LoadAnswer::refused(refusal.number()),
-                };
-            }
+        let refusal = match sheet::read(s) {
+            Ok(found) => return Session::holding(s, &found),
+            Err(refusal) => refusal,
         };
+        Loaded {
+            session: self,
+            answer: LoadAnswer::refused(refusal.number()),
+        }
+    }
+
+    // The session that holds an accepted sheet, not reduced, and what its load answers. It has a place of its own, so that
+    // a load does not make room for two sessions.
+    #[inline(never)]
+    fn holding(s: &[u8], found: &SheetRead) -> Loaded
+        requires unrefused { refusal s.now ≡ 0 }
+        requires found_in { LaidOut s.now found.now.layout × RowsRead found.now.rows (sheet_of s.now)
+            × OnlyNames found.now.layout }
+        ensures counts { load_said result.answer ≡ load_counts (sheet_of s.now) }
+        ensures held { view result.session ≡ read s.now }
+        ensures sound { Sound result.session }
+    {
         let text = kept::copied(s);
         let layout = found.layout;
         let rows = found.rows;
