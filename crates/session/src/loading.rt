@@ -66,13 +66,12 @@ impl Session {
         ensures sound { Sound result.session }
         ensures session_value { result.answer.number ≢ 0 → result.session ≡ self }
     {
-        let refusal = match sheet::read(s) {
-            Ok(found) => return Session::holding(s, &found),
-            Err(refusal) => refusal,
-        };
-        Loaded {
-            session: self,
-            answer: LoadAnswer::refused(refusal.number()),
+        match sheet::read(s) {
+            Ok(found) => Session::holding(s, &found),
+            Err(refusal) => Loaded {
+                session: self,
+                answer: LoadAnswer::refused(refusal.number()),
+            },
         }
     }
 

@@ -5,8 +5,8 @@ use Rattle.checker.specs.Laws.CheckSteps.{number_some}
 use Rattle.session.specs.Laws.Loading.{refused_loads, accepted_loads}
 use Rattle.session.proofs.Session.load.Goals as goal
 
-pub returns-clause-loads : goal.returns-clause-loads
-returns-clause-loads c =
+pub returns-in-Err-clause-loads : goal.returns-in-Err-clause-loads
+returns-in-Err-clause-loads c =
     let refused = c.in-Err.refusal in
     refused_loads _ _ (c.number.ensures ∙ c.in-Err.ensures.number_value)
     (λ zero. number_some refused (sym c.number.ensures ∙ zero)) c.refused.ensures
