@@ -67,17 +67,17 @@ impl Session {
         ensures session_value { result.answer.number ≢ 0 → result.session ≡ self }
     {
         match sheet::read(s) {
-            Ok(found) => Session::holding(s, &found),
             Err(refusal) => Loaded {
                 session: self,
                 answer: LoadAnswer::refused(refusal.number()),
             },
+            Ok(found) => Session::holding(s, &found),
         }
     }
 
-    // The session that holds an accepted sheet, not reduced, and what its load answers. It has a place of its own, so that
-    // a load does not make room for two sessions.
-    #[inline(never)]
+    // The session that holds an accepted sheet, not reduced, and what its load answers. Like a load it stands in the
+    // place of its call: where it is called, room for a whole session is made blank first, and moved afterwards.
+    #[inline(always)]
     fn holding(s: &[u8], found: &SheetRead) -> Loaded
         requires unrefused { refusal s.now ≡ 0 }
         requires found_in { LaidOut s.now found.now.layout × RowsRead found.now.rows (sheet_of s.now)

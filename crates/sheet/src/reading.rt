@@ -1,12 +1,11 @@
 // Reading a sheet: the cause for which it is refused, or its layout and its rows.
-ghost use Rattle.std.specs.Prelude.{◌≡◌, ◌≢◌, IfOk, MatchOption};
+ghost use Rattle.std.specs.Prelude.{◌≡◌, ◌≢◌, IfOk};
 ghost use Rattle.spec.specs.Sheet.{sheet_of};
 ghost use Rattle.spec.specs.Refusal.{refusal};
 ghost use Rattle.numbers.specs.Refusal.{number_of, number_said};
 ghost use Rattle.names.specs.LaidOut.{LaidOut};
 ghost use Rattle.cells.specs.RowsRead.{RowsRead};
 ghost use Rattle.sheet.specs.OnlyNames.{OnlyNames};
-ghost use Rattle.sheet.specs.Laws.KeptRead.{KeptAs};
 
 use crate::kept::{are_apart, read_lines};
 use cell_rows::no_rows;
@@ -29,26 +28,18 @@ pub fn read(s: &[u8]) -> Result<SheetRead, Refusal>
     ensures laid_out { IfOk result (λ read. LaidOut s.now read.layout × RowsRead read.rows (sheet_of s.now)
         × OnlyNames read.layout) }
 {
-    match read_kept(s) {
-        Some(read) => Ok(read),
-        None => Err(cause_of(s)),
-    }
-}
-
-// A sheet that keeps all rules, read in one pass.
-fn read_kept(s: &[u8]) -> Option<SheetRead>
-    ensures { MatchOption result (refusal s.now ≢ 0) (λ read. KeptAs s.now read.layout read.rows) }
-{
     let mut permission_places = [0; USER_LIMIT];
     let mut user_places = [0; USER_LIMIT];
     let mut rows = no_rows();
-    let counts = read_lines(s, &mut permission_places, &mut user_places, &mut rows)?;
+    let Some(counts) = read_lines(s, &mut permission_places, &mut user_places, &mut rows) else {
+        return Err(cause_of(s));
+    };
     let users = counts.users;
     let permissions = counts.permissions;
     if !are_apart(s, &user_places[..users], &permission_places[..permissions]) {
-        return None;
+        return Err(cause_of(s));
     }
-    Some(SheetRead {
+    Ok(SheetRead {
         layout: Layout {
             users,
             permissions,
