@@ -22,7 +22,10 @@ pub fn is_separator(b: u8) -> bool
 pub fn is_name_byte(b: u8) -> bool
     ensures { result ≡ name_byte b }
 {
-    matches!(b, b'A'..=b'Z' | b'a'..=b'z' | b'0'..=b'9' | b'-' | b'.' | b'_')
+    (b'A'..=b'Z').contains(&b)
+        || (b'a'..=b'z').contains(&b)
+        || (b'0'..=b'9').contains(&b)
+        || matches!(b, b'_' | b'-' | b'.')
 }
 
 // A byte with `A-Z` read as `a-z`.
