@@ -76,7 +76,7 @@ impl Session {
     }
 
     // The session that holds an accepted sheet, not reduced, and what its load answers. Like a load it stands in the
-    // place of its call: where it is called, room for a whole session is made blank first, and moved afterwards.
+    // place of its call: were it called, room for a whole session would be made blank first, and moved afterwards.
     #[inline(always)]
     fn holding(s: &[u8], found: &SheetRead) -> Loaded
         requires unrefused { refusal s.now ≡ 0 }
